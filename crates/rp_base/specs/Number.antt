@@ -1,0 +1,14 @@
+-- Which numbers name nodes, tasks and positions (this project's own limits).
+use Rattle.std.specs.Prelude.{ℕ, ◌<◌, ◌≤◌, ◌^◌}
+
+-- a node is 1 to 7
+abbrev pub IsNode : ℕ → Type 0
+IsNode n = (1 ≤ n) × (n ≤ 7)
+
+-- a task is 1 to 8
+abbrev pub IsTask : ℕ → Type 0
+IsTask n = (1 ≤ n) × (n ≤ 8)
+
+-- a position of the log is 1 to 65,535
+abbrev pub IsPosition : ℕ → Type 0
+IsPosition n = (1 ≤ n) × (n < 2 ^ 16)

@@ -1,0 +1,17 @@
+-- Finite sets, as lists in which nothing stands twice.
+use Rattle.std.specs.Prelude.{◌≡◌, ◌⊎◌, Bool, List, [], ◌∷◌, ◌++◌, if◌then◌else◌}
+use Rattle.std.specs.List.{list_any}
+
+-- x stands in the list
+abbrev pub Has : {A : Type 0} → A → List A → Type 0
+Has x [] = ⊥
+Has x (y ∷ ys) = (x ≡ y) ⊎ Has x ys
+
+-- nothing stands twice
+abbrev pub IsSet : {A : Type 0} → List A → Type 0
+IsSet [] = Unit {0}
+IsSet (x ∷ xs) = (¬ Has x xs) × IsSet xs
+
+-- the list with x, at its end unless it is there
+abbrev pub with_member : {A : Type 0} → (A → A → Bool) → List A → A → List A
+with_member same xs x = if list_any (same x) xs then xs else xs ++ x ∷ []

@@ -1,0 +1,83 @@
+//! What the log holds: calls, interrupts and ticks.
+
+ghost use Rattle.std.specs.Prelude.{◌↔◌, IsTrue};
+ghost use Rattle.rp_base.specs.Action.{IsRight, IsRightOperation};
+
+use crate::number::TaskId;
+
+/// Which operation of an object is called, by its index from 1 in declared order. An entry's index
+/// is 1. A `SetTimer`'s argument is the time, and its reply is `Value(0)`.
+#[derive(Clone, Copy, Debug, PartialEq, Eq, Hash)]
+pub enum Operation {
+    Function(u8),
+    Procedure(u8),
+    Entry(u8),
+    SetTimer(u8),
+    CancelTimer(u8),
+}
+
+impl Operation {
+    /// Whether the index is within its range: 1 to 8, for an entry 1.
+    pub fn is_right(self) -> bool
+        ensures { IsTrue result ↔ IsRightOperation self }
+    {
+        match self {
+            Operation::Entry(index) => index == 1,
+            Operation::Function(index)
+            | Operation::Procedure(index)
+            | Operation::SetTimer(index)
+            | Operation::CancelTimer(index) => matches!(index, 1..=8),
+        }
+    }
+}
+
+/// One action of the log. A call is the `number`th of its task, and an interrupt the
+/// `occurrence`th of its source.
+#[derive(Clone, Copy, Debug, PartialEq, Eq, Hash)]
+pub enum Action {
+    /// Nothing, for a position that has to be filled.
+    Noop,
+    /// A task's call of an object's operation.
+    Call {
+        task: TaskId,
+        number: u32,
+        object: u8,
+        operation: Operation,
+        arg: i64,
+    },
+    /// An interrupt, whose handler is a procedure.
+    Interrupt {
+        source: u8,
+        occurrence: u32,
+    },
+    /// The clock is at least `now`.
+    Tick {
+        now: u32,
+    },
+}
+
+impl Action {
+    /// Whether each number is within its range: call numbers and occurrences from 1, objects and
+    /// sources 1 to 8, the operation's index as `Operation::is_right` says.
+    pub fn is_right(self) -> bool
+        ensures { IsTrue result ↔ IsRight self }
+    {
+        match self {
+            Action::Noop => true,
+            Action::Call {
+                task,
+                number,
+                object,
+                operation,
+                arg: _,
+            } => {
+                matches!(task.get(), 1..=8)
+                    && number >= 1
+                    && matches!(object, 1..=8)
+                    && operation.is_right()
+            }
+            Action::Interrupt { source, occurrence } => matches!(source, 1..=8) && occurrence >= 1,
+            Action::Tick { now: _ } => true,
+        }
+    }
+}

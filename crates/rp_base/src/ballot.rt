@@ -1,0 +1,98 @@
+//! Ballots, which order the attempts to decide a position.
+
+ghost use Rattle.std.specs.Prelude.{◌≡◌, ℕ, ◌↔◌, ◌<◌, ◌≤◌, IsSome, IfSome, IfOk, IsErrOf, IsOkUnless};
+ghost use Rattle.rp_base.specs.Ballot.{IsBallot, ballot_of, round_of, owner_of, number_of, IsAbove, IsNext};
+
+use crate::fault::Fault;
+use crate::number::NodeId;
+use std::marker::Model;
+
+/// A ballot: `8 * round + node`, the round 1 to 2^32 - 1, the node its owner. Ballots are ordered
+/// as numbers (Lamport, "Paxos Made Simple", section 2.2, where they are proposal numbers).
+#[derive(Clone, Copy, Debug, PartialEq, Eq, PartialOrd, Ord, Hash)]
+pub struct Ballot {
+    number: u64,
+}
+
+impl Model for Ballot {
+    ghost Value = { ℕ };
+
+    ghost view = { λ b. b.number };
+
+    ghost invariant = { λ b. IsBallot b.number };
+
+    ghost inverse = { λ n. record { number = n } };
+}
+
+impl Ballot {
+    /// The ballot of this number, or `None` where the number is none: below 9, from 2^35 on, or a
+    /// multiple of 8.
+    pub fn new(number: u64) -> Option<Self>
+        ensures valid { IsSome result ↔ IsBallot number }
+        ensures value { IfSome result (λ ballot. ballot ≡ number) }
+    {
+        if number >= 9 && number < 1 << 35 && number % 8 != 0 {
+            Some(Ballot { number })
+        } else {
+            None
+        }
+    }
+
+    /// Its number.
+    pub fn get(self) -> u64
+        ensures value { result ≡ self }
+        ensures ballot { IsBallot self }
+    {
+        self.number
+    }
+
+    /// The ballot of a round, from 1, and the node that owns it.
+    pub fn of(round: u32, node: NodeId) -> Self
+        requires { 1 ≤ round }
+        ensures { result ≡ ballot_of round node }
+    {
+        Ballot {
+            number: 8 * u64::from(round) + u64::from(node.get()),
+        }
+    }
+
+    /// The round, 1 to 2^32 - 1.
+    pub fn round(self) -> u32
+        ensures { result ≡ round_of self }
+    {
+        (self.number / 8) as u32
+    }
+
+    /// The node that owns it.
+    pub fn owner(self) -> NodeId
+        ensures { result ≡ owner_of self }
+    {
+        let owner = (self.number % 8) as u8;
+        NodeId::new(owner).unwrap()
+    }
+
+    /// The least ballot of the node above a ballot, or above none. `BallotsSpent` where the node
+    /// has no ballot above it.
+    pub fn next_for(node: NodeId, above: Option<Ballot>) -> Result<Self, Fault>
+        ensures next { IfOk result (IsNext node (number_of above)) }
+        ensures spent { IsErrOf result Fault.BallotsSpent ↔ ((b : ℕ) → ¬ IsAbove node (number_of above) b) }
+        ensures only { IsOkUnless result Fault.BallotsSpent }
+    {
+        let (round, owner) = match above {
+            Some(ballot) => (ballot.number / 8, ballot.number % 8),
+            None => (0, 8),
+        };
+        let node_number = u64::from(node.get());
+        let next = if owner < node_number {
+            round
+        } else {
+            round + 1
+        };
+        if next >= 1 << 32 {
+            return Err(Fault::BallotsSpent);
+        }
+        Ok(Ballot {
+            number: 8 * next + node_number,
+        })
+    }
+}

@@ -1,0 +1,180 @@
+//! Why a call was refused.
+
+ghost use Rattle.std.specs.Prelude.{◌≡◌};
+ghost use Rattle.rp_base.specs.declared.fault.Fault.TheVariants.{OutOfMemory};
+ghost use Rattle.rp_base.specs.Fault.{code_of, name_of};
+
+use std::alloc::{AllocError, AllocFailed};
+use thiserror::Error;
+
+/// Why bytes are no packet. Exactly one holds of bytes that are no packet's text.
+#[derive(Clone, Copy, Debug, PartialEq, Eq, Error)]
+pub enum PacketReason {
+    /// Right whole fields, and then fewer bytes than the next field has.
+    #[error("too short")]
+    Short,
+    /// A packet's text, and then one byte or more.
+    #[error("too long")]
+    Long,
+    /// The first byte is no version that is known.
+    #[error("unknown version")]
+    Version,
+    /// The second byte is no kind that is known.
+    #[error("unknown kind")]
+    Kind,
+    /// Right whole fields, and then a whole field that breaks its rule.
+    #[error("wrong field")]
+    Field,
+}
+
+/// Why a deck is bad, by its first bad line.
+#[derive(Clone, Copy, Debug, PartialEq, Eq, Error)]
+pub enum DeckReason {
+    /// The first line that is not skipped does not begin with `nodes`, or there is none.
+    #[error("nodes expected")]
+    NodesExpected,
+    /// The first word is not allowed at this place, or another fixed word is not the one expected.
+    #[error("unknown word")]
+    UnknownWord,
+    /// A word is missing or left over.
+    #[error("wrong number of words")]
+    WrongNumberOfWords,
+    /// No number, or one outside its range.
+    #[error("bad number")]
+    BadNumber,
+    /// Not of a name's form, or a word of the expressions as a component.
+    #[error("bad name")]
+    BadName,
+    /// Declared before.
+    #[error("duplicate name")]
+    DuplicateName,
+    /// Not declared, or of another kind.
+    #[error("unknown name")]
+    UnknownName,
+    /// The declaration or statement passes its limit, or the depth does.
+    #[error("too many")]
+    TooMany,
+    /// More than 32 nodes.
+    #[error("bad expression")]
+    BadExpression,
+    /// At `script`, no task is declared.
+    #[error("task expected")]
+    TaskExpected,
+    /// At `script`, neither a tally nor an object is declared.
+    #[error("object expected")]
+    ObjectExpected,
+    /// The deck ends in a body.
+    #[error("end expected")]
+    EndExpected,
+    /// The deck ends before `script`.
+    #[error("script expected")]
+    ScriptExpected,
+    /// A script line that live mode does not take.
+    #[error("not in live")]
+    NotInLive,
+}
+
+/// Why a call was refused. After `OutOfMemory`, `BadPacket` and all from `NotRunning` on nothing
+/// has changed, but for what a call's own text says.
+#[derive(Clone, Copy, Debug, PartialEq, Eq, Error)]
+pub enum Fault {
+    /// A growth was refused.
+    #[error("OutOfMemory")]
+    OutOfMemory,
+    /// The device's failure count rose in this call.
+    #[error("Device")]
+    Device,
+    /// The device failed before, and was not opened anew.
+    #[error("Failed")]
+    Failed,
+    /// The bytes are no packet.
+    #[error("BadPacket")]
+    BadPacket(PacketReason),
+    /// The node is stopped.
+    #[error("NotRunning")]
+    NotRunning,
+    /// The node has no ballot above the ones that it has seen.
+    #[error("BallotsSpent")]
+    BallotsSpent,
+    /// No position is left that may be led in.
+    #[error("LogFull")]
+    LogFull,
+    /// No message has this number.
+    #[error("NoSuchMessage")]
+    NoSuchMessage,
+    /// The task's last call has no answer yet.
+    #[error("TaskBusy")]
+    TaskBusy,
+    /// The task made its last call.
+    #[error("NumbersSpent")]
+    NumbersSpent,
+    /// The deck breaks a rule, first at this line, counted from 1.
+    #[error("BadDeck")]
+    BadDeck { line: u32, reason: DeckReason },
+    /// A number is outside its limits.
+    #[error("BadConfig")]
+    BadConfig,
+    /// A read or a write failed.
+    #[error("Io")]
+    Io,
+}
+
+impl Fault {
+    /// Its number, 1 to 13, as it is printed.
+    pub fn code(&self) -> u8
+        ensures { result ≡ code_of self.now }
+    {
+        match self {
+            Fault::OutOfMemory => 1,
+            Fault::Device => 2,
+            Fault::Failed => 3,
+            Fault::BadPacket(_) => 4,
+            Fault::NotRunning => 5,
+            Fault::BallotsSpent => 6,
+            Fault::LogFull => 7,
+            Fault::NoSuchMessage => 8,
+            Fault::TaskBusy => 9,
+            Fault::NumbersSpent => 10,
+            Fault::BadDeck { .. } => 11,
+            Fault::BadConfig => 12,
+            Fault::Io => 13,
+        }
+    }
+
+    /// Its name, as it is printed.
+    pub fn name(&self) -> &'static str
+        ensures { result.now ≡ name_of self.now }
+    {
+        match self {
+            Fault::OutOfMemory => "OutOfMemory",
+            Fault::Device => "Device",
+            Fault::Failed => "Failed",
+            Fault::BadPacket(_) => "BadPacket",
+            Fault::NotRunning => "NotRunning",
+            Fault::BallotsSpent => "BallotsSpent",
+            Fault::LogFull => "LogFull",
+            Fault::NoSuchMessage => "NoSuchMessage",
+            Fault::TaskBusy => "TaskBusy",
+            Fault::NumbersSpent => "NumbersSpent",
+            Fault::BadDeck { .. } => "BadDeck",
+            Fault::BadConfig => "BadConfig",
+            Fault::Io => "Io",
+        }
+    }
+}
+
+impl From<AllocError> for Fault {
+    ghost from_gives = { λ _ e. e ≡ OutOfMemory };
+
+    fn from(_e: AllocError) -> Fault {
+        Fault::OutOfMemory
+    }
+}
+
+impl<T: Drop> From<AllocFailed<T>> for Fault {
+    ghost from_gives = { λ _ e. e ≡ OutOfMemory };
+
+    fn from(_e: AllocFailed<T>) -> Fault {
+        Fault::OutOfMemory
+    }
+}

@@ -1,5 +1,6 @@
 -- Which actions keep the rules of their fields (the limits are this project's own).
-use Rattle.std.specs.Prelude.{ℕ, ◌≡◌, ◌<◌, ◌≤◌, ◌^◌, FitsSigned}
+use Rattle.std.specs.Prelude.{ℕ, ◌≡◌, ◌<◌, ◌≤◌, ◌^◌, FitsSigned, Bool, true, false, nat_eq, nat_le, ◌&&◌}
+use Rattle.std.specs.Ordering.{int_eq}
 use Rattle.std.specs.Int.{w64}
 use Rattle.rp_base.specs.Number.{IsTask}
 use Rattle.rp_base.specs.declared.action.Operation.{Operation}
@@ -30,3 +31,38 @@ IsRight (Call task number object operation arg) =
     IsTask task × IsCount number × IsIndex object × IsRightOperation operation × FitsSigned w64 arg
 IsRight (Interrupt source occurrence) = IsIndex source × IsCount occurrence
 IsRight (Tick now) = now < 2 ^ 32
+
+-- the same as a test, for numbers that are within their types
+abbrev pub in_range : ℕ → ℕ → ℕ → Bool
+in_range low high n = nat_le low n && nat_le n high
+
+abbrev pub is_right_operation : Operation → Bool
+is_right_operation (Function index) = in_range 1 8 index
+is_right_operation (Procedure index) = in_range 1 8 index
+is_right_operation (Entry index) = nat_eq index 1
+is_right_operation (SetTimer index) = in_range 1 8 index
+is_right_operation (CancelTimer index) = in_range 1 8 index
+
+abbrev pub is_right : Action → Bool
+is_right Noop = true
+is_right (Call task number object operation arg) =
+    in_range 1 8 task && nat_le 1 number && in_range 1 8 object && is_right_operation operation
+is_right (Interrupt source occurrence) = in_range 1 8 source && nat_le 1 occurrence
+is_right (Tick now) = true
+
+-- the operations are the same
+abbrev pub same_operation : Operation → Operation → Bool
+same_operation (Function a) (Function b) = nat_eq a b
+same_operation (Procedure a) (Procedure b) = nat_eq a b
+same_operation (Entry a) (Entry b) = nat_eq a b
+same_operation (SetTimer a) (SetTimer b) = nat_eq a b
+same_operation (CancelTimer a) (CancelTimer b) = nat_eq a b
+same_operation _ _ = false
+
+-- the actions are the same
+abbrev pub same_action : Action → Action → Bool
+same_action Noop Noop = true
+same_action (Call t n o p a) (Call u m q r b) = nat_eq t u && nat_eq n m && nat_eq o q && same_operation p r && int_eq a b
+same_action (Interrupt s n) (Interrupt t m) = nat_eq s t && nat_eq n m
+same_action (Tick a) (Tick b) = nat_eq a b
+same_action _ _ = false

@@ -1,6 +1,6 @@
 -- Ballots. Lamport, "Paxos Made Simple", section 2.2: proposers draw their numbers from disjoint sets.
 -- The form of the number is this project's own.
-use Rattle.std.specs.Prelude.{◌≡◌, ℕ, ◌+◌, ◌*◌, ◌/◌, ◌%◌, ◌<◌, ◌≤◌, ◌^◌, Option, unwrap_or}
+use Rattle.std.specs.Prelude.{◌≡◌, ℕ, ◌+◌, ◌-◌, ◌*◌, ◌/◌, ◌%◌, ◌<◌, ◌≤◌, ◌^◌, max, Option, unwrap_or}
 use Rattle.rp_base.specs.Number.{IsNode}
 
 -- the ballot of a round and the node that owns it
@@ -34,3 +34,7 @@ pub record IsAbove (node floor b : ℕ) : Type 0 where
 pub record IsNext (node floor b : ℕ) : Type 0 where
   pub candidate : IsAbove node floor b
   pub least : (other : ℕ) → IsAbove node floor other → b ≤ other
+
+-- the least number of this node's form above a number, with a round from 1
+abbrev pub next_ballot : ℕ → ℕ → ℕ
+next_ballot node floor = ballot_of (max 1 ((floor + 8 - node) / 8)) node

@@ -5,3 +5,6 @@ pub mod Majority
 pub mod Action
 pub mod Fault
 pub mod Config
+pub mod Records
+pub mod Promises
+pub mod Right

@@ -15,3 +15,8 @@ IsSet (x ∷ xs) = (¬ Has x xs) × IsSet xs
 -- the list with x, at its end unless it is there
 abbrev pub with_member : {A : Type 0} → (A → A → Bool) → List A → A → List A
 with_member same xs x = if list_any (same x) xs then xs else xs ++ x ∷ []
+
+-- the list with these members too, each once
+abbrev pub with_members : {A : Type 0} → (A → A → Bool) → List A → List A → List A
+with_members same seen [] = seen
+with_members same seen (x ∷ xs) = with_members same (with_member same seen x) xs

@@ -1,7 +1,7 @@
 //! What the log holds: calls, interrupts and ticks.
 
-ghost use Rattle.std.specs.Prelude.{◌↔◌, IsTrue};
-ghost use Rattle.rp_base.specs.Action.{IsRight, IsRightOperation};
+ghost use Rattle.std.specs.Prelude.{◌≡◌, ◌↔◌, IsTrue};
+ghost use Rattle.rp_base.specs.Action.{IsRight, IsRightOperation, is_right_operation, is_right as right};
 
 use crate::number::TaskId;
 
@@ -19,7 +19,8 @@ pub enum Operation {
 impl Operation {
     /// Whether the index is within its range: 1 to 8, for an entry 1.
     pub fn is_right(self) -> bool
-        ensures { IsTrue result ↔ IsRightOperation self }
+        ensures right { IsTrue result ↔ IsRightOperation self }
+        ensures value { result ≡ is_right_operation self }
     {
         match self {
             Operation::Entry(index) => index == 1,
@@ -60,7 +61,8 @@ impl Action {
     /// Whether each number is within its range: call numbers and occurrences from 1, objects and
     /// sources 1 to 8, the operation's index as `Operation::is_right` says.
     pub fn is_right(self) -> bool
-        ensures { IsTrue result ↔ IsRight self }
+        ensures right { IsTrue result ↔ IsRight self }
+        ensures value { result ≡ right self }
     {
         match self {
             Action::Noop => true,

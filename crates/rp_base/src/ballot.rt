@@ -1,7 +1,7 @@
 //! Ballots, which order the attempts to decide a position.
 
-ghost use Rattle.std.specs.Prelude.{◌≡◌, ℕ, ◌↔◌, ◌<◌, ◌≤◌, IsSome, IfSome, IfOk, IsErrOf, IsOkUnless};
-ghost use Rattle.rp_base.specs.Ballot.{IsBallot, ballot_of, round_of, owner_of, number_of, IsAbove, IsNext};
+ghost use Rattle.std.specs.Prelude.{◌≡◌, ℕ, ◌↔◌, ◌<◌, ◌≤◌, ◌^◌, IsSome, IfSome, IfOk, IsErrOf, IsOkUnless};
+ghost use Rattle.rp_base.specs.Ballot.{IsBallot, ballot_of, round_of, owner_of, number_of, next_ballot, IsAbove, IsNext};
 
 use crate::fault::Fault;
 use crate::number::NodeId;
@@ -75,7 +75,9 @@ impl Ballot {
     /// has no ballot above it.
     pub fn next_for(node: NodeId, above: Option<Ballot>) -> Result<Self, Fault>
         ensures next { IfOk result (IsNext node (number_of above)) }
+        ensures value { IfOk result (λ b. b ≡ next_ballot node (number_of above)) }
         ensures spent { IsErrOf result Fault.BallotsSpent ↔ ((b : ℕ) → ¬ IsAbove node (number_of above) b) }
+        ensures full { IsErrOf result Fault.BallotsSpent ↔ (2 ^ 32 ≤ round_of (next_ballot node (number_of above))) }
         ensures only { IsOkUnless result Fault.BallotsSpent }
     {
         let (round, owner) = match above {

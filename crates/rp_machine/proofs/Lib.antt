@@ -1,0 +1,4 @@
+pub mod Adding
+pub mod Image
+pub mod Replaying
+pub mod Applying

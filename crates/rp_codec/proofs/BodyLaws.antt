@@ -1,0 +1,271 @@
+-- A body that is read is the body that was written, and what was written is read again.
+use Rattle.std.proofs.Common.{◌≡◌, ℕ, ◌<◌, true, false, ltb, eqb, List, ◌∷◌, ◌++◌, Option, Some, None, Ok, refl, ap, ◌∙◌, append_assoc}
+use Rattle.std.specs.Prelude.{IfSome}
+use Rattle.std.specs.Int.{w32}
+use Rattle.std.proofs.lemmas.Bool.{eqb-true, ltb-true, lt-ltb}
+use Rattle.rp_base.specs.Ballot.{IsBallot}
+use Rattle.rp_base.specs.declared.reply.Reply.{Reply}
+use Rattle.rp_base.specs.declared.reply.Reply.TheVariants as replies
+use Rattle.rp_base.specs.declared.record.Vote.{Vote}
+use Rattle.rp_codec.specs.declared.packet.Party.{Party}
+use Rattle.rp_codec.specs.declared.packet.Body.{Body}
+use Rattle.rp_codec.specs.declared.packet.Body.TheVariants as bodies
+use Rattle.rp_codec.specs.declared.kind.Kind.{Kind}
+use Rattle.rp_codec.specs.declared.kind.Kind.TheVariants.{Call, Prepare, Promise, Accept, Accepted, Decided, Nack, Reply as Answer}
+use Rattle.rp_codec.specs.Message.{IsReply, IsBody, IsNodeParty, IsTaskParty, IsVoteBelow, MaySay}
+use Rattle.rp_codec.specs.Text.{number_text, position_text, ballot_text, action_text, reply_text, last_text, kind_number, body_text}
+use Rattle.rp_codec.specs.Reading.{value_at, truth_at, reply_at, lower_ballot_at, higher_ballot_at, vote_at, last_at, prepare_at, promise_at, accept_at, accepted_at, decided_at, nack_at, answer_at, task_call_at, body_at}
+use Rattle.rp_codec.proofs.Steps.{IsBytes, Yields, Took, then, when, keeps}
+use Rattle.rp_codec.proofs.FieldLaws.{TookByte, TookSigned, TookCount, TookPosition, TookBallot, byte_took, signed_took, signed_again, count_took, count_again, position_took, position_again, ballot_took, ballot_again}
+use Rattle.rp_codec.proofs.ActionLaws.{TookAction, TookOwn, action_took, action_again, own_call_took, own_call_again}
+
+-- ---- replies
+
+abbrev TookReply : List ℕ → Reply × List ℕ → Type 0
+TookReply bytes = Took reply_text IsReply bytes
+
+value_took : (bytes rest : List ℕ) → bytes ≡ 1 ∷ rest → IsBytes rest → Yields (TookReply bytes) (value_at rest)
+unfolding value_at
+value_took bytes rest begins h =
+    then (TookSigned rest) (TookReply bytes) _ _ (signed_took rest h)
+    (λ z t. record { parts = begins ∙ ap (λ (r : List ℕ). 1 ∷ r) t.parts; rest = t.rest; right = t.right })
+
+truth_took : (bytes rest : List ℕ) → bytes ≡ 2 ∷ rest → IsBytes rest → Yields (TookReply bytes) (truth_at rest)
+unfolding truth_at
+truth_took bytes rest begins h =
+    then (TookByte rest) (TookReply bytes) _ _ (byte_took rest h)
+    (λ flag t.
+    let starts : (k : ℕ) → eqb flag.0 k ≡ true → bytes ≡ 2 ∷ k ∷ flag.1 = λ k e. begins ∙ ap (λ (r : List ℕ). 2 ∷ r) (t.parts ∙ ap (λ (b : ℕ). b ∷ flag.1) (eqb-true _ _ e)) in
+    when (TookReply bytes) (eqb flag.0 0) _ _ (λ e. record { parts = starts 0 e; rest = t.rest; right = tt })
+    (λ _. when (TookReply bytes) (eqb flag.0 1) _ _ (λ e. record { parts = starts 1 e; rest = t.rest; right = tt }) (λ _. tt)))
+
+reply_took : (bytes : List ℕ) → IsBytes bytes → Yields (TookReply bytes) (reply_at bytes)
+unfolding reply_at
+reply_took bytes h =
+    then (TookByte bytes) (TookReply bytes) _ _ (byte_took bytes h)
+    (λ tag t.
+    let begins : (k : ℕ) → eqb tag.0 k ≡ true → bytes ≡ k ∷ tag.1 = λ k e. t.parts ∙ ap (λ (b : ℕ). b ∷ tag.1) (eqb-true _ _ e) in
+    when (TookReply bytes) (eqb tag.0 1) _ _ (λ e. value_took bytes tag.1 (begins 1 e) t.rest)
+    (λ _. when (TookReply bytes) (eqb tag.0 2) _ _ (λ e. truth_took bytes tag.1 (begins 2 e) t.rest)
+    (λ _. when (TookReply bytes) (eqb tag.0 3) _ _ (λ e. record { parts = begins 3 e; rest = t.rest; right = tt })
+    (λ _. when (TookReply bytes) (eqb tag.0 4) _ _ (λ e. record { parts = begins 4 e; rest = t.rest; right = tt })
+    (λ _. when (TookReply bytes) (eqb tag.0 5) _ _ (λ e. record { parts = begins 5 e; rest = t.rest; right = tt }) (λ _. tt))))))
+
+reply_again : (reply : Reply) (rest : List ℕ) → IsReply reply → reply_at (reply_text reply ++ rest) ≡ Ok (reply, rest)
+unfolding reply_at value_at truth_at
+reply_again (replies.Value z) rest right = rw (signed_again z rest right) refl
+reply_again (replies.Truth false) rest right = refl
+reply_again (replies.Truth true) rest right = refl
+reply_again replies.ConstraintError rest right = refl
+reply_again replies.ProgramError rest right = refl
+reply_again replies.NoSuchOperation rest right = refl
+
+-- ---- ballots beside another
+
+abbrev IsLower : ℕ → ℕ → Type 0
+IsLower ballot lower = IsBallot lower × (lower < ballot)
+
+abbrev IsHigher : ℕ → ℕ → Type 0
+IsHigher ballot higher = IsBallot higher × (ballot < higher)
+
+abbrev TookLower : ℕ → List ℕ → ℕ × List ℕ → Type 0
+TookLower ballot bytes = Took ballot_text (IsLower ballot) bytes
+
+abbrev TookHigher : ℕ → List ℕ → ℕ × List ℕ → Type 0
+TookHigher ballot bytes = Took ballot_text (IsHigher ballot) bytes
+
+lower_took : (ballot : ℕ) (bytes : List ℕ) → IsBytes bytes → Yields (TookLower ballot bytes) (lower_ballot_at ballot bytes)
+unfolding lower_ballot_at
+lower_took ballot bytes h =
+    then (TookBallot bytes) (TookLower ballot bytes) _ _ (ballot_took bytes h)
+    (λ b t. keeps (TookLower ballot bytes) (ltb b.0 ballot) b (λ e. record { parts = t.parts; rest = t.rest; right = (t.right, ltb-true _ _ e) }))
+
+higher_took : (ballot : ℕ) (bytes : List ℕ) → IsBytes bytes → Yields (TookHigher ballot bytes) (higher_ballot_at ballot bytes)
+unfolding higher_ballot_at
+higher_took ballot bytes h =
+    then (TookBallot bytes) (TookHigher ballot bytes) _ _ (ballot_took bytes h)
+    (λ b t. keeps (TookHigher ballot bytes) (ltb ballot b.0) b (λ e. record { parts = t.parts; rest = t.rest; right = (t.right, ltb-true _ _ e) }))
+
+lower_again : (ballot lower : ℕ) (rest : List ℕ) → IsLower ballot lower → lower_ballot_at ballot (ballot_text lower ++ rest) ≡ Ok (lower, rest)
+unfolding lower_ballot_at
+lower_again ballot lower rest right = rw (ballot_again lower rest right.0, lt-ltb _ _ right.1) refl
+
+higher_again : (ballot higher : ℕ) (rest : List ℕ) → IsHigher ballot higher → higher_ballot_at ballot (ballot_text higher ++ rest) ≡ Ok (higher, rest)
+unfolding higher_ballot_at
+higher_again ballot higher rest right = rw (ballot_again higher rest right.0, lt-ltb _ _ right.1) refl
+
+-- ---- a promise's vote
+
+abbrev IsLast : ℕ → Option Vote → Type 0
+IsLast ballot last = IfSome last (λ vote. IsBallot vote.ballot) × IfSome last (λ vote. IsVoteBelow ballot vote)
+
+abbrev TookLast : ℕ → List ℕ → Option Vote × List ℕ → Type 0
+TookLast ballot bytes = Took last_text (IsLast ballot) bytes
+
+vote_took : (ballot : ℕ) (bytes rest : List ℕ) → bytes ≡ 1 ∷ rest → IsBytes rest → Yields (TookLast ballot bytes) (vote_at ballot rest)
+unfolding vote_at
+vote_took ballot bytes rest begins h =
+    then (TookLower ballot rest) (TookLast ballot bytes) _ _ (lower_took ballot rest h)
+    (λ b t. then (TookAction b.1) (TookLast ballot bytes) _ _ (action_took b.1 t.rest)
+    (λ action a. record { parts = begins ∙ rw (t.parts, a.parts) (simp append_assoc); rest = a.rest; right = (t.right.0, (t.right.1, a.right)) }))
+
+last_took : (ballot : ℕ) (bytes : List ℕ) → IsBytes bytes → Yields (TookLast ballot bytes) (last_at ballot bytes)
+unfolding last_at
+last_took ballot bytes h =
+    then (TookByte bytes) (TookLast ballot bytes) _ _ (byte_took bytes h)
+    (λ flag t.
+    let begins : (k : ℕ) → eqb flag.0 k ≡ true → bytes ≡ k ∷ flag.1 = λ k e. t.parts ∙ ap (λ (b : ℕ). b ∷ flag.1) (eqb-true _ _ e) in
+    when (TookLast ballot bytes) (eqb flag.0 0) _ _ (λ e. record { parts = begins 0 e; rest = t.rest; right = (tt, tt) })
+    (λ _. when (TookLast ballot bytes) (eqb flag.0 1) _ _ (λ e. vote_took ballot bytes flag.1 (begins 1 e) t.rest) (λ _. tt)))
+
+last_again : (ballot : ℕ) (last : Option Vote) (rest : List ℕ) → IsLast ballot last → last_at ballot (last_text last ++ rest) ≡ Ok (last, rest)
+unfolding last_at vote_at
+last_again ballot None rest right = refl
+last_again ballot (Some vote) rest right =
+    let parts : last_text (Some vote) ++ rest ≡ 1 ∷ (ballot_text vote.ballot ++ (action_text vote.action ++ rest)) = simp append_assoc in
+    ap (last_at ballot) parts ∙ rw (lower_again ballot vote.ballot (action_text vote.action ++ rest) (right.0, right.1.0), action_again vote.action rest right.1.1) refl
+
+-- ---- bodies
+
+-- the number of a kind, and who may send and hear it
+abbrev pub number_of : Kind → ℕ
+number_of Call = 1
+number_of Prepare = 2
+number_of Promise = 3
+number_of Accept = 4
+number_of Accepted = 5
+number_of Decided = 6
+number_of Nack = 8
+number_of Answer = 9
+
+abbrev pub IsFrom : Kind → Party → Type 0
+IsFrom Call from = IsTaskParty from
+IsFrom Prepare from = IsNodeParty from
+IsFrom Promise from = IsNodeParty from
+IsFrom Accept from = IsNodeParty from
+IsFrom Accepted from = IsNodeParty from
+IsFrom Decided from = IsNodeParty from
+IsFrom Nack from = IsNodeParty from
+IsFrom Answer from = IsNodeParty from
+
+abbrev pub IsTo : Kind → Party → Type 0
+IsTo Call to = IsNodeParty to
+IsTo Prepare to = IsNodeParty to
+IsTo Promise to = IsNodeParty to
+IsTo Accept to = IsNodeParty to
+IsTo Accepted to = IsNodeParty to
+IsTo Decided to = IsNodeParty to
+IsTo Nack to = IsNodeParty to
+IsTo Answer to = IsTaskParty to
+
+-- what reading a body of this kind shows
+pub record IsSaid (kind : Kind) (from : Party) (body : Body) : Type 0 where
+  pub number : number_of kind ≡ kind_number body
+  pub ranges : IsBody body
+  pub rules : (to : Party) → IsFrom kind from → IsTo kind to → MaySay from to body
+
+abbrev pub TookBody : Kind → Party → List ℕ → Body × List ℕ → Type 0
+TookBody kind from bytes = Took body_text (IsSaid kind from) bytes
+
+task_call_took : (from : Party) (bytes : List ℕ) → IsBytes bytes → Yields (TookBody Call from bytes) (task_call_at from bytes)
+unfolding task_call_at
+task_call_took from bytes h =
+    then (TookOwn from bytes) (TookBody Call from bytes) _ _ (own_call_took from bytes h)
+    (λ action a. record { parts = a.parts; rest = a.rest; right = record { number = refl; ranges = tt; rules = λ to f t. (f, t, a.right.0, a.right.1) } })
+
+prepare_took : (from : Party) (bytes : List ℕ) → IsBytes bytes → Yields (TookBody Prepare from bytes) (prepare_at bytes)
+unfolding prepare_at
+prepare_took from bytes h =
+    then (TookPosition bytes) (TookBody Prepare from bytes) _ _ (position_took bytes h)
+    (λ position p. then (TookBallot position.1) (TookBody Prepare from bytes) _ _ (ballot_took position.1 p.rest)
+    (λ ballot b. record { parts = rw (p.parts, b.parts) (simp append_assoc); rest = b.rest; right = record { number = refl; ranges = (p.right, b.right); rules = λ to f t. (f, t) } }))
+
+promise_took : (from : Party) (bytes : List ℕ) → IsBytes bytes → Yields (TookBody Promise from bytes) (promise_at bytes)
+unfolding promise_at
+promise_took from bytes h =
+    then (TookPosition bytes) (TookBody Promise from bytes) _ _ (position_took bytes h)
+    (λ position p. then (TookBallot position.1) (TookBody Promise from bytes) _ _ (ballot_took position.1 p.rest)
+    (λ ballot b. then (TookLast ballot.0 ballot.1) (TookBody Promise from bytes) _ _ (last_took ballot.0 ballot.1 b.rest)
+    (λ last l. record { parts = rw (p.parts, b.parts, l.parts) (simp append_assoc); rest = l.rest; right = record { number = refl; ranges = (p.right, b.right, l.right.0); rules = λ to f t. ((f, t), l.right.1) } })))
+
+accept_took : (from : Party) (bytes : List ℕ) → IsBytes bytes → Yields (TookBody Accept from bytes) (accept_at bytes)
+unfolding accept_at
+accept_took from bytes h =
+    then (TookPosition bytes) (TookBody Accept from bytes) _ _ (position_took bytes h)
+    (λ position p. then (TookBallot position.1) (TookBody Accept from bytes) _ _ (ballot_took position.1 p.rest)
+    (λ ballot b. then (TookAction ballot.1) (TookBody Accept from bytes) _ _ (action_took ballot.1 b.rest)
+    (λ action a. record { parts = rw (p.parts, b.parts, a.parts) (simp append_assoc); rest = a.rest; right = record { number = refl; ranges = (p.right, b.right); rules = λ to f t. ((f, t), a.right) } })))
+
+accepted_took : (from : Party) (bytes : List ℕ) → IsBytes bytes → Yields (TookBody Accepted from bytes) (accepted_at bytes)
+unfolding accepted_at
+accepted_took from bytes h =
+    then (TookPosition bytes) (TookBody Accepted from bytes) _ _ (position_took bytes h)
+    (λ position p. then (TookBallot position.1) (TookBody Accepted from bytes) _ _ (ballot_took position.1 p.rest)
+    (λ ballot b. then (TookAction ballot.1) (TookBody Accepted from bytes) _ _ (action_took ballot.1 b.rest)
+    (λ action a. record { parts = rw (p.parts, b.parts, a.parts) (simp append_assoc); rest = a.rest; right = record { number = refl; ranges = (p.right, b.right); rules = λ to f t. ((f, t), a.right) } })))
+
+decided_took : (from : Party) (bytes : List ℕ) → IsBytes bytes → Yields (TookBody Decided from bytes) (decided_at bytes)
+unfolding decided_at
+decided_took from bytes h =
+    then (TookPosition bytes) (TookBody Decided from bytes) _ _ (position_took bytes h)
+    (λ position p. then (TookAction position.1) (TookBody Decided from bytes) _ _ (action_took position.1 p.rest)
+    (λ action a. record { parts = rw (p.parts, a.parts) (simp append_assoc); rest = a.rest; right = record { number = refl; ranges = p.right; rules = λ to f t. ((f, t), a.right) } }))
+
+nack_took : (from : Party) (bytes : List ℕ) → IsBytes bytes → Yields (TookBody Nack from bytes) (nack_at bytes)
+unfolding nack_at
+nack_took from bytes h =
+    then (TookPosition bytes) (TookBody Nack from bytes) _ _ (position_took bytes h)
+    (λ position p. then (TookBallot position.1) (TookBody Nack from bytes) _ _ (ballot_took position.1 p.rest)
+    (λ ballot b. then (TookHigher ballot.0 ballot.1) (TookBody Nack from bytes) _ _ (higher_took ballot.0 ballot.1 b.rest)
+    (λ bound u. record { parts = rw (p.parts, b.parts, u.parts) (simp append_assoc); rest = u.rest; right = record { number = refl; ranges = (p.right, b.right, u.right.0); rules = λ to f t. ((f, t), u.right.1) } })))
+
+answer_took : (from : Party) (bytes : List ℕ) → IsBytes bytes → Yields (TookBody Answer from bytes) (answer_at bytes)
+unfolding answer_at
+answer_took from bytes h =
+    then (TookCount bytes) (TookBody Answer from bytes) _ _ (count_took bytes h)
+    (λ number n. then (TookReply number.1) (TookBody Answer from bytes) _ _ (reply_took number.1 n.rest)
+    (λ reply r. record { parts = rw (n.parts, r.parts) (simp append_assoc); rest = r.rest; right = record { number = refl; ranges = r.right; rules = λ to f t. (f, t, n.right) } }))
+
+pub body_took : (kind : Kind) (from : Party) (bytes : List ℕ) → IsBytes bytes → Yields (TookBody kind from bytes) (body_at kind from bytes)
+unfolding body_at
+body_took Call from bytes h = task_call_took from bytes h
+body_took Prepare from bytes h = prepare_took from bytes h
+body_took Promise from bytes h = promise_took from bytes h
+body_took Accept from bytes h = accept_took from bytes h
+body_took Accepted from bytes h = accepted_took from bytes h
+body_took Decided from bytes h = decided_took from bytes h
+body_took Nack from bytes h = nack_took from bytes h
+body_took Answer from bytes h = answer_took from bytes h
+
+-- the kind of a body
+abbrev pub kind_of_body : Body → Kind
+kind_of_body (bodies.Call action) = Call
+kind_of_body (bodies.Prepare position ballot) = Prepare
+kind_of_body (bodies.Promise position ballot last) = Promise
+kind_of_body (bodies.Accept position ballot action) = Accept
+kind_of_body (bodies.Accepted position ballot action) = Accepted
+kind_of_body (bodies.Decided position action) = Decided
+kind_of_body (bodies.Nack position ballot bound) = Nack
+kind_of_body (bodies.Reply number reply) = Answer
+
+-- three fields, one behind the other
+regroup : (x y z rest : List ℕ) → (x ++ y ++ z) ++ rest ≡ x ++ (y ++ (z ++ rest))
+regroup x y z rest = simp append_assoc
+
+pub body_again : (from to : Party) (body : Body) (rest : List ℕ) → IsBody body → MaySay from to body → body_at (kind_of_body body) from (body_text body ++ rest) ≡ Ok (body, rest)
+unfolding body_at task_call_at prepare_at promise_at accept_at accepted_at decided_at nack_at answer_at
+body_again from to (bodies.Call action) rest ranges rules = rw (own_call_again from action rest rules.2 rules.3) refl
+body_again from to (bodies.Prepare position ballot) rest ranges rules =
+    ap prepare_at (append_assoc (position_text position) (ballot_text ballot) rest) ∙ rw (position_again position (ballot_text ballot ++ rest) ranges.0, ballot_again ballot rest ranges.1) refl
+body_again from to (bodies.Promise position ballot last) rest ranges rules =
+    ap promise_at (regroup (position_text position) (ballot_text ballot) (last_text last) rest) ∙ rw (position_again position (ballot_text ballot ++ (last_text last ++ rest)) ranges.0, ballot_again ballot (last_text last ++ rest) ranges.1, last_again ballot last rest (ranges.2, rules.1)) refl
+body_again from to (bodies.Accept position ballot action) rest ranges rules =
+    ap accept_at (regroup (position_text position) (ballot_text ballot) (action_text action) rest) ∙ rw (position_again position (ballot_text ballot ++ (action_text action ++ rest)) ranges.0, ballot_again ballot (action_text action ++ rest) ranges.1, action_again action rest rules.1) refl
+body_again from to (bodies.Accepted position ballot action) rest ranges rules =
+    ap accepted_at (regroup (position_text position) (ballot_text ballot) (action_text action) rest) ∙ rw (position_again position (ballot_text ballot ++ (action_text action ++ rest)) ranges.0, ballot_again ballot (action_text action ++ rest) ranges.1, action_again action rest rules.1) refl
+body_again from to (bodies.Decided position action) rest ranges rules =
+    ap decided_at (append_assoc (position_text position) (action_text action) rest) ∙ rw (position_again position (action_text action ++ rest) ranges, action_again action rest rules.1) refl
+body_again from to (bodies.Nack position ballot bound) rest ranges rules =
+    ap nack_at (regroup (position_text position) (ballot_text ballot) (ballot_text bound) rest) ∙ rw (position_again position (ballot_text ballot ++ (ballot_text bound ++ rest)) ranges.0, ballot_again ballot (ballot_text bound ++ rest) ranges.1, higher_again ballot bound rest (ranges.2, rules.1)) refl
+body_again from to (bodies.Reply number reply) rest ranges rules =
+    ap answer_at (append_assoc (number_text w32 number) (reply_text reply) rest) ∙ rw (count_again number (reply_text reply ++ rest) rules.2, reply_again reply rest ranges) refl

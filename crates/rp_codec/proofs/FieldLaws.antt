@@ -1,0 +1,177 @@
+-- A field that is read is the field that was written, and what was written is read again.
+use Rattle.std.proofs.Common.{◌≡◌, ℕ, suc, ◌+◌, ◌^◌, ◌<◌, ◌≤◌, inl, inr, rules, true, false, ltb, List, [], ◌∷◌, ◌++◌, length, take, drop, Ok, Err, refl, sym, arith, ℤ}
+use Rattle.std.specs.Prelude.{FitsSigned}
+use Rattle.std.specs.Int.{Width, w16, w32, w64, byte_len, from_be_bytes, to_be_bytes, cast_signed, cast_unsigned}
+use Rattle.std.proofs.lemmas.Bool.{cases_lt, ltb-false, le-ltb, leb-true, le-leb}
+use Rattle.std.proofs.lemmas.Bool.Decides.{nat_tests}
+use Rattle.std.proofs.lemmas.Int.{to_z-of_z, of_z-to_z, ints}
+use Rattle.std.proofs.lemmas.List.{take_at, drop_at, take-append-drop, length-append, length-take, get_or-drop, get_or-take, get_or_past}
+use Rattle.std.proofs.lemmas.Nat.{be_bytes_2, be_bytes_4, be_bytes_8, from_be_bytes-to_be_bytes_2, from_be_bytes-to_be_bytes_4, from_be_bytes-to_be_bytes_8}
+use Rattle.rp_base.specs.Number.{IsPosition}
+use Rattle.rp_base.specs.Ballot.{IsBallot}
+use Rattle.rp_base.specs.Action.{IsIndex, IsCount}
+use Rattle.rp_base.specs.declared.fault.PacketReason.TheVariants.{Short}
+use Rattle.rp_codec.specs.Text.{number_text, signed_text, position_text, ballot_text}
+use Rattle.rp_codec.specs.Reading.{ruled, byte_at, number_at, signed_at, is_index, is_positive, is_ballot, index_at, count_at, position_at, ballot_at}
+use Rattle.rp_codec.proofs.RuleTests.{is_ballot_decides}
+use Rattle.rp_codec.proofs.Steps.{IsBytes, Yields, Took, then, when, keeps}
+
+IsBytes-drop : (n : ℕ) (bytes : List ℕ) → IsBytes bytes → IsBytes (drop n bytes)
+IsBytes-drop n bytes h i = rw get_or-drop (h (n + i))
+
+IsBytes-take : (n : ℕ) (bytes : List ℕ) → IsBytes bytes → IsBytes (take n bytes)
+IsBytes-take n bytes h i =
+    elim (cases_lt i n) [
+      | inl lt ↦ rw (get_or-take n bytes i 0 lt) (h i)
+      | inr le ↦ rw (get_or_past (take n bytes) i 0 (omega (arith, length-take n bytes))) (omega arith)
+    ]
+
+-- ---- bytes
+
+abbrev pub byte_text : ℕ → List ℕ
+byte_text b = b ∷ []
+
+abbrev pub IsByte : ℕ → Type 0
+IsByte b = b < 256
+
+abbrev pub TookByte : List ℕ → ℕ × List ℕ → Type 0
+TookByte bytes = Took byte_text IsByte bytes
+
+pub byte_took : (bytes : List ℕ) → IsBytes bytes → Yields (TookByte bytes) (byte_at bytes)
+byte_took [] h = tt
+byte_took (b ∷ rest) h = record { parts = refl; rest = λ i. h (suc i); right = h 0 }
+
+-- ---- numbers
+
+pub record IsWide (w : Width) (limit : ℕ) : Type 0 where
+  pub len : (n : ℕ) → length (to_be_bytes w n) ≡ byte_len w
+  pub back : (bytes : List ℕ) → length bytes ≡ byte_len w → IsBytes bytes → to_be_bytes w (from_be_bytes w bytes) ≡ bytes
+  pub again : (n : ℕ) → n < limit → from_be_bytes w (to_be_bytes w n) ≡ n
+  pub below : (bytes : List ℕ) → IsBytes bytes → from_be_bytes w bytes < limit
+
+pub wide16 : IsWide w16 (2 ^ 16)
+wide16 = record {
+  len = λ n. refl;
+  back = λ bytes len fits. be_bytes_2 bytes _ len fits refl;
+  again = λ n lt. from_be_bytes-to_be_bytes_2 n lt;
+  below = λ bytes fits. omega (arith, fits 0, fits 1);
+}
+
+pub wide32 : IsWide w32 (2 ^ 32)
+wide32 = record {
+  len = λ n. refl;
+  back = λ bytes len fits. be_bytes_4 bytes _ len fits refl;
+  again = λ n lt. from_be_bytes-to_be_bytes_4 n lt;
+  below = λ bytes fits. omega (arith, fits 0, fits 1, fits 2, fits 3);
+}
+
+pub wide64 : IsWide w64 (2 ^ 64)
+wide64 = record {
+  len = λ n. refl;
+  back = λ bytes len fits. be_bytes_8 bytes _ len fits refl;
+  again = λ n lt. from_be_bytes-to_be_bytes_8 n lt;
+  below = λ bytes fits. omega (arith, fits 0, fits 1, fits 2, fits 3, fits 4, fits 5, fits 6, fits 7);
+}
+
+number_took : (w : Width) (limit : ℕ) (wide : IsWide w limit) (bytes : List ℕ) → IsBytes bytes → Yields (Took (number_text w) (λ n. n < limit) bytes) (number_at w bytes)
+unfolding number_at number_text
+number_took w limit wide bytes h =
+    when (Took (number_text w) (λ n. n < limit) bytes) (ltb (length bytes) (byte_len w)) (Err Short) (Ok (from_be_bytes w (take (byte_len w) bytes), drop (byte_len w) bytes)) (λ _. tt)
+    (λ short.
+    let long : byte_len w ≤ length bytes = ltb-false _ _ short in
+    record {
+      parts = rw (wide.back (take (byte_len w) bytes) (omega (arith, length-take (byte_len w) bytes)) (IsBytes-take (byte_len w) bytes h)) (sym (take-append-drop (byte_len w) bytes));
+      rest = IsBytes-drop (byte_len w) bytes h;
+      right = wide.below (take (byte_len w) bytes) (IsBytes-take (byte_len w) bytes h);
+    })
+
+number_again : (w : Width) (limit : ℕ) (wide : IsWide w limit) (n : ℕ) (rest : List ℕ) → n < limit → number_at w (number_text w n ++ rest) ≡ Ok (n, rest)
+unfolding number_at number_text
+number_again w limit wide n rest lt =
+    let len = wide.len n in
+    let long : ltb (length (to_be_bytes w n ++ rest)) (byte_len w) ≡ false = le-ltb _ _ (omega (arith, length-append (to_be_bytes w n) rest)) in
+    rw (long, take_at (to_be_bytes w n) rest (byte_len w) len, drop_at (to_be_bytes w n) rest (byte_len w) len, wide.again n lt) refl
+
+abbrev pub TookNumber32 : List ℕ → ℕ × List ℕ → Type 0
+TookNumber32 bytes = Took (number_text w32) (λ n. n < 2 ^ 32) bytes
+
+pub number32_took : (bytes : List ℕ) → IsBytes bytes → Yields (TookNumber32 bytes) (number_at w32 bytes)
+number32_took bytes h = number_took w32 (2 ^ 32) wide32 bytes h
+
+pub number32_again : (n : ℕ) (rest : List ℕ) → n < 2 ^ 32 → number_at w32 (number_text w32 n ++ rest) ≡ Ok (n, rest)
+number32_again n rest lt = number_again w32 (2 ^ 32) wide32 n rest lt
+
+abbrev pub TookSigned : List ℕ → ℤ × List ℕ → Type 0
+TookSigned bytes = Took signed_text (FitsSigned w64) bytes
+
+pub signed_took : (bytes : List ℕ) → IsBytes bytes → Yields (TookSigned bytes) (signed_at bytes)
+unfolding signed_at
+signed_took bytes h =
+    then _ _ (number_at w64 bytes) (λ n. Ok (cast_signed w64 n.0, n.1)) (number_took w64 (2 ^ 64) wide64 bytes h)
+    (λ n t. record { parts = rw (of_z-to_z w64 n.0 t.right) t.parts; rest = t.rest; right = search rules })
+
+pub signed_again : (z : ℤ) (rest : List ℕ) → FitsSigned w64 z → signed_at (signed_text z ++ rest) ≡ Ok (z, rest)
+unfolding signed_at
+signed_again z rest fits =
+    let lt : cast_unsigned w64 z < 2 ^ 64 = omega (arith, ints) in
+    rw (number_again w64 (2 ^ 64) wide64 (cast_unsigned w64 z) rest lt, to_z-of_z w64 z fits) refl
+
+-- ---- numbers with a rule
+
+abbrev pub TookIndex : List ℕ → ℕ × List ℕ → Type 0
+TookIndex bytes = Took byte_text IsIndex bytes
+
+pub index_took : (bytes : List ℕ) → IsBytes bytes → Yields (TookIndex bytes) (index_at bytes)
+unfolding index_at
+index_took bytes h =
+    then _ _ (byte_at bytes) (λ n. ruled (is_index n.0) n) (byte_took bytes h)
+    (λ n t. keeps _ (is_index n.0) n (λ e. record { parts = t.parts; rest = t.rest; right = grind (arith, nat_tests) }))
+
+pub index_again : (n : ℕ) (rest : List ℕ) → IsIndex n → index_at (n ∷ rest) ≡ Ok (n, rest)
+unfolding index_at
+index_again n rest right =
+    let e : is_index n ≡ true = grind (arith, nat_tests) in
+    rw e refl
+
+abbrev pub TookCount : List ℕ → ℕ × List ℕ → Type 0
+TookCount bytes = Took (number_text w32) IsCount bytes
+
+pub count_took : (bytes : List ℕ) → IsBytes bytes → Yields (TookCount bytes) (count_at bytes)
+unfolding count_at
+count_took bytes h =
+    then _ _ (number_at w32 bytes) (λ n. ruled (is_positive n.0) n) (number32_took bytes h)
+    (λ n t. keeps _ (is_positive n.0) n (λ e. record { parts = t.parts; rest = t.rest; right = (leb-true _ _ e, t.right) }))
+
+pub count_again : (n : ℕ) (rest : List ℕ) → IsCount n → count_at (number_text w32 n ++ rest) ≡ Ok (n, rest)
+unfolding count_at
+count_again n rest right = rw (number32_again n rest right.1, le-leb _ _ right.0) refl
+
+abbrev pub TookPosition : List ℕ → ℕ × List ℕ → Type 0
+TookPosition bytes = Took position_text IsPosition bytes
+
+pub position_took : (bytes : List ℕ) → IsBytes bytes → Yields (TookPosition bytes) (position_at bytes)
+unfolding position_at
+position_took bytes h =
+    then _ _ (number_at w16 bytes) (λ n. ruled (is_positive n.0) n) (number_took w16 (2 ^ 16) wide16 bytes h)
+    (λ n t. keeps _ (is_positive n.0) n (λ e. record { parts = t.parts; rest = t.rest; right = (leb-true _ _ e, t.right) }))
+
+pub position_again : (n : ℕ) (rest : List ℕ) → IsPosition n → position_at (position_text n ++ rest) ≡ Ok (n, rest)
+unfolding position_at
+position_again n rest right = rw (number_again w16 (2 ^ 16) wide16 n rest right.1, le-leb _ _ right.0) refl
+
+abbrev pub TookBallot : List ℕ → ℕ × List ℕ → Type 0
+TookBallot bytes = Took ballot_text IsBallot bytes
+
+pub ballot_took : (bytes : List ℕ) → IsBytes bytes → Yields (TookBallot bytes) (ballot_at bytes)
+unfolding ballot_at
+ballot_took bytes h =
+    then _ _ (number_at w64 bytes) (λ n. ruled (is_ballot n.0) n) (number_took w64 (2 ^ 64) wide64 bytes h)
+    (λ n t. keeps _ (is_ballot n.0) n (λ e. record { parts = t.parts; rest = t.rest; right = (is_ballot_decides n.0).0 e }))
+
+ballot_fits : (b : ℕ) → IsBallot b → b < 2 ^ 64
+ballot_fits b right = omega arith
+
+pub ballot_again : (b : ℕ) (rest : List ℕ) → IsBallot b → ballot_at (ballot_text b ++ rest) ≡ Ok (b, rest)
+unfolding ballot_at
+ballot_again b rest right =
+    rw (number_again w64 (2 ^ 64) wide64 b rest (ballot_fits b right), (is_ballot_decides b).1 right) refl

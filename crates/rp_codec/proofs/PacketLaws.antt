@@ -1,0 +1,172 @@
+-- A packet that is read is the packet that was written, what was written is read again, and each
+-- reason tells what the bytes are.
+use Rattle.std.proofs.Common.{◌≡◌, ℕ, ◌+◌, ◌-◌, ◌≤◌, leb, ◌&&◌, List, ◌∷◌, ◌++◌, Some, Ok, refl, ap, ◌∙◌, append_assoc, arith}
+use Rattle.std.proofs.lemmas.Bool.{and_parts, leb-true, le-leb}
+use Rattle.rp_codec.specs.declared.packet.Party.{Party}
+use Rattle.rp_codec.specs.declared.packet.Party.TheVariants.{Node, Task, Audit}
+use Rattle.rp_codec.specs.declared.packet.Body.{Body}
+use Rattle.rp_codec.specs.declared.packet.Body.TheVariants as bodies
+use Rattle.rp_codec.specs.declared.kind.Kind.{Kind}
+use Rattle.rp_codec.specs.declared.kind.Kind.TheVariants.{Call, Prepare, Promise, Accept, Accepted, Decided, Nack, Reply as Answer}
+use Rattle.rp_codec.specs.Kind.{kind_of}
+use Rattle.rp_codec.specs.Message.{Message, IsParty, IsNodeParty, IsTaskParty, MaySay, IsPacket}
+use Rattle.rp_codec.specs.Text.{party_text, kind_number, body_text, text_of}
+use Rattle.rp_codec.specs.Reading.{is_node, node_at, task_at, from_at, to_at, said_at, packet_at}
+use Rattle.rp_codec.proofs.RuleTests.{is_node_decides}
+use Rattle.rp_codec.proofs.Steps.{IsBytes, Yields, Took, then, guarded}
+use Rattle.rp_codec.proofs.FieldLaws.{TookByte, byte_took}
+use Rattle.rp_codec.proofs.BodyLaws.{number_of, IsFrom, IsTo, TookBody, body_took, kind_of_body, body_again}
+
+-- ---- parties
+
+abbrev TookNode : List ℕ → Party × List ℕ → Type 0
+TookNode bytes = Took party_text (λ party. IsParty party × IsNodeParty party) bytes
+
+abbrev TookTask : List ℕ → Party × List ℕ → Type 0
+TookTask bytes = Took party_text (λ party. IsParty party × IsTaskParty party) bytes
+
+abbrev TookFrom : Kind → List ℕ → Party × List ℕ → Type 0
+TookFrom kind bytes = Took party_text (λ party. IsParty party × IsFrom kind party) bytes
+
+abbrev TookTo : Kind → List ℕ → Party × List ℕ → Type 0
+TookTo kind bytes = Took party_text (λ party. IsParty party × IsTo kind party) bytes
+
+node_took : (bytes : List ℕ) → IsBytes bytes → Yields (TookNode bytes) (node_at bytes)
+unfolding node_at
+node_took bytes h =
+    then (TookByte bytes) (TookNode bytes) _ _ (byte_took bytes h)
+    (λ n t. guarded (TookNode bytes) (is_node n.0) n _ (λ e. record { parts = t.parts; rest = t.rest; right = ((is_node_decides n.0).0 e, tt) }))
+
+task_took : (bytes : List ℕ) → IsBytes bytes → Yields (TookTask bytes) (task_at bytes)
+unfolding task_at
+task_took bytes h =
+    then (TookByte bytes) (TookTask bytes) _ _ (byte_took bytes h)
+    (λ n t. guarded (TookTask bytes) (leb 17 n.0 && leb n.0 24) n _
+    (λ e.
+    let ends = and_parts _ _ e in
+    let low : 17 ≤ n.0 = leb-true _ _ ends.0 in
+    let high : n.0 ≤ 24 = leb-true _ _ ends.1 in
+    let back : n.0 ≡ 16 + (n.0 - 16) = omega arith in
+    record { parts = t.parts ∙ ap (λ (b : ℕ). b ∷ n.1) back; rest = t.rest; right = ((omega arith, omega arith), tt) }))
+
+from_took : (kind : Kind) (bytes : List ℕ) → IsBytes bytes → Yields (TookFrom kind bytes) (from_at kind bytes)
+unfolding from_at
+from_took Call bytes h = task_took bytes h
+from_took Prepare bytes h = node_took bytes h
+from_took Promise bytes h = node_took bytes h
+from_took Accept bytes h = node_took bytes h
+from_took Accepted bytes h = node_took bytes h
+from_took Decided bytes h = node_took bytes h
+from_took Nack bytes h = node_took bytes h
+from_took Answer bytes h = node_took bytes h
+
+to_took : (kind : Kind) (bytes : List ℕ) → IsBytes bytes → Yields (TookTo kind bytes) (to_at kind bytes)
+unfolding to_at
+to_took Call bytes h = node_took bytes h
+to_took Prepare bytes h = node_took bytes h
+to_took Promise bytes h = node_took bytes h
+to_took Accept bytes h = node_took bytes h
+to_took Accepted bytes h = node_took bytes h
+to_took Decided bytes h = node_took bytes h
+to_took Nack bytes h = node_took bytes h
+to_took Answer bytes h = task_took bytes h
+
+node_again : (party : Party) (rest : List ℕ) → IsParty party → IsNodeParty party → node_at (party_text party ++ rest) ≡ Ok (party, rest)
+unfolding node_at
+node_again (Node n) rest range node = rw ((is_node_decides n).1 range) refl
+node_again (Task t) rest range node = absurd node
+node_again Audit rest range node = absurd node
+
+task_again : (party : Party) (rest : List ℕ) → IsParty party → IsTaskParty party → task_at (party_text party ++ rest) ≡ Ok (party, rest)
+unfolding task_at
+task_again (Node n) rest range task = absurd task
+task_again (Task t) rest range task =
+    let back : 16 + t - 16 ≡ t = omega arith in
+    rw (le-leb 17 (16 + t) (omega arith), le-leb (16 + t) 24 (omega arith), back) refl
+task_again Audit rest range task = absurd task
+
+from_again : (kind : Kind) (party : Party) (rest : List ℕ) → IsParty party → IsFrom kind party → from_at kind (party_text party ++ rest) ≡ Ok (party, rest)
+unfolding from_at
+from_again Call party rest range from = task_again party rest range from
+from_again Prepare party rest range from = node_again party rest range from
+from_again Promise party rest range from = node_again party rest range from
+from_again Accept party rest range from = node_again party rest range from
+from_again Accepted party rest range from = node_again party rest range from
+from_again Decided party rest range from = node_again party rest range from
+from_again Nack party rest range from = node_again party rest range from
+from_again Answer party rest range from = node_again party rest range from
+
+to_again : (kind : Kind) (party : Party) (rest : List ℕ) → IsParty party → IsTo kind party → to_at kind (party_text party ++ rest) ≡ Ok (party, rest)
+unfolding to_at
+to_again Call party rest range to = node_again party rest range to
+to_again Prepare party rest range to = node_again party rest range to
+to_again Promise party rest range to = node_again party rest range to
+to_again Accept party rest range to = node_again party rest range to
+to_again Accepted party rest range to = node_again party rest range to
+to_again Decided party rest range to = node_again party rest range to
+to_again Nack party rest range to = node_again party rest range to
+to_again Answer party rest range to = task_again party rest range to
+
+-- ---- what stands behind the kind
+
+abbrev pub said_text : Message → List ℕ
+said_text m = party_text m.from ++ party_text m.to ++ body_text m.body
+
+abbrev pub IsPacketOf : Kind → Message → Type 0
+IsPacketOf kind m = IsPacket m × (number_of kind ≡ kind_number m.body)
+
+abbrev pub TookSaid : Kind → List ℕ → Message × List ℕ → Type 0
+TookSaid kind bytes = Took said_text (IsPacketOf kind) bytes
+
+pub said_took : (kind : Kind) (bytes : List ℕ) → IsBytes bytes → Yields (TookSaid kind bytes) (said_at kind bytes)
+unfolding said_at
+said_took kind bytes h =
+    then (TookFrom kind bytes) (TookSaid kind bytes) _ _ (from_took kind bytes h)
+    (λ from f. then (TookTo kind from.1) (TookSaid kind bytes) _ _ (to_took kind from.1 f.rest)
+    (λ to t. then (TookBody kind from.0 to.1) (TookSaid kind bytes) _ _ (body_took kind from.0 to.1 t.rest)
+    (λ body b. record {
+      parts = rw (f.parts, t.parts, b.parts) (simp append_assoc);
+      rest = b.rest;
+      right = (
+        record {
+          ranges = record { from = f.right.0; to = t.right.0; body = b.right.ranges };
+          rules = b.right.rules to.0 f.right.1 t.right.1;
+        },
+        b.right.number,
+      );
+    })))
+
+-- who may say it may send its kind, and who may hear it
+may_send : (from to : Party) (body : Body) → MaySay from to body → IsFrom (kind_of_body body) from × IsTo (kind_of_body body) to
+may_send from to (bodies.Call action) rules = (rules.0, rules.1)
+may_send from to (bodies.Prepare position ballot) rules = rules
+may_send from to (bodies.Promise position ballot last) rules = rules.0
+may_send from to (bodies.Accept position ballot action) rules = rules.0
+may_send from to (bodies.Accepted position ballot action) rules = rules.0
+may_send from to (bodies.Decided position action) rules = rules.0
+may_send from to (bodies.Nack position ballot bound) rules = rules.0
+may_send from to (bodies.Reply number reply) rules = (rules.0, rules.1)
+
+said_again : (m : Message) (rest : List ℕ) → IsPacket m → said_at (kind_of_body m.body) (said_text m ++ rest) ≡ Ok (m, rest)
+unfolding said_at
+said_again m rest packet =
+    let kind : Kind = kind_of_body m.body in
+    let parties = may_send m.from m.to m.body packet.rules in
+    let parts : said_text m ++ rest ≡ party_text m.from ++ (party_text m.to ++ (body_text m.body ++ rest)) = simp append_assoc in
+    ap (said_at kind) parts ∙ rw (from_again kind m.from (party_text m.to ++ (body_text m.body ++ rest)) packet.ranges.from parties.0, to_again kind m.to (body_text m.body ++ rest) packet.ranges.to parties.1, body_again m.from m.to m.body rest packet.ranges.body packet.rules) refl
+
+-- ---- whole packets
+
+kind_of_number : (body : Body) → kind_of (kind_number body) ≡ Some (kind_of_body body)
+kind_of_number (bodies.Call action) = refl
+kind_of_number (bodies.Prepare position ballot) = refl
+kind_of_number (bodies.Promise position ballot last) = refl
+kind_of_number (bodies.Accept position ballot action) = refl
+kind_of_number (bodies.Accepted position ballot action) = refl
+kind_of_number (bodies.Decided position action) = refl
+kind_of_number (bodies.Nack position ballot bound) = refl
+kind_of_number (bodies.Reply number reply) = refl
+
+pub packet_again : (m : Message) (rest : List ℕ) → IsPacket m → packet_at (text_of m ++ rest) ≡ Ok (m, rest)
+unfolding packet_at
+packet_again m rest packet = rw (kind_of_number m.body) (said_again m rest packet)

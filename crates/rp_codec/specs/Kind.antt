@@ -1,0 +1,21 @@
+-- The kinds of packets, and their numbers.
+use Rattle.std.specs.Prelude.{ℕ, ◌==◌, if◌then◌else◌, Option, Some, None, IsSome}
+use Rattle.rp_codec.specs.declared.kind.Kind.{Kind}
+use Rattle.rp_codec.specs.declared.kind.Kind.TheVariants.{Call, Prepare, Promise, Accept, Accepted, Decided, Nack, Reply}
+
+-- the kind of a number
+abbrev pub kind_of : ℕ → Option Kind
+kind_of n =
+    if n == 1 then Some Call else
+    if n == 2 then Some Prepare else
+    if n == 3 then Some Promise else
+    if n == 4 then Some Accept else
+    if n == 5 then Some Accepted else
+    if n == 6 then Some Decided else
+    if n == 8 then Some Nack else
+    if n == 9 then Some Reply else
+    None
+
+-- the numbers of the kinds
+abbrev pub IsKind : ℕ → Type 0
+IsKind n = IsSome (kind_of n)

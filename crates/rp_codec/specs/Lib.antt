@@ -1,0 +1,4 @@
+pub mod Message
+pub mod Text
+pub mod Kind
+pub mod Reading

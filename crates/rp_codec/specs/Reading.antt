@@ -1,0 +1,361 @@
+-- Reading from left to right, with the first fault that is met.
+use Rattle.std.specs.Prelude.{◌≡◌, ℕ, ◌-◌, ◌^◌, ◌%◌, Bool, true, false, ◌&&◌, List, [], ◌∷◌, length, take, drop, Option, Some, None, Result, Ok, Err, nat_lt, nat_le, ◌==◌, if◌then◌else◌, ℤ}
+use Rattle.std.specs.Int.{Width, w16, w32, w64, byte_len, from_be_bytes, cast_signed}
+use Rattle.rp_base.specs.declared.fault.PacketReason.{PacketReason}
+use Rattle.rp_base.specs.declared.fault.PacketReason.TheVariants.{Short, Long, Version, Kind as UnknownKind, Field}
+use Rattle.rp_base.specs.declared.action.Operation.{Operation}
+use Rattle.rp_base.specs.declared.action.Operation.TheVariants as operations
+use Rattle.rp_base.specs.declared.action.Action.{Action}
+use Rattle.rp_base.specs.declared.action.Action.TheVariants as actions
+use Rattle.rp_base.specs.declared.reply.Reply.{Reply}
+use Rattle.rp_base.specs.declared.reply.Reply.TheVariants as replies
+use Rattle.rp_base.specs.declared.record.Vote.{Vote}
+use Rattle.rp_codec.specs.declared.packet.Party.{Party}
+use Rattle.rp_codec.specs.declared.packet.Party.TheVariants.{Node, Task, Audit}
+use Rattle.rp_codec.specs.declared.packet.Body.{Body}
+use Rattle.rp_codec.specs.declared.packet.Body.TheVariants as bodies
+use Rattle.rp_codec.specs.declared.kind.Kind.{Kind}
+use Rattle.rp_codec.specs.declared.kind.Kind.TheVariants.{Call, Prepare, Promise, Accept, Accepted, Decided, Nack, Reply as Answer}
+use Rattle.rp_codec.specs.Kind.{kind_of}
+use Rattle.rp_codec.specs.Message.{Message}
+
+infixl 10 ◌>>=◌
+abbrev pub ◌>>=◌ : {A B : Type 0} → Result A PacketReason → (A → Result B PacketReason) → Result B PacketReason
+(Ok x) >>= f = f x
+(Err e) >>= f = Err e
+
+-- What reading a field gives: its value and the bytes after it.
+abbrev pub Read : Type 0 → Type 0
+Read A = Result (A × List ℕ) PacketReason
+
+-- What a function returned, and the bytes that it left, are what reading gives.
+abbrev pub Gives : {A : Type 0} → Result A PacketReason → List ℕ → Read A → Type 0
+Gives (Ok x) after read = read ≡ Ok (x, after)
+Gives (Err e) after read = read ≡ Err e
+
+-- a whole field, where it keeps its rule
+abbrev pub ruled : {A : Type 0} → Bool → A → Result A PacketReason
+ruled keeps x = if keeps then Ok x else Err Field
+
+-- ---- numbers and their rules
+
+abbrev pub byte_at : List ℕ → Read ℕ
+byte_at [] = Err Short
+byte_at (b ∷ rest) = Ok (b, rest)
+
+unfoldable pub number_at : Width → List ℕ → Read ℕ
+number_at w bytes =
+    if nat_lt (length bytes) (byte_len w) then Err Short else Ok (from_be_bytes w (take (byte_len w) bytes), drop (byte_len w) bytes)
+
+unfoldable pub signed_at : List ℕ → Read ℤ
+signed_at bytes = do
+  n ← number_at w64 bytes
+  Ok (cast_signed w64 n.0, n.1)
+
+abbrev pub is_node : ℕ → Bool
+is_node n = nat_le 1 n && nat_le n 7
+
+abbrev pub is_index : ℕ → Bool
+is_index n = nat_le 1 n && nat_le n 8
+
+abbrev pub is_positive : ℕ → Bool
+is_positive n = nat_le 1 n
+
+abbrev pub is_ballot : ℕ → Bool
+is_ballot n = nat_le 9 n && nat_lt n (2 ^ 35) && nat_le 1 (n % 8)
+
+unfoldable pub index_at : List ℕ → Read ℕ
+index_at bytes = do
+  n ← byte_at bytes
+  ruled (is_index n.0) n
+
+unfoldable pub count_at : List ℕ → Read ℕ
+count_at bytes = do
+  n ← number_at w32 bytes
+  ruled (is_positive n.0) n
+
+unfoldable pub position_at : List ℕ → Read ℕ
+position_at bytes = do
+  n ← number_at w16 bytes
+  ruled (is_positive n.0) n
+
+unfoldable pub ballot_at : List ℕ → Read ℕ
+ballot_at bytes = do
+  n ← number_at w64 bytes
+  ruled (is_ballot n.0) n
+
+-- ---- actions
+
+abbrev pub indexed_at : (ℕ → Operation) → List ℕ → Read Operation
+indexed_at operation bytes = do
+  index ← index_at bytes
+  Ok (operation index.0, index.1)
+
+-- an entry's index is 0, which means entry 1
+abbrev pub entry_at : List ℕ → Read Operation
+entry_at bytes = do
+  index ← byte_at bytes
+  first ← ruled (index.0 == 0) index
+  Ok (operations.Entry 1, first.1)
+
+abbrev pub operation_of_kind : ℕ → List ℕ → Read Operation
+operation_of_kind kind bytes =
+    if kind == 1 then indexed_at operations.Function bytes else
+    if kind == 2 then indexed_at operations.Procedure bytes else
+    if kind == 3 then entry_at bytes else
+    if kind == 4 then indexed_at operations.SetTimer bytes else
+    if kind == 5 then indexed_at operations.CancelTimer bytes else
+    Err Field
+
+unfoldable pub operation_at : List ℕ → Read Operation
+operation_at bytes = do
+  kind ← byte_at bytes
+  operation_of_kind kind.0 kind.1
+
+-- a task's call, behind its task
+unfoldable pub call_at : ℕ → List ℕ → Read Action
+call_at task bytes = do
+  number ← count_at bytes
+  object ← index_at number.1
+  operation ← operation_at object.1
+  arg ← signed_at operation.1
+  Ok (actions.Call task number.0 object.0 operation.0 arg.0, arg.1)
+
+unfoldable pub interrupt_at : List ℕ → Read Action
+interrupt_at bytes = do
+  source ← index_at bytes
+  occurrence ← count_at source.1
+  Ok (actions.Interrupt source.0 occurrence.0, occurrence.1)
+
+unfoldable pub tick_at : List ℕ → Read Action
+tick_at bytes = do
+  now ← number_at w32 bytes
+  Ok (actions.Tick now.0, now.1)
+
+unfoldable pub any_call_at : List ℕ → Read Action
+any_call_at bytes = do
+  task ← index_at bytes
+  call_at task.0 task.1
+
+abbrev pub action_of_tag : ℕ → List ℕ → Read Action
+action_of_tag tag bytes =
+    if tag == 0 then Ok (actions.Noop, bytes) else
+    if tag == 1 then any_call_at bytes else
+    if tag == 2 then interrupt_at bytes else
+    if tag == 3 then tick_at bytes else
+    Err Field
+
+unfoldable pub action_at : List ℕ → Read Action
+action_at bytes = do
+  tag ← byte_at bytes
+  action_of_tag tag.0 tag.1
+
+abbrev pub is_task : Party → ℕ → Bool
+is_task (Node n) task = false
+is_task (Task t) task = task == t
+is_task Audit task = false
+
+-- an action that is a call of this party
+unfoldable pub own_call_at : Party → List ℕ → Read Action
+own_call_at from bytes = do
+  tag ← byte_at bytes
+  call ← ruled (tag.0 == 1) tag
+  task ← index_at call.1
+  own ← ruled (is_task from task.0) task
+  call_at own.0 own.1
+
+-- ---- replies
+
+unfoldable pub value_at : List ℕ → Read Reply
+value_at bytes = do
+  value ← signed_at bytes
+  Ok (replies.Value value.0, value.1)
+
+abbrev pub truth_of_flag : ℕ → List ℕ → Read Reply
+truth_of_flag flag bytes =
+    if flag == 0 then Ok (replies.Truth false, bytes) else
+    if flag == 1 then Ok (replies.Truth true, bytes) else
+    Err Field
+
+unfoldable pub truth_at : List ℕ → Read Reply
+truth_at bytes = do
+  flag ← byte_at bytes
+  truth_of_flag flag.0 flag.1
+
+abbrev pub reply_of_tag : ℕ → List ℕ → Read Reply
+reply_of_tag tag bytes =
+    if tag == 1 then value_at bytes else
+    if tag == 2 then truth_at bytes else
+    if tag == 3 then Ok (replies.ConstraintError, bytes) else
+    if tag == 4 then Ok (replies.ProgramError, bytes) else
+    if tag == 5 then Ok (replies.NoSuchOperation, bytes) else
+    Err Field
+
+unfoldable pub reply_at : List ℕ → Read Reply
+reply_at bytes = do
+  tag ← byte_at bytes
+  reply_of_tag tag.0 tag.1
+
+-- ---- bodies
+
+-- a ballot below this one
+unfoldable pub lower_ballot_at : ℕ → List ℕ → Read ℕ
+lower_ballot_at ballot bytes = do
+  lower ← ballot_at bytes
+  ruled (nat_lt lower.0 ballot) lower
+
+-- a ballot above this one
+unfoldable pub higher_ballot_at : ℕ → List ℕ → Read ℕ
+higher_ballot_at ballot bytes = do
+  higher ← ballot_at bytes
+  ruled (nat_lt ballot higher.0) higher
+
+-- a vote in a ballot below this one
+unfoldable pub vote_at : ℕ → List ℕ → Read (Option Vote)
+vote_at ballot bytes = do
+  voted ← lower_ballot_at ballot bytes
+  action ← action_at voted.1
+  Ok (Some (record { ballot = voted.0; action = action.0 }), action.1)
+
+abbrev pub last_of_flag : ℕ → ℕ → List ℕ → Read (Option Vote)
+last_of_flag ballot flag bytes =
+    if flag == 0 then Ok (None, bytes) else
+    if flag == 1 then vote_at ballot bytes else
+    Err Field
+
+unfoldable pub last_at : ℕ → List ℕ → Read (Option Vote)
+last_at ballot bytes = do
+  flag ← byte_at bytes
+  last_of_flag ballot flag.0 flag.1
+
+unfoldable pub prepare_at : List ℕ → Read Body
+prepare_at bytes = do
+  position ← position_at bytes
+  ballot ← ballot_at position.1
+  Ok (bodies.Prepare position.0 ballot.0, ballot.1)
+
+unfoldable pub promise_at : List ℕ → Read Body
+promise_at bytes = do
+  position ← position_at bytes
+  ballot ← ballot_at position.1
+  last ← last_at ballot.0 ballot.1
+  Ok (bodies.Promise position.0 ballot.0 last.0, last.1)
+
+unfoldable pub accept_at : List ℕ → Read Body
+accept_at bytes = do
+  position ← position_at bytes
+  ballot ← ballot_at position.1
+  action ← action_at ballot.1
+  Ok (bodies.Accept position.0 ballot.0 action.0, action.1)
+
+unfoldable pub accepted_at : List ℕ → Read Body
+accepted_at bytes = do
+  position ← position_at bytes
+  ballot ← ballot_at position.1
+  action ← action_at ballot.1
+  Ok (bodies.Accepted position.0 ballot.0 action.0, action.1)
+
+unfoldable pub decided_at : List ℕ → Read Body
+decided_at bytes = do
+  position ← position_at bytes
+  action ← action_at position.1
+  Ok (bodies.Decided position.0 action.0, action.1)
+
+unfoldable pub nack_at : List ℕ → Read Body
+nack_at bytes = do
+  position ← position_at bytes
+  ballot ← ballot_at position.1
+  bound ← higher_ballot_at ballot.0 ballot.1
+  Ok (bodies.Nack position.0 ballot.0 bound.0, bound.1)
+
+unfoldable pub answer_at : List ℕ → Read Body
+answer_at bytes = do
+  number ← count_at bytes
+  reply ← reply_at number.1
+  Ok (bodies.Reply number.0 reply.0, reply.1)
+
+unfoldable pub task_call_at : Party → List ℕ → Read Body
+task_call_at from bytes = do
+  action ← own_call_at from bytes
+  Ok (bodies.Call action.0, action.1)
+
+unfoldable pub body_at : Kind → Party → List ℕ → Read Body
+body_at Call from bytes = task_call_at from bytes
+body_at Prepare from bytes = prepare_at bytes
+body_at Promise from bytes = promise_at bytes
+body_at Accept from bytes = accept_at bytes
+body_at Accepted from bytes = accepted_at bytes
+body_at Decided from bytes = decided_at bytes
+body_at Nack from bytes = nack_at bytes
+body_at Answer from bytes = answer_at bytes
+
+-- ---- packets
+
+unfoldable pub node_at : List ℕ → Read Party
+node_at bytes = do
+  n ← byte_at bytes
+  node ← ruled (is_node n.0) n
+  Ok (Node node.0, node.1)
+
+-- task t is 16 + t
+unfoldable pub task_at : List ℕ → Read Party
+task_at bytes = do
+  n ← byte_at bytes
+  task ← ruled (nat_le 17 n.0 && nat_le n.0 24) n
+  Ok (Task (task.0 - 16), task.1)
+
+-- who may send a kind, and to whom
+unfoldable pub from_at : Kind → List ℕ → Read Party
+from_at Call bytes = task_at bytes
+from_at Prepare bytes = node_at bytes
+from_at Promise bytes = node_at bytes
+from_at Accept bytes = node_at bytes
+from_at Accepted bytes = node_at bytes
+from_at Decided bytes = node_at bytes
+from_at Nack bytes = node_at bytes
+from_at Answer bytes = node_at bytes
+
+unfoldable pub to_at : Kind → List ℕ → Read Party
+to_at Call bytes = node_at bytes
+to_at Prepare bytes = node_at bytes
+to_at Promise bytes = node_at bytes
+to_at Accept bytes = node_at bytes
+to_at Accepted bytes = node_at bytes
+to_at Decided bytes = node_at bytes
+to_at Nack bytes = node_at bytes
+to_at Answer bytes = task_at bytes
+
+-- what stands behind the kind
+unfoldable pub said_at : Kind → List ℕ → Read Message
+said_at kind bytes = do
+  from ← from_at kind bytes
+  to ← to_at kind from.1
+  body ← body_at kind from.0 to.1
+  Ok (record { from = from.0; to = to.0; body = body.0 }, body.1)
+
+abbrev pub version_at : List ℕ → Read ℕ
+version_at bytes = do
+  n ← byte_at bytes
+  if n.0 == 1 then Ok n else Err Version
+
+abbrev pub known : {A : Type 0} → Option A → List ℕ → Read A
+known (Some x) rest = Ok (x, rest)
+known None rest = Err UnknownKind
+
+abbrev pub kind_at : List ℕ → Read Kind
+kind_at bytes = do
+  n ← byte_at bytes
+  known (kind_of n.0) n.1
+
+-- a packet and the bytes after it
+unfoldable pub packet_at : List ℕ → Read Message
+packet_at bytes = do
+  version ← version_at bytes
+  kind ← kind_at version.1
+  said_at kind.0 kind.1
+
+-- all of the bytes
+unfoldable pub all_of : List ℕ → Result Message PacketReason
+all_of bytes = do
+  packet ← packet_at bytes
+  if length packet.1 == 0 then Ok packet.0 else Err Long

@@ -1,0 +1,192 @@
+//! Actions as bytes, behind a byte that says which they are: 0 `Noop`, 1 `Call`, 2 `Interrupt`,
+//! 3 `Tick`. In a call, a byte says which operation it is: 1 `Function`, 2 `Procedure`, 3 `Entry`,
+//! 4 `SetTimer`, 5 `CancelTimer`.
+
+ghost use Rattle.std.specs.Prelude.{◌≡◌, ◌++◌, OnOk};
+ghost use Rattle.rp_codec.specs.Text.{operation_text, action_text};
+ghost use Rattle.rp_codec.specs.Reading.{Gives, is_task, entry_at, operation_at, index_at, call_at, any_call_at, interrupt_at, tick_at, action_at, own_call_at};
+
+use crate::fields::{put_i64, put_u32, read_count, read_i64, read_index};
+use crate::packet::Party;
+use crate::reader::Reader;
+use rp_base::{Action, Operation, PacketReason, TaskId};
+use std::alloc::AllocError;
+
+/// 0, which means entry 1.
+fn read_entry(reader: &mut Reader) -> Result<Operation, PacketReason>
+    ensures { Gives result reader.new (entry_at reader.old) }
+{
+    let index = reader.byte()?;
+    if index != 0 {
+        return Err(PacketReason::Field);
+    }
+    Ok(Operation::Entry(1))
+}
+
+#[tactic(auto, unfolding(crate::specs::Reading::operation_at))]
+fn read_operation(reader: &mut Reader) -> Result<Operation, PacketReason>
+    ensures { Gives result reader.new (operation_at reader.old) }
+{
+    let kind = reader.byte()?;
+    match kind {
+        1 => {
+            let index = read_index(reader)?;
+            Ok(Operation::Function(index))
+        }
+        2 => {
+            let index = read_index(reader)?;
+            Ok(Operation::Procedure(index))
+        }
+        3 => read_entry(reader),
+        4 => {
+            let index = read_index(reader)?;
+            Ok(Operation::SetTimer(index))
+        }
+        5 => {
+            let index = read_index(reader)?;
+            Ok(Operation::CancelTimer(index))
+        }
+        _ => Err(PacketReason::Field),
+    }
+}
+
+#[tactic(auto, unfolding(crate::specs::Reading::index_at))]
+fn read_task(reader: &mut Reader) -> Result<TaskId, PacketReason>
+    ensures { Gives result reader.new (index_at reader.old) }
+{
+    let number = reader.byte()?;
+    match TaskId::new(number) {
+        Some(task) => Ok(task),
+        None => Err(PacketReason::Field),
+    }
+}
+
+/// The rest of a task's call.
+#[tactic(auto, unfolding(crate::specs::Reading::call_at))]
+fn read_call(reader: &mut Reader, task: TaskId) -> Result<Action, PacketReason>
+    ensures { Gives result reader.new (call_at task reader.old) }
+{
+    let number = read_count(reader)?;
+    let object = read_index(reader)?;
+    let operation = read_operation(reader)?;
+    let arg = read_i64(reader)?;
+    let action = Action::Call {
+        task,
+        number,
+        object,
+        operation,
+        arg,
+    };
+    Ok(action)
+}
+
+#[tactic(auto, unfolding(crate::specs::Reading::any_call_at))]
+fn read_any_call(reader: &mut Reader) -> Result<Action, PacketReason>
+    ensures { Gives result reader.new (any_call_at reader.old) }
+{
+    let task = read_task(reader)?;
+    read_call(reader, task)
+}
+
+#[tactic(auto, unfolding(crate::specs::Reading::interrupt_at))]
+fn read_interrupt(reader: &mut Reader) -> Result<Action, PacketReason>
+    ensures { Gives result reader.new (interrupt_at reader.old) }
+{
+    let source = read_index(reader)?;
+    let occurrence = read_count(reader)?;
+    Ok(Action::Interrupt { source, occurrence })
+}
+
+#[tactic(auto, unfolding(crate::specs::Reading::tick_at))]
+fn read_tick(reader: &mut Reader) -> Result<Action, PacketReason>
+    ensures { Gives result reader.new (tick_at reader.old) }
+{
+    let now = reader.u32()?;
+    Ok(Action::Tick { now })
+}
+
+/// Any action.
+#[tactic(auto, unfolding(crate::specs::Reading::action_at))]
+pub(crate) fn read_action(reader: &mut Reader) -> Result<Action, PacketReason>
+    ensures { Gives result reader.new (action_at reader.old) }
+{
+    let tag = reader.byte()?;
+    match tag {
+        0 => Ok(Action::Noop),
+        1 => read_any_call(reader),
+        2 => read_interrupt(reader),
+        3 => read_tick(reader),
+        _ => Err(PacketReason::Field),
+    }
+}
+
+fn is_own(party: &Party, task: TaskId) -> bool
+    ensures { result ≡ is_task party.now task }
+{
+    match party {
+        Party::Task(caller) => task.get() == caller.get(),
+        Party::Node(_) | Party::Audit => false,
+    }
+}
+
+/// A call of the party itself.
+#[tactic(auto, unfolding(crate::specs::Reading::own_call_at))]
+pub(crate) fn read_own_call(reader: &mut Reader, from: &Party) -> Result<Action, PacketReason>
+    ensures { Gives result reader.new (own_call_at from.now reader.old) }
+{
+    let tag = reader.byte()?;
+    if tag != 1 {
+        return Err(PacketReason::Field);
+    }
+    let task = read_task(reader)?;
+    if !is_own(from, task) {
+        return Err(PacketReason::Field);
+    }
+    read_call(reader, task)
+}
+
+fn put_operation(out: &mut Vec<u8>, operation: Operation) -> Result<(), AllocError>
+    ensures { OnOk result (out.new.items ≡ out.old.items ++ operation_text operation) }
+{
+    let (kind, index) = match operation {
+        Operation::Function(index) => (1, index),
+        Operation::Procedure(index) => (2, index),
+        Operation::Entry(_) => (3, 0),
+        Operation::SetTimer(index) => (4, index),
+        Operation::CancelTimer(index) => (5, index),
+    };
+    out.extend_from_slice(&[kind, index])?;
+    Ok(())
+}
+
+pub(crate) fn put_action(out: &mut Vec<u8>, action: Action) -> Result<(), AllocError>
+    ensures { OnOk result (out.new.items ≡ out.old.items ++ action_text action) }
+{
+    match action {
+        Action::Noop => out.push(0)?,
+        Action::Call {
+            task,
+            number,
+            object,
+            operation,
+            arg,
+        } => {
+            out.push(1)?;
+            out.push(task.get())?;
+            put_u32(out, number)?;
+            out.push(object)?;
+            put_operation(out, operation)?;
+            put_i64(out, arg)?;
+        }
+        Action::Interrupt { source, occurrence } => {
+            out.push(2)?;
+            out.push(source)?;
+            put_u32(out, occurrence)?;
+        }
+        Action::Tick { now } => {
+            out.push(3)?;
+            put_u32(out, now)?;
+        }
+    }
+    Ok(())
+}

@@ -1,0 +1,36 @@
+//! The kinds of packets.
+
+ghost use Rattle.std.specs.Prelude.{◌≡◌};
+ghost use Rattle.rp_codec.specs.Kind.{kind_of};
+
+/// Which variant of `Body` a packet has.
+#[derive(Clone, Copy, Debug, PartialEq, Eq)]
+pub(crate) enum Kind {
+    Call,
+    Prepare,
+    Promise,
+    Accept,
+    Accepted,
+    Decided,
+    Nack,
+    Reply,
+}
+
+impl Kind {
+    /// The kind of this number, if it is one.
+    pub(crate) fn of(number: u8) -> Option<Self>
+        ensures { result ≡ kind_of number }
+    {
+        match number {
+            1 => Some(Kind::Call),
+            2 => Some(Kind::Prepare),
+            3 => Some(Kind::Promise),
+            4 => Some(Kind::Accept),
+            5 => Some(Kind::Accepted),
+            6 => Some(Kind::Decided),
+            8 => Some(Kind::Nack),
+            9 => Some(Kind::Reply),
+            _ => None,
+        }
+    }
+}

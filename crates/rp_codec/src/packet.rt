@@ -1,0 +1,151 @@
+//! What nodes and tasks say to one another.
+
+ghost use Rattle.std.specs.Prelude.{◌≡◌, ◌↔◌, IsSome, IfSome};
+
+use crate::rules;
+use rp_base::{Action, Ballot, NodeId, Position, TaskId, Vote};
+use std::alloc::AllocError;
+use std::marker::Model;
+
+/// Who says a packet, or hears it.
+#[derive(Clone, Copy, Debug, PartialEq, Eq)]
+pub enum Party {
+    Node(NodeId),
+    Task(TaskId),
+    /// Who hears what the nodes have applied.
+    Audit,
+}
+
+/// What is said (Lamport, "Paxos Made Simple", section 2.2, where `Prepare` to `Accepted` are the
+/// requests of its two phases and their responses).
+#[derive(Clone, Debug, PartialEq, Eq, Drop)]
+pub enum Body {
+    /// A task calls.
+    Call {
+        action: Action,
+    },
+    /// A leader asks for promises at the position.
+    Prepare {
+        position: Position,
+        ballot: Ballot,
+    },
+    /// The node takes no part in lower ballots, and this is its last vote below this one.
+    Promise {
+        position: Position,
+        ballot: Ballot,
+        last: Option<Vote>,
+    },
+    /// A leader asks for votes for the action.
+    Accept {
+        position: Position,
+        ballot: Ballot,
+        action: Action,
+    },
+    /// The node has voted.
+    Accepted {
+        position: Position,
+        ballot: Ballot,
+        action: Action,
+    },
+    /// The action is decided at the position.
+    Decided {
+        position: Position,
+        action: Action,
+    },
+    /// The ballot is refused, since the node has promised `bound`, which is above it.
+    Nack {
+        position: Position,
+        ballot: Ballot,
+        bound: Ballot,
+    },
+    /// The task's call of this number, 1 to 2^32 - 1, is answered.
+    Reply {
+        number: u32,
+        reply: rp_base::Reply,
+    },
+}
+
+/// A body with who says it and who hears it, by the rules: a task calls a node, in a call of its
+/// own; a node replies to a task; all else goes from node to node. Actions are right, a promise's
+/// vote is in a lower ballot, and the bound of a `Nack` is above its ballot.
+#[derive(Debug, PartialEq, Eq, Drop)]
+pub struct Packet {
+    from: Party,
+    to: Party,
+    body: Body,
+}
+
+impl Model for Packet {
+    ghost use Rattle.rp_codec.specs.Message.{Message, IsPacket};
+
+    ghost Value = { Message };
+
+    ghost view = { λ p. record { from = p.from; to = p.to; body = p.body } };
+
+    ghost invariant = { λ p. IsPacket (record { from = p.from; to = p.to; body = p.body }) };
+
+    ghost inverse = { λ m. record { from = m.from; to = m.to; body = m.body } };
+}
+
+impl Packet {
+    ghost use Rattle.rp_codec.specs.Message.{IsPacket, KeepsRules};
+
+    /// The packet of this body, where it keeps the rules.
+    pub fn new(from: Party, to: Party, body: Body) -> Self
+        requires { KeepsRules (record { from = from; to = to; body = body }) }
+        ensures { result ≡ record { from = from; to = to; body = body } }
+    {
+        rules::party_in_range(&from);
+        rules::party_in_range(&to);
+        rules::body_in_range(&body);
+        Packet { from, to, body }
+    }
+
+    /// The packet of this body, or `None` where it breaks the rules.
+    pub fn checked(from: Party, to: Party, body: Body) -> Option<Self>
+        ensures valid { IsSome result ↔ KeepsRules (record { from = from; to = to; body = body }) }
+        ensures value { IfSome result (λ packet. packet ≡ record { from = from; to = to; body = body }) }
+    {
+        if rules::may_say(&from, &to, &body) {
+            Some(Packet::new(from, to, body))
+        } else {
+            None
+        }
+    }
+
+    /// Who says it.
+    pub fn from(&self) -> Party
+        ensures { result ≡ self.now.from }
+    {
+        self.from
+    }
+
+    /// Who hears it.
+    pub fn to(&self) -> Party
+        ensures { result ≡ self.now.to }
+    {
+        self.to
+    }
+
+    /// What is said.
+    pub fn body(&self) -> &Body
+        ensures value { result.now ≡ self.now.body }
+        ensures packet { IsPacket self.now }
+    {
+        &self.body
+    }
+}
+
+impl Clone for Packet {
+    // A clone is the same packet.
+    ghost is_clone = { λ p q. q ≡ p };
+
+    fn clone(&self) -> Result<Self, AllocError> {
+        let body = self.body.clone()?;
+        Ok(Packet {
+            from: self.from,
+            to: self.to,
+            body,
+        })
+    }
+}

@@ -1,0 +1,154 @@
+//! Who may say what to whom.
+
+ghost use Rattle.std.specs.Prelude.{◌↔◌, IfSome, IsTrue};
+ghost use Rattle.rp_base.specs.Action.{IsRight};
+ghost use Rattle.rp_codec.specs.Message.{IsParty, IsReply, IsBody, IsNodeParty, IsTaskParty, IsCallBy, IsCallOf, BetweenNodes, IsVoteBelow, MaySay};
+
+use crate::packet::{Body, Party};
+use rp_base::{Action, Ballot, Reply, TaskId, Vote};
+
+/// Shows that a party's number is within its range.
+pub(crate) fn party_in_range(party: &Party)
+    ensures { IsParty party.now }
+{
+    match party {
+        Party::Node(node) => {
+            let _number = node.get();
+        }
+        Party::Task(task) => {
+            let _number = task.get();
+        }
+        Party::Audit => {}
+    }
+}
+
+fn reply_in_range(reply: Reply)
+    ensures { IsReply reply }
+{
+    if let Reply::Value(value) = reply {
+        let _value = value;
+    }
+}
+
+/// Shows that each position and each ballot of a body is within its range.
+pub(crate) fn body_in_range(body: &Body)
+    ensures { IsBody body.now }
+{
+    match *body {
+        Body::Call { action: _ } => {}
+        Body::Prepare { position, ballot }
+        | Body::Accept {
+            position,
+            ballot,
+            action: _,
+        }
+        | Body::Accepted {
+            position,
+            ballot,
+            action: _,
+        } => {
+            let _numbers = (position.get(), ballot.get());
+        }
+        Body::Promise {
+            position,
+            ballot,
+            last,
+        } => {
+            let _numbers = (position.get(), ballot.get());
+            if let Some(vote) = last {
+                let _number = vote.ballot.get();
+            }
+        }
+        Body::Decided {
+            position,
+            action: _,
+        } => {
+            let _number = position.get();
+        }
+        Body::Nack {
+            position,
+            ballot,
+            bound,
+        } => {
+            let _numbers = (position.get(), ballot.get(), bound.get());
+        }
+        Body::Reply { number: _, reply } => reply_in_range(reply),
+    }
+}
+
+fn is_node_party(party: &Party) -> bool
+    ensures { IsTrue result ↔ IsNodeParty party.now }
+{
+    matches!(party, Party::Node(_))
+}
+
+fn is_task_party(party: &Party) -> bool
+    ensures { IsTrue result ↔ IsTaskParty party.now }
+{
+    matches!(party, Party::Task(_))
+}
+
+fn between_nodes(from: &Party, to: &Party) -> bool
+    ensures { IsTrue result ↔ BetweenNodes from.now to.now }
+{
+    is_node_party(from) && is_node_party(to)
+}
+
+fn is_call_by(task: TaskId, action: Action) -> bool
+    ensures { IsTrue result ↔ IsCallBy task action }
+{
+    match action {
+        Action::Call { task: caller, .. } => caller.get() == task.get(),
+        Action::Noop | Action::Interrupt { .. } | Action::Tick { .. } => false,
+    }
+}
+
+fn is_call_of(party: &Party, action: &Action) -> bool
+    ensures { IsTrue result ↔ IsCallOf party.now action.now }
+{
+    match party {
+        Party::Task(task) => is_call_by(*task, *action),
+        Party::Node(_) | Party::Audit => false,
+    }
+}
+
+fn is_vote_below(ballot: Ballot, vote: Vote) -> bool
+    ensures { IsTrue result ↔ IsVoteBelow ballot vote }
+{
+    vote.ballot < ballot && vote.action.is_right()
+}
+
+fn is_last_below(ballot: Ballot, last: Option<Vote>) -> bool
+    ensures { IsTrue result ↔ IfSome last (λ vote. IsVoteBelow ballot vote) }
+{
+    match last {
+        None => true,
+        Some(vote) => is_vote_below(ballot, vote),
+    }
+}
+
+fn is_call(from: &Party, to: &Party, action: &Action) -> bool
+    ensures { IsTrue result ↔ (IsTaskParty from.now × IsNodeParty to.now × IsCallOf from.now action.now × IsRight action.now) }
+{
+    is_task_party(from) && is_node_party(to) && is_call_of(from, action) && action.is_right()
+}
+
+/// Whether this party may say this to that one.
+pub(crate) fn may_say(from: &Party, to: &Party, body: &Body) -> bool
+    ensures { IsTrue result ↔ MaySay from.now to.now body.now }
+{
+    match body {
+        Body::Call { action } => is_call(from, to, action),
+        Body::Prepare { .. } => between_nodes(from, to),
+        Body::Promise { ballot, last, .. } => {
+            between_nodes(from, to) && is_last_below(*ballot, *last)
+        }
+        Body::Accept { action, .. }
+        | Body::Accepted { action, .. }
+        | Body::Decided { action, .. } => between_nodes(from, to) && action.is_right(),
+        Body::Nack { ballot, bound, .. } => {
+            between_nodes(from, to) && ballot.get() < bound.get()
+        }
+        Body::Reply { number, .. } => is_node_party(from) && is_task_party(to) && *number >= 1,
+    }
+}

@@ -15,7 +15,7 @@ use std::alloc::{AllocError, Global};
 /// To a contract the state is the value itself.
 pub trait Machine: Drop {
     /// What is declared before anything runs.
-    type Program;
+    type Program: Drop;
 
     /// The state in which the program starts.
     ghost begin: { Self.Program → Self };

@@ -1,0 +1,3 @@
+mod CommandLineLemmas
+mod WordsLemmas
+mod StreamLemmas

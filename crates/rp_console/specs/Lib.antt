@@ -1,0 +1,11 @@
+pub mod CommandLine
+pub mod Deck
+pub mod Declarations
+pub mod Left
+pub mod Lines
+pub mod Printed
+pub mod Script
+pub mod Settled
+pub mod Status
+pub mod Stream
+pub mod Words

@@ -1,0 +1,72 @@
+//! Reads a deck whole, and writes what a run prints.
+
+ghost use Rattle.std.specs.Prelude.{◌≡◌, ◌≤◌, ◌++◌, [], ◌∷◌, length, Some, IfSome, IfOk, IfErr, OnOk};
+ghost use Rattle.std.specs.Io.KnownBytes.{Appends};
+ghost use Rattle.rp_console.specs.Stream.{IsReadFault, IsWriteFault};
+
+use rp_base::Fault;
+use std::alloc::Global;
+use std::fmt::Display;
+use std::io::{Read, Write};
+
+/// The most bytes of a deck.
+const MOST_BYTES: usize = 1_048_576;
+
+/// The most reads that a deck takes.
+const MOST_READS: u32 = 2_097_152;
+
+/// How many bytes are asked for at a time.
+const CHUNK: usize = 4096;
+
+/// Reads all that the reader gives. `Io` where a read fails, where there are more than 1,048,576
+/// bytes, and where the end does not come within 2,097,152 reads.
+pub fn read_whole<R: Read>(alloc: Global, reader: &mut R) -> Result<Vec<u8>, Fault>
+    ensures whole { IfOk result (λ bytes. IfSome (R.remaining reader.old) (λ all. bytes.items ≡ all)) }
+    ensures size { IfOk result (λ bytes. length bytes.items ≤ MOST_BYTES) }
+    ensures fault { IfErr result IsReadFault }
+{
+    let mut bytes = Vec::new(alloc);
+    for _ in 0..MOST_READS {
+        let mut chunk = [0; CHUNK];
+        let Ok(count) = reader.read(&mut chunk) else {
+            return Err(Fault::Io);
+        };
+        if count == 0 {
+            return Ok(bytes);
+        }
+        if count > MOST_BYTES - bytes.len() {
+            return Err(Fault::Io);
+        }
+        bytes.extend_from_slice(&chunk[..count])?;
+    }
+    Err(Fault::Io)
+}
+
+/// Writes all bytes. `Io` where a write fails or takes nothing.
+pub fn write_whole<W: Write>(writer: &mut W, bytes: &[u8]) -> Result<(), Fault>
+    ensures written { OnOk result (Appends (W.contents writer.old) (W.contents writer.new) bytes.now) }
+    ensures fault { IfErr result IsWriteFault }
+{
+    let mut written = 0;
+    while written < bytes.len() {
+        match writer.write(&bytes[written..]) {
+            Ok(0) | Err(_) => return Err(Fault::Io),
+            Ok(count) => written += count,
+        }
+    }
+    Ok(())
+}
+
+/// Writes a line and its end.
+pub fn print<W: Write, D: Display + Drop>(
+    alloc: Global,
+    writer: &mut W,
+    line: D,
+) -> Result<(), Fault>
+    ensures printed { OnOk result (IfSome (D.output line) (λ text.
+        Appends (W.contents writer.old) (W.contents writer.new) (text ++ 10 ∷ []))) }
+    ensures fault { IfErr result IsReadFault }
+{
+    let text = format!(in alloc; "{line}\n")?;
+    write_whole(writer, text.as_bytes())
+}

@@ -1,0 +1,9 @@
+pub mod Parts
+pub mod Says
+pub mod Voting
+pub mod Learning
+pub mod Leading
+pub mod Receiving
+pub mod World
+pub mod Facts
+pub mod Counting

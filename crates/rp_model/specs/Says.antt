@@ -1,0 +1,53 @@
+-- What a step of a node comes to, and whom its packets go to (this project's own).
+use Rattle.std.specs.Prelude.{◌≡◌, ◌⊎◌, ℕ, not, nat_eq, Option, Some, None, Result, Ok, Err, List, [], ◌∷◌, map, filter}
+use Rattle.rp_base.specs.declared.record.Rec.{Rec}
+use Rattle.rp_base.specs.declared.fault.Fault.{Fault}
+use Rattle.rp_base.specs.declared.fault.Fault.TheVariants.{OutOfMemory}
+use Rattle.rp_codec.specs.Message.{Message}
+use Rattle.rp_codec.specs.declared.packet.Party.TheVariants.{Node, Task}
+use Rattle.rp_codec.specs.declared.packet.Body.{Body}
+use Rattle.rp_machine.specs.Replay.{one_to}
+use Rattle.rp_model.specs.declared.part.Running.{Running}
+use Rattle.rp_model.specs.declared.part.Turn.{Turn}
+use Rattle.rp_model.specs.declared.part.Dropped.TheVariants.{No, Full, Foreign}
+
+-- a packet from node to node
+abbrev pub says : ℕ → Body → ℕ → Message
+says me body to = record { from = Node me; to = Node to; body = body }
+
+-- one to each node, itself too
+abbrev pub says_to_all : ℕ → ℕ → Body → List Message
+says_to_all nodes me body = map (says me body) (one_to nodes)
+
+-- one to each other node
+abbrev pub says_to_others : ℕ → ℕ → Body → List Message
+says_to_others nodes me body = map (says me body) (filter (λ k. not (nat_eq k me)) (one_to nodes))
+
+-- a packet from node to task
+abbrev pub says_to_task : ℕ → Body → ℕ → Message
+says_to_task me body task = record { from = Node me; to = Task task; body = body }
+
+-- the node writes nothing
+abbrev pub sends : Running → List Message → Turn
+sends running packets = record { written = None; sent = packets; running = running; dropped = No }
+
+-- the node writes and sends nothing
+abbrev pub notes : Running → Turn
+notes running = sends running []
+
+-- the node writes a record first
+abbrev pub writes : Rec → Running → List Message → Turn
+writes rec running packets = record { written = Some rec; sent = packets; running = running; dropped = No }
+
+-- nothing happens, for a packet that is not for this node or breaks the configuration
+abbrev pub drops_foreign : Running → Turn
+drops_foreign running = record { written = None; sent = []; running = running; dropped = Foreign }
+
+-- nothing happens, for want of a pending place
+abbrev pub drops_full : Running → Turn
+drops_full running = record { written = None; sent = []; running = running; dropped = Full }
+
+-- What a call returned is what a definition says, value or fault, unless memory ran out.
+abbrev pub IsOutcome : {A : Type 0} → Result A Fault → Result A Fault → Type 0
+IsOutcome (Ok value) wanted = wanted ≡ Ok value
+IsOutcome (Err fault) wanted = (fault ≡ OutOfMemory) ⊎ (wanted ≡ Err fault)

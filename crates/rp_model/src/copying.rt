@@ -1,0 +1,90 @@
+//! A node's proposals, as lists that are made anew.
+
+ghost use Rattle.std.specs.Prelude.{◌≡◌, IfOk, OnOk, option_copied};
+ghost use Rattle.rp_model.specs.Parts.{proposal_at, without_proposal, with_proposal};
+
+use crate::part::{Proposal, Running};
+use crate::sequence::Sequence;
+use rp_base::Position;
+use std::alloc::{AllocError, Global};
+
+/// The same proposal.
+fn copied_proposal(alloc: Global, proposal: &Proposal) -> Result<Proposal, AllocError>
+    ensures { IfOk result (λ copy. copy ≡ proposal.now) }
+{
+    Ok(Proposal {
+        position: proposal.position,
+        ballot: proposal.ballot,
+        own: proposal.own,
+        phase: proposal.phase,
+        promises: Sequence::from_slice(alloc, proposal.promises.as_slice())?,
+    })
+}
+
+/// The same proposals.
+fn copied_proposals(
+    alloc: Global,
+    proposals: &[Proposal],
+) -> Result<Sequence<Proposal>, AllocError>
+    ensures { IfOk result (λ copies. copies ≡ proposals.now) }
+{
+    let mut copies = Sequence::new(alloc);
+    for proposal in proposals {
+        copies.push(copied_proposal(alloc, proposal)?)?;
+    }
+    Ok(copies)
+}
+
+/// The same running part.
+pub fn copied_running(alloc: Global, running: &Running) -> Result<Running, AllocError>
+    ensures { IfOk result (λ copy. copy ≡ running.now) }
+{
+    Ok(Running {
+        proposals: copied_proposals(alloc, running.proposals.as_slice())?,
+        heard: Sequence::from_slice(alloc, running.heard.as_slice())?,
+        pending: Sequence::from_slice(alloc, running.pending.as_slice())?,
+        refused: running.refused,
+    })
+}
+
+/// The proposal that runs at a position.
+pub fn proposal_at(proposals: &[Proposal], position: Position) -> Option<&Proposal>
+    ensures { option_copied result ≡ proposal_at proposals.now position }
+{
+    for proposal in proposals {
+        if proposal.position == position {
+            return Some(proposal);
+        }
+    }
+    None
+}
+
+/// The proposals at other positions.
+pub fn without_proposal(
+    alloc: Global,
+    proposals: &[Proposal],
+    position: Position,
+) -> Result<Sequence<Proposal>, AllocError>
+    ensures { IfOk result (λ others. others ≡ without_proposal proposals.now position) }
+{
+    let mut others = Sequence::new(alloc);
+    for proposal in proposals {
+        if proposal.position != position {
+            others.push(copied_proposal(alloc, proposal)?)?;
+        }
+    }
+    Ok(others)
+}
+
+/// The proposals, this one in place of any other at its position.
+pub fn with_proposal(
+    alloc: Global,
+    proposals: &[Proposal],
+    proposal: Proposal,
+) -> Result<Sequence<Proposal>, AllocError>
+    ensures { IfOk result (λ all. all ≡ with_proposal proposals.now proposal) }
+{
+    let mut all = without_proposal(alloc, proposals, proposal.position)?;
+    all.push(proposal)?;
+    Ok(all)
+}

@@ -1,0 +1,3 @@
+pub mod Shape
+pub mod Steps
+pub use Rattle.rp_model.specs.World

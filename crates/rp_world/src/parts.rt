@@ -1,0 +1,187 @@
+//! Steps on the lists of a world's parts.
+
+ghost use Rattle.std.specs.Prelude.{◌≡◌, ◌++◌, ◌↔◌, Some, replicate, IsTrue, Err, OnOk, OnErr, IfOk, IfErr};
+ghost use Rattle.rp_base.specs.Action.{IsRight, is_right};
+ghost use Rattle.rp_codec.specs.Message.{IsCallBy};
+ghost use Rattle.rp_codec.specs.declared.packet.Party.TheVariants.{Node, Task};
+ghost use Rattle.rp_codec.specs.declared.packet.Body.TheVariants.{Call};
+ghost use Rattle.rp_model.specs.World.{with_record, fresh_node, fresh_task, outstanding_number, World, next_call, task_calls};
+ghost use Rattle.rp_world.specs.Steps.{TakesReply};
+
+use rp_base::{Action, Answer, Config, Fault, NodeId, Operation, Reply, TaskId};
+use rp_codec::{Body, Packet, Party};
+use rp_model::{NodePart, RightAction, Running, Sequence, TaskPart, Turn};
+use std::alloc::{AllocError, Global};
+
+/// A node's turn takes effect: its record, its packets, and what it knows. Refused for memory,
+/// nothing changes.
+pub fn take_effect(
+    part: &mut NodePart,
+    sent: &mut Vec<Packet>,
+    turn: Turn,
+) -> Result<(), AllocError>
+    ensures part { OnOk result (part.new ≡ record part.old { records = with_record part.old.records turn.written; running = Some turn.running }) }
+    ensures sent { OnOk result (sent.new.items ≡ sent.old.items ++ turn.sent) }
+    ensures err { OnErr result (part.new ≡ part.old) }
+    ensures err_sent { OnErr result (sent.new.items ≡ sent.old.items) }
+{
+    let Turn {
+        written,
+        sent: packets,
+        running,
+        dropped: _,
+    } = turn;
+    let mut packets = packets.into_vec();
+    sent.reserve(packets.len())?;
+    if let Some(content) = written {
+        part.records.push(content)?;
+    }
+    sent.append(&mut packets).unwrap();
+    part.running = Some(running);
+    Ok(())
+}
+
+/// A node that runs and knows nothing yet.
+pub fn fresh_node(alloc: Global) -> NodePart
+    ensures { result ≡ fresh_node }
+{
+    NodePart {
+        records: Sequence::new(alloc),
+        torn: 0,
+        running: Some(Running {
+            proposals: Sequence::new(alloc),
+            heard: Sequence::new(alloc),
+            pending: Sequence::new(alloc),
+            refused: None,
+        }),
+    }
+}
+
+/// A task that has called nothing yet.
+pub fn fresh_task(alloc: Global) -> TaskPart
+    ensures { result ≡ fresh_task }
+{
+    TaskPart {
+        outstanding: None,
+        replies: Sequence::new(alloc),
+    }
+}
+
+/// So many fresh nodes.
+pub fn fresh_nodes(alloc: Global, count: u8) -> Result<Vec<NodePart>, AllocError>
+    ensures { IfOk result (λ nodes. nodes.items ≡ replicate count fresh_node) }
+{
+    let mut nodes = Vec::new(alloc);
+    for place in 0..count {
+        nodes.push(fresh_node(alloc))?;
+    }
+    Ok(nodes)
+}
+
+/// The eight tasks, fresh.
+pub fn fresh_tasks(alloc: Global) -> Result<Vec<TaskPart>, AllocError>
+    ensures { IfOk result (λ tasks. tasks.items ≡ replicate 8 fresh_task) }
+{
+    let mut tasks = Vec::new(alloc);
+    for place in 0..8u8 {
+        tasks.push(fresh_task(alloc))?;
+    }
+    Ok(tasks)
+}
+
+/// A reply comes to a task: it is taken where it is to the task's outstanding call, which it ends.
+/// Refused for memory, nothing changes.
+pub fn takes_reply(
+    part: &mut TaskPart,
+    task: TaskId,
+    number: u32,
+    reply: Reply,
+) -> Result<Option<Answer>, AllocError>
+    ensures ok { IfOk result (λ taken. TakesReply part.old part.new task number reply taken) }
+    ensures err { OnErr result (part.new ≡ part.old) }
+{
+    if number == 0 || number != outstanding_number(&part.outstanding) {
+        return Ok(None);
+    }
+    part.replies.push(answer_of(task, number, &reply))?;
+    part.outstanding = None;
+    Ok(Some(answer_of(task, number, &reply)))
+}
+
+fn answer_of(task: TaskId, number: u32, reply: &Reply) -> Answer
+    ensures { result ≡ record { task = task; number = number; reply = reply.now } }
+{
+    Answer {
+        task,
+        number,
+        reply: *reply,
+    }
+}
+
+/// The next call of a task that waits for nothing, or `TaskBusy`, `NumbersSpent` or `BadConfig`.
+pub fn next_call(
+    config: Config,
+    part: &TaskPart,
+    task: TaskId,
+    node: NodeId,
+    object: u8,
+    operation: Operation,
+    arg: i64,
+) -> Result<RightAction, Fault>
+    ensures call { IfOk result (λ call. call ≡ next_call task part.now object operation arg) }
+    ensures of_task { IfOk result (IsCallBy task) }
+    ensures refused { IfErr result (λ fault. (w : World)
+        → task_calls config w task node part.now (next_call task part.now object operation arg) part.now.outstanding ≡ Err fault) }
+{
+    if part.outstanding.is_some() {
+        return Err(Fault::TaskBusy);
+    }
+    let made = part.replies.len();
+    if made >= u32::MAX as usize {
+        return Err(Fault::NumbersSpent);
+    }
+    let call = Action::Call {
+        task,
+        number: made as u32 + 1,
+        object,
+        operation,
+        arg,
+    };
+    if node.get() > config.nodes || !keeps_rules(&call) {
+        return Err(Fault::BadConfig);
+    }
+    Ok(RightAction::new(call))
+}
+
+/// Whether the call keeps the rules of its fields.
+fn keeps_rules(call: &Action) -> bool
+    ensures right { IsTrue result ↔ IsRight call.now }
+    ensures value { result ≡ is_right call.now }
+{
+    call.is_right()
+}
+
+/// The number of the call that a task waits for, 0 where it waits for none.
+fn outstanding_number(outstanding: &Option<RightAction>) -> u32
+    ensures { result ≡ outstanding_number outstanding.now }
+{
+    match outstanding {
+        None => 0,
+        Some(call) => match call.get() {
+            Action::Call { number, .. } => number,
+            Action::Noop | Action::Interrupt { .. } | Action::Tick { .. } => 0,
+        },
+    }
+}
+
+/// A task's call, as a packet to a node.
+pub fn asks(task: TaskId, node: NodeId, call: RightAction) -> Packet
+    requires { IsCallBy task call }
+    ensures { result ≡ record { from = Task task; to = Node node; body = Call call } }
+{
+    Packet::new(
+        Party::Task(task),
+        Party::Node(node),
+        Body::Call { action: call.get() },
+    )
+}

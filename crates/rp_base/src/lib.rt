@@ -20,3 +20,6 @@ pub use majorities::{majorities_meet, majority};
 pub use number::{NodeId, Position, TaskId};
 pub use record::{Rec, Vote};
 pub use reply::{Answer, Reply};
+
+#[cfg(test)]
+mod tests;

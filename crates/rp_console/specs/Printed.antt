@@ -25,10 +25,6 @@ abbrev pub refused_line_of : ℕ → Fault → List ℕ
 refused_line_of line fault =
     codes "line " ++ (decimal line ++ (codes ": refused " ++ (decimal (code_of fault) ++ (codes " " ++ name_of fault))))
 
--- a node has no room for one more pending item
-abbrev pub pending_line_of : ℕ → List ℕ
-pending_line_of node = codes "node " ++ (decimal node ++ codes " pending full")
-
 -- how many actions a node has applied
 abbrev pub applied_line_of : ℕ → ℕ → List ℕ
 applied_line_of node applied = codes "node " ++ (decimal node ++ (codes " applied " ++ decimal applied))

@@ -1,4 +1,4 @@
-//! The program: reads a deck on standard input and checks it. It runs nothing yet.
+//! The program: reads a deck on standard input, runs its script and prints.
 #![tactic(auto)]
 
 mod args;
@@ -7,6 +7,7 @@ mod declarations;
 mod lines;
 mod printed;
 mod reading;
+mod run;
 mod script;
 mod settled;
 mod status;
@@ -15,12 +16,11 @@ mod words;
 
 use args::{Args, read_args, words_status};
 use clap::error::ErrorKind;
-use reading::read_deck;
 use rp_base::Fault;
+use run::run_script;
 use status::{status, tell};
 use std::env;
 use std::process::ExitCode;
-use stream::read_whole;
 
 fn main(rt: HostRuntime) -> ExitCode {
     ExitCode::from(console(&rt))
@@ -43,7 +43,7 @@ fn given_words(rt: &HostRuntime) -> Result<Vec<String>, Fault> {
 /// Does what the words ask for, or tells why they are wrong.
 fn obey(rt: &HostRuntime, words: &[String]) -> u8 {
     match read_args(rt.alloc(), words) {
-        Ok(Args::Script) => match check_deck(rt) {
+        Ok(Args::Script) => match run_script(rt.alloc(), &mut rt.stdin(), &mut rt.stdout()) {
             Ok(()) => 0,
             Err(fault) => fail(rt, fault),
         },
@@ -53,13 +53,6 @@ fn obey(rt: &HostRuntime, words: &[String]) -> u8 {
             words_status(&error)
         }
     }
-}
-
-/// Reads a deck on standard input whole, and checks it.
-fn check_deck(rt: &HostRuntime) -> Result<(), Fault> {
-    let text = read_whole(rt.alloc(), &mut rt.stdin())?;
-    read_deck(rt.alloc(), &text)?;
-    Ok(())
 }
 
 /// Tells a fault on standard error. The status that it ends the program with.

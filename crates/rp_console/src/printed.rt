@@ -1,7 +1,7 @@
 //! The lines that a run prints. The caller ends each by a line feed.
 
 ghost use Rattle.std.specs.Prelude.{Some};
-ghost use Rattle.rp_console.specs.Printed.{reply_text_of, reply_line_of, refused_line_of, pending_line_of, applied_line_of, limit_line_of};
+ghost use Rattle.rp_console.specs.Printed.{reply_text_of, reply_line_of, refused_line_of, applied_line_of, limit_line_of};
 
 use rp_base::{Fault, NodeId, Reply};
 use std::fmt;
@@ -61,21 +61,6 @@ impl fmt::Display for RefusedLine {
         let code = self.fault.code();
         let name = self.fault.name();
         write!(f, "line {line}: refused {code} {name}")
-    }
-}
-
-/// A node has no room for one more pending item: `node 2 pending full`.
-#[derive(Clone, Copy, Debug, PartialEq, Eq)]
-pub struct PendingFullLine {
-    pub node: NodeId,
-}
-
-impl fmt::Display for PendingFullLine {
-    ghost output = { λ l. Some (pending_line_of l.node) };
-
-    fn fmt<W: fmt::Write>(&self, f: &mut fmt::Formatter<W>) -> fmt::Result {
-        let node = self.node.get();
-        write!(f, "node {node} pending full")
     }
 }
 

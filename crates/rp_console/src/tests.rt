@@ -1,7 +1,8 @@
 use crate::args::{Args, read_args, words_status};
 use crate::deck::Command;
-use crate::printed::{AppliedLine, DrainLimitLine, PendingFullLine, RefusedLine, ReplyLine};
+use crate::printed::{AppliedLine, DrainLimitLine, RefusedLine, ReplyLine};
 use crate::reading::read_deck;
+use crate::run::{run_script, run_within};
 use crate::settled::Settled;
 use crate::status::{reason_text, status, tell};
 use crate::stream::{print, read_whole};
@@ -273,7 +274,6 @@ fn the_printed_lines_have_their_forms(rt: HostRuntime) -> Result<(), Fail> {
             fault: Fault::LogFull,
         },
     )?;
-    print(rt.alloc(), &mut written, PendingFullLine { node })?;
     print(
         rt.alloc(),
         &mut written,
@@ -283,8 +283,7 @@ fn the_printed_lines_have_their_forms(rt: HostRuntime) -> Result<(), Fail> {
         },
     )?;
     print(rt.alloc(), &mut written, DrainLimitLine { line: 8 })?;
-    let lines =
-        "line 11: refused 7 LogFull\nnode 2 pending full\nnode 2 applied 65535\nline 8: drain limit\n";
+    let lines = "line 11: refused 7 LogFull\nnode 2 applied 65535\nline 8: drain limit\n";
     assert_eq!(rt; written.as_slice(), lines.as_bytes());
     Ok(())
 }
@@ -363,5 +362,40 @@ fn the_least_message_is_found_behind_settled_ones(rt: HostRuntime) -> Result<(),
     assert_eq!(rt; settled.least(), 4);
     settled.settle(4)?;
     assert_eq!(rt; settled.least(), 6);
+    Ok(())
+}
+
+/// The decks of the folder decks/ and their outputs, as they stand there. A test reads no file, so
+/// the texts stand here too.
+const DECKS: [(&str, &str, &str); 2] = [
+    (
+        "one_call",
+        "# One call: the task a adds 5, node 1 leads, and each node has applied the call.\nnodes 3\ntally 1\ntask a 5\ntask b 5\nscript\ncall a 1 o1.add 5\ndrain\nlead 1\ndrain\nshow\n",
+        "reply a 1 value 5\nnode 1 applied 1\ntally o1=5\nnode 2 applied 1\ntally o1=5\nnode 3 applied 1\ntally o1=5\n",
+    ),
+    (
+        "log_full",
+        "nodes 3\npositions 1\ntally 1\ntask a 5\ntask b 5\nscript\ncall a 1 o1.add 5\ndrain\nlead 1\ndrain\nlead 1\nshow\n# The log has one position. The second lead, in line 11, finds it taken and is refused.\n",
+        "reply a 1 value 5\nline 11: refused 7 LogFull\nnode 1 applied 1\ntally o1=5\nnode 2 applied 1\ntally o1=5\nnode 3 applied 1\ntally o1=5\n",
+    ),
+];
+
+#[test]
+fn each_deck_prints_its_output(rt: HostRuntime) -> Result<(), Fail> {
+    for (name, deck, output) in DECKS {
+        let mut written = Vec::new(rt.alloc());
+        run_script(rt.alloc(), &mut deck.as_bytes(), &mut written)?;
+        assert_eq!(rt; written.as_slice(), output.as_bytes(), "{name}");
+    }
+    Ok(())
+}
+
+#[test]
+fn a_drain_ends_at_its_limit(rt: HostRuntime) -> Result<(), Fail> {
+    let text = "nodes 3\ntally 1\ntask a 5\nscript\nlead 1\ndrain\n";
+    let deck = read_deck(rt.alloc(), text.as_bytes())?;
+    let mut written = Vec::new(rt.alloc());
+    run_within(rt.alloc(), &deck, 2, &mut written)?;
+    assert_eq!(rt; written.as_slice(), b"line 6: drain limit\n".as_slice());
     Ok(())
 }

@@ -10,7 +10,7 @@ free_goes_on records proposals most place total lt taken so_far =
     let more : most - place ≡ suc (most - (place + 1)) = omega arith in
     let next : suc (place + 1) ≡ place + 1 + 1 = omega arith in
     let one : free_from records proposals (most - place) (place + 1) ≡ free_from records proposals (most - (place + 1)) (place + 1 + 1) =
-          ap (λ (m : ℕ). free_from records proposals m (place + 1)) more
-          ∙ ap (λ (b : Bool). cond b (place + 1) (free_from records proposals (most - (place + 1)) (suc (place + 1)))) taken
-          ∙ ap (λ (i : ℕ). free_from records proposals (most - (place + 1)) i) next in
+    ap (λ (m : ℕ). free_from records proposals m (place + 1)) more
+    ∙ ap (λ (b : Bool). cond b (place + 1) (free_from records proposals (most - (place + 1)) (suc (place + 1)))) taken
+    ∙ ap (λ (i : ℕ). free_from records proposals (most - (place + 1)) i) next in
     sym one ∙ so_far

@@ -15,9 +15,9 @@ run_goes_on records front n k action total lt here so_far =
     let more : n - k ≡ suc (n - (k + 1)) = omega arith in
     let next : suc (k + 1) ≡ k + 1 + 1 = omega arith in
     let run : learned_run records (n - k) (k + 1) ≡ action ∷ learned_run records (n - (k + 1)) (k + 1 + 1) =
-          ap (λ (m : ℕ). learned_run records m (k + 1)) more
-          ∙ run_from records (n - (k + 1)) (k + 1) (Some action) here
-          ∙ ap (λ (i : ℕ). action ∷ learned_run records (n - (k + 1)) i) next in
+    ap (λ (m : ℕ). learned_run records m (k + 1)) more
+    ∙ run_from records (n - (k + 1)) (k + 1) (Some action) here
+    ∙ ap (λ (i : ℕ). action ∷ learned_run records (n - (k + 1)) i) next in
     append_assoc front (action ∷ []) (learned_run records (n - (k + 1)) (k + 1 + 1)) ∙ sym (ap (λ (rest : List Action). front ++ rest) run) ∙ so_far
 
 -- nothing follows where nothing is learned
@@ -26,7 +26,7 @@ pub run_stops : (records : List Rec) (front : List Action) (n k : ℕ) (total : 
 run_stops records front n k total lt here so_far =
     let more : n - k ≡ suc (n - (k + 1)) = omega arith in
     let run : learned_run records (n - k) (k + 1) ≡ [] =
-          ap (λ (m : ℕ). learned_run records m (k + 1)) more ∙ run_from records (n - (k + 1)) (k + 1) None here in
+    ap (λ (m : ℕ). learned_run records m (k + 1)) more ∙ run_from records (n - (k + 1)) (k + 1) None here in
     sym (append-nil front) ∙ sym (ap (λ (rest : List Action). front ++ rest) run) ∙ so_far
 
 -- the run is as long as what was found and what follows
@@ -36,9 +36,9 @@ count_goes_on records n k action total lt here so_far =
     let more : n - k ≡ suc (n - (k + 1)) = omega arith in
     let next : suc (k + 1) ≡ k + 1 + 1 = omega arith in
     let run : learned_run records (n - k) (k + 1) ≡ action ∷ learned_run records (n - (k + 1)) (k + 1 + 1) =
-          ap (λ (m : ℕ). learned_run records m (k + 1)) more
-          ∙ run_from records (n - (k + 1)) (k + 1) (Some action) here
-          ∙ ap (λ (i : ℕ). action ∷ learned_run records (n - (k + 1)) i) next in
+    ap (λ (m : ℕ). learned_run records m (k + 1)) more
+    ∙ run_from records (n - (k + 1)) (k + 1) (Some action) here
+    ∙ ap (λ (i : ℕ). action ∷ learned_run records (n - (k + 1)) i) next in
     let long : length (learned_run records (n - k) (k + 1)) ≡ suc (length (learned_run records (n - (k + 1)) (k + 1 + 1))) = ap length run in
     omega arith
 
@@ -47,6 +47,6 @@ pub count_stops : (records : List Rec) (n k total : ℕ) → k < n → learned_a
 count_stops records n k total lt here so_far =
     let more : n - k ≡ suc (n - (k + 1)) = omega arith in
     let run : learned_run records (n - k) (k + 1) ≡ [] =
-          ap (λ (m : ℕ). learned_run records m (k + 1)) more ∙ run_from records (n - (k + 1)) (k + 1) None here in
+    ap (λ (m : ℕ). learned_run records m (k + 1)) more ∙ run_from records (n - (k + 1)) (k + 1) None here in
     let long : length (learned_run records (n - k) (k + 1)) ≡ 0 = ap length run in
     omega arith

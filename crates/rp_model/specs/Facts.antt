@@ -38,7 +38,6 @@ pub record IsOrder (nodes : ℕ) (sent : List Message) (order : List Action) : T
   pub longest : (v : Action) → ¬ IsDecided nodes sent (suc (length order)) v
 
 module _ {S : Type 0} (next : S → Action → S) (answers : S → Action → List Answer) (begin : S) where
-
   -- the place of a call in a list of actions: the position, from 1, where it counts
   pub record IsPlace (actions : List Action) (call : CallName) (position : ℕ) : Type 0 where
     pub action : Action

@@ -66,7 +66,6 @@ abbrev pub starts_above : List Rec → Running → ℕ
 starts_above records running = max (started_of records) (number_of running.refused)
 
 module _ {S : Type 0} (next : S → Action → S) (answers : S → Action → List Answer) (begin : S) where
-
   -- a proposal begins at the position in the ballot, in place of another there
   abbrev pub begins : ℕ → ℕ → List Rec → Running → ℕ → ℕ → Turn
   begins nodes me records running i b =

@@ -64,7 +64,6 @@ on_numbered me kept running task number call None =
     else adds_pending running call
 
 module _ {S : Type 0} (next : S → Action → S) (answers : S → Action → List Answer) (begin : S) where
-
   -- An action is learned at a position: the proposal there ends, the votes heard there are let go, and
   -- each answer that comes of it goes to the task whose call is pending.
   abbrev pub learns : ℕ → List Rec → Running → ℕ → Action → List Message → Turn

@@ -50,7 +50,6 @@ is_for_node nodes most me message =
     is_node me message.to && is_within nodes message.from && is_allowed most (number_of_party message.from) message.body
 
 module _ {S : Type 0} (next : S → Action → S) (answers : S → Action → List Answer) (begin : S) where
-
   -- by what the packet says
   abbrev pub on_body : ℕ → ℕ → List Rec → Running → ℕ → Body → Turn
   on_body nodes me records running from (Call action) = on_call next answers begin me records running action

@@ -44,7 +44,7 @@ counted nodes me running p promise =
     let promises = with_member same_promise p.promises promise in
     if is_majority nodes (promisers_of promises)
     then sends (record running { proposals = with_proposal running.proposals (record p { phase = Offering; promises = promises }) })
-        (says_to_all nodes me (bodies.Accept p.position p.ballot (offer_of p.own promises)))
+    (says_to_all nodes me (bodies.Accept p.position p.ballot (offer_of p.own promises)))
     else notes (record running { proposals = with_proposal running.proposals (record p { promises = promises }) })
 
 -- a promise to a proposal: it counts in the proposal's ballot, while promises are waited for

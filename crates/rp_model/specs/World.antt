@@ -99,13 +99,13 @@ task_takes w task number reply None = nothing_happens w
 task_takes w task number reply (Some part) =
     if nat_lt 0 number && nat_eq number (outstanding_number part.outstanding)
     then (
-      let answer : Answer = record { task = task; number = number; reply = reply } in
-      record {
-        world = record w { tasks = slice_set w.tasks (task - 1) (record { outstanding = None; replies = part.replies ++ answer ∷ [] }) };
-        sends = [];
-        dropped = No;
-        taken = Some answer;
-      })
+    let answer : Answer = record { task = task; number = number; reply = reply } in
+    record {
+      world = record w { tasks = slice_set w.tasks (task - 1) (record { outstanding = None; replies = part.replies ++ answer ∷ [] }) };
+      sends = [];
+      dropped = No;
+      taken = Some answer;
+    })
     else nothing_happens w
 
 -- a body comes to a task: only a reply means something to it
@@ -130,17 +130,17 @@ task_calls config w task node part call None =
     if nat_le (2 ^ 32 - 1) (length part.replies) then Err NumbersSpent
     else if nat_lt config.nodes node || not (is_right call) then Err BadConfig
     else (
-      let packet : Message = record { from = Task task; to = Node node; body = bodies.Call call } in
-      Ok (record {
-        world = record {
-          nodes = w.nodes;
-          tasks = slice_set w.tasks (task - 1) (record part { outstanding = Some call });
-          sent = w.sent ++ packet ∷ [];
-        };
-        sends = packet ∷ [];
-        dropped = No;
-        taken = None;
-      }))
+    let packet : Message = record { from = Task task; to = Node node; body = bodies.Call call } in
+    Ok (record {
+      world = record {
+        nodes = w.nodes;
+        tasks = slice_set w.tasks (task - 1) (record part { outstanding = Some call });
+        sent = w.sent ++ packet ∷ [];
+      };
+      sends = packet ∷ [];
+      dropped = No;
+      taken = None;
+    }))
 
 -- the call of a task that is there
 abbrev pub submits : Config → World → ℕ → ℕ → ℕ → Operation → ℤ → Option TaskPart → Result Happening Fault
@@ -154,7 +154,6 @@ turns_if w me part (Ok turn) = Ok (node_turns w me part turn)
 turns_if w me part (Err fault) = Err fault
 
 module _ {S : Type 0} (next : S → Action → S) (answers : S → Action → List Answer) (begin : S) where
-
   -- a packet comes to a node; at a stopped one it is lost
   abbrev pub node_hears : Config → World → ℕ → Message → NodePart → Option Running → Happening
   node_hears config w me message part None = nothing_happens w

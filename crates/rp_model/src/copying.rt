@@ -22,10 +22,7 @@ fn copied_proposal(alloc: Global, proposal: &Proposal) -> Result<Proposal, Alloc
 }
 
 /// The same proposals.
-fn copied_proposals(
-    alloc: Global,
-    proposals: &[Proposal],
-) -> Result<Sequence<Proposal>, AllocError>
+fn copied_proposals(alloc: Global, proposals: &[Proposal]) -> Result<Sequence<Proposal>, AllocError>
     ensures { IfOk result (λ copies. copies ≡ proposals.now) }
 {
     let mut copies = Sequence::new(alloc);

@@ -42,10 +42,7 @@ pub fn is_majority(nodes: u8, senders: &[NodeId]) -> bool
 }
 
 /// Who sent the promises, each once.
-pub fn promisers_of(
-    alloc: Global,
-    promises: &[CountedPromise],
-) -> Result<Vec<NodeId>, AllocError>
+pub fn promisers_of(alloc: Global, promises: &[CountedPromise]) -> Result<Vec<NodeId>, AllocError>
     ensures { IfOk result (λ nodes. nodes.items ≡ promisers_of promises.now) }
 {
     let mut nodes = Vec::new(alloc);

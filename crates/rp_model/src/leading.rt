@@ -92,7 +92,6 @@ fn own_action(kept: &[Action], proposals: &[Proposal], pending: &[RightAction]) 
     RightAction::new(Action::Noop)
 }
 
-
 /// Whether nothing is learned at the position and no proposal runs there.
 fn is_free_position(records: &[RightRecord], proposals: &[Proposal], position: usize) -> bool
     ensures { result ≡ is_free_position records.now proposals.now position }
@@ -166,11 +165,7 @@ fn begins<M: Machine>(
 }
 
 /// The position to lead in: the one that is asked for, or the least free one.
-fn chosen_position(
-    records: &[RightRecord],
-    running: &Running,
-    choice: Option<Position>,
-) -> usize
+fn chosen_position(records: &[RightRecord], running: &Running, choice: Option<Position>) -> usize
     ensures value { result ≡ chosen_position records.now running.now choice }
     ensures low { 1 ≤ result }
 {
@@ -212,5 +207,14 @@ pub fn on_lead<M: Machine>(
     }
     let ballot = Ballot::next_for(me, starts_above(records, running))?;
     let position = position_at(place);
-    Ok(begins::<M>(alloc, program, config.nodes, me, records, running, position, ballot)?)
+    Ok(begins::<M>(
+        alloc,
+        program,
+        config.nodes,
+        me,
+        records,
+        running,
+        position,
+        ballot,
+    )?)
 }

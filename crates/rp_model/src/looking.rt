@@ -41,8 +41,7 @@ pub fn bound_at(records: &[RightRecord], position: usize) -> Option<Ballot>
     for record in records {
         match record.get() {
             Rec::Promised(at, ballot) | Rec::Voted(at, ballot, _)
-                if usize::from(at.get()) == position =>
-            {
+                if usize::from(at.get()) == position => {
                 bound = greater(bound, ballot);
             }
             _ => {}

@@ -1,7 +1,7 @@
 //! The parts of a world.
 
-use crate::sequence::Sequence;
 use crate::right::{RightAction, RightRecord, RightVote};
+use crate::sequence::Sequence;
 use rp_base::{Answer, Ballot, NodeId, Position};
 use rp_codec::Packet;
 

@@ -43,9 +43,12 @@ fn is_allowed(max_positions: u16, from: Party, body: &Body) -> bool
 {
     match *body {
         Body::Call { .. } | Body::Reply { .. } => true,
-        Body::Prepare { position, ballot } | Body::Accept { position, ballot, .. } => {
-            position.get() <= max_positions && owns(from, ballot)
-        }
+        Body::Prepare { position, ballot }
+        | Body::Accept {
+            position,
+            ballot,
+            ..
+        } => { position.get() <= max_positions && owns(from, ballot) }
         Body::Promise { position, .. }
         | Body::Accepted { position, .. }
         | Body::Decided { position, .. }
@@ -164,7 +167,9 @@ fn between_nodes<M: Machine>(
             action,
         } => {
             let vote = RightVote::new(Vote { ballot, action });
-            Ok(on_accepted::<M>(alloc, program, nodes, me, records, running, from, position, vote)?)
+            Ok(on_accepted::<M>(
+                alloc, program, nodes, me, records, running, from, position, vote,
+            )?)
         }
         Body::Decided { position, action } => {
             let action = RightAction::new(action);

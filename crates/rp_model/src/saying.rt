@@ -101,5 +101,9 @@ pub fn reply_to_task(me: NodeId, task: TaskId, number: u32, reply: Reply) -> Pac
     requires { IsCount number }
     ensures { result ≡ says_to_task me (Answered number reply) task }
 {
-    Packet::new(Party::Node(me), Party::Task(task), Body::Reply { number, reply })
+    Packet::new(
+        Party::Node(me),
+        Party::Task(task),
+        Body::Reply { number, reply },
+    )
 }

@@ -244,7 +244,8 @@ fn replaced(
     promises: Sequence<CountedPromise>,
 ) -> Result<Running, AllocError>
     ensures { IfOk result (λ known. known ≡ record running.now {
-        proposals = with_proposal running.now.proposals (record proposal.now { phase = phase; promises = promises }) }) }
+      proposals = with_proposal running.now.proposals (record proposal.now { phase = phase; promises = promises });
+    }) }
 {
     let after = Proposal {
         position: proposal.position,
@@ -292,8 +293,11 @@ pub fn on_nack(
     let mut known = copied_running(alloc, running)?;
     match proposal_at(running.proposals.as_slice(), position) {
         Some(proposal) if proposal.ballot == ballot => {
-            known.proposals =
-                without_proposal(alloc, running.proposals.as_slice(), proposal.position)?;
+            known.proposals = without_proposal(
+                alloc,
+                running.proposals.as_slice(),
+                proposal.position,
+            )?;
             known.refused = greater(running.refused, bound);
         }
         _ => {}

@@ -38,9 +38,10 @@ impl<M: Machine> Model for Cluster<M> {
     ghost Value = { Setup M.Program };
 
     ghost view = { λ c. record {
-        config = c.config;
-        program = c.program;
-        world = record { nodes = c.nodes.items; tasks = c.tasks.items; sent = c.sent.items } } };
+      config = c.config;
+      program = c.program;
+      world = record { nodes = c.nodes.items; tasks = c.tasks.items; sent = c.sent.items };
+    } };
 
     ghost invariant = { λ c. IsCluster c.config c.nodes.items c.tasks.items };
 }
@@ -133,7 +134,15 @@ impl<M: Machine> Cluster<M> {
                     return Ok(Effect::nothing(first));
                 };
                 let records = part.records.as_slice();
-                let turn = receives::<M>(alloc, &self.program, self.config, node, records, running, packet)?;
+                let turn = receives::<M>(
+                    alloc,
+                    &self.program,
+                    self.config,
+                    node,
+                    records,
+                    running,
+                    packet,
+                )?;
                 let effect = Effect::of_turn(first, &turn);
                 take_effect(&mut self.nodes[place], &mut self.sent, turn)?;
                 Ok(effect)
@@ -174,7 +183,15 @@ impl<M: Machine> Cluster<M> {
             return Err(Fault::NotRunning);
         };
         let records = part.records.as_slice();
-        let turn = on_lead::<M>(alloc, &self.program, self.config, node, records, running, position)?;
+        let turn = on_lead::<M>(
+            alloc,
+            &self.program,
+            self.config,
+            node,
+            records,
+            running,
+            position,
+        )?;
         let effect = Effect::of_turn(first, &turn);
         take_effect(&mut self.nodes[place], &mut self.sent, turn)?;
         Ok(effect)
@@ -182,7 +199,8 @@ impl<M: Machine> Cluster<M> {
 
     /// How many messages were sent.
     pub fn messages(&self) -> u64
-        ensures { result ≡ length self.now.world.sent }
+        ensures value { result ≡ length self.now.world.sent }
+        ensures few { result < 2 ^ 63 }
     {
         self.sent.len() as u64
     }

@@ -12,4 +12,4 @@ pub loop-place-preserved : goal.loop-place-preserved
 loop-place-preserved c =
     rw c.in_ok-push.ensures.items
     (run_goes_on c.args.records.now c.loop-place.applied.items (length c.args.records.now) c.loop-place.place c.in-Some.action (applied_of c.args.records.now)
-      c.loop-place-test.true (sym c.learned_at.ensures ∙ c.in-Some.is) c.loop-place.invariant)
+    c.loop-place-test.true (sym c.learned_at.ensures ∙ c.in-Some.is) c.loop-place.invariant)

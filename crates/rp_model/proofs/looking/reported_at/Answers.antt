@@ -9,4 +9,4 @@ pub returns-in-Some-clause-below : goal.returns-in-Some-clause-below
 returns-in-Some-clause-below c =
     rw c.get.ensures.value
     (subst (λ (o : Option Vote). IfSome o (λ vote. vote.ballot ≤ bound_at c.args.records.now c.args.position))
-      (sym c.last_vote_at.ensures ∙ c.in-Some.is) (last_below c.args.records.now c.args.position))
+    (sym c.last_vote_at.ensures ∙ c.in-Some.is) (last_below c.args.records.now c.args.position))

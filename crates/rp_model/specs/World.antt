@@ -1,5 +1,5 @@
 -- A world, and what an event does to it (this project's own; one step of one actor is one event).
-use Rattle.std.specs.Prelude.{ℕ, zero, suc, ◌-◌, ◌^◌, not, ◌&&◌, ◌||◌, nat_eq, nat_lt, nat_le, ℤ, Option, Some, None, Result, Ok, Err, List, [], ◌∷◌, ◌++◌, length, replicate, slice_get, slice_set, if◌then◌else◌}
+use Rattle.std.specs.Prelude.{ℕ, Bool, zero, suc, ◌-◌, ◌^◌, not, ◌&&◌, ◌||◌, nat_eq, nat_lt, nat_le, ℤ, Option, Some, None, Result, Ok, Err, List, [], ◌∷◌, ◌++◌, length, replicate, slice_get, slice_set, if◌then◌else◌}
 use Rattle.rp_base.specs.declared.action.Action.{Action}
 use Rattle.rp_base.specs.declared.action.Action.TheVariants as actions
 use Rattle.rp_base.specs.declared.action.Operation.{Operation}
@@ -93,11 +93,15 @@ outstanding_number (Some (actions.Call task number object operation arg)) = numb
 outstanding_number (Some (actions.Interrupt source occurrence)) = 0
 outstanding_number (Some (actions.Tick now)) = 0
 
+-- a reply of this number is to the call that the task waits for
+abbrev pub takes : TaskPart → ℕ → Bool
+takes part number = nat_lt 0 number && nat_eq number (outstanding_number part.outstanding)
+
 -- a reply comes to a task: one to its outstanding call ends it, any other is ignored
 abbrev pub task_takes : World → ℕ → ℕ → Reply → Option TaskPart → Happening
 task_takes w task number reply None = nothing_happens w
 task_takes w task number reply (Some part) =
-    if nat_lt 0 number && nat_eq number (outstanding_number part.outstanding)
+    if takes part number
     then (
     let answer : Answer = record { task = task; number = number; reply = reply } in
     record {
@@ -123,13 +127,18 @@ task_hears w task (bodies.Reply number reply) = task_takes w task number reply (
 abbrev pub next_call : ℕ → TaskPart → ℕ → Operation → ℤ → Action
 next_call task part object operation arg = actions.Call task (suc (length part.replies)) object operation arg
 
--- a task that waits for nothing makes a call and asks a node
-abbrev pub task_calls : Config → World → ℕ → ℕ → TaskPart → Action → Option Action → Result Happening Fault
-task_calls config w task node part call (Some waits) = Err TaskBusy
-task_calls config w task node part call None =
+-- the call that a task which waits for nothing may make, or its refusal
+abbrev pub may_call : Config → ℕ → TaskPart → Action → Option Action → Result Action Fault
+may_call config node part call (Some waits) = Err TaskBusy
+may_call config node part call None =
     if nat_le (2 ^ 32 - 1) (length part.replies) then Err NumbersSpent
     else if nat_lt config.nodes node || not (is_right call) then Err BadConfig
-    else (
+    else Ok call
+
+-- a task makes a call and asks a node, or is refused
+abbrev pub calls_if : World → ℕ → ℕ → TaskPart → Result Action Fault → Result Happening Fault
+calls_if w task node part (Err fault) = Err fault
+calls_if w task node part (Ok call) =
     let packet : Message = record { from = Task task; to = Node node; body = bodies.Call call } in
     Ok (record {
       world = record {
@@ -140,13 +149,13 @@ task_calls config w task node part call None =
       sends = packet ∷ [];
       dropped = No;
       taken = None;
-    }))
+    })
 
 -- the call of a task that is there
 abbrev pub submits : Config → World → ℕ → ℕ → ℕ → Operation → ℤ → Option TaskPart → Result Happening Fault
 submits config w task node object operation arg None = Err BadConfig
 submits config w task node object operation arg (Some part) =
-    task_calls config w task node part (next_call task part object operation arg) part.outstanding
+    calls_if w task node part (may_call config node part (next_call task part object operation arg) part.outstanding)
 
 -- a node's turn, or its refusal
 abbrev pub turns_if : World → ℕ → NodePart → Result Turn Fault → Result Happening Fault

@@ -5,6 +5,7 @@
 mod copying;
 mod counting;
 mod event;
+mod laws;
 mod leading;
 mod learning;
 mod looking;
@@ -17,6 +18,7 @@ mod sequence;
 mod voting;
 
 pub use event::{Event, Step};
+pub use laws::{applied_grows, worlds_grow};
 pub use leading::on_lead;
 pub use looking::{applied_count, applied_of};
 pub use part::{Dropped, NodePart, Phase, Proposal, Running, TaskPart, Turn};
@@ -24,3 +26,6 @@ pub use receiving::receives;
 pub use replaying::{Replayed, replay};
 pub use right::{RightAction, RightRecord, RightVote};
 pub use sequence::Sequence;
+
+#[cfg(test)]
+mod tests;

@@ -1,3 +1,4 @@
+pub mod Runs
 pub mod Shape
 pub mod Steps
 pub use Rattle.rp_model.specs.World

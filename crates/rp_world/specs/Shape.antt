@@ -1,12 +1,10 @@
 -- What is true of every cluster's fields.
-use Rattle.std.specs.Prelude.{◌≡◌, List, length}
+use Rattle.std.specs.Prelude.{◌≡◌, length}
 use Rattle.rp_base.specs.declared.config.Config.{Config}
 use Rattle.rp_base.specs.Config.{IsRightConfig}
-use Rattle.rp_model.specs.declared.part.NodePart.{NodePart}
-use Rattle.rp_model.specs.declared.part.TaskPart.{TaskPart}
+use Rattle.rp_model.specs.World.{World}
 
--- its configuration is right, and there is a part for each node and each of the eight tasks
-pub record IsCluster (config : Config) (nodes : List NodePart) (tasks : List TaskPart) : Type 0 where
+-- its configuration is right, and there is a part for each of its nodes
+pub record IsCluster (config : Config) (world : World) : Type 0 where
   pub right : IsRightConfig config
-  pub all_nodes : length nodes ≡ config.nodes
-  pub all_tasks : length tasks ≡ 8
+  pub all_nodes : length world.nodes ≡ config.nodes

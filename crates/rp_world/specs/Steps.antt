@@ -1,15 +1,12 @@
 -- A cluster as its configuration, its program and its world, and what a step of it tells.
-use Rattle.std.specs.Prelude.{◌≡◌, ℕ, ◌+◌, ◌<◌, ◌^◌, Result, Ok, Err, Option, Some, None, List, length, IsOkAnd, ◌⊎◌, ◌&&◌, nat_lt, nat_eq, true, false, ◌++◌, ◌∷◌, []}
+use Rattle.std.specs.Prelude.{◌≡◌, ℕ, ◌+◌, ◌-◌, ◌^◌, min, Result, Ok, Err, Option, Some, None, List, length, IsOkAnd, ◌⊎◌}
 use Rattle.rp_base.specs.declared.config.Config.{Config}
 use Rattle.rp_base.specs.declared.fault.Fault.{Fault}
 use Rattle.rp_base.specs.declared.fault.Fault.TheVariants.{OutOfMemory, NotRunning, BadConfig}
 use Rattle.rp_base.specs.declared.record.Rec.{Rec}
 use Rattle.rp_model.specs.declared.part.Running.{Running}
 use Rattle.rp_model.specs.declared.part.NodePart.{NodePart}
-use Rattle.rp_model.specs.World.{World, Happening, outstanding_number}
-use Rattle.rp_model.specs.declared.part.TaskPart.{TaskPart}
-use Rattle.rp_base.specs.declared.reply.Reply.{Reply}
-use Rattle.rp_base.specs.declared.reply.Answer.{Answer}
+use Rattle.rp_model.specs.World.{World, Happening}
 use Rattle.rp_world.specs.declared.effect.Effect.{Effect}
 
 pub record Setup (P : Type 0) : Type 0 where
@@ -17,19 +14,21 @@ pub record Setup (P : Type 0) : Type 0 where
   pub program : P
   pub world : World
 
--- the effect tells what happened: the number of the first message, how many there were, what was
--- dropped, and the reply that a task took
+-- the effect tells what happened: the number of the first message, how many there were (the greatest
+-- number of 32 bits stands for all above it), what was dropped, and the reply that a task took
 pub record Tells (sent : ℕ) (happening : Happening) (effect : Effect) : Type 0 where
   pub first : effect.first ≡ sent + 1
-  pub count : length happening.sends < 2 ^ 32 → effect.sent ≡ length happening.sends
+  pub count : effect.sent ≡ min (length happening.sends) (2 ^ 32 - 1)
   pub dropped : effect.dropped ≡ happening.dropped
   pub taken : effect.taken ≡ happening.taken
 
--- A step came to what its event's effect is; refused, it changed nothing.
+-- An event's step was answered: it came to what its effect is, and was told so; or it was refused as its
+-- effect is, or for memory, and nothing changed.
 abbrev pub Steps : World → World → Result Happening Fault → Result Effect Fault → Type 0
-Steps old new wanted (Ok effect) =
-    (happening : Happening) × (wanted ≡ Ok happening) × (new ≡ happening.world) × Tells (length old.sent) happening effect
-Steps old new wanted (Err fault) = (new ≡ old) × ((fault ≡ OutOfMemory) ⊎ (wanted ≡ Err fault))
+Steps old new (Ok happening) (Ok effect) = (new ≡ happening.world) × Tells (length old.sent) happening effect
+Steps old new (Ok happening) (Err fault) = (new ≡ old) × (fault ≡ OutOfMemory)
+Steps old new (Err refusal) (Ok effect) = ⊥
+Steps old new (Err refusal) (Err fault) = (new ≡ old) × ((fault ≡ OutOfMemory) ⊎ (fault ≡ refusal))
 
 -- The fault is the refusal that the event's effect is, unless memory ran out.
 abbrev pub IsRefusal : Result Happening Fault → Fault → Type 0
@@ -49,12 +48,3 @@ IsToldOf answer tells (Some part) = IsToldOfRunning answer tells part.records pa
 -- the same, unless memory ran out
 abbrev pub IsToldUnlessMemory : {A : Type 0} → Result A Fault → (A → List Rec → Type 0) → Option NodePart → Type 0
 IsToldUnlessMemory answer tells part = (answer ≡ Err OutOfMemory) ⊎ IsToldOf answer tells part
-
--- A reply that a task hears is taken exactly where its number is that of the outstanding call.
-abbrev pub TakesReply : TaskPart → TaskPart → ℕ → ℕ → Reply → Option Answer → Type 0
-TakesReply old new task number reply None =
-    ((nat_lt 0 number && nat_eq number (outstanding_number old.outstanding)) ≡ false) × (new ≡ old)
-TakesReply old new task number reply (Some answer) =
-    ((nat_lt 0 number && nat_eq number (outstanding_number old.outstanding)) ≡ true)
-    × (answer ≡ record { task = task; number = number; reply = reply })
-    × (new ≡ record { outstanding = None; replies = old.replies ++ answer ∷ [] })

@@ -1,22 +1,20 @@
 //! The cluster: all nodes and tasks, and every message that was sent.
 
-ghost use Rattle.std.specs.Prelude.{◌≡◌, ◌+◌, ◌≤◌, ◌<◌, ◌^◌, ◌↔◌, ◌⊎◌, length, slice_get, Some, None, Ok, IfOk, IfErr, IfSome, IsErrOf, OnErr};
+ghost use Rattle.std.specs.Prelude.{◌≡◌, ◌<◌, ◌-◌, ◌^◌, min, ◌↔◌, ◌⊎◌, length, Some, None, IfOk, IfErr, IfSome, IsErrOf, OnOk};
 ghost use Rattle.rp_base.specs.Config.{IsRightConfig};
 ghost use Rattle.rp_base.specs.Records.{applied_of};
 ghost use Rattle.rp_codec.specs.Text.{text_of};
 ghost use Rattle.rp_machine.specs.Replay.{replay_state};
-ghost use Rattle.rp_model.specs.World.{opening_world, delivers, part_at};
-ghost use Rattle.rp_world.specs.Steps.{IsRefusal, IsToldOf, IsToldUnlessMemory};
+ghost use Rattle.rp_model.specs.World.{opening_world, event_effect, delivers, node_leads, part_at};
+ghost use Rattle.rp_world.specs.Steps.{Steps, IsToldOf, IsToldUnlessMemory};
+ghost use Rattle.rp_world.specs.Runs.{happen, StopsAt};
 
-use crate::effect::Effect;
-use crate::parts::{asks, fresh_nodes, fresh_tasks, next_call, take_effect, takes_reply};
-use rp_base::{Action, Answer, Config, Fault, NodeId, Operation, Position, TaskId};
-use rp_codec::{Body, Packet, Party, encode};
+use crate::effect::{Effect, Refused};
+use crate::world::World;
+use rp_base::{Answer, Config, Fault, NodeId, Position, TaskId};
+use rp_codec::{Body, Party, encode};
 use rp_machine::Machine;
-use rp_model::{
-    Dropped, Event, NodePart, RightAction, RightRecord, Step, TaskPart, Turn, applied_count,
-    applied_of, on_lead, receives, replay,
-};
+use rp_model::{Event, RightRecord, Step, applied_count, applied_of, on_lead, receives, replay};
 use std::alloc::Global;
 use std::marker::Model;
 
@@ -26,9 +24,7 @@ use std::marker::Model;
 pub struct Cluster<M: Machine> {
     config: Config,
     program: M::Program,
-    nodes: Vec<NodePart>,
-    tasks: Vec<TaskPart>,
-    sent: Vec<Packet>,
+    world: World,
 }
 
 impl<M: Machine> Model for Cluster<M> {
@@ -37,13 +33,9 @@ impl<M: Machine> Model for Cluster<M> {
 
     ghost Value = { Setup M.Program };
 
-    ghost view = { λ c. record {
-      config = c.config;
-      program = c.program;
-      world = record { nodes = c.nodes.items; tasks = c.tasks.items; sent = c.sent.items };
-    } };
+    ghost view = { λ c. record { config = c.config; program = c.program; world = c.world } };
 
-    ghost invariant = { λ c. IsCluster c.config c.nodes.items c.tasks.items };
+    ghost invariant = { λ c. IsCluster c.config c.world };
 }
 
 impl<M: Machine> Cluster<M> {
@@ -60,18 +52,17 @@ impl<M: Machine> Cluster<M> {
         Ok(Cluster {
             config,
             program,
-            nodes: fresh_nodes(alloc, config.nodes)?,
-            tasks: fresh_tasks(alloc)?,
-            sent: Vec::new(alloc),
+            world: World::new(alloc, config.nodes)?,
         })
     }
 
     /// One step of one actor, told by its effect. Refused, it changes nothing: `NotRunning` for a
     /// stopped node, `NoSuchMessage` for a number above the last, `TaskBusy` while the task's last
     /// call has no answer, `LogFull` and `BallotsSpent` for a leader, `NumbersSpent` for a task's
-    /// last number, `BadConfig` for a node above the last or a call that is not right.
+    /// last number, `BadConfig` for a node above the last or a call that is not right, and
+    /// `OutOfMemory`.
     pub fn step(&mut self, alloc: Global, event: &Event) -> Result<Effect, Fault>
-        ensures err { OnErr result (self.new ≡ self.old) }
+        ensures effect { Steps self.old.world self.new.world (event_effect M.next M.answers (M.begin self.old.program) self.old.config self.old.world event.now) result }
         ensures setup { (self.new.config ≡ self.old.config) × (self.new.program ≡ self.old.program) }
     {
         match *event {
@@ -81,53 +72,40 @@ impl<M: Machine> Cluster<M> {
                 object,
                 operation,
                 arg,
-            } => self.submit(task, node, object, operation, arg),
+            } => self
+                .world
+                .calls(self.config, task, node, object, operation, arg),
             Event::Node(Step::Deliver(number)) => self.deliver(alloc, number),
             Event::Node(Step::Lead { node, position }) => self.lead(alloc, node, position),
         }
     }
 
-    /// A task makes its next call.
-    fn submit(
-        &mut self,
-        task: TaskId,
-        node: NodeId,
-        object: u8,
-        operation: Operation,
-        arg: i64,
-    ) -> Result<Effect, Fault>
-        ensures err { OnErr result (self.new ≡ self.old) }
+    /// The steps of these events one after another, up to the first that is refused.
+    pub fn run(&mut self, alloc: Global, events: &[Event]) -> Result<(), Refused>
+        ensures ran { OnOk result (happen M.next M.answers (M.begin self.old.program) self.old.config self.old.world events.now ≡ Some self.new.world) }
+        ensures stopped { IfErr result (λ refused. StopsAt M.next M.answers (M.begin self.old.program) self.old.config self.old.world events.now self.new.world refused.place refused.fault) }
         ensures setup { (self.new.config ≡ self.old.config) × (self.new.program ≡ self.old.program) }
     {
-        let first = self.sent.len() as u64 + 1;
-        let config = self.config;
-        let part = &mut self.tasks[usize::from(task.get()) - 1];
-        let call = next_call(config, part, task, node, object, operation, arg)?;
-        self.sent.push(asks(task, node, call))?;
-        part.outstanding = Some(call);
-        Ok(Effect {
-            first,
-            sent: 1,
-            dropped: Dropped::No,
-            taken: None,
-        })
+        for (place, event) in events.iter().enumerate() {
+            if let Err(fault) = self.step(alloc, event) {
+                return Err(Refused { place, fault });
+            }
+        }
+        Ok(())
     }
 
     /// A message is taken by whom it is for.
     fn deliver(&mut self, alloc: Global, number: u64) -> Result<Effect, Fault>
-        ensures err { OnErr result (self.new ≡ self.old) }
-        ensures refused { IfErr result (IsRefusal (delivers M.next M.answers (M.begin self.old.program) self.old.config self.old.world (part_at self.old.world.sent number))) }
+        ensures effect { Steps self.old.world self.new.world (delivers M.next M.answers (M.begin self.old.program) self.old.config self.old.world (part_at self.old.world.sent number)) result }
         ensures setup { (self.new.config ≡ self.old.config) × (self.new.program ≡ self.old.program) }
     {
-        let first = self.sent.len() as u64 + 1;
-        if number == 0 || number >= first {
+        let first = self.world.next_number();
+        let Some(packet) = self.world.message(number) else {
             return Err(Fault::NoSuchMessage);
-        }
-        let packet = &self.sent[(number - 1) as usize];
+        };
         match packet.to() {
             Party::Node(node) => {
-                let place = usize::from(node.get()) - 1;
-                let Some(part) = self.nodes.get(place) else {
+                let Some(part) = self.world.node(node) else {
                     return Ok(Effect::nothing(first));
                 };
                 let Some(running) = &part.running else {
@@ -143,22 +121,13 @@ impl<M: Machine> Cluster<M> {
                     running,
                     packet,
                 )?;
-                let effect = Effect::of_turn(first, &turn);
-                take_effect(&mut self.nodes[place], &mut self.sent, turn)?;
-                Ok(effect)
+                self.world.turns(node, turn)
             }
             Party::Task(task) => {
                 let Body::Reply { number, reply } = *packet.body() else {
                     return Ok(Effect::nothing(first));
                 };
-                let part = &mut self.tasks[usize::from(task.get()) - 1];
-                let taken = takes_reply(part, task, number, reply)?;
-                Ok(Effect {
-                    first,
-                    sent: 0,
-                    dropped: Dropped::No,
-                    taken,
-                })
+                self.world.takes(task, number, reply)
             }
             Party::Audit => Ok(Effect::nothing(first)),
         }
@@ -171,19 +140,17 @@ impl<M: Machine> Cluster<M> {
         node: NodeId,
         position: Option<Position>,
     ) -> Result<Effect, Fault>
-        ensures err { OnErr result (self.new ≡ self.old) }
+        ensures effect { Steps self.old.world self.new.world (node_leads M.next M.answers (M.begin self.old.program) self.old.config self.old.world node position (part_at self.old.world.nodes node)) result }
         ensures setup { (self.new.config ≡ self.old.config) × (self.new.program ≡ self.old.program) }
     {
-        let first = self.sent.len() as u64 + 1;
-        let place = usize::from(node.get()) - 1;
-        let Some(part) = self.nodes.get(place) else {
+        let Some(part) = self.world.node(node) else {
             return Err(Fault::BadConfig);
         };
         let Some(running) = &part.running else {
             return Err(Fault::NotRunning);
         };
         let records = part.records.as_slice();
-        let turn = on_lead::<M>(
+        let led = on_lead::<M>(
             alloc,
             &self.program,
             self.config,
@@ -191,10 +158,11 @@ impl<M: Machine> Cluster<M> {
             records,
             running,
             position,
-        )?;
-        let effect = Effect::of_turn(first, &turn);
-        take_effect(&mut self.nodes[place], &mut self.sent, turn)?;
-        Ok(effect)
+        );
+        match led {
+            Ok(turn) => self.world.turns(node, turn),
+            Err(fault) => Err(fault),
+        }
     }
 
     /// How many messages were sent.
@@ -202,7 +170,7 @@ impl<M: Machine> Cluster<M> {
         ensures value { result ≡ length self.now.world.sent }
         ensures few { result < 2 ^ 63 }
     {
-        self.sent.len() as u64
+        self.world.messages()
     }
 
     /// The text of the message of this number, from 1. `NoSuchMessage` where there is none.
@@ -211,23 +179,23 @@ impl<M: Machine> Cluster<M> {
         ensures none { IsErrOf result Fault.NoSuchMessage ↔ (part_at self.now.world.sent number ≡ None) }
         ensures only { IfErr result (λ fault. (fault ≡ Fault.NoSuchMessage) ⊎ (fault ≡ Fault.OutOfMemory)) }
     {
-        if number == 0 || number > self.messages() {
+        let Some(packet) = self.world.message(number) else {
             return Err(Fault::NoSuchMessage);
-        }
-        Ok(encode(alloc, &self.sent[(number - 1) as usize])?)
+        };
+        Ok(encode(alloc, packet)?)
     }
 
     /// The replies that a task got, in order.
     pub fn replies(&self, task: TaskId) -> &[Answer]
         ensures { IfSome (part_at self.now.world.tasks task) (λ part. result.now ≡ part.replies) }
     {
-        self.tasks[usize::from(task.get()) - 1].replies.as_slice()
+        self.world.task(task).replies.as_slice()
     }
 
     /// How many actions a node has applied. `NotRunning` where it is stopped, `BadConfig` above the
     /// last node.
     pub fn applied(&self, node: NodeId) -> Result<u16, Fault>
-        ensures { IsToldOf result (λ count records. length (applied_of records) < 2 ^ 16 → count ≡ length (applied_of records)) (part_at self.now.world.nodes node) }
+        ensures { IsToldOf result (λ count records. count ≡ min (length (applied_of records)) (2 ^ 16 - 1)) (part_at self.now.world.nodes node) }
     {
         let count = applied_count(self.records(node)?);
         Ok(u16::try_from(count).unwrap_or(u16::MAX))
@@ -248,10 +216,9 @@ impl<M: Machine> Cluster<M> {
     fn records(&self, node: NodeId) -> Result<&[RightRecord], Fault>
         ensures { IsToldOf result (λ records all. records.now ≡ all) (part_at self.now.world.nodes node) }
     {
-        if node.get() > self.config.nodes {
+        let Some(part) = self.world.node(node) else {
             return Err(Fault::BadConfig);
-        }
-        let part = &self.nodes[usize::from(node.get()) - 1];
+        };
         if part.running.is_none() {
             return Err(Fault::NotRunning);
         }

@@ -4,9 +4,10 @@
 mod cluster;
 mod effect;
 mod parts;
+mod world;
 
 pub use cluster::Cluster;
-pub use effect::Effect;
+pub use effect::{Effect, Refused};
 pub use rp_model::{Dropped, Event, Step};
 
 #[cfg(test)]

@@ -1,12 +1,11 @@
 //! Steps on the lists of a world's parts.
 
-ghost use Rattle.std.specs.Prelude.{◌≡◌, ◌++◌, ◌↔◌, Some, replicate, IsTrue, Err, OnOk, OnErr, IfOk, IfErr};
+ghost use Rattle.std.specs.Prelude.{◌≡◌, ◌++◌, ◌↔◌, Some, replicate, IsTrue, Ok, Err, true, false, IfSome, IfNone, OnOk, OnErr, IfOk, IfErr};
 ghost use Rattle.rp_base.specs.Action.{IsRight, is_right};
 ghost use Rattle.rp_codec.specs.Message.{IsCallBy};
 ghost use Rattle.rp_codec.specs.declared.packet.Party.TheVariants.{Node, Task};
 ghost use Rattle.rp_codec.specs.declared.packet.Body.TheVariants.{Call};
-ghost use Rattle.rp_model.specs.World.{with_record, fresh_node, fresh_task, outstanding_number, World, next_call, task_calls};
-ghost use Rattle.rp_world.specs.Steps.{TakesReply};
+ghost use Rattle.rp_model.specs.World.{with_record, fresh_node, fresh_task, outstanding_number, takes, next_call, may_call};
 
 use rp_base::{Action, Answer, Config, Fault, NodeId, Operation, Reply, TaskId};
 use rp_codec::{Body, Packet, Party};
@@ -89,33 +88,20 @@ pub fn fresh_tasks(alloc: Global) -> Result<Vec<TaskPart>, AllocError>
     Ok(tasks)
 }
 
-/// A reply comes to a task: it is taken where it is to the task's outstanding call, which it ends.
-/// Refused for memory, nothing changes.
-pub fn takes_reply(
-    part: &mut TaskPart,
-    task: TaskId,
-    number: u32,
-    reply: Reply,
-) -> Result<Option<Answer>, AllocError>
-    ensures ok { IfOk result (λ taken. TakesReply part.old part.new task number reply taken) }
-    ensures err { OnErr result (part.new ≡ part.old) }
+/// The answer that a reply to a task is: it is taken where the task's outstanding call has this
+/// number.
+pub fn answer_if(part: &TaskPart, task: TaskId, number: u32, reply: Reply) -> Option<Answer>
+    ensures taken { IfSome result (λ answer. (takes part.now number ≡ true) × (answer ≡ record { task = task; number = number; reply = reply })) }
+    ensures ignored { IfNone result (takes part.now number ≡ false) }
 {
     if number == 0 || number != outstanding_number(&part.outstanding) {
-        return Ok(None);
+        return None;
     }
-    part.replies.push(answer_of(task, number, &reply))?;
-    part.outstanding = None;
-    Ok(Some(answer_of(task, number, &reply)))
-}
-
-fn answer_of(task: TaskId, number: u32, reply: &Reply) -> Answer
-    ensures { result ≡ record { task = task; number = number; reply = reply.now } }
-{
-    Answer {
+    Some(Answer {
         task,
         number,
-        reply: *reply,
-    }
+        reply,
+    })
 }
 
 /// The next call of a task that waits for nothing, or `TaskBusy`, `NumbersSpent` or `BadConfig`.
@@ -129,9 +115,9 @@ pub fn next_call(
     arg: i64,
 ) -> Result<RightAction, Fault>
     ensures call { IfOk result (λ call. call ≡ next_call task part.now object operation arg) }
+    ensures may { IfOk result (λ call. may_call config node part.now call part.now.outstanding ≡ Ok call) }
     ensures of_task { IfOk result (IsCallBy task) }
-    ensures refused { IfErr result (λ fault. (w : World)
-        → task_calls config w task node part.now (next_call task part.now object operation arg) part.now.outstanding ≡ Err fault) }
+    ensures refused { IfErr result (λ fault. may_call config node part.now (next_call task part.now object operation arg) part.now.outstanding ≡ Err fault) }
 {
     if part.outstanding.is_some() {
         return Err(Fault::TaskBusy);

@@ -141,3 +141,29 @@ fn each_refusal_comes_in_its_case(rt: HostRuntime) -> Result<(), Fail> {
     assert_eq!(rt; cluster.replies(task).len(), 0);
     Ok(())
 }
+
+#[test]
+fn a_run_stops_at_the_first_refusal(rt: HostRuntime) -> Result<(), Fail> {
+    let alloc = rt.alloc();
+    let task = TaskId::first();
+    let node = NodeId::new(1).ok_or("node 1")?;
+    let mut cluster = opened(&rt, alloc, 3);
+    let events = [
+        call(task, node, 5),
+        Event::Node(Step::Deliver(1)),
+        call(task, node, 1),
+        lead(node),
+    ];
+    let stopped = cluster.run(alloc, &events).err();
+    let busy = Refused {
+        place: 2,
+        fault: Fault::TaskBusy,
+    };
+    assert_eq!(rt; stopped, Some(busy));
+    assert_eq!(rt; cluster.messages(), 1);
+    let rest = [lead(node)];
+    assert!(rt; cluster.run(alloc, &rest).is_ok());
+    assert_eq!(rt; cluster.messages(), 4);
+    assert_eq!(rt; cluster.replies(task).len(), 0);
+    Ok(())
+}

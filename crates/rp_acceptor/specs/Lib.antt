@@ -1,0 +1,4 @@
+pub mod Noted
+pub mod Answers
+pub mod Histories
+pub mod Slots

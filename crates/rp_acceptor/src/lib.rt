@@ -1,0 +1,14 @@
+//! A node as an acceptor: what it has promised and voted for at each position, and what it answers
+//! to a `Prepare` and an `Accept` (Lamport, "Paxos Made Simple", section 2.2).
+#![tactic(auto)]
+
+mod acceptor;
+mod answer;
+mod history;
+mod slot;
+
+pub use acceptor::Acceptor;
+pub use answer::{AcceptAnswer, PrepareAnswer};
+
+#[cfg(test)]
+mod tests;

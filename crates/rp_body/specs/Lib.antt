@@ -1,0 +1,4 @@
+pub mod Store
+pub mod Expressions
+pub mod Meaning
+pub mod Check

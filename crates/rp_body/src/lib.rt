@@ -1,0 +1,12 @@
+//! The language in which the bodies of protected operations are written.
+#![tactic(auto)]
+
+mod components;
+mod expression;
+mod statement;
+#[cfg(test)]
+mod tests;
+
+pub use components::{Components, Limits, Ranged};
+pub use expression::{Cond, Expr, truth, value};
+pub use statement::{Outcome, Stmt, check, run};

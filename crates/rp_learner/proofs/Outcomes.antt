@@ -1,0 +1,76 @@
+-- What holds at a position, by its place.
+use Rattle.std.proofs.Common.{◌≡◌, ℕ, zero, suc, ◌<◌, ◌≤◌, Bool, true, false, cond, Some, Result, Ok, Err, OnErr, List, [], length, map, replicate, set, sym, refl, subst, ap, ◌∙◌, inl, inr}
+use Rattle.std.specs.Prelude.{nat_eq, filter, slice_get}
+use Rattle.std.proofs.lemmas.Bool.{cases_Bool, le-leb, lt-leb, cond-true, cond-false}
+use Rattle.rp_base.specs.declared.record.Vote.{Vote}
+use Rattle.rp_base.specs.Majority.{majority_of}
+use Rattle.rp_base.specs.Sets.{with_member, with_members}
+use Rattle.rp_base.specs.Promises.{same_vote, voters_of, is_majority}
+use Rattle.rp_learner.specs.declared.place.Place.{Place}
+use Rattle.rp_learner.specs.declared.place.Place.TheVariants.{Unheard}
+use Rattle.rp_learner.specs.declared.learner.Standing.{Standing}
+use Rattle.rp_learner.specs.declared.learner.Standing.TheVariants.{Counting, Learned, Known}
+use Rattle.rp_learner.specs.Places.{votes_at, place_at, is_settled_in, settled_of, is_settled_at, IsWithCast, heard_from, settled_from}
+use Rattle.rp_learner.specs.Standings.{is_settled, heard_with, standing_with, with_standing, with_vote, SameLearning}
+use Rattle.rp_learner.proofs.Placing.{settled_at}
+use Rattle.rp_learner.proofs.Voters.{voters_at, voters_with}
+use Rattle.rp_learner.proofs.Writing.{learning_of, hears}
+
+-- a learner without votes
+pub none_heard : (n i : ℕ) → heard_from i (replicate n Unheard) ≡ []
+none_heard zero i = refl
+none_heard (suc n) i = none_heard n (suc i)
+
+pub none_settled : (n i : ℕ) → settled_from i (replicate n Unheard) ≡ []
+none_settled zero i = refl
+none_settled (suc n) i = none_settled n (suc i)
+
+module _ (nodes : ℕ) (places : List Place) (from i : ℕ) (vote : Vote) where
+  -- a settled position is known
+  pub known_at : is_settled_at places i ≡ true → Known ≡ standing_with (learning_of nodes places) from i vote
+  known_at settled =
+      sym (cond-true (is_settled (learning_of nodes places) i) Known
+      (cond (is_majority nodes (voters_of i vote (heard_with (learning_of nodes places) from i vote))) Learned Counting) (settled_at places i ∙ settled))
+
+  module _ (senders : List ℕ) (open_place : is_settled_at places i ≡ false)
+      (counted : senders ≡ with_member nat_eq (with_members nat_eq [] (map (λ c. c.from) (filter (λ c. same_vote c.vote vote) (votes_at places i)))) from) where
+    voters : senders ≡ voters_of i vote (heard_with (learning_of nodes places) from i vote)
+    voters = counted ∙ ap (λ (l : List ℕ). with_member nat_eq l from) (voters_at places i vote) ∙ voters_with i from vote (heard_from 1 places)
+
+    by_majority : (b : Bool) → is_majority nodes senders ≡ b → standing_with (learning_of nodes places) from i vote ≡ cond b Learned Counting
+    by_majority b e =
+        cond-false (is_settled (learning_of nodes places) i) Known
+        (cond (is_majority nodes (voters_of i vote (heard_with (learning_of nodes places) from i vote))) Learned Counting) (settled_at places i ∙ open_place)
+        ∙ ap (λ (t : Bool). cond t Learned Counting) (sym (ap (is_majority nodes) voters) ∙ e)
+
+    -- a majority of them learns the action
+    pub learned_at : majority_of nodes ≤ length senders → Learned ≡ standing_with (learning_of nodes places) from i vote
+    learned_at most = sym (by_majority true (le-leb (majority_of nodes) (length senders) most))
+
+    -- fewer are counted
+    pub counting_at : length senders < majority_of nodes → Counting ≡ standing_with (learning_of nodes places) from i vote
+    counting_at few = sym (by_majority false (lt-leb (majority_of nodes) (length senders) few))
+
+  known≢counting : Known ≡ Counting → ⊥
+  known≢counting e = cc
+
+  -- where votes are counted, the position is open
+  pub open_at : standing_with (learning_of nodes places) from i vote ≡ Counting → is_settled_at places i ≡ false
+  open_at counting =
+      elim (cases_Bool (is_settled_at places i)) [
+        | inl settled ↦ absurd (known≢counting (known_at settled ∙ counting))
+        | inr free ↦ free
+      ]
+
+  -- there the vote is heard
+  pub notes : (k : ℕ) (p q : Place) → i ≡ suc k → k < length places → slice_get places k ≡ Some p → standing_with (learning_of nodes places) from i vote ≡ Counting
+      → IsWithCast p (record { from = from; vote = vote }) q → SameLearning (learning_of nodes (set places k q)) (with_vote (learning_of nodes places) from i vote)
+  notes k p q at within before counting more =
+      let free : is_settled_in p ≡ false = sym (ap settled_of (ap (place_at places) at ∙ before)) ∙ open_at counting in
+      subst (λ (s : Standing). SameLearning (learning_of nodes (set places k q)) (with_standing (learning_of nodes places) from i vote s)) (sym counting)
+      (hears places k i at within nodes (record { from = from; vote = vote }) p q before free more)
+
+-- what holds anyway holds after an error
+pub on_err : {T E P : Type 0} (r : Result T E) → P → OnErr r P
+on_err (Ok x) h = tt
+on_err (Err e) h = h

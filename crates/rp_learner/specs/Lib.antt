@@ -1,0 +1,3 @@
+pub mod Learning
+pub mod Places
+pub mod Standings

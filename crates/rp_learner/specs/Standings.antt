@@ -1,0 +1,58 @@
+-- What a learner knows, and what a vote makes of it. Lamport, "Paxos Made Simple", section 2.3: a value
+-- is learned once a majority of acceptors accepted it; here, all of them in one ballot, which is stricter.
+use Rattle.std.specs.Prelude.{◌↔◌, ◌≡◌, ℕ, Bool, not, nat_eq, List, filter, if◌then◌else◌}
+use Rattle.std.specs.List.{list_any}
+use Rattle.rp_base.specs.declared.record.Vote.{Vote}
+use Rattle.rp_base.specs.Sets.{Has, with_member}
+use Rattle.rp_base.specs.Promises.{HeardVote, same_heard, voters_of, is_majority}
+use Rattle.rp_learner.specs.Learning.{Learning}
+use Rattle.rp_learner.specs.declared.learner.Standing.{Standing}
+use Rattle.rp_learner.specs.declared.learner.Standing.TheVariants.{Counting, Learned, Known}
+use Rattle.rp_learner.specs.declared.learner.Decision.{Decision}
+use Rattle.rp_learner.specs.declared.learner.Decision.TheVariants as decisions
+
+-- the two have the same members
+abbrev pub SameMembers : {A : Type 0} → List A → List A → Type 0
+SameMembers {A} xs ys = (x : A) → Has x xs ↔ Has x ys
+
+-- the two hold the same, as sets
+pub record SameLearning (l m : Learning) : Type 0 where
+  pub nodes : l.nodes ≡ m.nodes
+  pub positions : l.max_positions ≡ m.max_positions
+  pub heard : SameMembers l.heard m.heard
+  pub settled : SameMembers l.settled m.settled
+
+-- whether the position is settled
+abbrev pub is_settled : Learning → ℕ → Bool
+is_settled l i = list_any (nat_eq i) l.settled
+
+-- the votes heard with one more, unless it is there
+abbrev pub heard_with : Learning → ℕ → ℕ → Vote → List HeardVote
+heard_with l from i vote = with_member same_heard l.heard (from, i, vote)
+
+-- What holds at a position once this vote is counted: known where it is settled, learned where those who
+-- cast this very vote there are a majority, else the votes are still counted.
+abbrev pub standing_with : Learning → ℕ → ℕ → Vote → Standing
+standing_with l from i vote =
+    if is_settled l i then Known
+    else if is_majority l.nodes (voters_of i vote (heard_with l from i vote)) then Learned
+    else Counting
+
+-- what a decision at a position is: known where it is settled, else learned
+abbrev pub decision_at : Learning → ℕ → Decision
+decision_at l i = if is_settled l i then decisions.Known else decisions.Learned
+
+-- the position settled, and the votes heard there let go
+abbrev pub with_settled : Learning → ℕ → Learning
+with_settled l i = record l { heard = filter (λ h. not (nat_eq h.1 i)) l.heard; settled = with_member nat_eq l.settled i }
+
+-- the learner where the vote left the position so
+abbrev pub with_standing : Learning → ℕ → ℕ → Vote → Standing → Learning
+with_standing l from i vote Counting = record l { heard = heard_with l from i vote }
+with_standing l from i vote Learned = with_settled l i
+with_standing l from i vote Known = l
+
+-- The learner with this vote noted: it is heard, or its position is settled where it makes a majority. At a
+-- settled position nothing is noted.
+abbrev pub with_vote : Learning → ℕ → ℕ → Vote → Learning
+with_vote l from i vote = with_standing l from i vote (standing_with l from i vote)

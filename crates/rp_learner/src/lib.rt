@@ -1,0 +1,11 @@
+//! The learner: whether the votes that a node has heard decide a position.
+#![tactic(auto)]
+
+mod learner;
+mod place;
+mod senders;
+
+pub use learner::{Decision, Learner, Standing};
+
+#[cfg(test)]
+mod tests;

@@ -1,0 +1,2 @@
+pub mod FirstActions
+pub mod RecordedRuns

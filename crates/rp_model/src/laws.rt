@@ -1,0 +1,25 @@
+//! What every event keeps, at any machine.
+
+ghost use Rattle.std.specs.Prelude.{◌≡◌, ℕ, Some, Ok, List, ◌++◌, length};
+ghost use Rattle.rp_base.specs.Records.{applied_of};
+ghost use Rattle.rp_base.specs.declared.action.Action.{Action};
+ghost use Rattle.rp_base.specs.declared.config.Config.{Config};
+ghost use Rattle.rp_base.specs.declared.record.Rec.{Rec};
+ghost use Rattle.rp_model.specs.declared.event.Event.{Event};
+ghost use Rattle.rp_model.specs.World.{World, Happening, event_effect};
+ghost use Rattle.rp_model.specs.Growing.{Grows};
+
+use rp_machine::Machine;
+
+/// What a node has applied stays, in its place, whatever it writes afterwards.
+pub fn applied_grows()
+    ensures { (records more : List Rec) → (further : List Action) × (applied_of (records ++ more) ≡ applied_of records ++ further) }
+{}
+
+/// An event's effect adds packets at the end of those that were sent, and each node's records and
+/// applied list grow at their ends. No node comes or goes.
+pub fn worlds_grow<M: Machine>()
+    ensures { (program : M.Program) (config : Config) (before : World) (event : Event) (happening : Happening)
+        → event_effect M.next M.answers (M.begin program) config before event ≡ Ok happening
+        → Grows before happening }
+{}

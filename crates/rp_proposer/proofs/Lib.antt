@@ -1,0 +1,5 @@
+pub mod Fieldless
+pub mod OneOffer
+pub mod OnePromiseMore
+pub mod OneSenderMore
+pub mod Places

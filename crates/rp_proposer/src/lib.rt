@@ -1,0 +1,13 @@
+//! A node as a proposer: which ballot it leads in next, and what it offers once a majority promised.
+#![tactic(auto)]
+
+mod promises;
+mod proposal;
+mod proposer;
+mod senders;
+
+pub use proposal::{Phase, Progress, one_offer_at_most};
+pub use proposer::Proposer;
+
+#[cfg(test)]
+mod tests;

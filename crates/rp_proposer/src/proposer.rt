@@ -1,0 +1,231 @@
+//! A node as a proposer.
+
+ghost use Rattle.std.specs.Prelude.{◌≡◌, ℕ, ◌↔◌, ◌+◌, ◌<◌, ◌≤◌, ◌^◌, max, length, vec_capacity, IsTrue, IfOk, IsErrOf, IsOkUnless, option_copied};
+ghost use Rattle.rp_base.specs.Ballot.{number_of, round_of, next_ballot, IsAbove, IsNext};
+ghost use Rattle.rp_base.specs.Records.{started_of};
+ghost use Rattle.rp_proposer.specs.Proposing.{counted_by, restored, is_in, proposal_at, without_proposal, with_proposal, ballot_at, HasRoom, begins, progress_in, notes_promise, notes_refusal, settles};
+
+use crate::promises::HeardPromise;
+use crate::proposal::{Progress, Proposal};
+use rp_base::{Action, Ballot, Fault, NodeId, Position, Rec, Vote};
+use std::alloc::Global;
+use std::marker::Model;
+
+/// How many proposals may run.
+const MOST_RUNNING: usize = 64;
+
+/// A node as a proposer (Lamport, "Paxos Made Simple", section 2.2). A proposal runs from `begin`
+/// until its position is settled, a refusal comes in its ballot, or another begins at its position.
+/// At most 64 run. Questions take `&self`; what takes effect is noted, after the record that goes
+/// before it.
+#[derive(Debug, Drop)]
+pub struct Proposer {
+    node: NodeId,
+    nodes: u8,
+    proposals: Vec<Proposal>,
+    started: Option<Ballot>,
+    refused: Option<Ballot>,
+}
+
+impl Model for Proposer {
+    ghost use Rattle.std.specs.Prelude.{◌≤◌, length, vec_capacity};
+    ghost use Rattle.rp_base.specs.Ballot.{number_of};
+    ghost use Rattle.rp_proposer.specs.Proposing.{ProposerPart, most_running};
+
+    ghost Value = { ProposerPart };
+
+    ghost view = { λ p. record {
+      node = p.node;
+      nodes = p.nodes;
+      proposals = p.proposals.items;
+      started = number_of p.started;
+      refused = p.refused;
+    } };
+
+    ghost invariant = { λ p. (length p.proposals.items ≤ most_running) × (most_running ≤ vec_capacity p.proposals) };
+}
+
+impl Proposer {
+    /// The proposer of a node, of this many, that wrote these records: no proposal runs. It has room
+    /// for all that may run, so no other call takes memory. `OutOfMemory` where that is refused.
+    pub fn restore(alloc: Global, node: NodeId, nodes: u8, records: &[Rec]) -> Result<Self, Fault>
+        ensures restored { IfOk result (λ proposer. proposer ≡ restored node nodes records.now) }
+        ensures only { IsOkUnless result Fault.OutOfMemory }
+    {
+        Ok(Proposer {
+            node,
+            nodes,
+            proposals: Vec::with_capacity(alloc, MOST_RUNNING)?,
+            started: started_of(records),
+            refused: None,
+        })
+    }
+
+    /// The ballot to lead in next: the node's least above all that it counted. `BallotsSpent` where
+    /// it has none.
+    pub fn ballot(&self) -> Result<Ballot, Fault>
+        ensures next { IfOk result (IsNext self.now.node (counted_by self.now)) }
+        ensures value { IfOk result (λ b. b ≡ next_ballot self.now.node (counted_by self.now)) }
+        ensures spent { IsErrOf result Fault.BallotsSpent ↔ ((b : ℕ) → ¬ IsAbove self.now.node (counted_by self.now) b) }
+        ensures full { IsErrOf result Fault.BallotsSpent ↔ (2 ^ 32 ≤ round_of (next_ballot self.now.node (counted_by self.now))) }
+        ensures only { IsOkUnless result Fault.BallotsSpent }
+    {
+        Ok(Ballot::next_for(self.node, greater(self.started, self.refused))?)
+    }
+
+    /// The ballot of the proposal that runs at a position.
+    pub fn runs(&self, position: Position) -> Option<Ballot>
+        ensures { result ≡ ballot_at self.now.proposals position }
+    {
+        proposal_at(&self.proposals, position).map(|proposal| proposal.ballot())
+    }
+
+    /// Whether a proposal may begin at a position: fewer than 64 run at others.
+    pub fn has_room(&self, position: Position) -> bool
+        ensures { IsTrue result ↔ HasRoom self.now.proposals position }
+    {
+        count_elsewhere(&self.proposals, position) < MOST_RUNNING
+    }
+
+    /// Begins a proposal, in place of any other at its position. Its ballot counts as started.
+    pub fn begin(&mut self, position: Position, ballot: Ballot, own: Action)
+        requires { HasRoom self.old.proposals position }
+        ensures { self.new ≡ begins self.old position ballot own }
+    {
+        put(&mut self.proposals, Proposal::new(position, ballot, own));
+        self.started = greater(self.started, Some(ballot));
+    }
+
+    /// What a promise makes of the proposal at the position, were it noted: its sender counts once,
+    /// and `last` is the last vote that it reports. It changes nothing.
+    pub fn promise(
+        &self,
+        from: NodeId,
+        position: Position,
+        ballot: Ballot,
+        last: Option<Vote>,
+    ) -> Progress
+        ensures { result ≡ progress_in self.now.nodes ballot (from, last) (proposal_at self.now.proposals position) }
+    {
+        match proposal_at(&self.proposals, position) {
+            Some(proposal) if proposal.ballot() == ballot => {
+                proposal.progress(self.nodes, &HeardPromise { from, last })
+            }
+            _ => Progress::Stale,
+        }
+    }
+
+    /// Notes a promise. One that makes a majority begins the second phase, so there is no second
+    /// offer. One that comes later, or is stale, changes nothing.
+    pub fn note_promise(
+        &mut self,
+        from: NodeId,
+        position: Position,
+        ballot: Ballot,
+        last: Option<Vote>,
+    )
+        ensures { self.new ≡ notes_promise self.old ballot (from, last) (proposal_at self.old.proposals position) }
+    {
+        let noted = match proposal_at(&self.proposals, position) {
+            Some(proposal) if proposal.ballot() == ballot && proposal.is_preparing() => {
+                proposal.noted(self.nodes, &HeardPromise { from, last })
+            }
+            _ => return,
+        };
+        put(&mut self.proposals, noted);
+    }
+
+    /// Counts a refusal of the proposal at the position in this ballot, whose sender has promised a
+    /// greater one: the proposal is given up. Any other refusal changes nothing.
+    pub fn nack(&mut self, position: Position, ballot: Ballot, promised: Ballot)
+        ensures { self.new ≡ notes_refusal self.old position ballot promised }
+    {
+        if is_in(&self.proposals, position, ballot) {
+            leave_out(&mut self.proposals, position);
+            self.refused = greater(self.refused, Some(promised));
+        }
+    }
+
+    /// The position is settled, and the proposal there ends.
+    pub fn settled(&mut self, position: Position)
+        ensures { self.new ≡ settles self.old position }
+    {
+        leave_out(&mut self.proposals, position);
+    }
+}
+
+/// The greatest ballot in which the records lead.
+fn started_of(records: &[Rec]) -> Option<Ballot>
+    ensures { number_of result ≡ started_of records.now }
+{
+    let mut started: Option<Ballot> = None;
+    for record in records {
+        if let Rec::Started(ballot) = *record {
+            started = greater(started, Some(ballot));
+        }
+    }
+    started
+}
+
+/// The greater of two ballots.
+fn greater(one: Option<Ballot>, other: Option<Ballot>) -> Option<Ballot>
+    ensures { number_of result ≡ max (number_of one) (number_of other) }
+{
+    match (one, other) {
+        (Some(ballot), Some(higher)) if ballot.get() < higher.get() => other,
+        (None, _) => other,
+        _ => one,
+    }
+}
+
+/// The proposal that runs at a position.
+fn proposal_at(proposals: &[Proposal], position: Position) -> Option<&Proposal>
+    ensures { option_copied result ≡ proposal_at proposals.now position }
+{
+    for proposal in proposals {
+        if proposal.position() == position {
+            return Some(proposal);
+        }
+    }
+    None
+}
+
+/// Whether a proposal runs at a position in a ballot.
+fn is_in(proposals: &[Proposal], position: Position, ballot: Ballot) -> bool
+    ensures { result ≡ is_in ballot (proposal_at proposals.now position) }
+{
+    match proposal_at(proposals, position) {
+        Some(proposal) => proposal.ballot() == ballot,
+        None => false,
+    }
+}
+
+/// How many proposals run at other positions.
+fn count_elsewhere(proposals: &[Proposal], position: Position) -> usize
+    ensures { result ≡ length (without_proposal proposals.now position) }
+{
+    proposals
+        .iter()
+        .filter(|proposal| proposal.position() != position)
+        .count()
+}
+
+/// Ends the proposal at a position.
+fn leave_out(proposals: &mut Vec<Proposal>, position: Position)
+    ensures items { proposals.new.items ≡ without_proposal proposals.old.items position }
+    ensures fewer { length proposals.new.items ≤ length proposals.old.items }
+    ensures capacity { vec_capacity proposals.new ≡ vec_capacity proposals.old }
+{
+    proposals.retain(|proposal| proposal.position() != position);
+}
+
+/// Puts a proposal in place of any other at its position.
+fn put(proposals: &mut Vec<Proposal>, proposal: Proposal)
+    requires { length (without_proposal proposals.old.items proposal.position) < vec_capacity proposals.old }
+    ensures items { proposals.new.items ≡ with_proposal proposals.old.items proposal }
+    ensures one_more { length proposals.new.items ≡ length (without_proposal proposals.old.items proposal.position) + 1 }
+    ensures capacity { vec_capacity proposals.new ≡ vec_capacity proposals.old }
+{
+    leave_out(proposals, proposal.position());
+    proposals.push_reserved(proposal);
+}

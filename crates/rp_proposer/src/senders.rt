@@ -1,0 +1,85 @@
+//! Who sent the promises of a proposal.
+
+ghost use Rattle.std.specs.Prelude.{◌≡◌, [], ◌∷◌, ◌++◌, false, length, nat_eq};
+ghost use Rattle.std.specs.List.{list_any};
+ghost use Rattle.rp_base.specs.Number.{IsNode};
+ghost use Rattle.rp_base.specs.Sets.{with_member};
+
+use rp_base::NodeId;
+use std::marker::Model;
+
+/// A set of nodes in the order in which they came: at most 7, in place.
+#[derive(Debug, Drop)]
+pub(crate) struct Senders {
+    nodes: [NodeId; 7],
+    len: usize,
+}
+
+impl Model for Senders {
+    ghost use Rattle.std.specs.Prelude.{◌≡◌, ℕ, List, ◌≤◌, length, take};
+    ghost use Rattle.rp_base.specs.Majority.{AreNodes};
+
+    ghost Value = { List ℕ };
+
+    ghost view = { λ s. take s.len s.nodes };
+
+    ghost invariant = { λ s. (s.len ≤ 7) × (length s.nodes ≡ 7) × AreNodes 7 (take s.len s.nodes) };
+}
+
+impl Senders {
+    /// No node yet.
+    pub(crate) fn new() -> Senders
+        ensures { result ≡ [] }
+    {
+        let unused = NodeId::new(1).unwrap();
+        Senders {
+            nodes: [unused; 7],
+            len: 0,
+        }
+    }
+
+    /// How many nodes there are.
+    pub(crate) fn len(&self) -> usize
+        ensures { result ≡ length self.now }
+    {
+        self.len
+    }
+
+    fn contains(&self, node: NodeId) -> bool
+        ensures value { result ≡ list_any (nat_eq node) self.now }
+        ensures in_range { IsNode node }
+    {
+        let number = node.get();
+        self.nodes[..self.len]
+            .iter()
+            .any(|other| number == other.get())
+    }
+
+    /// These and a node that is not among them.
+    fn and(&self, node: NodeId) -> Senders
+        requires in_range { IsNode node }
+        requires absent { list_any (nat_eq node) self.now ≡ false }
+        ensures { result ≡ self.now ++ node ∷ [] }
+    {
+        let mut nodes = self.nodes;
+        nodes[self.len] = node;
+        Senders {
+            nodes,
+            len: self.len + 1,
+        }
+    }
+
+    /// These and one more, unless it is there.
+    pub(crate) fn with(&self, node: NodeId) -> Senders
+        ensures { result ≡ with_member nat_eq self.now node }
+    {
+        if self.contains(node) {
+            Senders {
+                nodes: self.nodes,
+                len: self.len,
+            }
+        } else {
+            self.and(node)
+        }
+    }
+}

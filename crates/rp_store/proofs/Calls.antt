@@ -1,0 +1,74 @@
+-- What the calls of a device leave, one behind another.
+use Rattle.std.proofs.Common.{◌≡◌, ◌⊎◌, inl, inr, ℕ, ◌+◌, ◌≤◌, List, ◌++◌, length, take, Result, Ok, Err, refl, sym, ap, subst, ◌∙◌, length-append, arith}
+use Rattle.std.specs.Prelude.{min, IfErr, OnErr}
+use Rattle.std.proofs.lemmas.List.{take_all, take_at}
+use Rattle.rp_base.specs.declared.fault.Fault.{Fault}
+use Rattle.rp_base.specs.declared.fault.Fault.TheVariants.{OutOfMemory, Device}
+use Rattle.rp_base.specs.declared.record.Rec.{Rec}
+use Rattle.rp_store.specs.Disk.{Disk, appended, synced, ReadFailed, AppendFailed, SyncFailed, CutFailed, KeepsFront, IsTrimmed}
+use Rattle.rp_store.specs.Records.{records_text, AreRecordsOf, KeepsRecords}
+use Rattle.rp_store.proofs.Whole.{keeps_records}
+
+-- an append, and a sync that fails
+pub sync_failed : (bytes : List ℕ) (old mid new : Disk) → mid ≡ appended bytes old → SyncFailed mid new → AppendFailed bytes old new
+sync_failed bytes old mid new e f =
+    let g = subst (λ (d : Disk). SyncFailed d new) e f in
+    record {
+      cause = g.cause;
+      contents = (length bytes, g.contents ∙ ap (λ (l : List ℕ). old.contents ++ l) (sym (take_all (length bytes) bytes (omega arith))));
+      stable = g.stable;
+      cuts = g.cuts;
+    }
+
+front_same : (len : ℕ) (old new : Disk) → len ≤ length old.contents → new ≡ old → KeepsFront len old new
+front_same len old new long e =
+    subst (λ (d : Disk). KeepsFront len old d) (sym e)
+    (record { contents = (length old.contents, long, sym (take_all (length old.contents) old.contents (omega arith))); stable = omega arith; appends = refl })
+
+-- a cut that gave up
+pub cut_refused : {T : Type 0} (len : ℕ) (old new : Disk) (r : Result T Fault) → len ≤ length old.contents → IfErr r (λ fault. (fault ≡ OutOfMemory) ⊎ (fault ≡ Device))
+    → (r ≡ Err OutOfMemory → new ≡ old) → (r ≡ Err Device → CutFailed len old new) → OnErr r (KeepsFront len old new)
+cut_refused len old new (Ok x) long faults refused failed = tt
+cut_refused len old new (Err e) long (inl is) refused failed = front_same len old new long (refused (rw is refl))
+cut_refused len old new (Err e) long (inr is) refused failed =
+    let f = failed (rw is refl) in
+    record { contents = f.contents; stable = f.stable; appends = f.appends }
+
+-- the contents stayed
+pub keeps_all : (old new : Disk) → new.contents ≡ old.contents → old.stable ≤ new.stable → new.appends ≡ old.appends → KeepsRecords old new
+keeps_all old new same stable appends records torn are =
+    ((torn, subst (λ (l : List ℕ). AreRecordsOf l records torn) (sym same) are), omega arith, appends)
+
+pub keeps_same : (old new : Disk) → new ≡ old → KeepsRecords old new
+keeps_same old new e = keeps_all old new (ap (λ (d : Disk). d.contents) e) (omega (arith, ap (λ (d : Disk). d.stable) e)) (ap (λ (d : Disk). d.appends) e)
+
+-- a read that gave up
+pub read_refused : (old new : Disk) (e : Fault) → (e ≡ OutOfMemory) ⊎ (e ≡ Device) → (e ≡ OutOfMemory → new ≡ old) → (e ≡ Device → ReadFailed old new) → KeepsRecords old new
+read_refused old new e (inl is) refused failed = keeps_same old new (refused is)
+read_refused old new e (inr is) refused failed =
+    let f = failed is in
+    keeps_all old new f.contents (omega (arith, f.stable)) f.appends
+
+-- ---- the whole records, and what is torn behind them
+
+-- where the whole records end
+pub whole_length : (contents : List ℕ) (records : List Rec) (torn : List ℕ) → AreRecordsOf contents records torn → length contents ≡ length (records_text records) + length torn
+whole_length contents records torn are = ap length are.whole ∙ length-append (records_text records) torn
+
+-- what is left without the torn end
+pub trimmed : (contents : List ℕ) (records : List Rec) (torn : List ℕ) (whole : ℕ) → AreRecordsOf contents records torn → length (records_text records) ≡ whole → take whole contents ≡ records_text records
+trimmed contents records torn whole are ends = ap (λ (l : List ℕ). take whole l) are.whole ∙ take_at (records_text records) torn whole ends
+
+-- a trim, and a sync that fails
+pub settle_failed : (len torn : ℕ) (old mid new : Disk) → IsTrimmed len torn old mid → SyncFailed mid new → KeepsFront len old new
+settle_failed len torn old mid new t f = record { contents = (len, omega arith, f.contents ∙ t.contents); stable = omega (arith, t.stable, f.stable); appends = f.appends ∙ t.appends }
+
+-- and so the records are kept
+pub front_keeps : (old mid new : Disk) (records : List Rec) (torn : List ℕ) (whole : ℕ) → mid ≡ old → AreRecordsOf old.contents records torn → length (records_text records) ≡ whole → KeepsFront whole mid new → KeepsRecords old new
+front_keeps old mid new records torn whole same are ends front =
+    keeps_records old new records torn are (subst (λ (n : ℕ). KeepsFront n old new) (sym ends) (subst (λ (d : Disk). KeepsFront whole d new) same front))
+
+-- what holds at an error, whatever the error became
+pub at_err : {T E : Type 0} (P : Type 0) (r : Result T E) → P → OnErr r P
+at_err P (Ok x) p = tt
+at_err P (Err e) p = p

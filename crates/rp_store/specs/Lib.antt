@@ -1,0 +1,3 @@
+pub mod Disk
+pub mod Records
+pub mod Stored

@@ -1,0 +1,148 @@
+use super::*;
+use rp_base::{Action, Ballot, Fault, Operation, Position, Rec, TaskId};
+use std::alloc::Global;
+use std::process::Abort;
+use std::test::*;
+
+const STARTED: [u8; 10] = [1, 1, 0, 0, 0, 0, 0, 0, 0, 9];
+
+const VOTED: [u8; 29] = [
+    1, 3, 0, 1, 0, 0, 0, 0, 0, 0, 0, 9, 1, 1, 0, 0, 0, 1, 1, 2, 1, 0, 0, 0, 0, 0, 0, 0, 5,
+];
+
+/// A `Started` and the first 11 bytes of a `Promised`.
+const TORN: [u8; 21] = [
+    1, 1, 0, 0, 0, 0, 0, 0, 0, 9, 1, 2, 0, 1, 0, 0, 0, 0, 0, 0, 0,
+];
+
+/// A `Started` and a `Promised` with ballot 0.
+const WRONG: [u8; 22] = [
+    1, 1, 0, 0, 0, 0, 0, 0, 0, 9, 1, 2, 0, 1, 0, 0, 0, 0, 0, 0, 0, 0,
+];
+
+fn started() -> Result<Rec, Fail> {
+    Ok(Rec::Started(Ballot::new(9).ok_or("a ballot")?))
+}
+
+/// A vote for the first call of task 1, of procedure 1 of object 1 with 5.
+fn voted() -> Result<Rec, Fail> {
+    let call = Action::Call {
+        task: TaskId::first(),
+        number: 1,
+        object: 1,
+        operation: Operation::Procedure(1),
+        arg: 5,
+    };
+    let ballot = Ballot::new(9).ok_or("a ballot")?;
+    Ok(Rec::Voted(Position::first(), ballot, call))
+}
+
+/// Opens the device, once more where memory was refused.
+fn opened<D: Device>(rt: &impl Abort, alloc: Global, device: D) -> Result<Opened<D>, Fail> {
+    match Store::open(alloc, device) {
+        Ok(opened) => Ok(opened),
+        Err((fault, device)) => {
+            assert_eq!(rt; fault, Fault::OutOfMemory);
+            Ok(Store::open(alloc, device).ok().ok_or("it opens")?)
+        }
+    }
+}
+
+/// Opens the device and then again, which cuts nothing.
+fn opens<D: Device>(
+    rt: &impl Abort,
+    alloc: Global,
+    device: D,
+    records: usize,
+    cut_bytes: u64,
+) -> Result<(), Fail> {
+    let first = opened(rt, alloc, device)?;
+    assert_eq!(rt; first.records.len(), records);
+    assert_eq!(rt; first.cut_bytes, cut_bytes);
+    let again = opened(rt, alloc, first.store.close())?;
+    assert_eq!(rt; again.records.len(), records);
+    assert_eq!(rt; again.cut_bytes, 0);
+    Ok(())
+}
+
+/// Puts the record, once more where memory was refused.
+fn puts<D: Device>(
+    rt: &impl Abort,
+    alloc: Global,
+    store: &mut Store<D>,
+    rec: &Rec,
+) -> Result<(), Fail> {
+    if let Err(fault) = store.put(alloc, rec) {
+        assert_eq!(rt; fault, Fault::OutOfMemory);
+        store.put(alloc, rec)?;
+    }
+    Ok(())
+}
+
+/// Puts a record, appends a vote that is not synced, and stops with so many bytes of it.
+fn stops_behind_a_vote(
+    rt: &impl Abort,
+    alloc: Global,
+    kept: u64,
+    records: usize,
+    cut_bytes: u64,
+) -> Result<(), Fail> {
+    let mut store = opened(rt, alloc, MemDevice::new(alloc))?.store;
+    puts(rt, alloc, &mut store, &started()?)?;
+    let mut device = store.close();
+    device.append(&VOTED)?;
+    device.stop(kept);
+    opens(rt, alloc, device, records, cut_bytes)
+}
+
+#[test]
+fn whole_records_are_told_and_the_rest_is_cut(rt: HostRuntime) -> Result<(), Fail> {
+    let cases: [(&[u8], usize, u64); 4] = [
+        (&[], 0, 0),
+        (&STARTED, 1, 0),
+        (&TORN, 1, 11),
+        (&WRONG, 1, 12),
+    ];
+    for (bytes, records, cut_bytes) in &cases {
+        let mut device = MemDevice::new(rt.alloc());
+        device.append(bytes)?;
+        opens(&rt, rt.alloc(), device, *records, *cut_bytes)?;
+    }
+    Ok(())
+}
+
+#[test]
+fn a_stop_keeps_what_was_put_and_a_whole_record_behind_it(rt: HostRuntime) -> Result<(), Fail> {
+    let cases: [(u64, usize, u64); 4] = [(0, 1, 0), (28, 1, 28), (29, 2, 0), (1000, 2, 0)];
+    for (kept, records, cut_bytes) in &cases {
+        stops_behind_a_vote(&rt, rt.alloc(), *kept, *records, *cut_bytes)?;
+    }
+    Ok(())
+}
+
+#[test]
+fn what_an_opening_read_stays_through_a_stop(rt: HostRuntime) -> Result<(), Fail> {
+    let mut device = MemDevice::new(rt.alloc());
+    device.append(&TORN)?;
+    let mut device = opened(&rt, rt.alloc(), device)?.store.close();
+    device.stop(0);
+    assert_eq!(rt; device.len(), 10);
+    opens(&rt, rt.alloc(), device, 1, 0)
+}
+
+#[test]
+fn a_put_refused_for_memory_writes_nothing(rt: HostRuntime) -> Result<(), Fail> {
+    let (started, voted) = (started()?, voted()?);
+    let mut store = opened(&rt, rt.alloc(), MemDevice::new(rt.alloc()))?.store;
+    puts(&rt, rt.alloc(), &mut store, &started)?;
+    puts(&rt, rt.alloc(), &mut store, &voted)?;
+    let mut device = store.close();
+    device.stop(0);
+    let mut texts = STARTED.to_vec(rt.alloc())?;
+    texts.extend_from_slice(&VOTED)?;
+    let bytes = device.read(rt.alloc())?;
+    assert_eq!(rt; bytes.as_slice(), texts.as_slice());
+    let again = opened(&rt, rt.alloc(), device)?;
+    assert_eq!(rt; again.records.as_slice(), [started, voted].as_slice());
+    Ok(())
+}

@@ -1,0 +1,140 @@
+//! What a task keeps of its calls.
+
+ghost use Rattle.std.specs.Prelude.{◌≡◌, ◌↔◌, ◌⊎◌, ◌-◌, ◌^◌, None, IsSome, IfSome, IfOk, IfErr, OnErr, IsErrOf, IsTrue, if◌then◌else◌};
+ghost use Rattle.rp_base.specs.Action.{IsIndex, IsRight, IsRightOperation};
+ghost use Rattle.rp_tasks.specs.Calls.{no_calls, next_call, with_call, with_reply, IsOutstanding};
+
+use rp_base::{Action, Fault, Operation, Reply, TaskId};
+use std::marker::Model;
+
+/// What a call asks for.
+#[derive(Clone, Copy, Debug)]
+struct Request {
+    object: u8,
+    operation: Operation,
+    arg: i64,
+}
+
+impl Request {
+    ghost use Rattle.std.specs.Prelude.{◌≤◌};
+    ghost use Rattle.rp_base.specs.declared.action.Action.TheVariants.{Call};
+
+    /// The call that asks for it.
+    fn call(self, task: TaskId, number: u32) -> Action
+        requires number { 1 ≤ number }
+        requires object { IsIndex self.object }
+        requires operation { IsRightOperation self.operation }
+        ensures value { result ≡ Call task number self.object self.operation self.arg }
+        ensures right { IsRight result }
+    {
+        Action::Call {
+            task,
+            number,
+            object: self.object,
+            operation: self.operation,
+            arg: self.arg,
+        }
+    }
+}
+
+/// One task's calls: how many it has made, and the one that has no reply yet. Nothing here takes
+/// memory.
+#[derive(Debug, Drop)]
+pub struct Stub {
+    task: TaskId,
+    made: u32,
+    outstanding: Option<Request>,
+}
+
+impl Model for Stub {
+    ghost use Rattle.std.specs.Prelude.{◌≤◌, option_map, IfSome};
+    ghost use Rattle.rp_base.specs.Action.{IsIndex, IsRightOperation};
+    ghost use Rattle.rp_base.specs.declared.action.Action.TheVariants.{Call};
+    ghost use Rattle.rp_tasks.specs.Calls.{Calls};
+
+    ghost Value = { Calls };
+
+    ghost view = { λ s. record {
+      task = s.task;
+      made = s.made;
+      outstanding = option_map (λ r. Call s.task s.made r.object r.operation r.arg) s.outstanding;
+    } };
+
+    ghost invariant = { λ s. IfSome s.outstanding (λ r.
+        (1 ≤ s.made) × IsIndex r.object × IsRightOperation r.operation) };
+}
+
+impl Stub {
+    /// A task that has made no call.
+    pub fn new(task: TaskId) -> Self
+        ensures { result ≡ no_calls task }
+    {
+        Stub {
+            task,
+            made: 0,
+            outstanding: None,
+        }
+    }
+
+    /// The task's next call, numbered one more than the last, which is outstanding from now on. The
+    /// caller sees to it that the object is 1 to 8 and the operation right. `TaskBusy` while a call
+    /// is outstanding, or else `NumbersSpent` after number 2^32 - 1; both leave the stub as it was.
+    pub fn call(&mut self, object: u8, operation: Operation, arg: i64) -> Result<Action, Fault>
+        requires object { IsIndex object }
+        requires operation { IsRightOperation operation }
+        ensures value { IfOk result (λ call. call ≡ next_call self.old object operation arg) }
+        ensures right { IfOk result IsRight }
+        ensures made { IfOk result (λ call. self.new ≡ with_call self.old call) }
+        ensures busy { IsErrOf result Fault.TaskBusy ↔ IsSome self.old.outstanding }
+        ensures spent { IsErrOf result Fault.NumbersSpent ↔ ((self.old.outstanding ≡ None) × (self.old.made ≡ 2 ^ 32 - 1)) }
+        ensures only { IfErr result (λ fault. (fault ≡ Fault.TaskBusy) ⊎ (fault ≡ Fault.NumbersSpent)) }
+        ensures err { OnErr result (self.new ≡ self.old) }
+    {
+        if self.outstanding.is_some() {
+            return Err(Fault::TaskBusy);
+        }
+        let number = self.made.checked_add(1).ok_or(Fault::NumbersSpent)?;
+        let request = Request {
+            object,
+            operation,
+            arg,
+        };
+        self.made = number;
+        self.outstanding = Some(request);
+        Ok(request.call(self.task, number))
+    }
+
+    /// The outstanding call again, the same in number and all else, or `None`.
+    pub fn retry(&self) -> Option<Action>
+        ensures value { result ≡ self.now.outstanding }
+        ensures right { IfSome result IsRight }
+    {
+        let request = self.outstanding?;
+        Some(request.call(self.task, self.made))
+    }
+
+    /// Takes the reply to a call of this number: true exactly where it is the outstanding one, which
+    /// thereby ends. What the reply says is the caller's to keep.
+    pub fn reply(&mut self, number: u32, _reply: Reply) -> bool
+        ensures taken { IsTrue result ↔ IsOutstanding number self.old }
+        ensures after { self.new ≡ (if result then with_reply self.old else self.old) }
+    {
+        let taken = self.outstanding.is_some() && number == self.made;
+        if taken {
+            self.outstanding = None;
+        }
+        taken
+    }
+}
+
+#[cfg(test)]
+impl Stub {
+    /// A task that has made this many calls, none of them outstanding.
+    pub fn after(task: TaskId, made: u32) -> Self {
+        Stub {
+            task,
+            made,
+            outstanding: None,
+        }
+    }
+}

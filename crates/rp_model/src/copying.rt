@@ -33,7 +33,7 @@ fn copied_proposals(alloc: Global, proposals: &[Proposal]) -> Result<Sequence<Pr
 }
 
 /// The same running part.
-pub fn copied_running(alloc: Global, running: &Running) -> Result<Running, AllocError>
+pub(crate) fn copied_running(alloc: Global, running: &Running) -> Result<Running, AllocError>
     ensures { IfOk result (λ copy. copy ≡ running.now) }
 {
     Ok(Running {
@@ -45,7 +45,7 @@ pub fn copied_running(alloc: Global, running: &Running) -> Result<Running, Alloc
 }
 
 /// The proposal that runs at a position.
-pub fn proposal_at(proposals: &[Proposal], position: Position) -> Option<&Proposal>
+pub(crate) fn proposal_at(proposals: &[Proposal], position: Position) -> Option<&Proposal>
     ensures { option_copied result ≡ proposal_at proposals.now position }
 {
     for proposal in proposals {
@@ -57,7 +57,7 @@ pub fn proposal_at(proposals: &[Proposal], position: Position) -> Option<&Propos
 }
 
 /// The proposals at other positions.
-pub fn without_proposal(
+pub(crate) fn without_proposal(
     alloc: Global,
     proposals: &[Proposal],
     position: Position,
@@ -74,7 +74,7 @@ pub fn without_proposal(
 }
 
 /// The proposals, this one in place of any other at its position.
-pub fn with_proposal(
+pub(crate) fn with_proposal(
     alloc: Global,
     proposals: &[Proposal],
     proposal: Proposal,

@@ -35,14 +35,17 @@ fn add_node(nodes: &mut Vec<NodeId>, node: NodeId) -> Result<(), AllocError>
 }
 
 /// Whether these nodes, none of them twice, are more than half.
-pub fn is_majority(nodes: u8, senders: &[NodeId]) -> bool
+pub(crate) fn is_majority(nodes: u8, senders: &[NodeId]) -> bool
     ensures { result ≡ is_majority nodes senders.now }
 {
     usize::from(majority(nodes)) <= senders.len()
 }
 
 /// Who sent the promises, each once.
-pub fn promisers_of(alloc: Global, promises: &[CountedPromise]) -> Result<Vec<NodeId>, AllocError>
+pub(crate) fn promisers_of(
+    alloc: Global,
+    promises: &[CountedPromise],
+) -> Result<Vec<NodeId>, AllocError>
     ensures { IfOk result (λ nodes. nodes.items ≡ promisers_of promises.now) }
 {
     let mut nodes = Vec::new(alloc);
@@ -53,7 +56,7 @@ pub fn promisers_of(alloc: Global, promises: &[CountedPromise]) -> Result<Vec<No
 }
 
 /// The vote of the greatest ballot that the promises report.
-pub fn highest_vote(promises: &[CountedPromise]) -> Option<RightVote>
+pub(crate) fn highest_vote(promises: &[CountedPromise]) -> Option<RightVote>
     ensures { result ≡ highest_vote promises.now }
 {
     let mut last: Option<RightVote> = None;
@@ -66,7 +69,7 @@ pub fn highest_vote(promises: &[CountedPromise]) -> Option<RightVote>
 }
 
 /// What is offered: the action of that vote, or the own one where there is none.
-pub fn offer_of(own: RightAction, promises: &[CountedPromise]) -> RightAction
+pub(crate) fn offer_of(own: RightAction, promises: &[CountedPromise]) -> RightAction
     ensures { result ≡ offer_of own promises.now }
 {
     match highest_vote(promises) {
@@ -88,7 +91,7 @@ fn has_promise(promises: &[CountedPromise], promise: &CountedPromise) -> bool
 }
 
 /// The promises with one more, unless it is there.
-pub fn with_promise(
+pub(crate) fn with_promise(
     alloc: Global,
     promises: &[CountedPromise],
     promise: CountedPromise,
@@ -116,7 +119,7 @@ fn has_vote(heard: &[CountedVote], vote: &CountedVote) -> bool
 }
 
 /// The votes with one more, unless it is there.
-pub fn with_vote(
+pub(crate) fn with_vote(
     alloc: Global,
     heard: &[CountedVote],
     vote: CountedVote,
@@ -132,7 +135,7 @@ pub fn with_vote(
 }
 
 /// Who cast the vote at the position, each once.
-pub fn voters_of(
+pub(crate) fn voters_of(
     alloc: Global,
     position: Position,
     vote: RightVote,

@@ -191,7 +191,7 @@ fn with_record(
 
 /// An action is learned at a position: the proposal there ends, the votes heard there are let go,
 /// and each answer that comes of it goes to the task whose call is pending.
-pub fn learns<M: Machine>(
+pub(crate) fn learns<M: Machine>(
     alloc: Global,
     program: &M::Program,
     me: NodeId,
@@ -292,7 +292,7 @@ fn on_new_vote<M: Machine>(
 }
 
 /// An `Accepted` comes.
-pub fn on_accepted<M: Machine>(
+pub(crate) fn on_accepted<M: Machine>(
     alloc: Global,
     program: &M::Program,
     nodes: u8,
@@ -315,7 +315,7 @@ pub fn on_accepted<M: Machine>(
 }
 
 /// A `Decided` comes.
-pub fn on_decided<M: Machine>(
+pub(crate) fn on_decided<M: Machine>(
     alloc: Global,
     program: &M::Program,
     me: NodeId,
@@ -342,7 +342,7 @@ pub fn on_decided<M: Machine>(
 }
 
 /// Whether the items are equal: calls by task and number, all else whole.
-pub fn equal_items(item: Action, other: Action) -> bool
+pub(crate) fn equal_items(item: Action, other: Action) -> bool
     ensures { result ≡ equal_items item other }
 {
     match item {
@@ -426,7 +426,7 @@ fn on_numbered(
 }
 
 /// A `Call` comes.
-pub fn on_call<M: Machine>(
+pub(crate) fn on_call<M: Machine>(
     alloc: Global,
     program: &M::Program,
     me: NodeId,

@@ -11,7 +11,7 @@ use rp_base::{Ballot, Rec, Vote};
 use std::alloc::{AllocError, Global};
 
 /// The greatest ballot in which the records lead.
-pub fn started_of(records: &[RightRecord]) -> Option<Ballot>
+pub(crate) fn started_of(records: &[RightRecord]) -> Option<Ballot>
     ensures { number_of result ≡ started_of records.now }
 {
     let mut greatest: Option<Ballot> = None;
@@ -24,7 +24,7 @@ pub fn started_of(records: &[RightRecord]) -> Option<Ballot>
 }
 
 /// The greater of a ballot, if there is one, and another.
-pub fn greater(one: Option<Ballot>, other: Ballot) -> Option<Ballot>
+pub(crate) fn greater(one: Option<Ballot>, other: Ballot) -> Option<Ballot>
     ensures { number_of result ≡ max (number_of one) other }
 {
     match one {
@@ -34,7 +34,7 @@ pub fn greater(one: Option<Ballot>, other: Ballot) -> Option<Ballot>
 }
 
 /// The greatest ballot promised or voted in at a position.
-pub fn bound_at(records: &[RightRecord], position: usize) -> Option<Ballot>
+pub(crate) fn bound_at(records: &[RightRecord], position: usize) -> Option<Ballot>
     ensures { number_of result ≡ bound_at records.now position }
 {
     let mut bound: Option<Ballot> = None;
@@ -51,7 +51,7 @@ pub fn bound_at(records: &[RightRecord], position: usize) -> Option<Ballot>
 }
 
 /// The vote of the greater ballot, the first of two in one ballot.
-pub fn higher(first: Option<RightVote>, second: RightVote) -> RightVote
+pub(crate) fn higher(first: Option<RightVote>, second: RightVote) -> RightVote
     ensures { Some result ≡ highest (option_to_list first ++ second ∷ []) }
 {
     match first {
@@ -61,7 +61,7 @@ pub fn higher(first: Option<RightVote>, second: RightVote) -> RightVote
 }
 
 /// The last vote at a position.
-pub fn last_vote_at(records: &[RightRecord], position: usize) -> Option<RightVote>
+pub(crate) fn last_vote_at(records: &[RightRecord], position: usize) -> Option<RightVote>
     ensures { result ≡ last_vote_at records.now position }
 {
     let mut last: Option<RightVote> = None;
@@ -77,7 +77,7 @@ pub fn last_vote_at(records: &[RightRecord], position: usize) -> Option<RightVot
 }
 
 /// The last vote at a position, which lies at or below the bound there.
-pub fn reported_at(records: &[RightRecord], position: usize) -> Option<Vote>
+pub(crate) fn reported_at(records: &[RightRecord], position: usize) -> Option<Vote>
     ensures value { result ≡ last_vote_at records.now position }
     ensures right { IfSome result IsRightVote }
     ensures below { IfSome result (λ vote. vote.ballot ≤ bound_at records.now position) }
@@ -89,7 +89,7 @@ pub fn reported_at(records: &[RightRecord], position: usize) -> Option<Vote>
 }
 
 /// The action that is learned at a position.
-pub fn learned_at(records: &[RightRecord], position: usize) -> Option<RightAction>
+pub(crate) fn learned_at(records: &[RightRecord], position: usize) -> Option<RightAction>
     ensures { result ≡ learned_at records.now position }
 {
     for record in records {

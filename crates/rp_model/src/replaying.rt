@@ -19,7 +19,7 @@ pub struct Replayed<M> {
 }
 
 /// The number of the action's call, if it is a call of the task.
-pub fn number_for(task: TaskId, action: Action) -> Option<u32>
+pub(crate) fn number_for(task: TaskId, action: Action) -> Option<u32>
     ensures { result ≡ number_for task action }
 {
     match action {
@@ -33,7 +33,7 @@ pub fn number_for(task: TaskId, action: Action) -> Option<u32>
 }
 
 /// The occurrence of the action, if it is an interrupt of the source.
-pub fn occurrence_for(source: u8, action: Action) -> Option<u32>
+pub(crate) fn occurrence_for(source: u8, action: Action) -> Option<u32>
     ensures { result ≡ occurrence_for source action }
 {
     match action {
@@ -46,14 +46,14 @@ pub fn occurrence_for(source: u8, action: Action) -> Option<u32>
 }
 
 /// Whether the answer is for this call.
-pub fn is_for(task: TaskId, number: u32, answer: &Answer) -> bool
+pub(crate) fn is_for(task: TaskId, number: u32, answer: &Answer) -> bool
     ensures { result ≡ is_for task number answer.now }
 {
     answer.task == task && answer.number == number
 }
 
 /// Whether an answer for this call is given.
-pub fn is_answered(given: &[Answer], task: TaskId, number: u32) -> bool
+pub(crate) fn is_answered(given: &[Answer], task: TaskId, number: u32) -> bool
     ensures { result ≡ list_any (is_for task number) given.now }
 {
     given.iter().any(|answer| is_for(task, number, answer))

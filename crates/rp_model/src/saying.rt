@@ -14,7 +14,7 @@ use rp_codec::{Body, Packet, Party};
 use std::alloc::{AllocError, Global};
 
 /// A packet from node to node.
-pub fn says(me: NodeId, body: Body, to: NodeId) -> Packet
+pub(crate) fn says(me: NodeId, body: Body, to: NodeId) -> Packet
     requires { MaySay (Node me) (Node to) body }
     ensures { result ≡ says me body to }
 {
@@ -30,7 +30,7 @@ fn node_after(place: u8) -> NodeId
 }
 
 /// A `Prepare` to each node.
-pub fn prepare_to_all(
+pub(crate) fn prepare_to_all(
     alloc: Global,
     nodes: u8,
     me: NodeId,
@@ -48,7 +48,7 @@ pub fn prepare_to_all(
 }
 
 /// An `Accept` to each node.
-pub fn accept_to_all(
+pub(crate) fn accept_to_all(
     alloc: Global,
     nodes: u8,
     me: NodeId,
@@ -72,7 +72,7 @@ pub fn accept_to_all(
 }
 
 /// A `Decided` to each other node.
-pub fn decided_to_others(
+pub(crate) fn decided_to_others(
     alloc: Global,
     nodes: u8,
     me: NodeId,
@@ -97,7 +97,7 @@ pub fn decided_to_others(
 }
 
 /// A reply to a task's call.
-pub fn reply_to_task(me: NodeId, task: TaskId, number: u32, reply: Reply) -> Packet
+pub(crate) fn reply_to_task(me: NodeId, task: TaskId, number: u32, reply: Reply) -> Packet
     requires { IsCount number }
     ensures { result ≡ says_to_task me (Answered number reply) task }
 {

@@ -32,7 +32,7 @@ fn one(alloc: Global, packet: Packet) -> Result<Sequence<Packet>, AllocError>
 }
 
 /// Nothing is written or sent, and this is known now.
-pub fn notes(alloc: Global, running: Running) -> Turn
+pub(crate) fn notes(alloc: Global, running: Running) -> Turn
     ensures { result ≡ notes running }
 {
     Turn {
@@ -56,7 +56,11 @@ fn sends(running: Running, sent: Sequence<Packet>) -> Turn
 }
 
 /// Nothing is written, and one packet is sent.
-pub fn sends_one(alloc: Global, running: &Running, packet: Packet) -> Result<Turn, AllocError>
+pub(crate) fn sends_one(
+    alloc: Global,
+    running: &Running,
+    packet: Packet,
+) -> Result<Turn, AllocError>
     ensures { IfOk result (λ turn. turn ≡ sends running.now (packet ∷ [])) }
 {
     Ok(Turn {
@@ -85,7 +89,7 @@ fn writes_one(
 }
 
 /// A `Prepare` comes.
-pub fn on_prepare(
+pub(crate) fn on_prepare(
     alloc: Global,
     me: NodeId,
     records: &[RightRecord],
@@ -168,7 +172,7 @@ fn on_ballot(
 }
 
 /// An `Accept` comes.
-pub fn on_accept(
+pub(crate) fn on_accept(
     alloc: Global,
     me: NodeId,
     records: &[RightRecord],
@@ -260,7 +264,7 @@ fn replaced(
 }
 
 /// A `Promise` comes.
-pub fn on_promise(
+pub(crate) fn on_promise(
     alloc: Global,
     nodes: u8,
     me: NodeId,
@@ -281,7 +285,7 @@ pub fn on_promise(
 }
 
 /// A `Nack` comes.
-pub fn on_nack(
+pub(crate) fn on_nack(
     alloc: Global,
     running: &Running,
     position: Position,

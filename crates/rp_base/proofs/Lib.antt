@@ -1,1 +1,2 @@
 pub mod SetsMeet
+pub mod OneSenderMore

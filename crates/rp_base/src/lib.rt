@@ -10,6 +10,7 @@ mod majorities;
 mod number;
 mod record;
 mod reply;
+mod senders;
 
 pub use action::{Action, Operation};
 pub use answers::Answers;
@@ -20,6 +21,7 @@ pub use majorities::{majorities_meet, majority};
 pub use number::{NodeId, Position, TaskId};
 pub use record::{Rec, Vote};
 pub use reply::{Answer, Reply};
+pub use senders::Senders;
 
 #[cfg(test)]
 mod tests;

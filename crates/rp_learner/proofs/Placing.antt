@@ -1,16 +1,14 @@
 -- The places of a learner, and the sets of votes and positions that they stand for.
-use Rattle.std.proofs.Common.{◌≡◌, ℕ, zero, suc, ◌+◌, ◌<◌, ◌≢◌, Bool, true, false, ◌⊎◌, ◌↔◌, ◌||◌, Option, Some, None, List, [], ◌∷◌, ◌++◌, length, map, set, refl, sym, ap, subst, ◌∙◌, inl, inr, arith}
+use Rattle.std.proofs.Common.{◌≡◌, ℕ, zero, suc, ◌+◌, ◌<◌, ◌≢◌, Bool, true, false, ◌↔◌, ◌||◌, Option, Some, List, [], ◌∷◌, ◌++◌, length, map, set, refl, sym, ap, subst, ◌∙◌, inl, inr, arith}
 use Rattle.std.specs.Prelude.{nat_eq, slice_get, unwrap_or}
 use Rattle.std.specs.List.{list_any}
 use Rattle.std.proofs.lemmas.Bool.{both_ways, ne_eqb, eq-eqb, or_left, or_from}
-use Rattle.std.proofs.lemmas.List.Folds.{list_any-append}
 use Rattle.rp_base.specs.Sets.{Has}
-use Rattle.rp_base.specs.declared.record.Vote.{Vote}
 use Rattle.rp_base.specs.Promises.{HeardVote}
 use Rattle.rp_learner.specs.declared.place.CastVote.{CastVote}
 use Rattle.rp_learner.specs.declared.place.Place.{Place}
 use Rattle.rp_learner.specs.declared.place.Place.TheVariants.{Unheard, Heard, Settled}
-use Rattle.rp_learner.specs.Places.{place_at, votes_in, votes_of, votes_at, is_settled_in, settled_of, is_settled_at, heard_from, if_settled, settled_from, SamePlace}
+use Rattle.rp_learner.specs.Places.{votes_in, votes_of, votes_at, is_settled_in, settled_of, is_settled_at, heard_from, if_settled, settled_from, SamePlace}
 use Rattle.rp_learner.proofs.Members.{has_split, has_left, has_right, has_mapped}
 
 -- a vote of a node, heard at a position

@@ -1,19 +1,17 @@
 -- What a write of one place does to the votes and positions that the places stand for.
-use Rattle.std.proofs.Common.{◌≡◌, ◌≢◌, ℕ, zero, suc, ◌+◌, ◌<◌, Bool, true, false, not, ◌⊎◌, ◌↔◌, Option, Some, None, List, [], ◌∷◌, ◌++◌, length, set, refl, sym, ap, subst, ◌∙◌, inl, inr, arith}
+use Rattle.std.proofs.Common.{◌≡◌, ◌≢◌, ℕ, zero, suc, ◌<◌, true, false, not, ◌⊎◌, ◌↔◌, Option, Some, List, [], length, set, refl, sym, ap, subst, ◌∙◌, inl, inr, arith}
 use Rattle.std.specs.Prelude.{nat_eq, filter, slice_get}
-use Rattle.std.specs.List.{list_any}
 use Rattle.std.proofs.lemmas.Bool.{cases_eq, ne_eqb, eq-eqb, both_ways}
 use Rattle.std.proofs.lemmas.Bool.Decides.{Decides-eqb}
 use Rattle.std.proofs.lemmas.List.{length-set}
-use Rattle.rp_base.specs.declared.record.Vote.{Vote}
 use Rattle.rp_base.specs.Sets.{Has, with_member}
 use Rattle.rp_base.specs.Promises.{HeardVote, same_heard}
 use Rattle.rp_learner.specs.declared.place.CastVote.{CastVote}
 use Rattle.rp_learner.specs.declared.place.Place.{Place}
 use Rattle.rp_learner.specs.declared.place.Place.TheVariants.{Settled}
 use Rattle.rp_learner.specs.Learning.{Learning}
-use Rattle.rp_learner.specs.Places.{place_at, votes_in, votes_of, votes_at, is_settled_in, settled_of, is_settled_at, same_cast, SamePlace, IsWithCast, heard_from, settled_from}
-use Rattle.rp_learner.specs.Standings.{SameMembers, SameLearning, with_settled}
+use Rattle.rp_learner.specs.Places.{place_at, votes_in, votes_of, is_settled_in, settled_of, is_settled_at, same_cast, SamePlace, IsWithCast, heard_from, settled_from}
+use Rattle.rp_learner.specs.Standings.{SameLearning, with_settled}
 use Rattle.rp_learner.proofs.Sameness.{heard_decides, cast_decides}
 use Rattle.rp_learner.proofs.Members.{has_passing, passes, found, finds, has_with, with_has}
 use Rattle.rp_learner.proofs.Placing.{cast_of, heard_at, settled_at, get_written, get_other, heard_kept, settled_kept}

@@ -85,8 +85,8 @@ impl Learner {
             ballot,
             action: *action,
         };
-        let mut senders = senders_of(votes_at(&self.places, position), &vote);
-        senders.add(from);
+        let others = senders_of(votes_at(&self.places, position), &vote);
+        let senders = others.with(from);
         if senders.len() >= usize::from(majority(self.nodes)) {
             Standing::Learned
         } else {

@@ -3,7 +3,6 @@
 
 mod learner;
 mod place;
-mod senders;
 
 pub use learner::{Decision, Learner, Standing};
 

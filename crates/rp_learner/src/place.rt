@@ -7,8 +7,7 @@ ghost use Rattle.rp_base.specs.Sets.{with_member, with_members};
 ghost use Rattle.rp_base.specs.Promises.{same_vote};
 ghost use Rattle.rp_learner.specs.Places.{place_at, votes_at, is_settled_at, same_cast, SamePlace, IsWithCast};
 
-use crate::senders::Senders;
-use rp_base::{NodeId, Position, Vote};
+use rp_base::{NodeId, Position, Senders, Vote};
 use std::alloc::{AllocError, Global};
 
 /// A vote that was heard, and who cast it.
@@ -65,7 +64,7 @@ pub fn senders_of(votes: &[CastVote], vote: &Vote) -> Senders
     let mut senders = Senders::new();
     for cast in votes {
         if is_same_vote(&cast.vote, vote) {
-            senders.add(cast.from);
+            senders = senders.with(cast.from);
         }
     }
     senders

@@ -1,5 +1,4 @@
 pub mod Fieldless
 pub mod OneOffer
 pub mod OnePromiseMore
-pub mod OneSenderMore
 pub mod Places

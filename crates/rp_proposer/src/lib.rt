@@ -4,7 +4,6 @@
 mod promises;
 mod proposal;
 mod proposer;
-mod senders;
 
 pub use proposal::{Phase, Progress, one_offer_at_most};
 pub use proposer::Proposer;

@@ -6,8 +6,7 @@ ghost use Rattle.rp_base.specs.Promises.{Promise, offer_of};
 ghost use Rattle.rp_proposer.specs.Proposing.{RunningProposal, new_proposal, is_preparing, with_promise, is_promised, progress_of, noted, offers_made};
 
 use crate::promises::{HeardPromise, Promises};
-use crate::senders::Senders;
-use rp_base::{Action, Ballot, NodeId, Position, Vote, majority};
+use rp_base::{Action, Ballot, NodeId, Position, Senders, Vote, majority};
 use std::marker::Model;
 
 /// The two phases of a proposal (Lamport, "Paxos Made Simple", section 2.2).

@@ -1,6 +1,4 @@
 -- A position is settled where its place is.
-use Rattle.std.proofs.Common.{◌≡◌, sym, ap, ◌∙◌, true, false, cond}
-use Rattle.rp_learner.specs.declared.learner.Decision.TheVariants.{Known, Learned}
 use Rattle.rp_learner.proofs.Placing.{settled_at}
 use Rattle.rp_learner.proofs.learner.Learner.decided.Goals as goal
 

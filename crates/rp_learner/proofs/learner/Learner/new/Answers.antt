@@ -1,5 +1,5 @@
 -- As many places as positions, in none of which a vote was heard.
-use Rattle.std.proofs.Common.{◌≡◌, length, replicate, arith}
+use Rattle.std.proofs.Common.{◌≡◌, arith}
 use Rattle.std.proofs.lemmas.List.{length-replicate}
 use Rattle.rp_learner.specs.declared.place.Place.TheVariants.{Unheard}
 use Rattle.rp_learner.proofs.Outcomes.{none_heard, none_settled}

@@ -1,8 +1,8 @@
 use Rattle.std.proofs.Common.{◌≡◌, ◌<◌, false, nat_eq, List, ℕ, sym, subst, rules, arith}
 use Rattle.std.specs.List.{list_any}
 use Rattle.std.proofs.lemmas.List.{take_more_set}
-use Rattle.rp_proposer.proofs.OneSenderMore.{place_for, row_more}
-use Rattle.rp_proposer.proofs.senders.Senders.and.Goals as goal
+use Rattle.rp_base.proofs.OneSenderMore.{place_for, row_more}
+use Rattle.rp_base.proofs.senders.Senders.and.Goals as goal
 
 pub bounds-nodes-self-inside : goal.bounds-nodes-self-inside
 bounds-nodes-self-inside c =

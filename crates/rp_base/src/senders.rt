@@ -1,16 +1,16 @@
-//! Who sent the promises of a proposal.
+//! A set of nodes, such as those that sent a promise or a vote.
 
 ghost use Rattle.std.specs.Prelude.{◌≡◌, [], ◌∷◌, ◌++◌, false, length, nat_eq};
 ghost use Rattle.std.specs.List.{list_any};
 ghost use Rattle.rp_base.specs.Number.{IsNode};
 ghost use Rattle.rp_base.specs.Sets.{with_member};
 
-use rp_base::NodeId;
+use crate::number::NodeId;
 use std::marker::Model;
 
 /// A set of nodes in the order in which they came: at most 7, in place.
 #[derive(Debug, Drop)]
-pub(crate) struct Senders {
+pub struct Senders {
     nodes: [NodeId; 7],
     len: usize,
 }
@@ -28,7 +28,7 @@ impl Model for Senders {
 
 impl Senders {
     /// No node yet.
-    pub(crate) fn new() -> Senders
+    pub fn new() -> Senders
         ensures { result ≡ [] }
     {
         let unused = NodeId::new(1).unwrap();
@@ -38,8 +38,8 @@ impl Senders {
         }
     }
 
-    /// How many nodes there are.
-    pub(crate) fn len(&self) -> usize
+    /// How many nodes there are, at most 7.
+    pub fn len(&self) -> usize
         ensures { result ≡ length self.now }
     {
         self.len
@@ -70,7 +70,7 @@ impl Senders {
     }
 
     /// These and one more, unless it is there.
-    pub(crate) fn with(&self, node: NodeId) -> Senders
+    pub fn with(&self, node: NodeId) -> Senders
         ensures { result ≡ with_member nat_eq self.now node }
     {
         if self.contains(node) {

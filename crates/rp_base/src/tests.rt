@@ -133,3 +133,22 @@ fn a_fault_has_its_number_and_name(rt: HostRuntime) {
         assert_eq!(rt; fault.name(), name);
     }
 }
+
+#[test]
+fn a_node_that_comes_twice_counts_once(rt: HostRuntime) {
+    let cases: [(&[u8], usize); 4] = [
+        (&[], 0),
+        (&[4], 1),
+        (&[1, 2, 1, 2], 2),
+        (&[7, 6, 5, 4, 3, 2, 1, 7], 7),
+    ];
+    for (nodes, count) in &cases {
+        let mut senders = Senders::new();
+        for node in *nodes {
+            if let Some(node) = NodeId::new(*node) {
+                senders = senders.with(node);
+            }
+        }
+        assert_eq!(rt; senders.len(), *count);
+    }
+}

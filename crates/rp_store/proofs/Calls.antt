@@ -1,11 +1,11 @@
 -- What the calls of a device leave, one behind another.
 use Rattle.std.proofs.Common.{◌≡◌, ◌⊎◌, inl, inr, ℕ, ◌+◌, ◌≤◌, List, ◌++◌, length, take, Result, Ok, Err, refl, sym, ap, subst, ◌∙◌, length-append, arith}
-use Rattle.std.specs.Prelude.{min, IfErr, OnErr}
+use Rattle.std.specs.Prelude.{IfErr, OnErr}
 use Rattle.std.proofs.lemmas.List.{take_all, take_at}
 use Rattle.rp_base.specs.declared.fault.Fault.{Fault}
 use Rattle.rp_base.specs.declared.fault.Fault.TheVariants.{OutOfMemory, Device}
 use Rattle.rp_base.specs.declared.record.Rec.{Rec}
-use Rattle.rp_store.specs.Disk.{Disk, appended, synced, ReadFailed, AppendFailed, SyncFailed, CutFailed, KeepsFront, IsTrimmed}
+use Rattle.rp_store.specs.Disk.{Disk, appended, ReadFailed, AppendFailed, SyncFailed, CutFailed, KeepsFront, IsTrimmed}
 use Rattle.rp_store.specs.Records.{records_text, AreRecordsOf, KeepsRecords}
 use Rattle.rp_store.proofs.Whole.{keeps_records}
 

@@ -1,3 +1,4 @@
+pub mod Counts
 pub mod Disk
 pub mod Records
 pub mod Stored

@@ -3,19 +3,19 @@
 ghost use Rattle.std.specs.Prelude.{◌≡◌};
 ghost use Rattle.rp_store.specs.Disk.{empty_disk};
 
+use crate::count::Count;
 use crate::device::{CutDevice, Device};
 use rp_base::Fault;
 use std::alloc::Global;
 use std::marker::Model;
 
-/// A device in memory. It never fails. It counts its appends and its cuts, and the 2^64th of either
-/// is refused as if memory were short.
+/// A device in memory. It never fails.
 #[derive(Drop)]
 pub struct MemDevice {
     bytes: Vec<u8>,
     synced: usize,
-    appended: u64,
-    cut: u64,
+    appends: Count,
+    cuts: Count,
 }
 
 impl Model for MemDevice {
@@ -24,7 +24,7 @@ impl Model for MemDevice {
 
     ghost Value = { Disk };
 
-    ghost view = { λ m. record { contents = m.bytes.items; stable = m.synced; failures = 0; appends = m.appended; cuts = m.cut } };
+    ghost view = { λ m. record { contents = m.bytes.items; stable = m.synced; failures = 0; appends = m.appends; cuts = m.cuts } };
 
     ghost invariant = { λ m. m.synced ≤ length m.bytes.items };
 }
@@ -37,8 +37,8 @@ impl MemDevice {
         MemDevice {
             bytes: Vec::new(alloc),
             synced: 0,
-            appended: 0,
-            cut: 0,
+            appends: Count::new(),
+            cuts: Count::new(),
         }
     }
 }
@@ -47,9 +47,8 @@ impl Device for MemDevice {
     ghost disk = { λ d. d };
 
     fn append(&mut self, bytes: &[u8]) -> Result<(), Fault> {
-        let appended = self.appended.checked_add(1).ok_or(Fault::OutOfMemory)?;
         self.bytes.extend_from_slice(bytes)?;
-        self.appended = appended;
+        self.appends.raise();
         Ok(())
     }
 
@@ -67,11 +66,10 @@ impl Device for MemDevice {
     }
 
     fn cut(&mut self, len: u64) -> Result<(), Fault> {
-        let cut = self.cut.checked_add(1).ok_or(Fault::OutOfMemory)?;
         let len = len as usize;
         self.bytes.truncate(len);
         self.synced = self.synced.min(len);
-        self.cut = cut;
+        self.cuts.raise();
         Ok(())
     }
 }

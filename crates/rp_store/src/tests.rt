@@ -146,3 +146,97 @@ fn a_put_refused_for_memory_writes_nothing(rt: HostRuntime) -> Result<(), Fail> 
     assert_eq!(rt; again.records.as_slice(), [started, voted].as_slice());
     Ok(())
 }
+
+/// A device in memory whose next sync fails once no more are granted. It counts those that did not.
+#[derive(Drop)]
+struct LimitedDevice {
+    inner: MemDevice,
+    granted: u32,
+    syncs: u32,
+    failures: Count,
+}
+
+impl Device for LimitedDevice {
+    ghost use Rattle.std.specs.Prelude.{◌+◌};
+
+    ghost disk = { λ d. record d.inner { failures = d.inner.failures + d.failures } };
+
+    fn append(&mut self, bytes: &[u8]) -> Result<(), Fault> {
+        self.inner.append(bytes)
+    }
+
+    fn sync(&mut self) -> Result<(), Fault> {
+        if self.granted == 0 {
+            self.failures.raise();
+            return Err(Fault::Device);
+        }
+        self.granted -= 1;
+        self.syncs = self.syncs.saturating_add(1);
+        self.inner.sync()
+    }
+
+    fn read(&mut self, alloc: Global) -> Result<Vec<u8>, Fault> {
+        self.inner.read(alloc)
+    }
+
+    fn len(&self) -> u64 {
+        self.inner.len()
+    }
+
+    fn cut(&mut self, len: u64) -> Result<(), Fault> {
+        self.inner.cut(len)
+    }
+}
+
+impl LimitedDevice {
+    /// It holds these bytes, none of them stable.
+    fn holding(alloc: Global, bytes: &[u8], granted: u32) -> Result<Self, Fail> {
+        let mut inner = MemDevice::new(alloc);
+        inner.append(bytes)?;
+        Ok(LimitedDevice {
+            inner,
+            granted,
+            syncs: 0,
+            failures: Count::new(),
+        })
+    }
+}
+
+#[test]
+fn an_opening_syncs_once_whatever_the_device_holds(rt: HostRuntime) -> Result<(), Fail> {
+    let cases: [&[u8]; 4] = [&[], &STARTED, &TORN, &WRONG];
+    for bytes in &cases {
+        let device = LimitedDevice::holding(rt.alloc(), bytes, 9)?;
+        let opened = opened(&rt, rt.alloc(), device)?;
+        assert_eq!(rt; opened.store.close().syncs, 1);
+    }
+    Ok(())
+}
+
+/// Why a put of the vote is refused, if it is. It is tried once more where memory was refused.
+fn vote_fault<D: Device>(alloc: Global, store: &mut Store<D>) -> Result<Option<Fault>, Fail> {
+    let voted = voted()?;
+    match store.put(alloc, &voted) {
+        Err(Fault::OutOfMemory) => Ok(store.put(alloc, &voted).err()),
+        result => Ok(result.err()),
+    }
+}
+
+/// The device, where opening it fails.
+fn not_opened<D: Device>(alloc: Global, device: D) -> Result<D, Fail> {
+    match Store::open(alloc, device) {
+        Ok(_) => Err("it opens")?,
+        Err((_, device)) => Ok(device),
+    }
+}
+
+#[test]
+fn a_failed_sync_is_told_and_the_store_writes_no_more(rt: HostRuntime) -> Result<(), Fail> {
+    let device = LimitedDevice::holding(rt.alloc(), &STARTED, 1)?;
+    let mut store = opened(&rt, rt.alloc(), device)?.store;
+    assert_eq!(rt; vote_fault(rt.alloc(), &mut store)?, Some(Fault::Device));
+    assert_eq!(rt; vote_fault(rt.alloc(), &mut store)?, Some(Fault::Failed));
+    let device = not_opened(rt.alloc(), store.close())?;
+    assert_eq!(rt; device.len(), 39);
+    opens(&rt, rt.alloc(), device.inner, 2, 0)
+}

@@ -6,9 +6,10 @@ use Rattle.rp_console.specs.declared.deck.Deck.{Deck}
 use Rattle.rp_console.specs.Declarations.{IsNameTable}
 use Rattle.rp_console.specs.Script.{FitsIn}
 
--- 1 to 8 tasks and as many objects, no name twice, and the script names what is declared
+-- one position, 1 to 8 tasks and as many objects, no name twice, and the script names what is declared
 pub record IsRightDeck (deck : Deck) : Type 0 where
   pub config : IsRightConfig deck.config
+  pub one_position : deck.config.max_positions ≡ 1
   pub tasks : IsNameTable deck.tasks
   pub some_task : 1 ≤ index_map_len deck.tasks
   pub objects : IsNameTable deck.objects

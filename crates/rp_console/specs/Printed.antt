@@ -29,6 +29,10 @@ refused_line_of line fault =
 abbrev pub applied_line_of : ℕ → ℕ → List ℕ
 applied_line_of node applied = codes "node " ++ (decimal node ++ (codes " applied " ++ decimal applied))
 
+-- a node is stopped
+abbrev pub stopped_line_of : ℕ → List ℕ
+stopped_line_of node = codes "node " ++ (decimal node ++ codes " stopped")
+
 -- `drain` delivered as many messages as it may, and more are left
 abbrev pub limit_line_of : ℕ → List ℕ
 limit_line_of line = codes "line " ++ (decimal line ++ codes ": drain limit")

@@ -1,5 +1,6 @@
 -- What a script asks for.
-use Rattle.std.specs.Prelude.{ℕ, ◌<◌, ◌≤◌, ◌^◌}
+use Rattle.std.specs.Prelude.{ℕ, ◌<◌, ◌≤◌, ◌^◌, FitsSigned}
+use Rattle.std.specs.Int.{w64}
 use Rattle.indexmap.specs.IndexMap.{index_map_len}
 use Rattle.rp_base.specs.Action.{IsRightOperation}
 use Rattle.rp_console.specs.declared.deck.Command.{Command}
@@ -7,11 +8,11 @@ use Rattle.rp_console.specs.declared.deck.Command.TheVariants.{Call, Lead, Deliv
 use Rattle.rp_console.specs.declared.deck.Line.{Line}
 use Rattle.rp_console.specs.declared.declarations.Declared.{Declared}
 
--- what a command names lies within the numbers of nodes, tasks and objects
+-- what a command names lies within the numbers of nodes, tasks and objects, and what it passes has 64 signed bits
 abbrev pub FitsIn : ℕ → ℕ → ℕ → Command → Type 0
 FitsIn nodes tasks objects (Call task node object operation arg) =
-    (task ≤ tasks) × (node ≤ nodes) × (1 ≤ object) × (object ≤ objects) × IsRightOperation operation
-FitsIn nodes tasks objects (Lead node position) = node ≤ nodes
+    (1 ≤ task) × (task ≤ tasks) × (1 ≤ node) × (node ≤ nodes) × (1 ≤ object) × (object ≤ objects) × IsRightOperation operation × FitsSigned w64 arg
+FitsIn nodes tasks objects (Lead node position) = (1 ≤ node) × (node ≤ nodes)
 FitsIn nodes tasks objects (Deliver message) = (1 ≤ message) × (message < 2 ^ 63)
 FitsIn nodes tasks objects Drain = Unit {0}
 FitsIn nodes tasks objects Show = Unit {0}

@@ -1,7 +1,7 @@
 //! The lines that a run prints. The caller ends each by a line feed.
 
 ghost use Rattle.std.specs.Prelude.{Some};
-ghost use Rattle.rp_console.specs.Printed.{reply_text_of, reply_line_of, refused_line_of, applied_line_of, limit_line_of};
+ghost use Rattle.rp_console.specs.Printed.{reply_text_of, reply_line_of, refused_line_of, applied_line_of, stopped_line_of, limit_line_of};
 
 use rp_base::{Fault, NodeId, Reply};
 use std::fmt;
@@ -78,6 +78,21 @@ impl fmt::Display for AppliedLine {
         let node = self.node.get();
         let applied = self.applied;
         write!(f, "node {node} applied {applied}")
+    }
+}
+
+/// A node is stopped: `node 2 stopped`.
+#[derive(Clone, Copy, Debug, PartialEq, Eq)]
+pub struct StoppedLine {
+    pub node: NodeId,
+}
+
+impl fmt::Display for StoppedLine {
+    ghost output = { λ l. Some (stopped_line_of l.node) };
+
+    fn fmt<W: fmt::Write>(&self, f: &mut fmt::Formatter<W>) -> fmt::Result {
+        let node = self.node.get();
+        write!(f, "node {node} stopped")
     }
 }
 

@@ -109,7 +109,7 @@ fn read_lead(words: &mut Words<'_>, nodes: u8) -> Result<Command, DeckReason>
 /// Reads the number of a node.
 fn read_node(words: &mut Words<'_>, nodes: u8) -> Result<NodeId, DeckReason>
     requires { nodes ≤ 7 }
-    ensures { IfOk result (λ node. node ≤ nodes) }
+    ensures { IfOk result (λ node. (1 ≤ node) × (node ≤ nodes)) }
 {
     let number = words.take_number(1, u64::from(nodes))?;
     Ok(NodeId::new(number as u8).unwrap())

@@ -4,6 +4,7 @@ ghost use Rattle.std.specs.Prelude.{◌≡◌, ℕ, ◌+◌, ◌-◌, ◌^◌, �
 ghost use Rattle.std.specs.Ordering.{nat_cmp};
 ghost use Rattle.std.specs.BTreeSet.{contains};
 
+use rp_world::{Event, Step};
 use std::alloc::{AllocError, Global};
 use std::collections::BTreeSet;
 
@@ -19,7 +20,9 @@ pub struct Settled {
 }
 
 impl Settled {
+    ghost use Rattle.std.specs.Prelude.{All};
     ghost use Rattle.rp_console.specs.Settled.{is_settled, least_of};
+    ghost use Rattle.rp_console.specs.Output.{is_among, settled_by};
 
     /// No message is settled.
     pub fn new(alloc: Global) -> Self
@@ -53,6 +56,17 @@ impl Settled {
             self.pass();
         }
         Ok(())
+    }
+
+    /// The messages that an event settles are settled from now on.
+    pub fn settle_by(&mut self, event: &Event) -> Result<(), AllocError>
+        requires { All (λ m. (1 ≤ m) × (m < 2 ^ 63)) (settled_by event.now) }
+        ensures { OnOk result ((m : ℕ) → is_settled self.new m ≡ (is_among (settled_by event.now) m || is_settled self.old m)) }
+    {
+        match *event {
+            Event::Node(Step::Deliver(message)) => self.settle(message),
+            Event::Submit { .. } | Event::Node(Step::Lead { .. }) => Ok(()),
+        }
     }
 
     /// Settles the least number, and passes those that are settled behind it.

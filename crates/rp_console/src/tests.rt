@@ -1,15 +1,15 @@
 use crate::args::{Args, read_args, words_status};
 use crate::deck::Command;
-use crate::printed::{AppliedLine, DrainLimitLine, RefusedLine, ReplyLine};
+use crate::printed::{AppliedLine, DrainLimitLine, RefusedLine, ReplyLine, StoppedLine};
 use crate::reading::read_deck;
-use crate::run::{run_script, run_within};
+use crate::run::{run_deck, run_script, run_within};
 use crate::settled::Settled;
 use crate::status::{reason_text, status, tell};
 use crate::stream::{print, read_whole};
 use rp_base::{Config, DeckReason, Fault, NodeId, Operation, Position, Reply, TaskId};
 use std::alloc::Global;
 use std::io;
-use std::io::Read;
+use std::io::{Read, Write};
 use std::process::Abort;
 use std::test::Fail;
 
@@ -265,25 +265,25 @@ fn the_printed_lines_have_their_forms(rt: HostRuntime) -> Result<(), Fail> {
         print(rt.alloc(), &mut written, line)?;
         assert_eq!(rt; written.as_slice(), text.as_bytes());
     }
+    let refusals = [
+        (Fault::NotRunning, "line 11: refused 5 NotRunning\n"),
+        (Fault::BallotsSpent, "line 11: refused 6 BallotsSpent\n"),
+        (Fault::LogFull, "line 11: refused 7 LogFull\n"),
+        (Fault::NoSuchMessage, "line 11: refused 8 NoSuchMessage\n"),
+        (Fault::TaskBusy, "line 11: refused 9 TaskBusy\n"),
+        (Fault::NumbersSpent, "line 11: refused 10 NumbersSpent\n"),
+    ];
+    for (fault, text) in refusals {
+        let mut written = Vec::new(rt.alloc());
+        print(rt.alloc(), &mut written, RefusedLine { line: 11, fault })?;
+        assert_eq!(rt; written.as_slice(), text.as_bytes());
+    }
     let mut written = Vec::new(rt.alloc());
-    print(
-        rt.alloc(),
-        &mut written,
-        RefusedLine {
-            line: 11,
-            fault: Fault::LogFull,
-        },
-    )?;
-    print(
-        rt.alloc(),
-        &mut written,
-        AppliedLine {
-            node,
-            applied: 65_535,
-        },
-    )?;
+    let applied = 65_535;
+    print(rt.alloc(), &mut written, AppliedLine { node, applied })?;
+    print(rt.alloc(), &mut written, StoppedLine { node })?;
     print(rt.alloc(), &mut written, DrainLimitLine { line: 8 })?;
-    let lines = "line 11: refused 7 LogFull\nnode 2 applied 65535\nline 8: drain limit\n";
+    let lines = "node 2 applied 65535\nnode 2 stopped\nline 8: drain limit\n";
     assert_eq!(rt; written.as_slice(), lines.as_bytes());
     Ok(())
 }
@@ -390,12 +390,85 @@ fn each_deck_prints_its_output(rt: HostRuntime) -> Result<(), Fail> {
     Ok(())
 }
 
+/// Runs a deck with a limit, and gives what it wrote.
+fn output_within(rt: &impl Abort, alloc: Global, deck: &str, most: u32) -> Vec<u8> {
+    assert!(rt; deck.len() < 1000);
+    let deck = read_deck(alloc, deck.as_bytes()).expect(rt, "a right deck");
+    let mut written = Vec::new(alloc);
+    run_within(alloc, &deck, most, &mut written).expect(rt, "no fault");
+    written
+}
+
 #[test]
-fn a_drain_ends_at_its_limit(rt: HostRuntime) -> Result<(), Fail> {
-    let text = "nodes 3\ntally 1\ntask a 5\nscript\nlead 1\ndrain\n";
-    let deck = read_deck(rt.alloc(), text.as_bytes())?;
-    let mut written = Vec::new(rt.alloc());
-    run_within(rt.alloc(), &deck, 2, &mut written)?;
-    assert_eq!(rt; written.as_slice(), b"line 6: drain limit\n".as_slice());
+fn a_script_goes_on_after_refusals_and_limits(rt: HostRuntime) {
+    let cases = [
+        (
+            "call a 1 o1.add 5\ncall a 1 o1.add 5\ndeliver 9\nlead 1 2\ndrain\n",
+            100,
+            "line 7: refused 9 TaskBusy\nline 8: refused 8 NoSuchMessage\nline 9: refused 7 LogFull\n",
+        ),
+        ("lead 1\ndrain\n", 2, "line 7: drain limit\n"),
+        ("lead 1\ndeliver 1\ndrain\n", 2, "line 8: drain limit\n"),
+        (
+            "call b 2 o2.add -7\ndeliver 1\nlead 2\ndrain\nshow\n",
+            100,
+            "reply b 1 value -7\nnode 1 applied 1\ntally o1=0 o2=-7\nnode 2 applied 1\ntally o1=0 o2=-7\nnode 3 applied 1\ntally o1=0 o2=-7\n",
+        ),
+    ];
+    let alloc = rt.alloc();
+    for (script, most, output) in cases {
+        let head = "nodes 3\ntally 2\ntask a 5\ntask b 5\nscript\n";
+        let deck = format!(in alloc; "{head}{script}").expect(&rt, "memory");
+        let written = output_within(&rt, alloc, deck.as_str(), most);
+        assert_eq!(rt; written.as_slice(), output.as_bytes(), "{script:?}");
+    }
+}
+
+/// Takes at most seven bytes at a time, and fails once so many writes were made.
+#[derive(Drop)]
+struct Sink {
+    left: usize,
+    written: Vec<u8>,
+}
+
+impl Write for Sink {
+    fn write(&mut self, buf: &[u8]) -> io::Result<usize> {
+        if self.left == 0 {
+            return Err(io::Error::from(io::ErrorKind::Other));
+        }
+        self.left -= 1;
+        let count = buf.len().min(7);
+        match self.written.extend_from_slice(&buf[..count]) {
+            Ok(()) => Ok(count),
+            Err(_) => Err(io::Error::from(io::ErrorKind::OutOfMemory)),
+        }
+    }
+
+    fn flush(&mut self) -> io::Result<()> {
+        Ok(())
+    }
+}
+
+#[test]
+fn a_write_that_fails_leaves_a_beginning_of_the_output(rt: HostRuntime) -> Result<(), Fail> {
+    let (_, deck, output) = DECKS[1];
+    assert!(rt; deck.len() < 1000);
+    let deck = read_deck(rt.alloc(), deck.as_bytes())?;
+    let mut whole = false;
+    for left in 0..40 {
+        let written = Vec::new(rt.alloc());
+        let mut sink = Sink { left, written };
+        let ended = run_deck(rt.alloc(), &deck, &mut sink);
+        whole = ended.is_ok();
+        let wanted = if whole { Ok(()) } else { Err(Fault::Io) };
+        assert_eq!(rt; ended, wanted, "{left}");
+        assert!(rt;
+            output.as_bytes().starts_with(sink.written.as_slice()),
+            "{left}"
+        );
+        assert!(rt; whole || sink.written.len() < output.len(), "{left}");
+        assert!(rt; !whole || sink.written.len() == output.len(), "{left}");
+    }
+    assert!(rt; whole);
     Ok(())
 }

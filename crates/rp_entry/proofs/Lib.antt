@@ -1,0 +1,4 @@
+pub mod Chains
+pub mod Acting
+pub mod Ending
+pub mod Accounting

@@ -1,0 +1,30 @@
+-- The chain so far is one step longer.
+use Rattle.std.proofs.Common.{[], ◌∷◌, ◌++◌, List, length, sym, ◌∙◌, ap, subst, arith, append-nil}
+use Rattle.std.proofs.lemmas.List.{length-append}
+use Rattle.rp_base.specs.declared.reply.Answer.{Answer}
+use Rattle.rp_body.specs.declared.components.Limits.{Limits}
+use Rattle.rp_entry.specs.Operations.{OperationsFit}
+use Rattle.rp_entry.specs.Queue.{State}
+use Rattle.rp_entry.specs.Servicing.{Services, ends}
+use Rattle.rp_entry.proofs.Chains.{Reaches, reaches_more, one_less}
+use Rattle.rp_entry.proofs.state.State.service.Goals as goal
+
+pub loop-answer-preserved : goal.loop-answer-preserved
+loop-answer-preserved c =
+    let i = c.loop-answer.invariant in
+    let step = c.in-Some.ensures.served in
+    let counted = ap length c.push.ensures in
+    record {
+      reached = subst (λ (l : List Answer). Reaches c.args.operations.now c.args.self.now l c.serve_next.new.self) (sym c.push.ensures) (reaches_more c.args.operations.now c.args.self.now c.loop-answer.self c.serve_next.new.self c.loop-answer.served c.in-Some.answer i.reached step);
+      fits = subst (λ (l : Limits). OperationsFit l c.args.operations.now) (sym c.serve_next.ensures.counts) i.fits;
+      counts = c.serve_next.ensures.counts ∙ i.counts;
+      room = omega (arith, i.room, one_less step, counted, length-append c.loop-answer.served (c.in-Some.answer ∷ []));
+    }
+
+pub returns-clause-chain : goal.returns-clause-chain
+returns-clause-chain c =
+    let i = c.loop-answer.invariant in
+    let told = c.loop-answer.served in
+    let chain : Services c.args.operations.now c.args.self.now (told ++ []) c.loop-answer.self = i.reached c.loop-answer.self [] (ends c.in_default.ensures.serviced) in
+    subst (λ (s : State). Services c.args.operations.now c.args.self.now told s) (sym c.in_default.ensures.unchanged)
+    (subst (λ (l : List Answer). Services c.args.operations.now c.args.self.now l c.loop-answer.self) (append-nil told) chain)

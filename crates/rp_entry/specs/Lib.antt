@@ -1,0 +1,7 @@
+pub mod Operations
+pub mod Queue
+pub mod Replies
+pub mod Servicing
+pub mod Actions
+pub mod Accounting
+pub mod Protected

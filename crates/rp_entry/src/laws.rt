@@ -1,0 +1,41 @@
+//! What follows from the rules of a protected object alone.
+
+ghost use Rattle.std.specs.Prelude.{◌≡◌, List, ◌++◌, Option};
+ghost use Rattle.rp_base.specs.declared.reply.Answer.{Answer};
+ghost use Rattle.rp_entry.specs.declared.operations.Operations.{Operations};
+ghost use Rattle.rp_entry.specs.declared.state.CallOutcome.{CallOutcome};
+ghost use Rattle.rp_entry.specs.Queue.{State};
+ghost use Rattle.rp_entry.specs.Servicing.{Services};
+ghost use Rattle.rp_entry.specs.Actions.{Request, Acts};
+ghost use Rattle.rp_entry.specs.Accounting.{AccountsFor, joins};
+
+/// Servicing has an end from every state, and one alone, with the same answers told on the way.
+pub fn servicing_has_one_end()
+    ensures an_end { (operations : Operations) (before : State)
+        → (told : List Answer) × ((after : State) × Services operations before told after) }
+    ensures no_other { (operations : Operations) (before one other : State) (told heard : List Answer)
+        → Services operations before told one → Services operations before heard other
+        → (told ≡ heard) × (one ≡ other) }
+{}
+
+/// So has a protected action: a request at a state tells every replica the same and leaves the same
+/// state.
+pub fn actions_have_one_end()
+    ensures an_end { (operations : Operations) (before : State) (request : Request)
+        → (caller : Option CallOutcome) × ((told : List Answer) × ((after : State)
+        × Acts operations before request caller told after)) }
+    ensures no_other { (operations : Operations) (before one other : State) (request : Request)
+        (caller called : Option CallOutcome) (told heard : List Answer)
+        → Acts operations before request caller told one
+        → Acts operations before request called heard other
+        → (caller ≡ called) × (told ≡ heard) × (one ≡ other) }
+{}
+
+/// Nobody who waits is forgotten or passed by: those that an action answers, and behind them those
+/// that wait after it, are those that waited before, and the action's own call where it waits.
+pub fn actions_account_for_callers()
+    ensures { (operations : Operations) (before after : State) (request : Request)
+        (caller : Option CallOutcome) (told : List Answer)
+        → Acts operations before request caller told after
+        → AccountsFor (before.queue ++ joins request caller) told after.queue }
+{}

@@ -1,0 +1,136 @@
+//! A protected object.
+
+ghost use Rattle.std.specs.Prelude.{◌≡◌, [], option_to_list, Some, None, SomeIff};
+ghost use Rattle.rp_body.specs.Store.{limits_of};
+ghost use Rattle.rp_entry.specs.Operations.{OperationsFit};
+ghost use Rattle.rp_entry.specs.Queue.{IsServiced};
+ghost use Rattle.rp_entry.specs.Actions.{Acts, calls_function, calls_procedure, calls_entry, event};
+
+use crate::operations::{Operations, of_index};
+use crate::state::{CallOutcome, Done, State, Waiting};
+use rp_base::{Answers, Reply, TaskId};
+use rp_body::Components;
+use std::marker::Model;
+
+/// A protected object with functions, procedures and at most one entry. Each call is a whole protected
+/// action with the servicing of the entry queue, and takes no memory (Ada Reference Manual, sections
+/// 9.5.1 and 9.5.3).
+#[derive(Debug, Drop)]
+pub struct Object {
+    operations: Operations,
+    state: State,
+}
+
+impl Model for Object {
+    ghost use Rattle.rp_entry.specs.Protected.{Protected, protected_code, IsObject};
+
+    ghost Value = { Protected };
+
+    ghost coded = { protected_code };
+
+    ghost view = { λ o. record { operations = o.operations; state = o.state } };
+
+    ghost invariant = { λ o. IsObject o.operations o.state };
+}
+
+impl Object {
+    /// The object of these operations and components, with nobody waiting, or `None` where an operation
+    /// does not keep the limits of the language or the barrier names no Boolean component. It takes no
+    /// memory.
+    pub fn new(operations: Operations, components: Components) -> Option<Self>
+        ensures { SomeIff result (OperationsFit (limits_of components) operations)
+            (record { operations = operations; state = record { store = components; queue = [] } }) }
+    {
+        if operations.fit(&components.limits()) {
+            Some(Object {
+                operations,
+                state: State::new(components),
+            })
+        } else {
+            None
+        }
+    }
+
+    /// The components.
+    pub fn components(&self) -> &Components
+        ensures { result.now ≡ self.now.state.store }
+    {
+        self.state.components()
+    }
+
+    /// The call that waits in the entry queue, if there is one.
+    pub fn waiting(&self) -> Option<Waiting>
+        ensures { option_to_list result ≡ self.now.state.queue }
+    {
+        self.state.waiting()
+    }
+
+    /// Calls the function of this index, counted from 1: its value, or Constraint_Error where the value
+    /// leaves 64 signed bits, or whether its condition holds. NoSuchOperation where there is none.
+    pub fn function(&self, index: u8, arg: i64) -> Reply
+        ensures action { let now = self.now.state in
+            Acts self.now.operations now (calls_function index arg) (Some (CallOutcome.Reply result)) [] now }
+        ensures serviced { IsServiced self.now.operations self.now.state }
+    {
+        match of_index(&self.operations.functions, index) {
+            Some(function) => function.reply(self.state.components(), arg),
+            None => Reply::NoSuchOperation,
+        }
+    }
+
+    /// Calls the procedure of this index, counted from 1. The caller gets the out value, or
+    /// Constraint_Error where the body raised it. NoSuchOperation where there is none, and nothing changes.
+    pub fn procedure(&mut self, index: u8, arg: i64) -> Done
+        ensures action { Acts self.old.operations self.old.state (calls_procedure index arg)
+            (Some result.outcome) result.served self.new.state }
+        ensures serviced { IsServiced self.new.operations self.new.state }
+        ensures operations { self.new.operations ≡ self.old.operations }
+    {
+        let operations = &self.operations;
+        match of_index(&operations.procedures, index) {
+            Some(body) => self.state.run(operations, body, arg),
+            None => Done::alone(CallOutcome::Reply(Reply::NoSuchOperation)),
+        }
+    }
+
+    /// Calls the entry, as the `number`th call of the task. It runs at once where the entry is open, and
+    /// else waits in the queue; ProgramError where a call waits already, which goes on waiting.
+    /// NoSuchOperation where the object has no entry, and nothing changes.
+    pub fn entry(&mut self, task: TaskId, number: u32, arg: i64) -> Done
+        ensures action { Acts self.old.operations self.old.state
+            (calls_entry (record { task = task; number = number; arg = arg }))
+            (Some result.outcome) result.served self.new.state }
+        ensures serviced { IsServiced self.new.operations self.new.state }
+        ensures operations { self.new.operations ≡ self.old.operations }
+    {
+        let operations = &self.operations;
+        let Some(entry) = &operations.entry else {
+            return Done::alone(CallOutcome::Reply(Reply::NoSuchOperation));
+        };
+        if self.state.is_open(entry) {
+            return self.state.run(operations, &entry.body, arg);
+        }
+        if self.state.is_full() {
+            return Done::alone(CallOutcome::Reply(Reply::ProgramError));
+        }
+        self.state.enqueue(Waiting { task, number, arg });
+        Done::alone(CallOutcome::Waits)
+    }
+
+    /// An interrupt, or a timing event whose time has come: its handler, the procedure of this index
+    /// counted from 1, runs with argument 0. It has no caller, and its own exception has no effect (sections
+    /// C.3 and D.15). Nothing happens where there is no such procedure. It gives the answers of the callers
+    /// that were served.
+    pub fn handler(&mut self, index: u8) -> Answers
+        ensures action { Acts self.old.operations self.old.state (event index)
+            None result self.new.state }
+        ensures serviced { IsServiced self.new.operations self.new.state }
+        ensures operations { self.new.operations ≡ self.old.operations }
+    {
+        let operations = &self.operations;
+        match of_index(&operations.procedures, index) {
+            Some(body) => self.state.run(operations, body, 0).served,
+            None => Answers::new(),
+        }
+    }
+}

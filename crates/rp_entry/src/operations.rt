@@ -1,0 +1,122 @@
+//! The operations of a protected object.
+
+ghost use Rattle.std.specs.Prelude.{◌≡◌, ◌↔◌, IsTrue, List, option_copied};
+ghost use Rattle.std.specs.List.{All};
+ghost use Rattle.rp_body.specs.Store.{limits_of};
+ghost use Rattle.rp_body.specs.Check.{KeepsLimits};
+ghost use Rattle.rp_entry.specs.Operations.{of_index, FunctionFits, EntryFits, OperationsFit};
+ghost use Rattle.rp_entry.specs.Replies.{function_reply};
+
+use rp_base::Reply;
+use rp_body::{Components, Cond, Expr, Limits, Stmt, check, truth, value};
+
+/// A function: one expression or one condition, which reads the components and changes none.
+#[derive(Debug, Drop)]
+pub enum Function {
+    /// The value of the expression.
+    Value(Expr),
+    /// Whether the condition holds.
+    Truth(Cond),
+}
+
+/// An entry with a simple barrier.
+#[derive(Debug, Drop)]
+pub struct Entry {
+    /// The name of the Boolean component that opens the entry where it is True.
+    pub barrier: u8,
+    /// What an accepted call runs.
+    pub body: Vec<Stmt>,
+}
+
+/// The operations of an object. Functions are named by their indices from 1 in this order, and so
+/// are procedures.
+#[derive(Debug, Drop)]
+pub struct Operations {
+    /// The functions.
+    pub functions: Vec<Function>,
+    /// The bodies of the procedures.
+    pub procedures: Vec<Vec<Stmt>>,
+    /// The entry, if there is one.
+    pub entry: Option<Entry>,
+}
+
+impl Function {
+    /// Whether its expression or condition keeps the limits of the language.
+    fn fits(&self, limits: &Limits) -> bool
+        ensures { IsTrue result ↔ FunctionFits limits.now self.now }
+    {
+        match self {
+            Function::Value(expr) => expr.fits(limits),
+            Function::Truth(cond) => cond.fits(limits),
+        }
+    }
+
+    /// The reply to a call.
+    pub(crate) fn reply(&self, components: &Components, arg: i64) -> Reply
+        requires { FunctionFits (limits_of components.now) self.now }
+        ensures { result ≡ function_reply self.now components.now arg }
+    {
+        match self {
+            Function::Value(expr) => match value(expr, components, arg) {
+                Some(exact) => Reply::Value(exact),
+                None => Reply::ConstraintError,
+            },
+            Function::Truth(cond) => Reply::Truth(truth(cond, components, arg)),
+        }
+    }
+}
+
+impl Entry {
+    /// Whether the barrier names a Boolean that is counted and the body keeps the limits.
+    fn fits(&self, limits: &Limits) -> bool
+        ensures { IsTrue result ↔ EntryFits limits.now self.now }
+    {
+        self.barrier < limits.bools && check(&self.body, limits)
+    }
+}
+
+impl Operations {
+    /// Whether each function, each body and the entry keep the limits.
+    pub(crate) fn fit(&self, limits: &Limits) -> bool
+        ensures { IsTrue result ↔ OperationsFit limits.now self.now }
+    {
+        let entry_fits = match &self.entry {
+            Some(entry) => entry.fits(limits),
+            None => true,
+        };
+        functions_fit(&self.functions, limits)
+            && procedures_fit(&self.procedures, limits)
+            && entry_fits
+    }
+}
+
+/// Whether each function keeps the limits.
+fn functions_fit(functions: &[Function], limits: &Limits) -> bool
+    ensures { IsTrue result ↔ All (FunctionFits limits.now) functions.now }
+{
+    for function in functions {
+        if !function.fits(limits) {
+            return false;
+        }
+    }
+    true
+}
+
+/// Whether each body keeps the limits.
+fn procedures_fit(procedures: &[Vec<Stmt>], limits: &Limits) -> bool
+    ensures { IsTrue result ↔ All (λ body. KeepsLimits limits.now body.items) procedures.now }
+{
+    for body in procedures {
+        if !check(body, limits) {
+            return false;
+        }
+    }
+    true
+}
+
+/// The one of this index, counted from 1, or `None` where there is none.
+pub(crate) fn of_index<T>(items: &[T], index: u8) -> Option<&T>
+    ensures { option_copied result ≡ of_index items.now index }
+{
+    items.get(usize::from(index.checked_sub(1)?))
+}

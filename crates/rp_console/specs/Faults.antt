@@ -3,11 +3,11 @@ use Rattle.std.specs.Prelude.{◌⊎◌}
 use Rattle.rp_base.specs.declared.fault.Fault.{Fault}
 use Rattle.rp_base.specs.declared.fault.Fault.TheVariants.{OutOfMemory, Device, Failed, BadPacket, NotRunning, BallotsSpent, LogFull, NoSuchMessage, TaskBusy, NumbersSpent, BadDeck, BadConfig, Io}
 
--- a fault that ends a run: memory, the device, a node that failed before, or a write
+-- a fault that ends a run: memory ran out, or a write failed
 abbrev pub IsRunFault : Fault → Type 0
 IsRunFault OutOfMemory = Unit {0}
-IsRunFault Device = Unit {0}
-IsRunFault Failed = Unit {0}
+IsRunFault Device = ⊥
+IsRunFault Failed = ⊥
 IsRunFault (BadPacket reason) = ⊥
 IsRunFault NotRunning = ⊥
 IsRunFault BallotsSpent = ⊥

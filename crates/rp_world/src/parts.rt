@@ -14,7 +14,7 @@ use std::alloc::{AllocError, Global};
 
 /// A node's turn takes effect: its record, its packets, and what it knows. Refused for memory,
 /// nothing changes.
-pub fn take_effect(
+pub(crate) fn take_effect(
     part: &mut NodePart,
     sent: &mut Vec<Packet>,
     turn: Turn,
@@ -41,7 +41,7 @@ pub fn take_effect(
 }
 
 /// A node that runs and knows nothing yet.
-pub fn fresh_node(alloc: Global) -> NodePart
+pub(crate) fn fresh_node(alloc: Global) -> NodePart
     ensures { result ≡ fresh_node }
 {
     NodePart {
@@ -57,7 +57,7 @@ pub fn fresh_node(alloc: Global) -> NodePart
 }
 
 /// A task that has called nothing yet.
-pub fn fresh_task(alloc: Global) -> TaskPart
+pub(crate) fn fresh_task(alloc: Global) -> TaskPart
     ensures { result ≡ fresh_task }
 {
     TaskPart {
@@ -67,7 +67,7 @@ pub fn fresh_task(alloc: Global) -> TaskPart
 }
 
 /// So many fresh nodes.
-pub fn fresh_nodes(alloc: Global, count: u8) -> Result<Vec<NodePart>, AllocError>
+pub(crate) fn fresh_nodes(alloc: Global, count: u8) -> Result<Vec<NodePart>, AllocError>
     ensures { IfOk result (λ nodes. nodes.items ≡ replicate count fresh_node) }
 {
     let mut nodes = Vec::new(alloc);
@@ -78,7 +78,7 @@ pub fn fresh_nodes(alloc: Global, count: u8) -> Result<Vec<NodePart>, AllocError
 }
 
 /// The eight tasks, fresh.
-pub fn fresh_tasks(alloc: Global) -> Result<Vec<TaskPart>, AllocError>
+pub(crate) fn fresh_tasks(alloc: Global) -> Result<Vec<TaskPart>, AllocError>
     ensures { IfOk result (λ tasks. tasks.items ≡ replicate 8 fresh_task) }
 {
     let mut tasks = Vec::new(alloc);
@@ -90,7 +90,7 @@ pub fn fresh_tasks(alloc: Global) -> Result<Vec<TaskPart>, AllocError>
 
 /// The answer that a reply to a task is: it is taken where the task's outstanding call has this
 /// number.
-pub fn answer_if(part: &TaskPart, task: TaskId, number: u32, reply: Reply) -> Option<Answer>
+pub(crate) fn answer_if(part: &TaskPart, task: TaskId, number: u32, reply: Reply) -> Option<Answer>
     ensures taken { IfSome result (λ answer. (takes part.now number ≡ true) × (answer ≡ record { task = task; number = number; reply = reply })) }
     ensures ignored { IfNone result (takes part.now number ≡ false) }
 {
@@ -105,7 +105,7 @@ pub fn answer_if(part: &TaskPart, task: TaskId, number: u32, reply: Reply) -> Op
 }
 
 /// The next call of a task that waits for nothing, or `TaskBusy`, `NumbersSpent` or `BadConfig`.
-pub fn next_call(
+pub(crate) fn next_call(
     config: Config,
     part: &TaskPart,
     task: TaskId,
@@ -161,7 +161,7 @@ fn outstanding_number(outstanding: &Option<RightAction>) -> u32
 }
 
 /// A task's call, as a packet to a node.
-pub fn asks(task: TaskId, node: NodeId, call: RightAction) -> Packet
+pub(crate) fn asks(task: TaskId, node: NodeId, call: RightAction) -> Packet
     requires { IsCallBy task call }
     ensures { result ≡ record { from = Task task; to = Node node; body = Call call } }
 {

@@ -15,7 +15,7 @@ use std::marker::Model;
 
 /// The nodes, the eight tasks, and every message that was sent.
 #[derive(Drop)]
-pub struct World {
+pub(crate) struct World {
     nodes: Vec<NodePart>,
     tasks: Vec<TaskPart>,
     sent: Vec<Packet>,
@@ -34,7 +34,7 @@ impl Model for World {
 
 impl World {
     /// All nodes run, and nothing was called or sent.
-    pub fn new(alloc: Global, nodes: u8) -> Result<Self, AllocError>
+    pub(crate) fn new(alloc: Global, nodes: u8) -> Result<Self, AllocError>
         ensures { IfOk result (λ world. world ≡ opening_world nodes) }
     {
         Ok(World {
@@ -45,7 +45,7 @@ impl World {
     }
 
     /// How many messages were sent.
-    pub fn messages(&self) -> u64
+    pub(crate) fn messages(&self) -> u64
         ensures value { result ≡ length self.now.sent }
         ensures few { result < 2 ^ 63 }
     {
@@ -53,14 +53,14 @@ impl World {
     }
 
     /// The number of the next message.
-    pub fn next_number(&self) -> u64
+    pub(crate) fn next_number(&self) -> u64
         ensures { result ≡ length self.now.sent + 1 }
     {
         self.messages() + 1
     }
 
     /// The message of this number, from 1.
-    pub fn message(&self, number: u64) -> Option<&Packet>
+    pub(crate) fn message(&self, number: u64) -> Option<&Packet>
         ensures { option_copied result ≡ part_at self.now.sent number }
     {
         if number == 0 || number > self.messages() {
@@ -70,21 +70,21 @@ impl World {
     }
 
     /// The part of a node.
-    pub fn node(&self, node: NodeId) -> Option<&NodePart>
+    pub(crate) fn node(&self, node: NodeId) -> Option<&NodePart>
         ensures { option_copied result ≡ part_at self.now.nodes node }
     {
         self.nodes.get(usize::from(node.get()) - 1)
     }
 
     /// The part of a task.
-    pub fn task(&self, task: TaskId) -> &TaskPart
+    pub(crate) fn task(&self, task: TaskId) -> &TaskPart
         ensures { part_at self.now.tasks task ≡ Some result.now }
     {
         &self.tasks[usize::from(task.get()) - 1]
     }
 
     /// A node's turn takes effect. Refused for memory, nothing changes.
-    pub fn turns(&mut self, node: NodeId, turn: Turn) -> Result<Effect, Fault>
+    pub(crate) fn turns(&mut self, node: NodeId, turn: Turn) -> Result<Effect, Fault>
         ensures { IfSome (part_at self.old.nodes node) (λ part. Steps self.old self.new (Ok (node_turns self.old node part turn)) result) }
     {
         let first = self.next_number();
@@ -98,7 +98,7 @@ impl World {
 
     /// A task makes its next call and asks a node. `TaskBusy`, `NumbersSpent`, `BadConfig`, or
     /// refused for memory: nothing changes.
-    pub fn calls(
+    pub(crate) fn calls(
         &mut self,
         config: Config,
         task: TaskId,
@@ -127,7 +127,7 @@ impl World {
     }
 
     /// A reply comes to a task. Refused for memory, nothing changes.
-    pub fn takes(&mut self, task: TaskId, number: u32, reply: Reply) -> Result<Effect, Fault>
+    pub(crate) fn takes(&mut self, task: TaskId, number: u32, reply: Reply) -> Result<Effect, Fault>
         ensures { Steps self.old self.new (Ok (task_takes self.old task number reply (part_at self.old.tasks task))) result }
     {
         let first = self.next_number();

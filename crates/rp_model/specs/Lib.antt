@@ -6,5 +6,4 @@ pub mod Leading
 pub mod Receiving
 pub mod World
 pub mod Facts
-pub mod Counting
 pub mod Growing

@@ -8,3 +8,4 @@ pub mod Config
 pub mod Records
 pub mod Promises
 pub mod Right
+pub mod Histories

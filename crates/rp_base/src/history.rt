@@ -1,0 +1,56 @@
+//! A list that memory does not hold.
+
+ghost use Rattle.std.specs.Prelude.{◌≡◌, [], ◌∷◌, ◌++◌};
+
+use std::marker::Model;
+use std::snapshot::Snapshot;
+
+/// A list of what happened, oldest first, of which memory holds the last item alone: the others are
+/// there for contracts.
+#[cycle(history)]
+#[derive(Drop)]
+pub struct History<T: Drop> {
+    last: Last<T>,
+}
+
+#[cycle(history)]
+#[derive(Drop)]
+enum Last<T: Drop> {
+    Nothing,
+    After(Snapshot<History<T>>, T),
+}
+
+impl<T: Drop> Model for History<T> {
+    ghost use Rattle.std.specs.Prelude.{List, length};
+
+    ghost Value = { List T };
+
+    ghost use Rattle.rp_base.specs.Histories.{listed};
+
+    ghost view = { λ h. listed h.last };
+
+    ghost size = { length };
+
+    ghost use Rattle.std.proofs.Common.{arith, length-append};
+
+    ghost size_decreases = { λ a h. Prim.grind (arith, length-append) };
+}
+
+impl<T: Drop> History<T> {
+    /// Nothing happened yet.
+    pub fn new() -> Self
+        ensures { result ≡ [] }
+    {
+        History {
+            last: Last::Nothing,
+        }
+    }
+
+    /// Adds an item behind the others, in constant time and with no memory.
+    pub fn push(&mut self, item: T)
+        ensures { self.new ≡ self.old ++ item ∷ [] }
+    {
+        let before = Snapshot::of(self);
+        self.last = Last::After(before, item);
+    }
+}

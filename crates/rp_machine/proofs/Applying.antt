@@ -6,9 +6,9 @@ use Rattle.rp_base.specs.Action.{IsRight}
 use Rattle.rp_base.specs.declared.action.Action.{Action}
 use Rattle.rp_base.specs.declared.action.Action.TheVariants.{Noop, Call, Interrupt, Tick}
 use Rattle.rp_base.specs.declared.reply.Answer.{Answer}
-use Rattle.rp_machine.specs.Calls.{CallName, calls_of, call_of, MayApply, AccountsFor}
+use Rattle.rp_machine.specs.Calls.{CallName, calls_of, calls_made, call_of, MayApply, AccountsFor}
 use Rattle.rp_machine.specs.Replay.{numbers_of, is_answered, all_answered, is_next_number, counts, Replayed, unmoved, replay_step, replay_from, replay_of}
-use Rattle.rp_machine.proofs.Calling.{has_left, has_right, has_either, both_true, all_true, answered, made, made-append, made_number, number_is_new}
+use Rattle.rp_machine.proofs.Calling.{has_left, has_right, has_either, both_true, all_true, answered, calls_made-append, made_number, number_is_new}
 
 -- the calls that are answered
 abbrev pub replied : List Answer → List CallName
@@ -27,8 +27,8 @@ module _ {S P : Type 0} (next : S → Action → S) (answers : S → Action → 
     -- the state is the program's, only calls that were made are answered, and exactly the others of these wait
     pub record IsAccounted (program : P) (r : Replayed S) : Type 0 where
       pub inside : runs program r.state
-      pub waits : (call : CallName) → Has call (waiting r.state) ↔ (Has call (made r.kept) × (¬ Has call (replied r.given)))
-      pub known : (call : CallName) → Has call (replied r.given) → Has call (made r.kept)
+      pub waits : (call : CallName) → Has call (waiting r.state) ↔ (Has call (calls_made r.kept) × (¬ Has call (replied r.given)))
+      pub known : (call : CallName) → Has call (replied r.given) → Has call (calls_made r.kept)
 
     -- where an action counts, no call of its task waits
     pub may_apply : (program : P) (r : Replayed S) (action : Action) → IsAccounted program r → counts r.kept r.given action ≡ true → MayApply (waiting r.state) action
@@ -46,7 +46,7 @@ module _ {S P : Type 0} (next : S → Action → S) (answers : S → Action → 
     may_apply program r (Tick now) fine e own other h w same = h
 
     -- a call that counts was not made before
-    pub is_new : (r : Replayed S) (action : Action) → counts r.kept r.given action ≡ true → (call : CallName) → Has call (calls_of action) → ¬ Has call (made r.kept)
+    pub is_new : (r : Replayed S) (action : Action) → counts r.kept r.given action ≡ true → (call : CallName) → Has call (calls_of action) → ¬ Has call (calls_made r.kept)
     is_new r Noop e call h m = h
     is_new r (Call task number object operation arg) e call h m =
         let both = both_true (is_next_number r.kept task number) (all_answered r.kept r.given task) e in
@@ -68,17 +68,17 @@ module _ {S P : Type 0} (next : S → Action → S) (answers : S → Action → 
     }
 
     -- calls made and answered, one action more
-    made_more : (r : Replayed S) (action : Action) → made (r.kept ++ action ∷ []) ≡ made r.kept ++ calls_of action
-    made_more r action = made-append r.kept (action ∷ []) ∙ ap (λ rest. made r.kept ++ rest) (append-nil (calls_of action))
+    made_more : (r : Replayed S) (action : Action) → calls_made (r.kept ++ action ∷ []) ≡ calls_made r.kept ++ calls_of action
+    made_more r action = calls_made-append r.kept (action ∷ []) ∙ ap (λ rest. calls_made r.kept ++ rest) (append-nil (calls_of action))
 
-    made_is : (r : Replayed S) (action : Action) (call : CallName) → Has call (made (r.kept ++ action ∷ [])) → Has call (made r.kept) ⊎ Has call (calls_of action)
-    made_is r action call h = has_either call (made r.kept) (calls_of action) (subst (λ (list : List CallName). Has call list) (made_more r action) h)
+    made_is : (r : Replayed S) (action : Action) (call : CallName) → Has call (calls_made (r.kept ++ action ∷ [])) → Has call (calls_made r.kept) ⊎ Has call (calls_of action)
+    made_is r action call h = has_either call (calls_made r.kept) (calls_of action) (subst (λ (list : List CallName). Has call list) (made_more r action) h)
 
-    made_before : (r : Replayed S) (action : Action) (call : CallName) → Has call (made r.kept) → Has call (made (r.kept ++ action ∷ []))
-    made_before r action call h = subst (λ (list : List CallName). Has call list) (sym (made_more r action)) (has_left call (made r.kept) (calls_of action) h)
+    made_before : (r : Replayed S) (action : Action) (call : CallName) → Has call (calls_made r.kept) → Has call (calls_made (r.kept ++ action ∷ []))
+    made_before r action call h = subst (λ (list : List CallName). Has call list) (sym (made_more r action)) (has_left call (calls_made r.kept) (calls_of action) h)
 
-    made_now : (r : Replayed S) (action : Action) (call : CallName) → Has call (calls_of action) → Has call (made (r.kept ++ action ∷ []))
-    made_now r action call h = subst (λ (list : List CallName). Has call list) (sym (made_more r action)) (has_right call (made r.kept) (calls_of action) h)
+    made_now : (r : Replayed S) (action : Action) (call : CallName) → Has call (calls_of action) → Has call (calls_made (r.kept ++ action ∷ []))
+    made_now r action call h = subst (λ (list : List CallName). Has call list) (sym (made_more r action)) (has_right call (calls_made r.kept) (calls_of action) h)
 
     replied_more : (r : Replayed S) (action : Action) → replied (r.given ++ answers r.state action) ≡ replied r.given ++ map call_of (answers r.state action)
     replied_more r action = map-append call_of r.given (answers r.state action)

@@ -7,7 +7,7 @@ use Rattle.rp_base.specs.Sets.{Has}
 use Rattle.rp_base.specs.declared.action.Action.{Action}
 use Rattle.rp_base.specs.declared.action.Action.TheVariants.{Noop, Call, Interrupt, Tick}
 use Rattle.rp_base.specs.declared.reply.Answer.{Answer}
-use Rattle.rp_machine.specs.Calls.{CallName, calls_of, call_of}
+use Rattle.rp_machine.specs.Calls.{CallName, calls_of, calls_made, call_of}
 use Rattle.rp_machine.specs.Replay.{number_for, one_to, is_for}
 
 -- ---- members of lists
@@ -56,15 +56,10 @@ answered task number (answer ∷ said) e = by (is_for task number answer) refl (
         inl (λ i. record { task = tasks i; number = numbers i })
     by false other later = inr (later (subst (λ (b : Bool). (b || list_any (is_for task number) said) ≡ true) other e))
 
--- the calls of these actions
-abbrev pub made : List Action → List CallName
-made [] = []
-made (action ∷ rest) = calls_of action ++ made rest
-
 -- the calls of two lists in a row
-pub made-append : (xs ys : List Action) → made (xs ++ ys) ≡ made xs ++ made ys
-made-append [] ys = refl
-made-append (x ∷ xs) ys = ap (λ rest. calls_of x ++ rest) (made-append xs ys) ∙ sym (append_assoc (calls_of x) (made xs) (made ys))
+pub calls_made-append : (xs ys : List Action) → calls_made (xs ++ ys) ≡ calls_made xs ++ calls_made ys
+calls_made-append [] ys = refl
+calls_made-append (x ∷ xs) ys = ap (λ rest. calls_of x ++ rest) (calls_made-append xs ys) ∙ sym (append_assoc (calls_of x) (calls_made xs) (calls_made ys))
 
 -- a number stays where one may be added
 pub has_cons_option : (x : ℕ) (o : Option ℕ) (xs : List ℕ) → Has x xs → Has x (cons_option o xs)
@@ -72,7 +67,7 @@ has_cons_option x None xs h = h
 has_cons_option x (Some y) xs h = inr h
 
 -- the number of a call that was made is among its task's
-pub made_number : (call : CallName) (xs : List Action) → Has call (made xs) → Has call.number (filter_map (number_for call.task) xs)
+pub made_number : (call : CallName) (xs : List Action) → Has call (calls_made xs) → Has call.number (filter_map (number_for call.task) xs)
 made_number call [] h = absurd h
 made_number call (Noop ∷ xs) h = made_number call xs h
 made_number call (Call task number object operation arg ∷ xs) h =

@@ -3,3 +3,6 @@ pub mod Image
 pub mod Replaying
 pub mod Calling
 pub mod Applying
+pub mod Numbering
+pub mod Asking
+pub mod Holding

@@ -17,6 +17,11 @@ calls_of (Call task number object operation arg) = record { task = task; number 
 calls_of (Interrupt source occurrence) = []
 calls_of (Tick now) = []
 
+-- the calls among some actions, in order
+abbrev pub calls_made : List Action → List CallName
+calls_made [] = []
+calls_made (action ∷ rest) = calls_of action ++ calls_made rest
+
 -- the call that an answer is for
 abbrev pub call_of : Answer → CallName
 call_of answer = record { task = answer.task; number = answer.number }

@@ -3,3 +3,4 @@ pub mod Replay
 pub mod TallyRule
 pub mod TallyLaws
 pub mod Asked
+pub mod Numbered

@@ -97,4 +97,74 @@ fn a_tally_has_1_to_8_objects(rt: HostRuntime) {
     }
     replay_goes_on::<Tally>();
     replay_may_go_on::<Tally>();
+    calls_count_once::<Tally>();
+}
+
+/// Call `number` of the first task, which adds `arg` to the first object.
+fn adds(number: u32, arg: i64) -> Action {
+    Action::Call {
+        task: TaskId::first(),
+        number,
+        object: 1,
+        operation: Operation::Procedure(1),
+        arg,
+    }
+}
+
+/// The one reply to an action, where it has one.
+fn reply_of<M: Machine>(numbered: &mut Numbered<M>, action: &Action) -> Option<Reply>
+    requires { IsRight action.now }
+{
+    let answers = numbered.apply(action);
+    let replies = answers.as_slice().iter().map(|answer| answer.reply);
+    replies.last()
+}
+
+#[test]
+fn a_call_counts_once_and_in_order(rt: HostRuntime) -> Result<(), Fail> {
+    let task = TaskId::first();
+    let cases = [
+        (adds(2, 5), None, 0, None),
+        (adds(1, 5), Some(Reply::Value(5)), 1, Some(Reply::Value(5))),
+        (adds(1, 7), None, 1, Some(Reply::Value(5))),
+        (adds(3, 7), None, 1, Some(Reply::Value(5))),
+        (Action::Noop, None, 1, Some(Reply::Value(5))),
+        (Action::Tick { now: 3 }, None, 1, Some(Reply::Value(5))),
+        (
+            adds(2, 7),
+            Some(Reply::Value(12)),
+            2,
+            Some(Reply::Value(12)),
+        ),
+    ];
+    let program = TallyProgram::new(1).ok_or("1 to 8 objects")?;
+    let mut numbered: Numbered<Tally> = Numbered::new(rt.alloc(), &program)?;
+    for (action, reply, last, kept) in cases {
+        assert!(rt; action.is_right());
+        assert_eq!(rt; reply_of(&mut numbered, &action), reply, "{action:?}");
+        assert_eq!(rt; numbered.last(task), last, "{action:?}");
+        assert_eq!(rt; numbered.kept(task, last), kept, "{action:?}");
+        assert_eq!(rt; numbered.kept(task, last + 1), None, "{action:?}");
+        assert!(rt; !numbered.waits(task));
+    }
+    let text = numbered.machine().image(rt.alloc())?;
+    assert_eq!(rt; text.as_slice(), b"tally o1=12\n".as_slice());
+    Ok(())
+}
+
+#[test]
+fn an_interrupt_counts_above_the_last_of_its_source(rt: HostRuntime) -> Result<(), Fail> {
+    let program = TallyProgram::new(1).ok_or("1 to 8 objects")?;
+    let mut numbered: Numbered<Tally> = Numbered::new(rt.alloc(), &program)?;
+    for (occurrence, last) in [(2, 2), (1, 2), (2, 2), (7, 7)] {
+        let action = Action::Interrupt {
+            source: 8,
+            occurrence,
+        };
+        assert!(rt; action.is_right());
+        assert_eq!(rt; reply_of(&mut numbered, &action), None);
+        assert_eq!(rt; numbered.last_occurrence(8), last, "{occurrence}");
+        assert_eq!(rt; numbered.last_occurrence(1), 0);
+    }
+    Ok(())
 }

@@ -63,10 +63,13 @@ abbrev pub last_text : Option Vote → List ℕ
 last_text None = 0 ∷ []
 last_text (Some vote) = (1 ∷ ballot_text vote.ballot) ++ action_text vote.action
 
+abbrev pub party_number : Party → ℕ
+party_number (Node n) = n
+party_number (Task t) = 16 + t
+party_number Audit = 32
+
 abbrev pub party_text : Party → List ℕ
-party_text (Node n) = n ∷ []
-party_text (Task t) = (16 + t) ∷ []
-party_text Audit = 32 ∷ []
+party_text party = party_number party ∷ []
 
 -- the number of a packet's kind
 abbrev pub kind_number : Body → ℕ
@@ -81,6 +84,19 @@ kind_number (Nack position ballot bound) = 8
 kind_number (Answer number reply) = 9
 kind_number (Report first applied actions) = 10
 
+-- what a body says, but for a report's actions
+abbrev pub short_body_text : Body → List ℕ
+short_body_text (Call action) = action_text action
+short_body_text (Prepare position ballot) = position_text position ++ ballot_text ballot
+short_body_text (Promise position ballot last) = position_text position ++ ballot_text ballot ++ last_text last
+short_body_text (Accept position ballot action) = position_text position ++ ballot_text ballot ++ action_text action
+short_body_text (Accepted position ballot action) = position_text position ++ ballot_text ballot ++ action_text action
+short_body_text (Decided position action) = position_text position ++ action_text action
+short_body_text (Ask position) = position_text position
+short_body_text (Nack position ballot bound) = position_text position ++ ballot_text ballot ++ ballot_text bound
+short_body_text (Answer number reply) = number_text w32 number ++ reply_text reply
+short_body_text (Report first applied actions) = position_text first ++ number_text w16 applied
+
 abbrev pub body_text : Body → List ℕ
 body_text (Call action) = action_text action
 body_text (Prepare position ballot) = position_text position ++ ballot_text ballot
@@ -92,6 +108,10 @@ body_text (Ask position) = position_text position
 body_text (Nack position ballot bound) = position_text position ++ ballot_text ballot ++ ballot_text bound
 body_text (Answer number reply) = number_text w32 number ++ reply_text reply
 body_text (Report first applied actions) = position_text first ++ number_text w16 applied ++ actions_text actions
+
+-- a packet's text, but for a report's actions
+abbrev pub front_text : Message → List ℕ
+front_text m = (1 ∷ kind_number m.body ∷ party_text m.from) ++ party_text m.to ++ short_body_text m.body
 
 -- version 1, the kind, who says it to whom, and what
 abbrev pub text_of : Message → List ℕ

@@ -7,6 +7,7 @@ ghost use Rattle.rp_codec.specs.Decoding.{IsDecoded};
 
 use crate::body_text::read_content;
 use crate::content::{Content, Found};
+use crate::fields::{AUDIT, TASK_BASE, VERSION};
 use crate::kind::Kind;
 use crate::packet::{Body, Packet, Party};
 use crate::reader::Reader;
@@ -31,7 +32,7 @@ fn read_task(reader: &mut Reader) -> Result<Party, PacketReason>
     ensures { Gives result reader.new (task_at reader.old) }
 {
     let number = reader.byte()?;
-    match TaskId::new(number.saturating_sub(16)) {
+    match TaskId::new(number.saturating_sub(TASK_BASE)) {
         Some(task) => Ok(Party::Task(task)),
         None => Err(PacketReason::Field),
     }
@@ -42,7 +43,7 @@ fn read_audit(reader: &mut Reader) -> Result<Party, PacketReason>
     ensures { Gives result reader.new (audit_at reader.old) }
 {
     let number = reader.byte()?;
-    if number != 32 {
+    if number != AUDIT {
         return Err(PacketReason::Field);
     }
     Ok(Party::Audit)
@@ -88,7 +89,7 @@ fn read_version(reader: &mut Reader) -> Result<u8, PacketReason>
     ensures { Gives result reader.new (version_at reader.old) }
 {
     let version = reader.byte()?;
-    if version != 1 {
+    if version != VERSION {
         return Err(PacketReason::Version);
     }
     Ok(version)

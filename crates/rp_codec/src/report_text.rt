@@ -1,7 +1,7 @@
 //! Reports as bytes: the first position, how many actions are applied, how many are told, and each
 //! of those.
 
-ghost use Rattle.std.specs.Prelude.{◌≡◌, ◌<◌, ◌++◌, length, IsOk, IfOk, OnOk};
+ghost use Rattle.std.specs.Prelude.{◌≡◌, ◌<◌, ◌++◌, length, take, IsOk, IfOk, OnOk, OnErr};
 ghost use Rattle.rp_codec.specs.Text.{actions_text};
 ghost use Rattle.rp_codec.specs.Reading.{actions_at, report_at};
 ghost use Rattle.rp_codec.specs.Found.{Skips, Finds, AreFirst};
@@ -12,6 +12,7 @@ use crate::content::Content;
 use crate::fields::read_position;
 use crate::reader::Reader;
 use crate::rules::report_len;
+use crate::short_text::ShortText;
 use rp_base::{Action, PacketReason};
 use std::alloc::{AllocError, Global};
 
@@ -65,13 +66,39 @@ pub(crate) fn list_actions(
     Ok(Actions::from_vec(actions))
 }
 
-pub(crate) fn put_actions(out: &mut Vec<u8>, actions: &[Action]) -> Result<(), AllocError>
+/// Where memory is refused, some of the text may stand behind the bytes.
+fn put_actions(out: &mut Vec<u8>, front: &ShortText, actions: &[Action]) -> Result<(), AllocError>
     requires { length actions.now < 256 }
-    ensures { OnOk result (out.new.items ≡ out.old.items ++ actions_text actions.now) }
+    ensures ok { OnOk result (out.new.items ≡ out.old.items ++ (front.now ++ actions_text actions.now)) }
+    ensures err { OnErr result (take (length out.old.items) out.new.items ≡ out.old.items) }
 {
+    out.extend_from_slice(front.as_slice())?;
     out.push(actions.len() as u8)?;
     for action in actions {
-        put_action(out, *action)?;
+        let mut text = ShortText::new();
+        put_action(&mut text, *action);
+        out.extend_from_slice(text.as_slice())?;
     }
     Ok(())
+}
+
+/// Puts a report's text behind the bytes: its front, and then its actions. Where memory is refused,
+/// the bytes stay.
+pub(crate) fn put_report(
+    out: &mut Vec<u8>,
+    front: &ShortText,
+    actions: &[Action],
+) -> Result<(), AllocError>
+    requires { length actions.now < 256 }
+    ensures ok { OnOk result (out.new.items ≡ out.old.items ++ (front.now ++ actions_text actions.now)) }
+    ensures err { OnErr result (out.new.items ≡ out.old.items) }
+{
+    let start = out.len();
+    match put_actions(out, front, actions) {
+        Ok(()) => Ok(()),
+        Err(refused) => {
+            out.truncate(start);
+            Err(refused)
+        }
+    }
 }

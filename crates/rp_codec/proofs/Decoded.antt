@@ -1,5 +1,5 @@
 -- What all of the bytes are, by what reading them gives.
-use Rattle.std.proofs.Common.{◌≡◌, ◌≢◌, ℕ, Bool, true, false, cond, eqb, List, [], ◌∷◌, ◌++◌, length, Option, Some, None, Result, Ok, Err, refl, sym, ap, subst, ◌∙◌, suc, append_assoc}
+use Rattle.std.proofs.Common.{◌≡◌, ◌≢◌, ℕ, Bool, true, false, cond, eqb, List, [], ◌∷◌, ◌++◌, length, Option, Some, None, Result, Ok, Err, refl, sym, ap, subst, ◌∙◌, suc, append_assoc, ◌+◌, length-append}
 use Rattle.std.specs.Prelude.{IsSome, IfOk}
 use Rattle.std.proofs.lemmas.Bool.{eqb-true, eqb-false, ne_eqb}
 use Rattle.std.proofs.lemmas.List.{append-nil, nil_from_length}
@@ -12,7 +12,11 @@ use Rattle.rp_codec.specs.declared.kind.Kind.TheVariants.{Call, Prepare, Promise
 use Rattle.rp_codec.specs.Kind.{kind_of, IsKind}
 use Rattle.rp_codec.specs.Message.{Message, KeepsRules, IsPacket}
 use Rattle.rp_codec.specs.Text.{text_of}
-use Rattle.rp_codec.specs.Decoding.{HasOtherVersion, HasNoKind, IsTooLong, IsDecoded}
+use Rattle.rp_codec.specs.Decoding.{HasOtherVersion, HasNoKind, IsTooLong, IsDecoded, BeginsWithPacket, IsReportBody, IsReportText}
+use Rattle.rp_codec.specs.declared.content.Content.{Content}
+use Rattle.rp_codec.specs.declared.content.Content.TheVariants.{Whole as WholeBody, Listed}
+use Rattle.rp_codec.specs.declared.content.Found.{Found}
+use Rattle.rp_codec.specs.Found.{StandsFor, IsList, with_body}
 use Rattle.rp_codec.specs.Reading.{◌>>=◌, Read, from_at, to_at, body_at, said_at, known, version_at, kind_at, packet_at, all_of}
 use Rattle.rp_codec.proofs.Steps.{IsBytes, Yields}
 use Rattle.rp_codec.proofs.BodyLaws.{number_of}
@@ -178,3 +182,35 @@ pub decoded_rules : (bytes : List ℕ) (message : Message) → IsBytes bytes →
 decoded_rules bytes message h e =
     let found = whole_found bytes (Ok message) h (sym e) in
     found.0.rules
+
+-- ---- a packet at the front, and no other
+
+pub front_found : (bytes rest : List ℕ) (m : Message) → IsBytes bytes → packet_at bytes ≡ Ok (m, rest) → IsPacket m × (bytes ≡ text_of m ++ rest)
+front_found bytes rest m h e = subst (Front bytes) e (front bytes h)
+
+pub front_length : (bytes rest : List ℕ) (m : Message) → IsBytes bytes → packet_at bytes ≡ Ok (m, rest) → length bytes ≡ length (text_of m) + length rest
+front_length bytes rest m h e = ap length (front_found bytes rest m h e).1 ∙ length-append (text_of m) rest
+
+pub front_only : (bytes rest : List ℕ) (m : Message) → packet_at bytes ≡ Ok (m, rest) → (p : Message) (after : List ℕ) → IsPacket p → bytes ≡ text_of p ++ after → m ≡ p
+front_only bytes rest m e p after packet parts =
+    ap (λ (x : Message × List ℕ). x.0) (done_once (m, rest) (p, after) (sym e ∙ ap packet_at parts ∙ packet_again p after packet))
+
+abbrev fault : PacketReason → Read Message
+fault e = Err e
+
+no_fault : (x : Message × List ℕ) (e : PacketReason) → done x ≡ fault e → ⊥
+no_fault x e same = absurd cc
+
+pub front_none : (bytes : List ℕ) (e : PacketReason) → packet_at bytes ≡ Err e → BeginsWithPacket bytes → ⊥
+front_none bytes e none (p, rest, packet, parts) = no_fault (p, rest) e (sym (packet_again p rest packet) ∙ ap packet_at (sym parts) ∙ none)
+
+-- ---- a report
+
+report_body : (content : Content) (after : List ℕ) (body : Body) → IsList content → StandsFor content after body → IsReportBody body
+report_body (WholeBody whole) after body list stands = absurd list
+report_body (Listed first applied count text) after body list (actions, read, same) = subst IsReportBody (sym same) tt
+
+pub report_text : (bytes : List ℕ) (found : Found) (body : Body) (after : List ℕ) → IsBytes bytes → IsList found.content → StandsFor found.content after body → all_of bytes ≡ Ok (with_body found body) → IsReportText bytes
+report_text bytes found body after h list stands e =
+    let packet = whole_found bytes (Ok (with_body found body)) h (sym e) in
+    (with_body found body, packet.0, report_body found.content after body list stands, packet.1)

@@ -2,6 +2,8 @@
 use Rattle.std.specs.Prelude.{◌≡◌, ◌≢◌, ◌↔◌, ℕ, List, [], ◌∷◌, ◌++◌, Result, Ok, Err, IfOk}
 use Rattle.rp_base.specs.declared.fault.PacketReason.{PacketReason}
 use Rattle.rp_base.specs.declared.fault.PacketReason.TheVariants.{Long, Version, Kind as UnknownKind}
+use Rattle.rp_codec.specs.declared.packet.Body.{Body}
+use Rattle.rp_codec.specs.declared.packet.Body.TheVariants.{Call, Prepare, Promise, Accept, Accepted, Decided, Ask, Nack, Reply as Answer, Report}
 use Rattle.rp_codec.specs.Message.{Message, IsPacket}
 use Rattle.rp_codec.specs.Text.{text_of}
 use Rattle.rp_codec.specs.Kind.{IsKind}
@@ -28,3 +30,23 @@ pub record IsDecoded (bytes : List ℕ) (answer : Result Message PacketReason) :
   pub long : (answer ≡ Err Long) ↔ IsTooLong bytes
   pub version : (answer ≡ Err Version) ↔ HasOtherVersion bytes
   pub kind : (answer ≡ Err UnknownKind) ↔ HasNoKind bytes
+
+-- bytes that begin with a packet's text
+abbrev pub BeginsWithPacket : List ℕ → Type 0
+BeginsWithPacket bytes = (p : Message) × (rest : List ℕ) × IsPacket p × (bytes ≡ text_of p ++ rest)
+
+abbrev pub IsReportBody : Body → Type 0
+IsReportBody (Call action) = ⊥
+IsReportBody (Prepare position ballot) = ⊥
+IsReportBody (Promise position ballot last) = ⊥
+IsReportBody (Accept position ballot action) = ⊥
+IsReportBody (Accepted position ballot action) = ⊥
+IsReportBody (Decided position action) = ⊥
+IsReportBody (Ask position) = ⊥
+IsReportBody (Nack position ballot bound) = ⊥
+IsReportBody (Answer number reply) = ⊥
+IsReportBody (Report first applied actions) = Unit {0}
+
+-- bytes that are a report's text
+abbrev pub IsReportText : List ℕ → Type 0
+IsReportText bytes = (p : Message) × IsPacket p × IsReportBody p.body × (bytes ≡ text_of p)

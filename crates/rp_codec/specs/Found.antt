@@ -51,3 +51,8 @@ AreFirst list count text = (actions : List Action) (after : List ℕ) → action
 -- the packet is the one that was found
 abbrev pub IsListed : Message → Found → Type 0
 IsListed packet found = (body : Body) (after : List ℕ) → StandsFor found.content after body → packet ≡ with_body found body
+
+-- a report, whose actions are yet to be put into a list
+abbrev pub IsList : Content → Type 0
+IsList (Whole body) = ⊥
+IsList (Listed first applied count text) = Unit {0}

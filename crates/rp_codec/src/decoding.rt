@@ -1,9 +1,11 @@
 //! Bytes to packets.
 
-ghost use Rattle.std.specs.Prelude.{IfOk};
+ghost use Rattle.std.specs.Prelude.{◌≡◌, ◌↔◌, ℕ, List, ◌++◌, length, Some, IsSome, IfOk, OnErr};
+ghost use Rattle.rp_codec.specs.Message.{Message, IsPacket};
+ghost use Rattle.rp_codec.specs.Text.{text_of};
 ghost use Rattle.rp_codec.specs.Reading.{Gives, node_at, task_at, audit_at, from_at, to_at, version_at, kind_at, packet_at, all_of};
-ghost use Rattle.rp_codec.specs.Found.{FindsPacket, FindsWhole, KeepsRulesAt, IsListed};
-ghost use Rattle.rp_codec.specs.Decoding.{IsDecoded};
+ghost use Rattle.rp_codec.specs.Found.{Skips, FindsPacket, FindsWhole, KeepsRulesAt, IsListed, IsList};
+ghost use Rattle.rp_codec.specs.Decoding.{IsDecoded, IsReportText, BeginsWithPacket};
 
 use crate::body_text::read_content;
 use crate::content::{Content, Found};
@@ -134,7 +136,8 @@ fn read_whole<'a>(bytes: &'a [u8]) -> Result<Found<'a>, PacketReason>
 /// Takes memory for a report's actions, and for nothing else.
 fn listed(alloc: Global, found: Found) -> Result<Packet, AllocError>
     requires { KeepsRulesAt found }
-    ensures { IfOk result (λ packet. IsListed packet found.entry) }
+    ensures packet { IfOk result (λ packet. IsListed packet found.entry) }
+    ensures memory { OnErr result (IsList found.entry.content) }
 {
     let Found { from, to, content } = found;
     let body = match content {
@@ -159,7 +162,8 @@ fn listed(alloc: Global, found: Found) -> Result<Packet, AllocError>
 /// The packet of which the bytes are the text, all of the bytes. Where they are no packet's text,
 /// the reason is the first fault from left to right. Only a report's actions take memory.
 pub fn decode(alloc: Global, bytes: &[u8]) -> Result<Result<Packet, PacketReason>, AllocError>
-    ensures { IfOk result (λ answer. IsDecoded bytes.now answer) }
+    ensures answer { IfOk result (λ answer. IsDecoded bytes.now answer) }
+    ensures memory { OnErr result (IsReportText bytes.now) }
 {
     match read_whole(bytes) {
         Ok(found) => {
@@ -167,5 +171,29 @@ pub fn decode(alloc: Global, bytes: &[u8]) -> Result<Result<Packet, PacketReason
             Ok(Ok(packet))
         }
         Err(reason) => Ok(Err(reason)),
+    }
+}
+
+/// Reads a packet, and keeps nothing of it.
+fn skip_packet(reader: &mut Reader) -> Result<(), PacketReason>
+    ensures { Skips result reader.new (packet_at reader.old) }
+{
+    let _found = read_packet(reader)?;
+    Ok(())
+}
+
+/// How many bytes the packet's text has that the bytes begin with. Any bytes may follow it. `None`
+/// where they begin with no packet's text. It takes no memory.
+pub fn packet_len(bytes: &[u8]) -> Option<usize>
+    // Where there is one.
+    ensures valid { IsSome result ↔ BeginsWithPacket bytes.now }
+    // How long it is.
+    ensures value { (p : Message) (rest : List ℕ) → IsPacket p → bytes.now ≡ text_of p ++ rest
+        → result ≡ Some (length (text_of p)) }
+{
+    let mut reader = Reader::new(bytes);
+    match skip_packet(&mut reader) {
+        Ok(()) => Some(bytes.len() - reader.len()),
+        Err(_) => None,
     }
 }

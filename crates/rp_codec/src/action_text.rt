@@ -13,6 +13,7 @@ use crate::short_text::ShortText;
 use rp_base::{Action, Operation, PacketReason, TaskId};
 
 /// 0, which means entry 1.
+#[inline(always)]
 fn read_entry(reader: &mut Reader) -> Result<Operation, PacketReason>
     ensures { Gives result reader.new (entry_at reader.old) }
 {
@@ -23,6 +24,7 @@ fn read_entry(reader: &mut Reader) -> Result<Operation, PacketReason>
     Ok(Operation::Entry(1))
 }
 
+#[inline(always)]
 #[tactic(auto, unfolding(crate::specs::Reading::operation_at))]
 fn read_operation(reader: &mut Reader) -> Result<Operation, PacketReason>
     ensures { Gives result reader.new (operation_at reader.old) }
@@ -50,6 +52,7 @@ fn read_operation(reader: &mut Reader) -> Result<Operation, PacketReason>
     }
 }
 
+#[inline(always)]
 #[tactic(auto, unfolding(crate::specs::Reading::index_at))]
 fn read_task(reader: &mut Reader) -> Result<TaskId, PacketReason>
     ensures { Gives result reader.new (index_at reader.old) }
@@ -62,6 +65,7 @@ fn read_task(reader: &mut Reader) -> Result<TaskId, PacketReason>
 }
 
 /// The rest of a task's call.
+#[inline(always)]
 #[tactic(auto, unfolding(crate::specs::Reading::call_at))]
 fn read_call(reader: &mut Reader, task: TaskId) -> Result<Action, PacketReason>
     ensures { Gives result reader.new (call_at task reader.old) }
@@ -80,6 +84,7 @@ fn read_call(reader: &mut Reader, task: TaskId) -> Result<Action, PacketReason>
     Ok(action)
 }
 
+#[inline(always)]
 #[tactic(auto, unfolding(crate::specs::Reading::any_call_at))]
 fn read_any_call(reader: &mut Reader) -> Result<Action, PacketReason>
     ensures { Gives result reader.new (any_call_at reader.old) }
@@ -88,6 +93,7 @@ fn read_any_call(reader: &mut Reader) -> Result<Action, PacketReason>
     read_call(reader, task)
 }
 
+#[inline(always)]
 #[tactic(auto, unfolding(crate::specs::Reading::interrupt_at))]
 fn read_interrupt(reader: &mut Reader) -> Result<Action, PacketReason>
     ensures { Gives result reader.new (interrupt_at reader.old) }
@@ -97,6 +103,7 @@ fn read_interrupt(reader: &mut Reader) -> Result<Action, PacketReason>
     Ok(Action::Interrupt { source, occurrence })
 }
 
+#[inline(always)]
 #[tactic(auto, unfolding(crate::specs::Reading::tick_at))]
 fn read_tick(reader: &mut Reader) -> Result<Action, PacketReason>
     ensures { Gives result reader.new (tick_at reader.old) }
@@ -145,6 +152,7 @@ pub(crate) fn read_own_call(reader: &mut Reader, from: &Party) -> Result<Action,
     read_call(reader, task)
 }
 
+#[inline(always)]
 fn put_operation(text: &mut ShortText, operation: Operation)
     requires { length text.old + 2 ≤ 40 }
     ensures text { text.new ≡ text.old ++ operation_text operation }
@@ -161,11 +169,12 @@ fn put_operation(text: &mut ShortText, operation: Operation)
 }
 
 /// Adds an action's text, at most 17 bytes.
-pub(crate) fn put_action(text: &mut ShortText, action: Action)
+#[inline(always)]
+pub(crate) fn put_action(text: &mut ShortText, action: &Action)
     requires { length text.old + 17 ≤ 40 }
-    ensures { text.new ≡ text.old ++ action_text action }
+    ensures { text.new ≡ text.old ++ action_text action.now }
 {
-    match action {
+    match *action {
         Action::Noop => text.put(&[0]),
         Action::Call {
             task,

@@ -18,6 +18,7 @@ use crate::report_text::read_report;
 use crate::short_text::ShortText;
 use rp_base::{Action, Ballot, PacketReason, Position, Vote};
 
+#[inline(always)]
 #[tactic(auto, unfolding(crate::specs::Reading::lower_ballot_at))]
 fn read_lower_ballot(reader: &mut Reader, ballot: Ballot) -> Result<Ballot, PacketReason>
     ensures { Gives result reader.new (lower_ballot_at ballot reader.old) }
@@ -29,6 +30,7 @@ fn read_lower_ballot(reader: &mut Reader, ballot: Ballot) -> Result<Ballot, Pack
     Ok(lower)
 }
 
+#[inline(always)]
 #[tactic(auto, unfolding(crate::specs::Reading::higher_ballot_at))]
 fn read_higher_ballot(reader: &mut Reader, ballot: Ballot) -> Result<Ballot, PacketReason>
     ensures { Gives result reader.new (higher_ballot_at ballot reader.old) }
@@ -40,6 +42,7 @@ fn read_higher_ballot(reader: &mut Reader, ballot: Ballot) -> Result<Ballot, Pac
     Ok(higher)
 }
 
+#[inline(always)]
 #[tactic(auto, unfolding(crate::specs::Reading::vote_at))]
 fn read_vote(reader: &mut Reader, below: Ballot) -> Result<Option<Vote>, PacketReason>
     ensures { Gives result reader.new (vote_at below reader.old) }
@@ -49,6 +52,7 @@ fn read_vote(reader: &mut Reader, below: Ballot) -> Result<Option<Vote>, PacketR
     Ok(Some(Vote { ballot, action }))
 }
 
+#[inline(always)]
 #[tactic(auto, unfolding(crate::specs::Reading::last_at))]
 fn read_last(reader: &mut Reader, below: Ballot) -> Result<Option<Vote>, PacketReason>
     ensures { Gives result reader.new (last_at below reader.old) }
@@ -61,6 +65,7 @@ fn read_last(reader: &mut Reader, below: Ballot) -> Result<Option<Vote>, PacketR
     }
 }
 
+#[inline(always)]
 #[tactic(auto, unfolding(crate::specs::Reading::prepare_at))]
 fn read_prepare(reader: &mut Reader) -> Result<Body, PacketReason>
     ensures { Gives result reader.new (prepare_at reader.old) }
@@ -70,6 +75,7 @@ fn read_prepare(reader: &mut Reader) -> Result<Body, PacketReason>
     Ok(Body::Prepare { position, ballot })
 }
 
+#[inline(always)]
 #[tactic(auto, unfolding(crate::specs::Reading::promise_at))]
 fn read_promise(reader: &mut Reader) -> Result<Body, PacketReason>
     ensures { Gives result reader.new (promise_at reader.old) }
@@ -85,6 +91,7 @@ fn read_promise(reader: &mut Reader) -> Result<Body, PacketReason>
     Ok(body)
 }
 
+#[inline(always)]
 #[tactic(auto, unfolding(crate::specs::Reading::accept_at))]
 fn read_accept(reader: &mut Reader) -> Result<Body, PacketReason>
     ensures { Gives result reader.new (accept_at reader.old) }
@@ -100,6 +107,7 @@ fn read_accept(reader: &mut Reader) -> Result<Body, PacketReason>
     Ok(body)
 }
 
+#[inline(always)]
 #[tactic(auto, unfolding(crate::specs::Reading::accepted_at))]
 fn read_accepted(reader: &mut Reader) -> Result<Body, PacketReason>
     ensures { Gives result reader.new (accepted_at reader.old) }
@@ -115,6 +123,7 @@ fn read_accepted(reader: &mut Reader) -> Result<Body, PacketReason>
     Ok(body)
 }
 
+#[inline(always)]
 #[tactic(auto, unfolding(crate::specs::Reading::decided_at))]
 fn read_decided(reader: &mut Reader) -> Result<Body, PacketReason>
     ensures { Gives result reader.new (decided_at reader.old) }
@@ -124,6 +133,7 @@ fn read_decided(reader: &mut Reader) -> Result<Body, PacketReason>
     Ok(Body::Decided { position, action })
 }
 
+#[inline(always)]
 #[tactic(auto, unfolding(crate::specs::Reading::nack_at))]
 fn read_nack(reader: &mut Reader) -> Result<Body, PacketReason>
     ensures { Gives result reader.new (nack_at reader.old) }
@@ -139,6 +149,7 @@ fn read_nack(reader: &mut Reader) -> Result<Body, PacketReason>
     Ok(body)
 }
 
+#[inline(always)]
 #[tactic(auto, unfolding(crate::specs::Reading::answer_at))]
 fn read_answer(reader: &mut Reader) -> Result<Body, PacketReason>
     ensures { Gives result reader.new (answer_at reader.old) }
@@ -148,6 +159,7 @@ fn read_answer(reader: &mut Reader) -> Result<Body, PacketReason>
     Ok(Body::Reply { number, reply })
 }
 
+#[inline(always)]
 #[tactic(auto, unfolding(crate::specs::Reading::task_call_at))]
 fn read_task_call(reader: &mut Reader, from: &Party) -> Result<Body, PacketReason>
     ensures { Gives result reader.new (task_call_at from.now reader.old) }
@@ -156,6 +168,7 @@ fn read_task_call(reader: &mut Reader, from: &Party) -> Result<Body, PacketReaso
     Ok(Body::Call { action })
 }
 
+#[inline(always)]
 #[tactic(auto, unfolding(crate::specs::Reading::ask_at))]
 fn read_ask(reader: &mut Reader) -> Result<Body, PacketReason>
     ensures { Gives result reader.new (ask_at reader.old) }
@@ -188,20 +201,22 @@ pub(crate) fn read_content<'a>(
     Ok(Content::Whole(body?))
 }
 
-fn put_last(text: &mut ShortText, last: Option<Vote>)
+#[inline(always)]
+fn put_last(text: &mut ShortText, last: &Option<Vote>)
     requires { length text.old + 26 ≤ 40 }
-    ensures { text.new ≡ text.old ++ last_text last }
+    ensures { text.new ≡ text.old ++ last_text last.now }
 {
     match last {
         None => text.put(&[0]),
         Some(vote) => {
             text.put(&[1]);
             put_ballot(text, vote.ballot);
-            put_action(text, vote.action);
+            put_action(text, &vote.action);
         }
     }
 }
 
+#[inline(always)]
 fn put_place(text: &mut ShortText, position: Position, ballot: Ballot)
     requires { length text.old + 10 ≤ 40 }
     ensures text { text.new ≡ text.old ++ (position_text position ++ ballot_text ballot) }
@@ -211,21 +226,23 @@ fn put_place(text: &mut ShortText, position: Position, ballot: Ballot)
     put_ballot(text, ballot);
 }
 
-fn put_vote(text: &mut ShortText, position: Position, ballot: Ballot, action: Action)
+#[inline(always)]
+fn put_vote(text: &mut ShortText, position: Position, ballot: Ballot, action: &Action)
     requires { length text.old + 27 ≤ 40 }
-    ensures { text.new ≡ text.old ++ (position_text position ++ ballot_text ballot ++ action_text action) }
+    ensures { text.new ≡ text.old ++ (position_text position ++ ballot_text ballot ++ action_text action.now) }
 {
     put_place(text, position, ballot);
     put_action(text, action);
 }
 
 /// Adds a body's text, at most 36 bytes, of a report all but its actions.
+#[inline(always)]
 pub(crate) fn put_body(text: &mut ShortText, body: &Body)
     requires { length text.old + 36 ≤ 40 }
     ensures { text.new ≡ text.old ++ short_body_text body.now }
 {
     match body {
-        Body::Call { action } => put_action(text, *action),
+        Body::Call { action } => put_action(text, action),
         Body::Prepare { position, ballot } => put_place(text, *position, *ballot),
         Body::Promise {
             position,
@@ -233,7 +250,7 @@ pub(crate) fn put_body(text: &mut ShortText, body: &Body)
             last,
         } => {
             put_place(text, *position, *ballot);
-            put_last(text, *last);
+            put_last(text, last);
         }
         Body::Accept {
             position,
@@ -244,10 +261,10 @@ pub(crate) fn put_body(text: &mut ShortText, body: &Body)
             position,
             ballot,
             action,
-        } => put_vote(text, *position, *ballot, *action),
+        } => put_vote(text, *position, *ballot, action),
         Body::Decided { position, action } => {
             put_position(text, *position);
-            put_action(text, *action);
+            put_action(text, action);
         }
         Body::Ask { position } => put_position(text, *position),
         Body::Nack {

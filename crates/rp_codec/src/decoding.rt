@@ -17,6 +17,7 @@ use crate::report_text::list_actions;
 use rp_base::{NodeId, PacketReason, TaskId};
 use std::alloc::{AllocError, Global};
 
+#[inline(always)]
 #[tactic(auto, unfolding(crate::specs::Reading::node_at))]
 fn read_node(reader: &mut Reader) -> Result<Party, PacketReason>
     ensures { Gives result reader.new (node_at reader.old) }
@@ -29,6 +30,7 @@ fn read_node(reader: &mut Reader) -> Result<Party, PacketReason>
 }
 
 /// Task t is 16 + t.
+#[inline(always)]
 #[tactic(auto, unfolding(crate::specs::Reading::task_at))]
 fn read_task(reader: &mut Reader) -> Result<Party, PacketReason>
     ensures { Gives result reader.new (task_at reader.old) }
@@ -40,6 +42,7 @@ fn read_task(reader: &mut Reader) -> Result<Party, PacketReason>
     }
 }
 
+#[inline(always)]
 #[tactic(auto, unfolding(crate::specs::Reading::audit_at))]
 fn read_audit(reader: &mut Reader) -> Result<Party, PacketReason>
     ensures { Gives result reader.new (audit_at reader.old) }
@@ -51,6 +54,7 @@ fn read_audit(reader: &mut Reader) -> Result<Party, PacketReason>
     Ok(Party::Audit)
 }
 
+#[inline(always)]
 #[tactic(auto, unfolding(crate::specs::Reading::from_at))]
 fn read_from(reader: &mut Reader, kind: Kind) -> Result<Party, PacketReason>
     ensures { Gives result reader.new (from_at kind reader.old) }
@@ -69,6 +73,7 @@ fn read_from(reader: &mut Reader, kind: Kind) -> Result<Party, PacketReason>
     }
 }
 
+#[inline(always)]
 #[tactic(auto, unfolding(crate::specs::Reading::to_at))]
 fn read_to(reader: &mut Reader, kind: Kind) -> Result<Party, PacketReason>
     ensures { Gives result reader.new (to_at kind reader.old) }
@@ -87,6 +92,7 @@ fn read_to(reader: &mut Reader, kind: Kind) -> Result<Party, PacketReason>
     }
 }
 
+#[inline(always)]
 fn read_version(reader: &mut Reader) -> Result<u8, PacketReason>
     ensures { Gives result reader.new (version_at reader.old) }
 {
@@ -97,6 +103,7 @@ fn read_version(reader: &mut Reader) -> Result<u8, PacketReason>
     Ok(version)
 }
 
+#[inline(always)]
 fn read_kind(reader: &mut Reader) -> Result<Kind, PacketReason>
     ensures { Gives result reader.new (kind_at reader.old) }
 {

@@ -1,6 +1,6 @@
 //! Packets to bytes.
 
-ghost use Rattle.std.specs.Prelude.{◌≡◌, ℕ, List, ◌++◌, IfOk, OnOk, OnErr};
+ghost use Rattle.std.specs.Prelude.{◌≡◌, ℕ, List, [], ◌++◌, IfOk, OnOk, OnErr};
 ghost use Rattle.rp_codec.specs.Message.{Message, IsPacket};
 ghost use Rattle.rp_codec.specs.Text.{kind_number, party_number, front_text, text_of};
 
@@ -38,11 +38,12 @@ fn party_number(party: Party) -> u8
     }
 }
 
-/// The packet's text, of a report all but its actions.
-fn front_of(packet: &Packet) -> ShortText
-    ensures { result ≡ front_text packet.now }
+/// Writes the packet's text, of a report all but its actions.
+#[inline(always)]
+fn put_front(text: &mut ShortText, packet: &Packet)
+    requires { text.old ≡ [] }
+    ensures { text.new ≡ front_text packet.now }
 {
-    let mut text = ShortText::new();
     let kind = kind_number(packet.body());
     text.put(&[
         VERSION,
@@ -50,8 +51,7 @@ fn front_of(packet: &Packet) -> ShortText
         party_number(packet.from()),
         party_number(packet.to()),
     ]);
-    put_body(&mut text, packet.body());
-    text
+    put_body(text, packet.body());
 }
 
 /// Puts the packet's one text behind the bytes. Where memory is refused, the bytes stay.
@@ -59,7 +59,8 @@ pub fn encode_onto(packet: &Packet, out: &mut Vec<u8>) -> Result<(), AllocError>
     ensures ok { OnOk result (out.new.items ≡ out.old.items ++ text_of packet.now) }
     ensures err { OnErr result (out.new.items ≡ out.old.items) }
 {
-    let front = front_of(packet);
+    let mut front = ShortText::new();
+    put_front(&mut front, packet);
     match packet.body() {
         Body::Report { actions, .. } => put_report(out, &front, actions.as_slice()),
         Body::Call { .. }

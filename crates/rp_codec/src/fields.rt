@@ -20,6 +20,7 @@ pub(crate) const TASK_BASE: u8 = 16;
 /// The party that is the audit.
 pub(crate) const AUDIT: u8 = 32;
 
+#[inline(always)]
 #[tactic(auto, unfolding(crate::specs::Reading::signed_at))]
 pub(crate) fn read_i64(reader: &mut Reader) -> Result<i64, PacketReason>
     ensures { Gives result reader.new (signed_at reader.old) }
@@ -29,6 +30,7 @@ pub(crate) fn read_i64(reader: &mut Reader) -> Result<i64, PacketReason>
 }
 
 /// 1 to 8.
+#[inline(always)]
 #[tactic(auto, unfolding(crate::specs::Reading::index_at))]
 pub(crate) fn read_index(reader: &mut Reader) -> Result<u8, PacketReason>
     ensures { Gives result reader.new (index_at reader.old) }
@@ -41,6 +43,7 @@ pub(crate) fn read_index(reader: &mut Reader) -> Result<u8, PacketReason>
 }
 
 /// 1 to 2^32 - 1.
+#[inline(always)]
 #[tactic(auto, unfolding(crate::specs::Reading::count_at))]
 pub(crate) fn read_count(reader: &mut Reader) -> Result<u32, PacketReason>
     ensures { Gives result reader.new (count_at reader.old) }
@@ -52,6 +55,7 @@ pub(crate) fn read_count(reader: &mut Reader) -> Result<u32, PacketReason>
     Ok(number)
 }
 
+#[inline(always)]
 #[tactic(auto, unfolding(crate::specs::Reading::position_at))]
 pub(crate) fn read_position(reader: &mut Reader) -> Result<Position, PacketReason>
     ensures { Gives result reader.new (position_at reader.old) }
@@ -63,6 +67,7 @@ pub(crate) fn read_position(reader: &mut Reader) -> Result<Position, PacketReaso
     }
 }
 
+#[inline(always)]
 #[tactic(auto, using(crate::proofs::RuleTests::is_ballot_decides), unfolding(crate::specs::Reading::ballot_at))]
 pub(crate) fn read_ballot(reader: &mut Reader) -> Result<Ballot, PacketReason>
     ensures { Gives result reader.new (ballot_at reader.old) }

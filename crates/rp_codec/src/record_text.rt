@@ -73,25 +73,25 @@ pub fn text_of_record(rec: &Rec) -> ShortText
     ensures { result ≡ record_text rec.now }
 {
     let mut text = ShortText::new();
-    match *rec {
+    match rec {
         Rec::Started(ballot) => {
             text.put(&[VERSION, 1]);
-            put_ballot(&mut text, ballot);
+            put_ballot(&mut text, *ballot);
         }
         Rec::Promised(position, ballot) => {
             text.put(&[VERSION, 2]);
-            put_position(&mut text, position);
-            put_ballot(&mut text, ballot);
+            put_position(&mut text, *position);
+            put_ballot(&mut text, *ballot);
         }
         Rec::Voted(position, ballot, action) => {
             text.put(&[VERSION, 3]);
-            put_position(&mut text, position);
-            put_ballot(&mut text, ballot);
+            put_position(&mut text, *position);
+            put_ballot(&mut text, *ballot);
             put_action(&mut text, action);
         }
         Rec::Learned(position, action) => {
             text.put(&[VERSION, 4]);
-            put_position(&mut text, position);
+            put_position(&mut text, *position);
             put_action(&mut text, action);
         }
     }

@@ -76,7 +76,7 @@ fn put_actions(out: &mut Vec<u8>, front: &ShortText, actions: &[Action]) -> Resu
     out.push(actions.len() as u8)?;
     for action in actions {
         let mut text = ShortText::new();
-        put_action(&mut text, *action);
+        put_action(&mut text, action);
         out.extend_from_slice(text.as_slice())?;
     }
     Ok(())

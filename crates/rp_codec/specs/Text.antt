@@ -109,10 +109,6 @@ body_text (Nack position ballot bound) = position_text position ++ ballot_text b
 body_text (Answer number reply) = number_text w32 number ++ reply_text reply
 body_text (Report first applied actions) = position_text first ++ number_text w16 applied ++ actions_text actions
 
--- a packet's text, but for a report's actions
-abbrev pub front_text : Message → List ℕ
-front_text m = (1 ∷ kind_number m.body ∷ party_text m.from) ++ party_text m.to ++ short_body_text m.body
-
 -- version 1, the kind, who says it to whom, and what
 abbrev pub text_of : Message → List ℕ
 text_of m = (1 ∷ kind_number m.body ∷ party_text m.from) ++ party_text m.to ++ body_text m.body

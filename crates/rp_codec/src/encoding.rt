@@ -1,8 +1,8 @@
 //! Packets to bytes.
 
-ghost use Rattle.std.specs.Prelude.{◌≡◌, ℕ, List, [], ◌++◌, IfOk, OnOk, OnErr};
+ghost use Rattle.std.specs.Prelude.{◌≡◌, ℕ, List, ◌∷◌, ◌++◌, IfOk, OnOk, OnErr};
 ghost use Rattle.rp_codec.specs.Message.{Message, IsPacket};
-ghost use Rattle.rp_codec.specs.Text.{kind_number, party_number, front_text, text_of};
+ghost use Rattle.rp_codec.specs.Text.{kind_number, party_number, party_text, text_of};
 
 use crate::body_text::put_body;
 use crate::fields::{AUDIT, TASK_BASE, VERSION};
@@ -38,20 +38,18 @@ fn party_number(party: Party) -> u8
     }
 }
 
-/// Writes the packet's text, of a report all but its actions.
+/// What stands before the body.
 #[inline(always)]
-fn put_front(text: &mut ShortText, packet: &Packet)
-    requires { text.old ≡ [] }
-    ensures { text.new ≡ front_text packet.now }
+fn head_of(packet: &Packet) -> [u8; 4]
+    ensures { result ≡ (1 ∷ kind_number packet.now.body ∷ party_text packet.now.from) ++ party_text packet.now.to }
 {
     let kind = kind_number(packet.body());
-    text.put(&[
+    [
         VERSION,
         kind,
         party_number(packet.from()),
         party_number(packet.to()),
-    ]);
-    put_body(text, packet.body());
+    ]
 }
 
 /// Puts the packet's one text behind the bytes. Where memory is refused, the bytes stay.
@@ -59,8 +57,8 @@ pub fn encode_onto(packet: &Packet, out: &mut Vec<u8>) -> Result<(), AllocError>
     ensures ok { OnOk result (out.new.items ≡ out.old.items ++ text_of packet.now) }
     ensures err { OnErr result (out.new.items ≡ out.old.items) }
 {
-    let mut front = ShortText::new();
-    put_front(&mut front, packet);
+    let mut front = ShortText::starting_with(&head_of(packet));
+    put_body(&mut front, packet.body());
     match packet.body() {
         Body::Report { actions, .. } => put_report(out, &front, actions.as_slice()),
         Body::Call { .. }

@@ -79,6 +79,7 @@ pub(crate) fn read_ballot(reader: &mut Reader) -> Result<Ballot, PacketReason>
     }
 }
 
+#[inline(always)]
 #[tactic(auto, unfolding(crate::specs::Text::number_text))]
 pub(crate) fn put_u16(text: &mut ShortText, number: u16)
     requires { length text.old + 2 ≤ 40 }
@@ -90,6 +91,7 @@ pub(crate) fn put_u16(text: &mut ShortText, number: u16)
     text.put(&bytes);
 }
 
+#[inline(always)]
 #[tactic(auto, unfolding(crate::specs::Text::number_text))]
 pub(crate) fn put_u32(text: &mut ShortText, number: u32)
     requires { length text.old + 4 ≤ 40 }
@@ -101,6 +103,7 @@ pub(crate) fn put_u32(text: &mut ShortText, number: u32)
     text.put(&bytes);
 }
 
+#[inline(always)]
 #[tactic(auto, unfolding(crate::specs::Text::number_text))]
 pub(crate) fn put_i64(text: &mut ShortText, number: i64)
     requires { length text.old + 8 ≤ 40 }
@@ -112,6 +115,7 @@ pub(crate) fn put_i64(text: &mut ShortText, number: i64)
     text.put(&bytes);
 }
 
+#[inline(always)]
 pub(crate) fn put_position(text: &mut ShortText, position: Position)
     requires { length text.old + 2 ≤ 40 }
     ensures text { text.new ≡ text.old ++ position_text position }
@@ -120,6 +124,7 @@ pub(crate) fn put_position(text: &mut ShortText, position: Position)
     put_u16(text, position.get());
 }
 
+#[inline(always)]
 #[tactic(auto, unfolding(crate::specs::Text::number_text))]
 pub(crate) fn put_ballot(text: &mut ShortText, ballot: Ballot)
     requires { length text.old + 8 ≤ 40 }

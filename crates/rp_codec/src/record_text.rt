@@ -72,30 +72,32 @@ fn read_record(reader: &mut Reader) -> Result<Rec, PacketReason>
 pub fn text_of_record(rec: &Rec) -> ShortText
     ensures { result ≡ record_text rec.now }
 {
-    let mut text = ShortText::new();
     match rec {
         Rec::Started(ballot) => {
-            text.put(&[VERSION, 1]);
+            let mut text = ShortText::starting_with(&[VERSION, 1]);
             put_ballot(&mut text, *ballot);
+            text
         }
         Rec::Promised(position, ballot) => {
-            text.put(&[VERSION, 2]);
+            let mut text = ShortText::starting_with(&[VERSION, 2]);
             put_position(&mut text, *position);
             put_ballot(&mut text, *ballot);
+            text
         }
         Rec::Voted(position, ballot, action) => {
-            text.put(&[VERSION, 3]);
+            let mut text = ShortText::starting_with(&[VERSION, 3]);
             put_position(&mut text, *position);
             put_ballot(&mut text, *ballot);
             put_action(&mut text, action);
+            text
         }
         Rec::Learned(position, action) => {
-            text.put(&[VERSION, 4]);
+            let mut text = ShortText::starting_with(&[VERSION, 4]);
             put_position(&mut text, *position);
             put_action(&mut text, action);
+            text
         }
     }
-    text
 }
 
 /// The record's one text, in memory.

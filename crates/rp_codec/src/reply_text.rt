@@ -45,6 +45,7 @@ pub(crate) fn read_reply(reader: &mut Reader) -> Result<Reply, PacketReason>
     }
 }
 
+#[inline(always)]
 pub(crate) fn put_reply(text: &mut ShortText, reply: Reply)
     requires { length text.old + 9 ≤ 40 }
     ensures { text.new ≡ text.old ++ reply_text reply }

@@ -84,6 +84,7 @@ fn put_actions(out: &mut Vec<u8>, front: &ShortText, actions: &[Action]) -> Resu
 
 /// Puts a report's text behind the bytes: its front, and then its actions. Where memory is refused,
 /// the bytes stay.
+#[inline(never)]
 pub(crate) fn put_report(
     out: &mut Vec<u8>,
     front: &ShortText,

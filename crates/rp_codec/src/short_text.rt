@@ -34,6 +34,18 @@ impl ShortText {
         }
     }
 
+    /// The text that is these bytes so far.
+    #[inline(always)]
+    pub(crate) fn starting_with<const N: usize>(piece: &[u8; N]) -> Self
+        requires { N ≤ 40 }
+        ensures text { result ≡ piece.now }
+        ensures len { length result ≡ N }
+    {
+        let mut bytes = [0; LONGEST];
+        bytes[..N].copy_from_slice(piece);
+        ShortText { bytes, len: N }
+    }
+
     /// Adds bytes behind the others.
     #[inline(always)]
     pub(crate) fn put<const N: usize>(&mut self, piece: &[u8; N])

@@ -1,5 +1,5 @@
 -- What all of the bytes are, by what reading them gives.
-use Rattle.std.proofs.Common.{◌≡◌, ◌≢◌, ℕ, Bool, true, false, cond, eqb, List, [], ◌∷◌, ◌++◌, length, Option, Some, None, Result, Ok, Err, refl, sym, ap, subst, ◌∙◌, suc, append_assoc}
+use Rattle.std.proofs.Common.{◌≡◌, ◌≢◌, ℕ, Bool, true, false, cond, eqb, List, [], ◌∷◌, ◌++◌, length, Option, Some, None, Result, Ok, Err, refl, sym, ap, subst, ◌∙◌, suc, append_assoc, ◌+◌, length-append}
 use Rattle.std.specs.Prelude.{IsSome, IfOk}
 use Rattle.std.proofs.lemmas.Bool.{eqb-true, eqb-false, ne_eqb}
 use Rattle.std.proofs.lemmas.List.{append-nil, nil_from_length}
@@ -8,10 +8,15 @@ use Rattle.rp_base.specs.declared.fault.PacketReason.TheVariants.{Short, Long, V
 use Rattle.rp_codec.specs.declared.packet.Party.{Party}
 use Rattle.rp_codec.specs.declared.packet.Body.{Body}
 use Rattle.rp_codec.specs.declared.kind.Kind.{Kind}
-use Rattle.rp_codec.specs.declared.kind.Kind.TheVariants.{Call, Prepare, Promise, Accept, Accepted, Decided, Nack, Reply as Answer}
+use Rattle.rp_codec.specs.declared.kind.Kind.TheVariants.{Call, Prepare, Promise, Accept, Accepted, Decided, Ask, Nack, Reply as Answer, Report}
 use Rattle.rp_codec.specs.Kind.{kind_of, IsKind}
 use Rattle.rp_codec.specs.Message.{Message, KeepsRules, IsPacket}
 use Rattle.rp_codec.specs.Text.{text_of}
+use Rattle.rp_codec.specs.Decoding.{HasOtherVersion, HasNoKind, IsTooLong, IsDecoded, BeginsWithPacket, IsReportBody, IsReportText}
+use Rattle.rp_codec.specs.declared.content.Content.{Content}
+use Rattle.rp_codec.specs.declared.content.Content.TheVariants.{Whole as WholeBody, Listed}
+use Rattle.rp_codec.specs.declared.content.Found.{Found}
+use Rattle.rp_codec.specs.Found.{StandsFor, IsList, with_body}
 use Rattle.rp_codec.specs.Reading.{◌>>=◌, Read, from_at, to_at, body_at, said_at, known, version_at, kind_at, packet_at, all_of}
 use Rattle.rp_codec.proofs.Steps.{IsBytes, Yields}
 use Rattle.rp_codec.proofs.BodyLaws.{number_of}
@@ -33,20 +38,13 @@ number_from_kind n kind e =
     (choice (eqb n 4) n Accept kind _ (λ t. eqb-true _ _ t)
     (choice (eqb n 5) n Accepted kind _ (λ t. eqb-true _ _ t)
     (choice (eqb n 6) n Decided kind _ (λ t. eqb-true _ _ t)
+    (choice (eqb n 7) n Ask kind _ (λ t. eqb-true _ _ t)
     (choice (eqb n 8) n Nack kind _ (λ t. eqb-true _ _ t)
-    (choice (eqb n 9) n Answer kind _ (λ t. eqb-true _ _ t) (λ z. absurd cc))))))))
+    (choice (eqb n 9) n Answer kind _ (λ t. eqb-true _ _ t)
+    (choice (eqb n 10) n Report kind _ (λ t. eqb-true _ _ t) (λ z. absurd cc))))))))))
     e
 
 -- ---- a packet at the front
-
-abbrev pub HasOtherVersion : List ℕ → Type 0
-HasOtherVersion bytes = (n : ℕ) × (rest : List ℕ) × (n ≢ 1) × (bytes ≡ n ∷ rest)
-
-abbrev pub HasNoKind : List ℕ → Type 0
-HasNoKind bytes = (n : ℕ) × (rest : List ℕ) × (¬ IsKind n) × (bytes ≡ 1 ∷ n ∷ rest)
-
-abbrev pub IsTooLong : List ℕ → Type 0
-IsTooLong bytes = (p : Message) × (rest : List ℕ) × IsPacket p × (rest ≢ []) × (bytes ≡ text_of p ++ rest)
 
 abbrev Front : List ℕ → Result (Message × List ℕ) PacketReason → Type 0
 Front bytes (Ok x) = IsPacket x.0 × (bytes ≡ text_of x.0 ++ x.1)
@@ -167,12 +165,52 @@ found_in bytes (Err e) w = tt
 pub whole_found : (bytes : List ℕ) (r : Result Message PacketReason) → IsBytes bytes → r ≡ all_of bytes → IfOk r (λ m. IsPacket m × (bytes ≡ text_of m))
 whole_found bytes r h e = found_in bytes r (subst (Whole bytes) (sym e) (whole bytes h))
 
--- what was read, field by field, keeps the rules
-pub read_keeps : (bytes start after_version after_kind after_from after_to rest : List ℕ) (version : ℕ) (kind : Kind) (from to : Party) (body : Body) → IsBytes bytes → start ≡ bytes
-    → version_at start ≡ Ok (version, after_version) → kind_at after_version ≡ Ok (kind, after_kind) → from_at kind after_kind ≡ Ok (from, after_from) → to_at kind after_from ≡ Ok (to, after_to) → body_at kind from after_to ≡ Ok (body, rest)
-    → KeepsRules (record { from = from; to = to; body = body })
-unfolding packet_at said_at
-read_keeps bytes start after_version after_kind after_from after_to rest version kind from to body h begins e1 e2 e3 e4 e5 =
-    let read : packet_at start ≡ Ok (record { from = from; to = to; body = body }, rest) = rw (e1, e2, e3, e4, e5) refl in
-    let found = subst (Front bytes) (ap packet_at (sym begins) ∙ read) (front bytes h) in
+pub decoded : (bytes : List ℕ) (answer : Result Message PacketReason) → IsBytes bytes → answer ≡ all_of bytes → IsDecoded bytes answer
+decoded bytes answer h e = record {
+  found = whole_found bytes answer h e;
+  only = λ p packet text. e ∙ ap all_of text ∙ whole_again p packet;
+  exact = e;
+  long = (λ is. subst (Whole bytes) (sym e ∙ is) (whole bytes h), λ has. e ∙ long_again bytes has);
+  version = (λ is. subst (Whole bytes) (sym e ∙ is) (whole bytes h), λ has. e ∙ version_again bytes has);
+  kind = (λ is. subst (Whole bytes) (sym e ∙ is) (whole bytes h), λ has. e ∙ kind_again bytes has);
+}
+
+pub decoded_packet : (bytes : List ℕ) (packet message : Message) → IsBytes bytes → packet ≡ message → all_of bytes ≡ Ok message → IsDecoded bytes (Ok packet)
+decoded_packet bytes packet message h same e = decoded bytes (Ok packet) h (ap (λ (m : Message). Ok m) same ∙ sym e)
+
+pub decoded_rules : (bytes : List ℕ) (message : Message) → IsBytes bytes → all_of bytes ≡ Ok message → KeepsRules message
+decoded_rules bytes message h e =
+    let found = whole_found bytes (Ok message) h (sym e) in
     found.0.rules
+
+-- ---- a packet at the front, and no other
+
+pub front_found : (bytes rest : List ℕ) (m : Message) → IsBytes bytes → packet_at bytes ≡ Ok (m, rest) → IsPacket m × (bytes ≡ text_of m ++ rest)
+front_found bytes rest m h e = subst (Front bytes) e (front bytes h)
+
+pub front_length : (bytes rest : List ℕ) (m : Message) → IsBytes bytes → packet_at bytes ≡ Ok (m, rest) → length bytes ≡ length (text_of m) + length rest
+front_length bytes rest m h e = ap length (front_found bytes rest m h e).1 ∙ length-append (text_of m) rest
+
+pub front_only : (bytes rest : List ℕ) (m : Message) → packet_at bytes ≡ Ok (m, rest) → (p : Message) (after : List ℕ) → IsPacket p → bytes ≡ text_of p ++ after → m ≡ p
+front_only bytes rest m e p after packet parts =
+    ap (λ (x : Message × List ℕ). x.0) (done_once (m, rest) (p, after) (sym e ∙ ap packet_at parts ∙ packet_again p after packet))
+
+abbrev fault : PacketReason → Read Message
+fault e = Err e
+
+no_fault : (x : Message × List ℕ) (e : PacketReason) → done x ≡ fault e → ⊥
+no_fault x e same = absurd cc
+
+pub front_none : (bytes : List ℕ) (e : PacketReason) → packet_at bytes ≡ Err e → BeginsWithPacket bytes → ⊥
+front_none bytes e none (p, rest, packet, parts) = no_fault (p, rest) e (sym (packet_again p rest packet) ∙ ap packet_at (sym parts) ∙ none)
+
+-- ---- a report
+
+report_body : (content : Content) (after : List ℕ) (body : Body) → IsList content → StandsFor content after body → IsReportBody body
+report_body (WholeBody whole) after body list stands = absurd list
+report_body (Listed first applied count text) after body list (actions, read, same) = subst IsReportBody (sym same) tt
+
+pub report_text : (bytes : List ℕ) (found : Found) (body : Body) (after : List ℕ) → IsBytes bytes → IsList found.content → StandsFor found.content after body → all_of bytes ≡ Ok (with_body found body) → IsReportText bytes
+report_text bytes found body after h list stands e =
+    let packet = whole_found bytes (Ok (with_body found body)) h (sym e) in
+    (with_body found body, packet.0, report_body found.content after body list stands, packet.1)

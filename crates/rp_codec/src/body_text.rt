@@ -1,18 +1,24 @@
 //! Bodies as bytes.
 
-ghost use Rattle.std.specs.Prelude.{◌≡◌, ◌++◌, OnOk};
-ghost use Rattle.rp_codec.specs.Text.{position_text, ballot_text, action_text, last_text, body_text};
-ghost use Rattle.rp_codec.specs.Reading.{Gives, lower_ballot_at, higher_ballot_at, vote_at, last_at, prepare_at, promise_at, accept_at, accepted_at, decided_at, nack_at, answer_at, task_call_at, body_at};
+ghost use Rattle.std.specs.Prelude.{◌≡◌, ◌+◌, ◌≤◌, ◌++◌, length};
+ghost use Rattle.rp_codec.specs.Text.{position_text, ballot_text, action_text, last_text, short_body_text};
+ghost use Rattle.rp_codec.specs.Found.{Finds};
+ghost use Rattle.rp_codec.specs.Reading.{Gives, lower_ballot_at, higher_ballot_at, vote_at, last_at, prepare_at, promise_at, accept_at, accepted_at, decided_at, ask_at, nack_at, answer_at, task_call_at, body_at};
 
 use crate::action_text::{put_action, read_action, read_own_call};
-use crate::fields::{put_ballot, put_position, put_u32, read_ballot, read_count, read_position};
+use crate::content::Content;
+use crate::fields::{
+    put_ballot, put_position, put_u16, put_u32, read_ballot, read_count, read_position,
+};
 use crate::kind::Kind;
 use crate::packet::{Body, Party};
 use crate::reader::Reader;
 use crate::reply_text::{put_reply, read_reply};
+use crate::report_text::read_report;
+use crate::short_text::ShortText;
 use rp_base::{Action, Ballot, PacketReason, Position, Vote};
-use std::alloc::AllocError;
 
+#[inline(always)]
 #[tactic(auto, unfolding(crate::specs::Reading::lower_ballot_at))]
 fn read_lower_ballot(reader: &mut Reader, ballot: Ballot) -> Result<Ballot, PacketReason>
     ensures { Gives result reader.new (lower_ballot_at ballot reader.old) }
@@ -24,6 +30,7 @@ fn read_lower_ballot(reader: &mut Reader, ballot: Ballot) -> Result<Ballot, Pack
     Ok(lower)
 }
 
+#[inline(always)]
 #[tactic(auto, unfolding(crate::specs::Reading::higher_ballot_at))]
 fn read_higher_ballot(reader: &mut Reader, ballot: Ballot) -> Result<Ballot, PacketReason>
     ensures { Gives result reader.new (higher_ballot_at ballot reader.old) }
@@ -35,6 +42,7 @@ fn read_higher_ballot(reader: &mut Reader, ballot: Ballot) -> Result<Ballot, Pac
     Ok(higher)
 }
 
+#[inline(always)]
 #[tactic(auto, unfolding(crate::specs::Reading::vote_at))]
 fn read_vote(reader: &mut Reader, below: Ballot) -> Result<Option<Vote>, PacketReason>
     ensures { Gives result reader.new (vote_at below reader.old) }
@@ -44,6 +52,7 @@ fn read_vote(reader: &mut Reader, below: Ballot) -> Result<Option<Vote>, PacketR
     Ok(Some(Vote { ballot, action }))
 }
 
+#[inline(always)]
 #[tactic(auto, unfolding(crate::specs::Reading::last_at))]
 fn read_last(reader: &mut Reader, below: Ballot) -> Result<Option<Vote>, PacketReason>
     ensures { Gives result reader.new (last_at below reader.old) }
@@ -56,6 +65,7 @@ fn read_last(reader: &mut Reader, below: Ballot) -> Result<Option<Vote>, PacketR
     }
 }
 
+#[inline(always)]
 #[tactic(auto, unfolding(crate::specs::Reading::prepare_at))]
 fn read_prepare(reader: &mut Reader) -> Result<Body, PacketReason>
     ensures { Gives result reader.new (prepare_at reader.old) }
@@ -65,6 +75,7 @@ fn read_prepare(reader: &mut Reader) -> Result<Body, PacketReason>
     Ok(Body::Prepare { position, ballot })
 }
 
+#[inline(always)]
 #[tactic(auto, unfolding(crate::specs::Reading::promise_at))]
 fn read_promise(reader: &mut Reader) -> Result<Body, PacketReason>
     ensures { Gives result reader.new (promise_at reader.old) }
@@ -80,6 +91,7 @@ fn read_promise(reader: &mut Reader) -> Result<Body, PacketReason>
     Ok(body)
 }
 
+#[inline(always)]
 #[tactic(auto, unfolding(crate::specs::Reading::accept_at))]
 fn read_accept(reader: &mut Reader) -> Result<Body, PacketReason>
     ensures { Gives result reader.new (accept_at reader.old) }
@@ -95,6 +107,7 @@ fn read_accept(reader: &mut Reader) -> Result<Body, PacketReason>
     Ok(body)
 }
 
+#[inline(always)]
 #[tactic(auto, unfolding(crate::specs::Reading::accepted_at))]
 fn read_accepted(reader: &mut Reader) -> Result<Body, PacketReason>
     ensures { Gives result reader.new (accepted_at reader.old) }
@@ -110,6 +123,7 @@ fn read_accepted(reader: &mut Reader) -> Result<Body, PacketReason>
     Ok(body)
 }
 
+#[inline(always)]
 #[tactic(auto, unfolding(crate::specs::Reading::decided_at))]
 fn read_decided(reader: &mut Reader) -> Result<Body, PacketReason>
     ensures { Gives result reader.new (decided_at reader.old) }
@@ -119,6 +133,7 @@ fn read_decided(reader: &mut Reader) -> Result<Body, PacketReason>
     Ok(Body::Decided { position, action })
 }
 
+#[inline(always)]
 #[tactic(auto, unfolding(crate::specs::Reading::nack_at))]
 fn read_nack(reader: &mut Reader) -> Result<Body, PacketReason>
     ensures { Gives result reader.new (nack_at reader.old) }
@@ -134,6 +149,7 @@ fn read_nack(reader: &mut Reader) -> Result<Body, PacketReason>
     Ok(body)
 }
 
+#[inline(always)]
 #[tactic(auto, unfolding(crate::specs::Reading::answer_at))]
 fn read_answer(reader: &mut Reader) -> Result<Body, PacketReason>
     ensures { Gives result reader.new (answer_at reader.old) }
@@ -143,6 +159,7 @@ fn read_answer(reader: &mut Reader) -> Result<Body, PacketReason>
     Ok(Body::Reply { number, reply })
 }
 
+#[inline(always)]
 #[tactic(auto, unfolding(crate::specs::Reading::task_call_at))]
 fn read_task_call(reader: &mut Reader, from: &Party) -> Result<Body, PacketReason>
     ensures { Gives result reader.new (task_call_at from.now reader.old) }
@@ -151,69 +168,89 @@ fn read_task_call(reader: &mut Reader, from: &Party) -> Result<Body, PacketReaso
     Ok(Body::Call { action })
 }
 
-/// The body of a packet of this kind, from this party.
-#[tactic(auto, unfolding(crate::specs::Reading::body_at))]
-pub(crate) fn read_body(reader: &mut Reader, kind: Kind, from: &Party) -> Result<Body, PacketReason>
-    ensures { Gives result reader.new (body_at kind from.now reader.old) }
+#[inline(always)]
+#[tactic(auto, unfolding(crate::specs::Reading::ask_at))]
+fn read_ask(reader: &mut Reader) -> Result<Body, PacketReason>
+    ensures { Gives result reader.new (ask_at reader.old) }
 {
-    match kind {
+    let position = read_position(reader)?;
+    Ok(Body::Ask { position })
+}
+
+/// What a packet of this kind says, from this party.
+#[tactic(auto, unfolding(crate::specs::Reading::body_at))]
+pub(crate) fn read_content<'a>(
+    reader: &mut Reader<'a>,
+    kind: Kind,
+    from: &Party,
+) -> Result<Content<'a>, PacketReason>
+    ensures { Finds result reader.new (body_at kind from.now reader.old) }
+{
+    let body = match kind {
         Kind::Call => read_task_call(reader, from),
         Kind::Prepare => read_prepare(reader),
         Kind::Promise => read_promise(reader),
         Kind::Accept => read_accept(reader),
         Kind::Accepted => read_accepted(reader),
         Kind::Decided => read_decided(reader),
+        Kind::Ask => read_ask(reader),
         Kind::Nack => read_nack(reader),
         Kind::Reply => read_answer(reader),
-    }
+        Kind::Report => return read_report(reader),
+    };
+    Ok(Content::Whole(body?))
 }
 
-fn put_last(out: &mut Vec<u8>, last: Option<Vote>) -> Result<(), AllocError>
-    ensures { OnOk result (out.new.items ≡ out.old.items ++ last_text last) }
+#[inline(always)]
+fn put_last(text: &mut ShortText, last: &Option<Vote>)
+    requires { length text.old + 26 ≤ 40 }
+    ensures { text.new ≡ text.old ++ last_text last.now }
 {
     match last {
-        None => out.push(0)?,
+        None => text.put(&[0]),
         Some(vote) => {
-            out.push(1)?;
-            put_ballot(out, vote.ballot)?;
-            put_action(out, vote.action)?;
+            text.put(&[1]);
+            put_ballot(text, vote.ballot);
+            put_action(text, &vote.action);
         }
     }
-    Ok(())
 }
 
-fn put_place(out: &mut Vec<u8>, position: Position, ballot: Ballot) -> Result<(), AllocError>
-    ensures { OnOk result (out.new.items ≡ out.old.items ++ (position_text position ++ ballot_text ballot)) }
+#[inline(always)]
+fn put_place(text: &mut ShortText, position: Position, ballot: Ballot)
+    requires { length text.old + 10 ≤ 40 }
+    ensures text { text.new ≡ text.old ++ (position_text position ++ ballot_text ballot) }
+    ensures len { length text.new ≡ length text.old + 10 }
 {
-    put_position(out, position)?;
-    put_ballot(out, ballot)
+    put_position(text, position);
+    put_ballot(text, ballot);
 }
 
-fn put_vote(
-    out: &mut Vec<u8>,
-    position: Position,
-    ballot: Ballot,
-    action: Action,
-) -> Result<(), AllocError>
-    ensures { OnOk result (out.new.items ≡ out.old.items ++ (position_text position ++ ballot_text ballot ++ action_text action)) }
+#[inline(always)]
+fn put_vote(text: &mut ShortText, position: Position, ballot: Ballot, action: &Action)
+    requires { length text.old + 27 ≤ 40 }
+    ensures { text.new ≡ text.old ++ (position_text position ++ ballot_text ballot ++ action_text action.now) }
 {
-    put_place(out, position, ballot)?;
-    put_action(out, action)
+    put_place(text, position, ballot);
+    put_action(text, action);
 }
 
-pub(crate) fn put_body(out: &mut Vec<u8>, body: &Body) -> Result<(), AllocError>
-    ensures { OnOk result (out.new.items ≡ out.old.items ++ body_text body.now) }
+/// Adds a body's text, at most 36 bytes, of a report all but its actions.
+#[inline(always)]
+pub(crate) fn put_body(text: &mut ShortText, body: &Body)
+    requires { length text.old + 36 ≤ 40 }
+    ensures { text.new ≡ text.old ++ short_body_text body.now }
 {
-    match *body {
-        Body::Call { action } => put_action(out, action),
-        Body::Prepare { position, ballot } => put_place(out, position, ballot),
+    match body {
+        Body::Call { action } => put_action(text, action),
+        Body::Prepare { position, ballot } => put_place(text, *position, *ballot),
         Body::Promise {
             position,
             ballot,
             last,
         } => {
-            put_place(out, position, ballot)?;
-            put_last(out, last)
+            put_place(text, *position, *ballot);
+            put_last(text, last);
         }
         Body::Accept {
             position,
@@ -224,22 +261,27 @@ pub(crate) fn put_body(out: &mut Vec<u8>, body: &Body) -> Result<(), AllocError>
             position,
             ballot,
             action,
-        } => put_vote(out, position, ballot, action),
+        } => put_vote(text, *position, *ballot, action),
         Body::Decided { position, action } => {
-            put_position(out, position)?;
-            put_action(out, action)
+            put_position(text, *position);
+            put_action(text, action);
         }
+        Body::Ask { position } => put_position(text, *position),
         Body::Nack {
             position,
             ballot,
             bound,
         } => {
-            put_place(out, position, ballot)?;
-            put_ballot(out, bound)
+            put_place(text, *position, *ballot);
+            put_ballot(text, *bound);
         }
         Body::Reply { number, reply } => {
-            put_u32(out, number)?;
-            put_reply(out, reply)
+            put_u32(text, *number);
+            put_reply(text, *reply);
+        }
+        Body::Report { first, applied, .. } => {
+            put_position(text, *first);
+            put_u16(text, *applied);
         }
     }
 }

@@ -1,16 +1,26 @@
 //! The fields that stand in more than one text: numbers, positions and ballots. A reader answers
 //! the field's value and the bytes after it.
 
-ghost use Rattle.std.specs.Prelude.{◌≡◌, ◌++◌, ◌∷◌, [], OnOk};
+ghost use Rattle.std.specs.Prelude.{◌≡◌, ◌+◌, ◌≤◌, ◌++◌, length};
 ghost use Rattle.std.specs.Int.{w16, w32, w64};
 ghost use Rattle.rp_codec.specs.Text.{number_text, signed_text, position_text, ballot_text};
 ghost use Rattle.rp_codec.specs.Reading.{Gives, byte_at, number_at, signed_at, index_at, count_at, position_at, ballot_at};
 
 use crate::reader::Reader;
+use crate::short_text::ShortText;
 use byteorder::{BigEndian, ByteOrder};
 use rp_base::{Ballot, PacketReason, Position};
-use std::alloc::AllocError;
 
+/// The version of the texts, their first byte.
+pub(crate) const VERSION: u8 = 1;
+
+/// Task t is the party `TASK_BASE` + t.
+pub(crate) const TASK_BASE: u8 = 16;
+
+/// The party that is the audit.
+pub(crate) const AUDIT: u8 = 32;
+
+#[inline(always)]
 #[tactic(auto, unfolding(crate::specs::Reading::signed_at))]
 pub(crate) fn read_i64(reader: &mut Reader) -> Result<i64, PacketReason>
     ensures { Gives result reader.new (signed_at reader.old) }
@@ -20,6 +30,7 @@ pub(crate) fn read_i64(reader: &mut Reader) -> Result<i64, PacketReason>
 }
 
 /// 1 to 8.
+#[inline(always)]
 #[tactic(auto, unfolding(crate::specs::Reading::index_at))]
 pub(crate) fn read_index(reader: &mut Reader) -> Result<u8, PacketReason>
     ensures { Gives result reader.new (index_at reader.old) }
@@ -32,6 +43,7 @@ pub(crate) fn read_index(reader: &mut Reader) -> Result<u8, PacketReason>
 }
 
 /// 1 to 2^32 - 1.
+#[inline(always)]
 #[tactic(auto, unfolding(crate::specs::Reading::count_at))]
 pub(crate) fn read_count(reader: &mut Reader) -> Result<u32, PacketReason>
     ensures { Gives result reader.new (count_at reader.old) }
@@ -43,6 +55,7 @@ pub(crate) fn read_count(reader: &mut Reader) -> Result<u32, PacketReason>
     Ok(number)
 }
 
+#[inline(always)]
 #[tactic(auto, unfolding(crate::specs::Reading::position_at))]
 pub(crate) fn read_position(reader: &mut Reader) -> Result<Position, PacketReason>
     ensures { Gives result reader.new (position_at reader.old) }
@@ -54,6 +67,7 @@ pub(crate) fn read_position(reader: &mut Reader) -> Result<Position, PacketReaso
     }
 }
 
+#[inline(always)]
 #[tactic(auto, using(crate::proofs::RuleTests::is_ballot_decides), unfolding(crate::specs::Reading::ballot_at))]
 pub(crate) fn read_ballot(reader: &mut Reader) -> Result<Ballot, PacketReason>
     ensures { Gives result reader.new (ballot_at reader.old) }
@@ -65,42 +79,59 @@ pub(crate) fn read_ballot(reader: &mut Reader) -> Result<Ballot, PacketReason>
     }
 }
 
+#[inline(always)]
 #[tactic(auto, unfolding(crate::specs::Text::number_text))]
-pub(crate) fn put_u32(out: &mut Vec<u8>, number: u32) -> Result<(), AllocError>
-    ensures { OnOk result (out.new.items ≡ out.old.items ++ number_text w32 number) }
+pub(crate) fn put_u16(text: &mut ShortText, number: u16)
+    requires { length text.old + 2 ≤ 40 }
+    ensures text { text.new ≡ text.old ++ number_text w16 number }
+    ensures len { length text.new ≡ length text.old + 2 }
+{
+    let mut bytes = [0; 2];
+    BigEndian::write_u16(&mut bytes, number);
+    text.put(&bytes);
+}
+
+#[inline(always)]
+#[tactic(auto, unfolding(crate::specs::Text::number_text))]
+pub(crate) fn put_u32(text: &mut ShortText, number: u32)
+    requires { length text.old + 4 ≤ 40 }
+    ensures text { text.new ≡ text.old ++ number_text w32 number }
+    ensures len { length text.new ≡ length text.old + 4 }
 {
     let mut bytes = [0; 4];
     BigEndian::write_u32(&mut bytes, number);
-    out.extend_from_slice(&bytes)?;
-    Ok(())
+    text.put(&bytes);
 }
 
+#[inline(always)]
 #[tactic(auto, unfolding(crate::specs::Text::number_text))]
-pub(crate) fn put_i64(out: &mut Vec<u8>, number: i64) -> Result<(), AllocError>
-    ensures { OnOk result (out.new.items ≡ out.old.items ++ signed_text number) }
+pub(crate) fn put_i64(text: &mut ShortText, number: i64)
+    requires { length text.old + 8 ≤ 40 }
+    ensures text { text.new ≡ text.old ++ signed_text number }
+    ensures len { length text.new ≡ length text.old + 8 }
 {
     let mut bytes = [0; 8];
     BigEndian::write_i64(&mut bytes, number);
-    out.extend_from_slice(&bytes)?;
-    Ok(())
+    text.put(&bytes);
 }
 
-#[tactic(auto, unfolding(crate::specs::Text::number_text))]
-pub(crate) fn put_position(out: &mut Vec<u8>, position: Position) -> Result<(), AllocError>
-    ensures { OnOk result (out.new.items ≡ out.old.items ++ position_text position) }
+#[inline(always)]
+pub(crate) fn put_position(text: &mut ShortText, position: Position)
+    requires { length text.old + 2 ≤ 40 }
+    ensures text { text.new ≡ text.old ++ position_text position }
+    ensures len { length text.new ≡ length text.old + 2 }
 {
-    let mut bytes = [0; 2];
-    BigEndian::write_u16(&mut bytes, position.get());
-    out.extend_from_slice(&bytes)?;
-    Ok(())
+    put_u16(text, position.get());
 }
 
+#[inline(always)]
 #[tactic(auto, unfolding(crate::specs::Text::number_text))]
-pub(crate) fn put_ballot(out: &mut Vec<u8>, ballot: Ballot) -> Result<(), AllocError>
-    ensures { OnOk result (out.new.items ≡ out.old.items ++ ballot_text ballot) }
+pub(crate) fn put_ballot(text: &mut ShortText, ballot: Ballot)
+    requires { length text.old + 8 ≤ 40 }
+    ensures text { text.new ≡ text.old ++ ballot_text ballot }
+    ensures len { length text.new ≡ length text.old + 8 }
 {
     let mut bytes = [0; 8];
     BigEndian::write_u64(&mut bytes, ballot.get());
-    out.extend_from_slice(&bytes)?;
-    Ok(())
+    text.put(&bytes);
 }

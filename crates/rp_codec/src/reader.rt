@@ -22,12 +22,14 @@ impl<'a> Model for Reader<'a> {
 }
 
 impl<'a> Reader<'a> {
+    #[inline(always)]
     pub(crate) fn new(bytes: &'a [u8]) -> Self
         ensures { result ≡ bytes.now }
     {
         Reader { rest: bytes }
     }
 
+    #[inline(always)]
     pub(crate) fn is_empty(&self) -> bool
         ensures { IsTrue result ↔ (self.now ≡ []) }
     {
@@ -35,12 +37,22 @@ impl<'a> Reader<'a> {
     }
 
     /// How many bytes are left.
+    #[inline(always)]
     pub(crate) fn len(&self) -> usize
         ensures { result ≡ length self.now }
     {
         self.rest.len()
     }
 
+    /// A second reader of the same bytes.
+    #[inline(always)]
+    pub(crate) fn again(&self) -> Reader<'a>
+        ensures { result ≡ self.now }
+    {
+        Reader { rest: self.rest }
+    }
+
+    #[inline(always)]
     pub(crate) fn byte(&mut self) -> Result<u8, PacketReason>
         ensures { Gives result self.new (byte_at self.old) }
     {
@@ -53,6 +65,7 @@ impl<'a> Reader<'a> {
         }
     }
 
+    #[inline(always)]
     #[tactic(auto, unfolding(crate::specs::Reading::number_at))]
     pub(crate) fn u16(&mut self) -> Result<u16, PacketReason>
         ensures { Gives result self.new (number_at w16 self.old) }
@@ -65,6 +78,7 @@ impl<'a> Reader<'a> {
         Ok(u16::from_be_bytes([front[0], front[1]]))
     }
 
+    #[inline(always)]
     #[tactic(auto, unfolding(crate::specs::Reading::number_at))]
     pub(crate) fn u32(&mut self) -> Result<u32, PacketReason>
         ensures { Gives result self.new (number_at w32 self.old) }
@@ -77,6 +91,7 @@ impl<'a> Reader<'a> {
         Ok(u32::from_be_bytes([front[0], front[1], front[2], front[3]]))
     }
 
+    #[inline(always)]
     #[tactic(auto, unfolding(crate::specs::Reading::number_at))]
     pub(crate) fn u64(&mut self) -> Result<u64, PacketReason>
         ensures { Gives result self.new (number_at w64 self.old) }

@@ -1,2 +1,4 @@
 pub mod SetsMeet
-pub mod OneSenderMore
+pub mod Members
+pub mod Sameness
+pub mod Masks

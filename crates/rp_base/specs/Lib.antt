@@ -9,3 +9,4 @@ pub mod Records
 pub mod Promises
 pub mod Right
 pub mod Histories
+pub mod Masks

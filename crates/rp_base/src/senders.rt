@@ -1,29 +1,27 @@
 //! A set of nodes, such as those that sent a promise or a vote.
 
-ghost use Rattle.std.specs.Prelude.{◌≡◌, [], ◌∷◌, ◌++◌, false, length, nat_eq};
-ghost use Rattle.std.specs.List.{list_any};
-ghost use Rattle.rp_base.specs.Number.{IsNode};
-ghost use Rattle.rp_base.specs.Sets.{with_member};
+ghost use Rattle.std.specs.Prelude.{◌≡◌, [], length, nat_eq};
+ghost use Rattle.rp_base.specs.Sets.{SameMembers, with_member};
+ghost use Rattle.rp_base.specs.Majority.{AreNodes};
 
 use crate::number::NodeId;
 use std::marker::Model;
 
-/// A set of nodes in the order in which they came: at most 7, in place.
+/// A set of nodes, at most 7: a mask in one byte, whose bit k is set where node k is in the set.
 #[derive(Debug, Drop)]
 pub struct Senders {
-    nodes: [NodeId; 7],
-    len: usize,
+    mask: u8,
 }
 
 impl Model for Senders {
-    ghost use Rattle.std.specs.Prelude.{◌≡◌, ℕ, List, ◌≤◌, length, take};
-    ghost use Rattle.rp_base.specs.Majority.{AreNodes};
+    ghost use Rattle.std.specs.Prelude.{◌≡◌, ◌%◌, ℕ, List};
+    ghost use Rattle.rp_base.specs.Masks.{nodes_in};
 
     ghost Value = { List ℕ };
 
-    ghost view = { λ s. take s.len s.nodes };
+    ghost view = { λ s. nodes_in s.mask };
 
-    ghost invariant = { λ s. (s.len ≤ 7) × (length s.nodes ≡ 7) × AreNodes 7 (take s.len s.nodes) };
+    ghost invariant = { λ s. s.mask % 2 ≡ 0 };
 }
 
 impl Senders {
@@ -31,55 +29,21 @@ impl Senders {
     pub fn new() -> Senders
         ensures { result ≡ [] }
     {
-        let unused = NodeId::new(1).unwrap();
-        Senders {
-            nodes: [unused; 7],
-            len: 0,
-        }
+        Senders { mask: 0 }
     }
 
     /// How many nodes there are, at most 7.
     pub fn len(&self) -> usize
-        ensures { result ≡ length self.now }
+        ensures value { result ≡ length self.now }
+        ensures nodes { AreNodes 7 self.now }
     {
-        self.len
+        self.mask.count_ones() as usize
     }
 
-    fn contains(&self, node: NodeId) -> bool
-        ensures value { result ≡ list_any (nat_eq node) self.now }
-        ensures in_range { IsNode node }
+    /// Adds a node, unless it is there.
+    pub fn insert(&mut self, node: NodeId)
+        ensures { SameMembers self.new (with_member nat_eq self.old node) }
     {
-        let number = node.get();
-        self.nodes[..self.len]
-            .iter()
-            .any(|other| number == other.get())
-    }
-
-    /// These and a node that is not among them.
-    fn and(&self, node: NodeId) -> Senders
-        requires in_range { IsNode node }
-        requires absent { list_any (nat_eq node) self.now ≡ false }
-        ensures { result ≡ self.now ++ node ∷ [] }
-    {
-        let mut nodes = self.nodes;
-        nodes[self.len] = node;
-        Senders {
-            nodes,
-            len: self.len + 1,
-        }
-    }
-
-    /// These and one more, unless it is there.
-    pub fn with(&self, node: NodeId) -> Senders
-        ensures { result ≡ with_member nat_eq self.now node }
-    {
-        if self.contains(node) {
-            Senders {
-                nodes: self.nodes,
-                len: self.len,
-            }
-        } else {
-            self.and(node)
-        }
+        self.mask |= 1 << node.get();
     }
 }

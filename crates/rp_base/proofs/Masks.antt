@@ -1,0 +1,110 @@
+-- Sets of nodes as masks.
+use Rattle.std.proofs.Common.{◌≡◌, ◌≢◌, ℕ, zero, suc, ◌+◌, ◌*◌, ◌^◌, ◌%◌, ◌<◌, ◌≤◌, max, Bool, true, false, ◌⊎◌, ◌↔◌, List, [], ◌∷◌, length, nat_eq, inl, inr, refl, sym, ap, subst, ◌∙◌, arith}
+use Rattle.std.specs.Prelude.{◌&&◌, filter, bit_or, count_ones}
+use Rattle.std.specs.Int.{bit_at}
+use lib.Count.{ones}
+use Rattle.std.specs.List.{list_any}
+use Rattle.std.proofs.lemmas.Bool.{cases_eq, eqb-true, eq-eqb, ne_eqb, and_parts}
+use Rattle.std.proofs.lemmas.Bool.Decides.{Decides-eqb}
+use Rattle.std.proofs.lemmas.Nat.Bits.{bit_at_lowest, bit_at_or, bit_at-pow_same, bit_at-pow_other}
+use Rattle.rp_base.specs.Sets.{Has, IsSet, SameMembers, with_member}
+use Rattle.rp_base.specs.Number.{IsNode}
+use Rattle.rp_base.specs.Majority.{AreNodes}
+use Rattle.rp_base.specs.Masks.{all_nodes, nodes_in}
+use Rattle.rp_base.proofs.Members.{has_passing, passes, found, has_with, with_has, set_passing, set_members}
+
+-- the test holds of each number below n
+abbrev all_below : (ℕ → Bool) → ℕ → Bool
+all_below test zero = true
+all_below test (suc n) = test n && all_below test n
+
+below : (test : ℕ → Bool) (n k : ℕ) → all_below test n ≡ true → k < n → test k ≡ true
+below test zero k all less = absurd (omega arith)
+below test (suc n) k all less =
+    let both = and_parts _ _ all in
+    elim (cases_eq k n) [ inl same ↦ ap test same ∙ both.0 | inr other ↦ below test n k both.1 (omega arith) ]
+
+-- there are as many nodes in a mask as bits that are set
+pub counted : (half : ℕ) → half < 128 → count_ones (2 * half) ≡ length (nodes_in (2 * half))
+unfolding ones
+counted half less = eqb-true _ _ (below (λ m. nat_eq (count_ones (2 * m)) (length (nodes_in (2 * m)))) 128 half refl less)
+
+-- a shift by a node's number is within a byte
+shifted : (k : ℕ) → IsNode k → 1 * 2 ^ k % 256 ≡ 2 ^ k
+shifted k node = eqb-true _ _ (below (λ n. nat_eq (1 * 2 ^ n % 256) (2 ^ n)) 8 k refl (omega (arith, node.1)))
+
+among : (k : ℕ) → IsNode k → Has k all_nodes
+among zero node = absurd (omega (arith, node.0))
+among (suc n) node = found nat_eq Decides-eqb (suc n) all_nodes (below (λ n. list_any (nat_eq (suc n)) all_nodes) 7 n refl (omega (arith, node.1)))
+
+is_node : (x : ℕ) → Has x all_nodes → IsNode x
+is_node x h = elim h [
+  | inl e ↦ (omega (arith, e), omega (arith, e))
+  | inr h ↦ elim h [
+    | inl e ↦ (omega (arith, e), omega (arith, e))
+    | inr h ↦ elim h [
+      | inl e ↦ (omega (arith, e), omega (arith, e))
+      | inr h ↦ elim h [
+        | inl e ↦ (omega (arith, e), omega (arith, e))
+        | inr h ↦ elim h [
+          | inl e ↦ (omega (arith, e), omega (arith, e))
+          | inr h ↦ elim h [
+            | inl e ↦ (omega (arith, e), omega (arith, e))
+            | inr h ↦ elim h [ inl e ↦ (omega (arith, e), omega (arith, e)) | inr none ↦ absurd none ]
+          ]
+        ]
+      ]
+    ]
+  ]
+]
+
+all_distinct : IsSet all_nodes
+all_distinct = set_members nat_eq Decides-eqb [] all_nodes tt
+
+-- a node is in a mask where its bit is set
+pub has_node : (mask x : ℕ) → Has x (nodes_in mask) ↔ (Has x all_nodes × (bit_at mask x ≡ 1))
+has_node mask x = (
+  λ h. let both = has_passing (λ k. nat_eq (bit_at mask k) 1) x all_nodes h in (both.0, eqb-true _ _ both.1),
+  λ h. passes (λ k. nat_eq (bit_at mask k) 1) x all_nodes h.0 (eq-eqb _ _ h.1),
+)
+
+pub are_nodes : (mask : ℕ) → AreNodes 7 (nodes_in mask)
+are_nodes mask = record {
+  members = λ x h. is_node x ((has_node mask x).0 h).0;
+  distinct = set_passing (λ k. nat_eq (bit_at mask k) 1) all_nodes all_distinct;
+}
+
+-- the mask with a node's bit set
+pub with_node : (mask k : ℕ) → IsNode k → SameMembers (nodes_in (bit_or mask (1 * 2 ^ k % 256))) (with_member nat_eq (nodes_in mask) k)
+with_node mask k node x =
+    let bit : bit_at (bit_or mask (1 * 2 ^ k % 256)) x ≡ max (bit_at mask x) (bit_at (2 ^ k) x) =
+    ap (λ (m : ℕ). bit_at (bit_or mask m) x) (shifted k node) ∙ bit_at_or mask (2 ^ k) x in
+    let most : bit_at mask x < 2 = omega arith in (
+      λ h. with_has nat_eq Decides-eqb x k (nodes_in mask) (
+          let both = (has_node (bit_or mask (1 * 2 ^ k % 256)) x).0 h in
+          elim (cases_eq x k) [
+            | inl same ↦ inr same
+            | inr other ↦
+                let none : bit_at (2 ^ k) x ≡ 0 = bit_at-pow_other k x other in
+                inl ((has_node mask x).1 (both.0, omega (arith, both.1, bit, none)))
+          ]),
+      λ h. elim (has_with nat_eq Decides-eqb x k (nodes_in mask) h) [
+        | inl before ↦
+            let both = (has_node mask x).0 before in
+            let few : bit_at (2 ^ k) x < 2 = omega arith in
+            (has_node (bit_or mask (1 * 2 ^ k % 256)) x).1 (both.0, omega (arith, both.1, bit, few))
+        | inr same ↦
+            let one : bit_at (2 ^ k) x ≡ 1 = ap (bit_at (2 ^ k)) same ∙ bit_at-pow_same k in
+            (has_node (bit_or mask (1 * 2 ^ k % 256)) x).1 (subst (λ (n : ℕ). Has n all_nodes) (sym same) (among k node), omega (arith, bit, one, most))
+      ],
+    )
+
+-- bit 0 stays clear
+pub even_still : (mask k : ℕ) → IsNode k → mask % 2 ≡ 0 → bit_or mask (1 * 2 ^ k % 256) % 2 ≡ 0
+even_still mask k node even =
+    let bit : bit_at (bit_or mask (1 * 2 ^ k % 256)) 0 ≡ max (bit_at mask 0) (bit_at (2 ^ k) 0) =
+    ap (λ (m : ℕ). bit_at (bit_or mask m) 0) (shifted k node) ∙ bit_at_or mask (2 ^ k) 0 in
+    let none : bit_at (2 ^ k) 0 ≡ 0 = bit_at-pow_other k 0 (λ e. omega (arith, e, node.0)) in
+    let first : bit_at mask 0 ≡ mask % 2 = bit_at_lowest mask in
+    let all : bit_at (bit_or mask (1 * 2 ^ k % 256)) 0 ≡ bit_or mask (1 * 2 ^ k % 256) % 2 = bit_at_lowest (bit_or mask (1 * 2 ^ k % 256)) in
+    omega (arith, bit, none, first, all, even)

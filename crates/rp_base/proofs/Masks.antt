@@ -1,17 +1,18 @@
 -- Sets of nodes as masks.
-use Rattle.std.proofs.Common.{◌≡◌, ◌≢◌, ℕ, zero, suc, ◌+◌, ◌*◌, ◌^◌, ◌%◌, ◌<◌, ◌≤◌, max, Bool, true, false, ◌⊎◌, ◌↔◌, List, [], ◌∷◌, length, nat_eq, inl, inr, refl, sym, ap, subst, ◌∙◌, arith}
+use Rattle.std.proofs.Common.{◌≡◌, ◌≢◌, ℕ, zero, suc, ◌+◌, ◌*◌, ◌^◌, ◌%◌, ◌/◌, ◌<◌, ◌≤◌, max, Bool, true, false, ◌⊎◌, ◌↔◌, List, [], ◌∷◌, length, nat_eq, inl, inr, refl, sym, ap, subst, ◌∙◌, arith}
 use Rattle.std.specs.Prelude.{◌&&◌, filter, bit_or, count_ones}
 use Rattle.std.specs.Int.{bit_at}
 use lib.Count.{ones}
 use Rattle.std.specs.List.{list_any}
 use Rattle.std.proofs.lemmas.Bool.{cases_eq, eqb-true, eq-eqb, ne_eqb, and_parts}
 use Rattle.std.proofs.lemmas.Bool.Decides.{Decides-eqb}
+use Rattle.std.proofs.lemmas.Nat.{or_lt}
 use Rattle.std.proofs.lemmas.Nat.Bits.{bit_at_lowest, bit_at_or, bit_at-pow_same, bit_at-pow_other}
 use Rattle.rp_base.specs.Sets.{Has, IsSet, SameMembers, with_member}
 use Rattle.rp_base.specs.Number.{IsNode}
 use Rattle.rp_base.specs.Majority.{AreNodes}
 use Rattle.rp_base.specs.Masks.{all_nodes, nodes_in}
-use Rattle.rp_base.proofs.Members.{has_passing, passes, found, has_with, with_has, set_passing, set_members}
+use Rattle.rp_base.proofs.Members.{has_passing, passes, found, has_with, with_has, set_passing, set_members, set_with, same_size}
 
 -- the test holds of each number below n
 abbrev all_below : (ℕ → Bool) → ℕ → Bool
@@ -108,3 +109,16 @@ even_still mask k node even =
     let first : bit_at mask 0 ≡ mask % 2 = bit_at_lowest mask in
     let all : bit_at (bit_or mask (1 * 2 ^ k % 256)) 0 ≡ bit_or mask (1 * 2 ^ k % 256) % 2 = bit_at_lowest (bit_or mask (1 * 2 ^ k % 256)) in
     omega (arith, bit, none, first, all, even)
+
+-- with one node more there are as many as bits are set then
+pub counted_with : (mask k : ℕ) → IsNode k → mask < 256 → mask % 2 ≡ 0
+    → count_ones (bit_or mask (1 * 2 ^ k % 256)) ≡ length (with_member nat_eq (nodes_in mask) k)
+counted_with mask k node byte even =
+    let more : ℕ = bit_or mask (1 * 2 ^ k % 256) in
+    let below : more < 256 = or_lt 8 mask (1 * 2 ^ k % 256) byte (omega arith) in
+    let still : more % 2 ≡ 0 = even_still mask k node even in
+    let whole : more ≡ 2 * (more / 2) = omega (arith, still) in
+    let ones_there : count_ones more ≡ length (nodes_in more) =
+    subst (λ (m : ℕ). count_ones m ≡ length (nodes_in m)) (sym whole) (counted (more / 2) (omega (arith, below))) in
+    ones_there ∙ same_size (nodes_in more) (with_member nat_eq (nodes_in mask) k) (are_nodes more).distinct
+    (set_with nat_eq Decides-eqb (nodes_in mask) k (are_nodes mask).distinct) (with_node mask k node)

@@ -116,7 +116,7 @@ has_members same decides x seen (y ∷ xs) h =
     ]
 
 -- one member more, behind the others, leaves a set
-set_more : {A : Type 0} (xs : List A) (x : A) → IsSet xs → ¬ Has x xs → IsSet (xs ++ x ∷ [])
+pub set_more : {A : Type 0} (xs : List A) (x : A) → IsSet xs → ¬ Has x xs → IsSet (xs ++ x ∷ [])
 set_more [] x set none = (λ h. h, tt)
 set_more (y ∷ xs) x set none = (
   λ h. elim (has_split y xs (x ∷ []) h) [

@@ -40,6 +40,14 @@ impl Senders {
         self.mask.count_ones() as usize
     }
 
+    /// How many there are with one more, unless it is there.
+    pub fn len_with(&self, node: NodeId) -> usize
+        ensures value { result ≡ length (with_member nat_eq self.now node) }
+        ensures nodes { AreNodes 7 self.now }
+    {
+        (self.mask | 1 << node.get()).count_ones() as usize
+    }
+
     /// Adds a node, unless it is there.
     pub fn insert(&mut self, node: NodeId)
         ensures { SameMembers self.new (with_member nat_eq self.old node) }

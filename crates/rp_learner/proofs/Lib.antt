@@ -1,5 +1,4 @@
-pub mod Sameness
-pub mod Members
+pub mod Tallies
 pub mod Placing
 pub mod Voters
 pub mod Writing

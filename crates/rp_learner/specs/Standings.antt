@@ -1,19 +1,15 @@
 -- What a learner knows, and what a vote makes of it. Lamport, "Paxos Made Simple", section 2.3: a value
 -- is learned once a majority of acceptors accepted it; here, all of them in one ballot, which is stricter.
-use Rattle.std.specs.Prelude.{◌↔◌, ◌≡◌, ℕ, Bool, not, nat_eq, List, filter, if◌then◌else◌}
+use Rattle.std.specs.Prelude.{◌≡◌, ℕ, Bool, not, nat_eq, List, filter, if◌then◌else◌}
 use Rattle.std.specs.List.{list_any}
 use Rattle.rp_base.specs.declared.record.Vote.{Vote}
-use Rattle.rp_base.specs.Sets.{Has, with_member}
+use Rattle.rp_base.specs.Sets.{SameMembers, with_member}
 use Rattle.rp_base.specs.Promises.{HeardVote, same_heard, voters_of, is_majority}
 use Rattle.rp_learner.specs.Learning.{Learning}
 use Rattle.rp_learner.specs.declared.learner.Standing.{Standing}
 use Rattle.rp_learner.specs.declared.learner.Standing.TheVariants.{Counting, Learned, Known}
 use Rattle.rp_learner.specs.declared.learner.Decision.{Decision}
 use Rattle.rp_learner.specs.declared.learner.Decision.TheVariants as decisions
-
--- the two have the same members
-abbrev pub SameMembers : {A : Type 0} → List A → List A → Type 0
-SameMembers {A} xs ys = (x : A) → Has x xs ↔ Has x ys
 
 -- the two hold the same, as sets
 pub record SameLearning (l m : Learning) : Type 0 where

@@ -3,7 +3,7 @@
 ghost use Rattle.std.specs.Prelude.{◌≡◌, ◌≤◌, [], OnOk, OnErr, IfOk, IsOkUnless};
 ghost use Rattle.rp_learner.specs.Standings.{SameLearning, standing_with, decision_at, with_settled, with_vote};
 
-use crate::place::{CastVote, Place, hear, is_settled_at, senders_of, votes_at};
+use crate::place::{Place, count_with, hear, is_settled_at};
 use rp_base::{Action, Ballot, Fault, NodeId, Position, Vote, majority};
 use std::alloc::Global;
 use std::marker::Model;
@@ -85,9 +85,8 @@ impl Learner {
             ballot,
             action: *action,
         };
-        let others = senders_of(votes_at(&self.places, position), &vote);
-        let senders = others.with(from);
-        if senders.len() >= usize::from(majority(self.nodes)) {
+        let voters = count_with(&self.places, position, from, &vote);
+        if voters >= usize::from(majority(self.nodes)) {
             Standing::Learned
         } else {
             Standing::Counting
@@ -119,7 +118,7 @@ impl Learner {
                     action: *action,
                 };
                 let place = &mut self.places[usize::from(position.get()) - 1];
-                hear(alloc, place, CastVote { from, vote })?;
+                hear(alloc, place, from, &vote)?;
             }
         }
         Ok(())

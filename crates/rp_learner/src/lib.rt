@@ -3,6 +3,7 @@
 
 mod learner;
 mod place;
+mod tally;
 
 pub use learner::{Decision, Learner, Standing};
 

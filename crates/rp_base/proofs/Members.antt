@@ -175,3 +175,48 @@ same_size xs ys s t same =
     let one : length xs ≤ length ys = set_fits xs ys s (λ x h. (same x).0 h) in
     let other : length ys ≤ length xs = set_fits ys xs t (λ x h. (same x).1 h) in
     omega arith
+
+-- ---- lists of the same members
+
+pub mapped_has : {A B : Type 0} (f : A → B) (y : B) (xs : List A) → Has y (map f xs) → (x : A) × Has x xs × (y ≡ f x)
+mapped_has f y [] h = absurd h
+mapped_has f y (x ∷ xs) h =
+    elim h [ inl e ↦ (x, inl refl, e) | inr later ↦ let rest = mapped_has f y xs later in (rest.0, inr rest.1, rest.2) ]
+
+-- a test for sameness finds the same in both
+pub same_test : {A : Type 0} (same : A → A → Bool) → ((x y : A) → Decides (same x y) (x ≡ y)) → (x : A) (xs ys : List A) → SameMembers xs ys → list_any (same x) xs ≡ list_any (same x) ys
+same_test same decides x xs ys alike =
+    elim (cases_Bool (list_any (same x) xs)) [
+      | inl hit ↦ hit ∙ sym (finds same decides x ys ((alike x).0 (found same decides x xs hit)))
+      | inr miss ↦ elim (cases_Bool (list_any (same x) ys)) [
+        | inl hit ↦ absurd (both_ways (list_any (same x) xs) miss (finds same decides x xs ((alike x).1 (found same decides x ys hit))))
+        | inr none ↦ miss ∙ sym none
+      ]
+    ]
+
+-- with one member more they still have the same
+pub same_with : {A : Type 0} (same : A → A → Bool) → ((x y : A) → Decides (same x y) (x ≡ y)) → (y : A) (xs ys : List A) → SameMembers xs ys → SameMembers (with_member same xs y) (with_member same ys y)
+same_with same decides y xs ys alike x = (
+  λ h. with_has same decides x y ys (elim (has_with same decides x y xs h) [ inl old ↦ inl ((alike x).0 old) | inr e ↦ inr e ]),
+  λ h. with_has same decides x y xs (elim (has_with same decides x y ys h) [ inl old ↦ inl ((alike x).1 old) | inr e ↦ inr e ]),
+)
+
+-- so do those that pass a test
+pub same_passing : {A : Type 0} (test : A → Bool) (xs ys : List A) → SameMembers xs ys → SameMembers (filter test xs) (filter test ys)
+same_passing test xs ys alike x = (
+  λ h. let both = has_passing test x xs h in passes test x ys ((alike x).0 both.0) both.1,
+  λ h. let both = has_passing test x ys h in passes test x xs ((alike x).1 both.0) both.1,
+)
+
+-- and what a function makes of them, each once
+pub same_mapped : {A B : Type 0} (f : A → B) (xs ys : List A) → SameMembers xs ys → SameMembers (map f xs) (map f ys)
+same_mapped {A} {B} f xs ys alike y = (
+  λ h. let hit = mapped_has f y xs h in subst (λ (z : B). Has z (map f ys)) (sym hit.2) (has_mapped f hit.0 ys ((alike hit.0).0 hit.1)),
+  λ h. let hit = mapped_has f y ys h in subst (λ (z : B). Has z (map f xs)) (sym hit.2) (has_mapped f hit.0 xs ((alike hit.0).1 hit.1)),
+)
+
+pub same_members : {A : Type 0} (same : A → A → Bool) → ((x y : A) → Decides (same x y) (x ≡ y)) → (xs ys : List A) → SameMembers xs ys → SameMembers (with_members same [] xs) (with_members same [] ys)
+same_members same decides xs ys alike x = (
+  λ h. elim (has_members same decides x [] xs h) [ inl none ↦ absurd none | inr there ↦ member_stays same decides x [] ys ((alike x).0 there) ],
+  λ h. elim (has_members same decides x [] ys h) [ inl none ↦ absurd none | inr there ↦ member_stays same decides x [] xs ((alike x).1 there) ],
+)

@@ -3,3 +3,4 @@ pub mod Placing
 pub mod Voters
 pub mod Writing
 pub mod Outcomes
+pub mod Alike

@@ -1,6 +1,6 @@
 -- What holds at a position, by its place.
 use Rattle.std.proofs.Common.{◌≡◌, ℕ, zero, suc, ◌<◌, ◌≤◌, Bool, true, false, cond, Some, Result, Ok, Err, OnErr, List, [], length, map, replicate, set, sym, refl, subst, ap, ◌∙◌, inl, inr}
-use Rattle.std.specs.Prelude.{nat_eq, filter, slice_get}
+use Rattle.std.specs.Prelude.{nat_eq, nat_le, slice_get}
 use Rattle.std.proofs.lemmas.Bool.{cases_Bool, le-leb, lt-leb, cond-true, cond-false}
 use Rattle.rp_base.specs.declared.record.Vote.{Vote}
 use Rattle.rp_base.specs.Majority.{majority_of}
@@ -13,7 +13,8 @@ use Rattle.rp_learner.specs.declared.learner.Standing.TheVariants.{Counting, Lea
 use Rattle.rp_learner.specs.Places.{votes_at, place_at, is_settled_in, settled_of, is_settled_at, IsWithCast, heard_from, settled_from}
 use Rattle.rp_learner.specs.Standings.{is_settled, heard_with, standing_with, with_standing, with_vote, SameLearning}
 use Rattle.rp_learner.proofs.Placing.{settled_at}
-use Rattle.rp_learner.proofs.Voters.{voters_at, voters_with}
+use Rattle.rp_learner.specs.Casts.{voters_with}
+use Rattle.rp_learner.proofs.Voters.{voters_at, one_more_voter}
 use Rattle.rp_learner.proofs.Writing.{learning_of, hears}
 
 -- a learner without votes
@@ -32,24 +33,26 @@ module _ (nodes : ℕ) (places : List Place) (from i : ℕ) (vote : Vote) where
       sym (cond-true (is_settled (learning_of nodes places) i) Known
       (cond (is_majority nodes (voters_of i vote (heard_with (learning_of nodes places) from i vote))) Learned Counting) (settled_at places i ∙ settled))
 
-  module _ (senders : List ℕ) (open_place : is_settled_at places i ≡ false)
-      (counted : senders ≡ with_member nat_eq (with_members nat_eq [] (map (λ c. c.from) (filter (λ c. same_vote c.vote vote) (votes_at places i)))) from) where
-    voters : senders ≡ voters_of i vote (heard_with (learning_of nodes places) from i vote)
-    voters = counted ∙ ap (λ (l : List ℕ). with_member nat_eq l from) (voters_at places i vote) ∙ voters_with i from vote (heard_from 1 places)
+  module _ (count : ℕ) (open_place : is_settled_at places i ≡ false) (counted : count ≡ length (voters_with (votes_at places i) from vote)) where
+    voters : count ≡ length (voters_of i vote (heard_with (learning_of nodes places) from i vote))
+    voters =
+        counted
+        ∙ ap (λ (l : List ℕ). length (with_member nat_eq l from)) (voters_at places i vote)
+        ∙ ap (λ (l : List ℕ). length l) (one_more_voter i from vote (heard_from 1 places))
 
-    by_majority : (b : Bool) → is_majority nodes senders ≡ b → standing_with (learning_of nodes places) from i vote ≡ cond b Learned Counting
+    by_majority : (b : Bool) → nat_le (majority_of nodes) count ≡ b → standing_with (learning_of nodes places) from i vote ≡ cond b Learned Counting
     by_majority b e =
         cond-false (is_settled (learning_of nodes places) i) Known
         (cond (is_majority nodes (voters_of i vote (heard_with (learning_of nodes places) from i vote))) Learned Counting) (settled_at places i ∙ open_place)
-        ∙ ap (λ (t : Bool). cond t Learned Counting) (sym (ap (is_majority nodes) voters) ∙ e)
+        ∙ ap (λ (t : Bool). cond t Learned Counting) (sym (ap (λ (n : ℕ). nat_le (majority_of nodes) n) voters) ∙ e)
 
     -- a majority of them learns the action
-    pub learned_at : majority_of nodes ≤ length senders → Learned ≡ standing_with (learning_of nodes places) from i vote
-    learned_at most = sym (by_majority true (le-leb (majority_of nodes) (length senders) most))
+    pub learned_at : majority_of nodes ≤ count → Learned ≡ standing_with (learning_of nodes places) from i vote
+    learned_at most = sym (by_majority true (le-leb (majority_of nodes) count most))
 
     -- fewer are counted
-    pub counting_at : length senders < majority_of nodes → Counting ≡ standing_with (learning_of nodes places) from i vote
-    counting_at few = sym (by_majority false (lt-leb (majority_of nodes) (length senders) few))
+    pub counting_at : count < majority_of nodes → Counting ≡ standing_with (learning_of nodes places) from i vote
+    counting_at few = sym (by_majority false (lt-leb (majority_of nodes) count few))
 
   known≢counting : Known ≡ Counting → ⊥
   known≢counting e = cc

@@ -248,7 +248,7 @@ one_cast t from vote voted alone c = (
 
 casts-append : (ts us : List Tally) → casts_of (ts ++ us) ≡ casts_of ts ++ casts_of us
 casts-append [] us = refl
-casts-append (t ∷ ts) us = ap (λ (l : List CastVote). casts_in t ++ l) (casts-append ts us) ∙ sym (append_assoc {A = CastVote} {a = casts_in t} {b = casts_of ts} {c = casts_of us})
+casts-append (t ∷ ts) us = ap (λ (l : List CastVote). casts_in t ++ l) (casts-append ts us) ∙ sym (append_assoc (casts_in t) (casts_of ts) (casts_of us))
 
 -- a tally of a vote that has none
 pub heard_first : (ts : List Tally) (u : Tally) (from : ℕ) (vote : Vote) → u.vote ≡ vote → SameMembers u.senders (from ∷ [])

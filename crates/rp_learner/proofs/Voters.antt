@@ -86,9 +86,9 @@ pub voters_at : (places : List Place) (j : ℕ) (vote : Vote) → with_members n
 voters_at places j vote = ap (with_members nat_eq []) (sym (senders_at places j vote))
 
 -- its sender is one more voter
-pub voters_with : (i from : ℕ) (vote : Vote) (heard : List HeardVote)
+pub one_more_voter : (i from : ℕ) (vote : Vote) (heard : List HeardVote)
     → with_member nat_eq (voters_of i vote heard) from ≡ voters_of i vote (with_member same_heard heard (from, i, vote))
-voters_with i from vote heard =
+one_more_voter i from vote heard =
     let this : HeardVote = (from, i, vote) in
     let counts : (nat_eq i i && same_vote vote vote) ≡ true = and_from (nat_eq i i) (same_vote vote vote) (eq-eqb i i refl) (vote_same vote) in
     let there = list_any (same_heard this) heard in

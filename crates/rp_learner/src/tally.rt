@@ -93,10 +93,12 @@ impl Tallies {
 fn index_of(tallies: &[Tally], vote: &Vote) -> Option<usize>
     ensures { result ≡ index_from 0 vote.now tallies.now }
 {
-    for (index, tally) in tallies.iter().enumerate() {
+    let mut index = 0;
+    for tally in tallies {
         if tally.vote == *vote {
             return Some(index);
         }
+        index += 1;
     }
     None
 }

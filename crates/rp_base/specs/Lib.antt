@@ -5,6 +5,8 @@ pub mod Majority
 pub mod Action
 pub mod Fault
 pub mod Config
-pub mod Records
-pub mod Promises
 pub mod Right
+pub mod Records
+pub mod Voting
+pub mod Promises
+pub mod Proposals

@@ -8,9 +8,11 @@ mod config;
 mod fault;
 mod majorities;
 mod number;
+mod proposal;
 mod record;
 mod reply;
 mod senders;
+mod voting;
 
 pub use action::{Action, Operation};
 pub use answers::Answers;
@@ -19,9 +21,11 @@ pub use config::Config;
 pub use fault::{DeckReason, Fault, PacketReason};
 pub use majorities::{majorities_meet, majority};
 pub use number::{NodeId, Position, TaskId};
+pub use proposal::Phase;
 pub use record::{Rec, Vote};
 pub use reply::{Answer, Reply};
 pub use senders::Senders;
+pub use voting::{AcceptAnswer, PrepareAnswer};
 
 #[cfg(test)]
 mod tests;

@@ -3,6 +3,7 @@
 ghost use Rattle.std.specs.Prelude.{◌≡◌, [], ◌∷◌, ◌++◌, false, length, nat_eq};
 ghost use Rattle.std.specs.List.{list_any};
 ghost use Rattle.rp_base.specs.Number.{IsNode};
+ghost use Rattle.rp_base.specs.Majority.{nodes_among};
 ghost use Rattle.rp_base.specs.Sets.{with_member};
 
 use crate::number::NodeId;
@@ -43,6 +44,16 @@ impl Senders {
         ensures { result ≡ length self.now }
     {
         self.len
+    }
+
+    /// How many of them are among the nodes 1 to `nodes`.
+    pub fn len_within(&self, nodes: u8) -> usize
+        ensures { result ≡ length (nodes_among nodes self.now) }
+    {
+        self.nodes[..self.len]
+            .iter()
+            .filter(|node| (1..=nodes).contains(&node.get()))
+            .count()
     }
 
     fn contains(&self, node: NodeId) -> bool

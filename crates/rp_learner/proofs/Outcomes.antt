@@ -3,9 +3,9 @@ use Rattle.std.proofs.Common.{◌≡◌, ℕ, zero, suc, ◌<◌, ◌≤◌, Boo
 use Rattle.std.specs.Prelude.{nat_eq, filter, slice_get}
 use Rattle.std.proofs.lemmas.Bool.{cases_Bool, le-leb, lt-leb, cond-true, cond-false}
 use Rattle.rp_base.specs.declared.record.Vote.{Vote}
-use Rattle.rp_base.specs.Majority.{majority_of}
+use Rattle.rp_base.specs.Majority.{majority_of, nodes_among, is_majority}
 use Rattle.rp_base.specs.Sets.{with_member, with_members}
-use Rattle.rp_base.specs.Promises.{same_vote, voters_of, is_majority}
+use Rattle.rp_base.specs.Promises.{same_vote, voters_of}
 use Rattle.rp_learner.specs.declared.place.Place.{Place}
 use Rattle.rp_learner.specs.declared.place.Place.TheVariants.{Unheard}
 use Rattle.rp_learner.specs.declared.learner.Standing.{Standing}
@@ -44,12 +44,12 @@ module _ (nodes : ℕ) (places : List Place) (from i : ℕ) (vote : Vote) where
         ∙ ap (λ (t : Bool). cond t Learned Counting) (sym (ap (is_majority nodes) voters) ∙ e)
 
     -- a majority of them learns the action
-    pub learned_at : majority_of nodes ≤ length senders → Learned ≡ standing_with (learning_of nodes places) from i vote
-    learned_at most = sym (by_majority true (le-leb (majority_of nodes) (length senders) most))
+    pub learned_at : majority_of nodes ≤ length (nodes_among nodes senders) → Learned ≡ standing_with (learning_of nodes places) from i vote
+    learned_at most = sym (by_majority true (le-leb (majority_of nodes) (length (nodes_among nodes senders)) most))
 
     -- fewer are counted
-    pub counting_at : length senders < majority_of nodes → Counting ≡ standing_with (learning_of nodes places) from i vote
-    counting_at few = sym (by_majority false (lt-leb (majority_of nodes) (length senders) few))
+    pub counting_at : length (nodes_among nodes senders) < majority_of nodes → Counting ≡ standing_with (learning_of nodes places) from i vote
+    counting_at few = sym (by_majority false (lt-leb (majority_of nodes) (length (nodes_among nodes senders)) few))
 
   known≢counting : Known ≡ Counting → ⊥
   known≢counting e = cc

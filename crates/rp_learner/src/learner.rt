@@ -87,7 +87,7 @@ impl Learner {
         };
         let others = senders_of(votes_at(&self.places, position), &vote);
         let senders = others.with(from);
-        if senders.len() >= usize::from(majority(self.nodes)) {
+        if senders.len_within(self.nodes) >= usize::from(majority(self.nodes)) {
             Standing::Learned
         } else {
             Standing::Counting

@@ -10,7 +10,7 @@ use Rattle.rp_base.specs.declared.record.Vote.{Vote}
 use Rattle.rp_base.specs.declared.record.Rec.{Rec}
 use Rattle.rp_base.specs.declared.record.Rec.TheVariants.{Started, Promised, Voted, Learned}
 use Rattle.rp_base.specs.Ballot.{number_of}
-use Rattle.rp_base.specs.Records.{bound_at, higher_vote, highest, vote_at, last_vote_at}
+use Rattle.rp_base.specs.Records.{bound_at, higher_vote, highest, vote_in, last_vote_at}
 use Rattle.rp_acceptor.specs.Noted.{place_of}
 use Rattle.rp_acceptor.specs.declared.slot.Slot.{Slot}
 use Rattle.rp_acceptor.specs.Slots.{empty_slot, slot_at, AreSlots}
@@ -18,20 +18,9 @@ use Rattle.rp_acceptor.specs.Slots.{empty_slot, slot_at, AreSlots}
 -- the bound with one more record
 pub bound_push : (records : List Rec) (rec : Rec) (i : ℕ) → bound_at (records ++ rec ∷ []) i ≡ max (bound_at records i) (bound_at (rec ∷ []) i)
 bound_push [] rec i = sym (zero-max (bound_at (rec ∷ []) i))
-bound_push (Started ballot ∷ rest) rec i = bound_push rest rec i
-bound_push (Promised position ballot ∷ rest) rec i =
-    let more : ℕ = bound_at (rest ++ rec ∷ []) i in
-    let less : ℕ = bound_at rest i in
-    let one : ℕ = bound_at (rec ∷ []) i in
-    let h : more ≡ max less one = bound_push rest rec i in
-    elim (nat_eq position i) as (λ t. cond t (max ballot more) more ≡ max (cond t (max ballot less) less) one) [ true ↦ omega (arith, h) | false ↦ h ]
-bound_push (Voted position ballot action ∷ rest) rec i =
-    let more : ℕ = bound_at (rest ++ rec ∷ []) i in
-    let less : ℕ = bound_at rest i in
-    let one : ℕ = bound_at (rec ∷ []) i in
-    let h : more ≡ max less one = bound_push rest rec i in
-    elim (nat_eq position i) as (λ t. cond t (max ballot more) more ≡ max (cond t (max ballot less) less) one) [ true ↦ omega (arith, h) | false ↦ h ]
-bound_push (Learned position action ∷ rest) rec i = bound_push rest rec i
+bound_push (first ∷ rest) rec i =
+    let h : bound_at (rest ++ rec ∷ []) i ≡ max (bound_at rest i) (bound_at (rec ∷ []) i) = bound_push rest rec i in
+    omega (arith, h)
 
 -- of three votes the highest, whichever two are compared first
 higher_assoc : (v w : Vote) (h : Option Vote) → higher_vote v (Some (higher_vote w h)) ≡ higher_vote (higher_vote v (Some w)) h
@@ -48,18 +37,18 @@ highest-append [] ws = refl
 highest-append (v ∷ vs) ws = ap (λ (o : Option Vote). Some (higher_vote v o)) (highest-append vs ws) ∙ ap Some (higher_joined v (highest vs) ws)
 
 -- the last vote with one more record
-pub last_push : (records : List Rec) (rec : Rec) (i : ℕ) → last_vote_at (records ++ rec ∷ []) i ≡ highest (option_to_list (last_vote_at records i) ++ filter_map (vote_at i) (rec ∷ []))
-last_push records rec i = ap highest (filter_map-append (vote_at i) records (rec ∷ [])) ∙ highest-append (filter_map (vote_at i) records) (filter_map (vote_at i) (rec ∷ []))
+pub last_push : (records : List Rec) (rec : Rec) (i : ℕ) → last_vote_at (records ++ rec ∷ []) i ≡ highest (option_to_list (last_vote_at records i) ++ filter_map (vote_in i) (rec ∷ []))
+last_push records rec i = ap highest (filter_map-append (vote_in i) records (rec ∷ [])) ∙ highest-append (filter_map (vote_in i) records) (filter_map (vote_in i) (rec ∷ []))
 
 -- a record has no bound where it doesn't count
 bound_elsewhere : (rec : Rec) (i : ℕ) → place_of rec ≢ i → bound_at (rec ∷ []) i ≡ 0
 bound_elsewhere (Started ballot) i other = refl
-bound_elsewhere (Promised position ballot) i other = ap (λ (t : Bool). cond t (max ballot 0) 0) (ne_eqb position i other)
-bound_elsewhere (Voted position ballot action) i other = ap (λ (t : Bool). cond t (max ballot 0) 0) (ne_eqb position i other)
+bound_elsewhere (Promised position ballot) i other = ap (λ (t : Bool). max (cond t ballot 0) 0) (ne_eqb position i other)
+bound_elsewhere (Voted position ballot action) i other = ap (λ (t : Bool). max (cond t ballot 0) 0) (ne_eqb position i other)
 bound_elsewhere (Learned position action) i other = refl
 
 -- nor a vote
-vote_elsewhere : (rec : Rec) (i : ℕ) → place_of rec ≢ i → filter_map (vote_at i) (rec ∷ []) ≡ []
+vote_elsewhere : (rec : Rec) (i : ℕ) → place_of rec ≢ i → filter_map (vote_in i) (rec ∷ []) ≡ []
 vote_elsewhere (Started ballot) i other = refl
 vote_elsewhere (Promised position ballot) i other = refl
 vote_elsewhere (Voted position ballot action) i other =
@@ -89,7 +78,7 @@ slots_stay slots records rec nowhere are = record {
 -- the slots with the record noted in its place
 pub slots_noted : (slots : List Slot) (records : List Rec) (rec : Rec) (slot : Slot) (k : ℕ) → k + 1 ≡ place_of rec → k < length slots
     → number_of slot.bound ≡ max (number_of (slot_at slots k).bound) (bound_at (rec ∷ []) (place_of rec))
-    → slot.last ≡ highest (option_to_list (slot_at slots k).last ++ filter_map (vote_at (place_of rec)) (rec ∷ []))
+    → slot.last ≡ highest (option_to_list (slot_at slots k).last ++ filter_map (vote_in (place_of rec)) (rec ∷ []))
     → AreSlots slots records → AreSlots (set slots k slot) (records ++ rec ∷ [])
 slots_noted slots records rec slot k place within bound last are =
     let same : (index : ℕ) → index ≡ k → slot_at (set slots k slot) index ≡ slot =
@@ -107,7 +96,7 @@ slots_noted slots records rec slot k place within bound last are =
       ];
       votes = λ index. elim (cases_eq index k) [
         | inl e ↦ ap (λ (s : Slot). s.last) (same index e) ∙ last
-            ∙ ap (λ (o : Option Vote). highest (option_to_list o ++ filter_map (vote_at (place_of rec)) (rec ∷ []))) (are.votes k ∙ ap (last_vote_at records) place)
+            ∙ ap (λ (o : Option Vote). highest (option_to_list o ++ filter_map (vote_in (place_of rec)) (rec ∷ []))) (are.votes k ∙ ap (last_vote_at records) place)
             ∙ sym (last_push records rec (place_of rec))
             ∙ ap (last_vote_at (records ++ rec ∷ [])) (sym place ∙ ap (λ (n : ℕ). n + 1) (sym e))
         | inr n ↦ ap (λ (s : Slot). s.last) (other index n) ∙ are.votes index

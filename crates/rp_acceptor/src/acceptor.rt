@@ -4,12 +4,11 @@ ghost use Rattle.std.specs.Prelude.{◌≡◌, ◌≤◌, ◌<◌, max, [], ◌�
 ghost use Rattle.rp_base.specs.Ballot.{number_of};
 ghost use Rattle.rp_base.specs.Records.{bound_at, last_vote_at};
 ghost use Rattle.rp_acceptor.specs.Noted.{place_of, room_for};
-ghost use Rattle.rp_acceptor.specs.Answers.{prepare_answer, vote_answer, accept_answer};
+ghost use Rattle.rp_base.specs.Voting.{prepare_answer, vote_answer, accept_answer};
 
-use crate::answer::{AcceptAnswer, PrepareAnswer};
 use crate::history::History;
 use crate::slot::{Slot, grow, index_of, note, place_of, slot_at};
-use rp_base::{Action, Ballot, Fault, Position, Rec, Vote};
+use rp_base::{AcceptAnswer, Action, Ballot, Fault, Position, PrepareAnswer, Rec, Vote};
 use std::alloc::Global;
 use std::marker::Model;
 

@@ -1,8 +1,8 @@
 //! What an acceptor keeps for a position.
 
-ghost use Rattle.std.specs.Prelude.{◌≡◌, max, List, Some, [], ◌∷◌, ◌++◌, ◌+◌, ◌≤◌, OnOk, OnErr, ℕ, length, option_to_list, filter_map};
+ghost use Rattle.std.specs.Prelude.{◌≡◌, max, List, [], ◌∷◌, ◌++◌, ◌+◌, ◌≤◌, OnOk, OnErr, ℕ, length, option_to_list, filter_map};
 ghost use Rattle.rp_base.specs.Ballot.{number_of};
-ghost use Rattle.rp_base.specs.Records.{bound_at, vote_at, highest};
+ghost use Rattle.rp_base.specs.Records.{bound_at, vote_in, highest};
 ghost use Rattle.rp_acceptor.specs.Noted.{place_of};
 ghost use Rattle.rp_acceptor.specs.Slots.{empty_slot, slot_at, AreSlots};
 ghost use Rattle.rp_base.specs.declared.record.Rec.{Rec};
@@ -54,45 +54,25 @@ pub fn slot_at(slots: &[Slot], index: usize) -> Slot
     }
 }
 
-/// The greater of a ballot, if there is one, and another.
-fn greater(one: Option<Ballot>, other: Ballot) -> Option<Ballot>
-    ensures { number_of result ≡ max (number_of one) other }
-{
-    match one {
-        Some(ballot) if ballot.get() >= other.get() => Some(ballot),
-        _ => Some(other),
-    }
-}
-
-/// The vote of the greater ballot, the first of two in one ballot.
-fn higher(first: Option<Vote>, second: Vote) -> Vote
-    ensures { Some result ≡ highest (option_to_list first ++ second ∷ []) }
-{
-    match first {
-        Some(vote) if vote.ballot.get() >= second.ballot.get() => vote,
-        _ => second,
-    }
-}
-
 /// The slot of the position at which a record counts, once the record is noted.
 fn with_record(slot: Slot, rec: &Rec) -> Slot
     ensures bound { number_of result.bound ≡ max (number_of slot.bound) (bound_at (rec.now ∷ []) (place_of rec.now)) }
-    ensures last { result.last ≡ highest (option_to_list slot.last ++ filter_map (vote_at (place_of rec.now)) (rec.now ∷ [])) }
+    ensures last { result.last ≡ highest (option_to_list slot.last ++ filter_map (vote_in (place_of rec.now)) (rec.now ∷ [])) }
 {
     match rec {
         Rec::Promised(_, ballot) => Slot {
-            bound: greater(slot.bound, *ballot),
+            bound: Ballot::greater(slot.bound, Some(*ballot)),
             last: slot.last,
         },
         Rec::Voted(_, ballot, action) => Slot {
-            bound: greater(slot.bound, *ballot),
-            last: Some(higher(
+            bound: Ballot::greater(slot.bound, Some(*ballot)),
+            last: Vote::higher(
                 slot.last,
-                Vote {
+                Some(Vote {
                     ballot: *ballot,
                     action: *action,
-                },
-            )),
+                }),
+            ),
         },
         Rec::Started(_) | Rec::Learned(_, _) => slot,
     }

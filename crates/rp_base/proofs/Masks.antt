@@ -1,18 +1,18 @@
 -- Sets of nodes as masks.
-use Rattle.std.proofs.Common.{◌≡◌, ◌≢◌, ℕ, zero, suc, ◌+◌, ◌*◌, ◌^◌, ◌%◌, ◌/◌, ◌<◌, ◌≤◌, max, Bool, true, false, ◌⊎◌, ◌↔◌, List, [], ◌∷◌, length, nat_eq, inl, inr, refl, sym, ap, subst, ◌∙◌, arith}
-use Rattle.std.specs.Prelude.{◌&&◌, filter, bit_or, count_ones}
+use Rattle.std.proofs.Common.{◌≡◌, ◌≢◌, ℕ, zero, suc, ◌+◌, ◌*◌, ◌^◌, ◌%◌, ◌/◌, ◌<◌, ◌≤◌, max, min, Bool, true, false, ◌⊎◌, ◌↔◌, List, [], ◌∷◌, length, nat_eq, inl, inr, refl, sym, ap, subst, ◌∙◌, arith}
+use Rattle.std.specs.Prelude.{◌&&◌, nat_le, filter, bit_and, bit_or, count_ones}
 use Rattle.std.specs.Int.{bit_at}
 use lib.Count.{ones}
 use Rattle.std.specs.List.{list_any}
-use Rattle.std.proofs.lemmas.Bool.{cases_eq, eqb-true, eq-eqb, ne_eqb, and_parts}
+use Rattle.std.proofs.lemmas.Bool.{cases_Bool, cases_eq, eqb-true, eq-eqb, le-leb, and_parts, and_from}
 use Rattle.std.proofs.lemmas.Bool.Decides.{Decides-eqb}
-use Rattle.std.proofs.lemmas.Nat.{or_lt}
-use Rattle.std.proofs.lemmas.Nat.Bits.{bit_at_lowest, bit_at_or, bit_at-pow_same, bit_at-pow_other}
+use Rattle.std.proofs.lemmas.Nat.{or_lt, and_le_l}
+use Rattle.std.proofs.lemmas.Nat.Bits.{bit_at_lowest, bit_at-lt, bit_at_and, bit_at_or, bit_at-pow_same, bit_at-pow_other}
 use Rattle.rp_base.specs.Sets.{Has, IsSet, SameMembers, with_member}
-use Rattle.rp_base.specs.Number.{IsNode}
-use Rattle.rp_base.specs.Majority.{AreNodes}
-use Rattle.rp_base.specs.Masks.{all_nodes, nodes_in}
-use Rattle.rp_base.proofs.Members.{has_passing, passes, found, has_with, with_has, set_passing, set_members, set_with, same_size}
+use Rattle.rp_base.specs.Number.{IsNode, in_range}
+use Rattle.rp_base.specs.Majority.{AreNodes, nodes_among}
+use Rattle.rp_base.specs.Masks.{all_nodes, nodes_in, low_bits}
+use Rattle.rp_base.proofs.Members.{has_passing, passes, found, has_with, with_has, set_passing, set_members, set_with, same_size, same_passing}
 
 -- the test holds of each number below n
 abbrev all_below : (ℕ → Bool) → ℕ → Bool
@@ -110,15 +110,67 @@ even_still mask k node even =
     let all : bit_at (bit_or mask (1 * 2 ^ k % 256)) 0 ≡ bit_or mask (1 * 2 ^ k % 256) % 2 = bit_at_lowest (bit_or mask (1 * 2 ^ k % 256)) in
     omega (arith, bit, none, first, all, even)
 
--- with one node more there are as many as bits are set then
-pub counted_with : (mask k : ℕ) → IsNode k → mask < 256 → mask % 2 ≡ 0
-    → count_ones (bit_or mask (1 * 2 ^ k % 256)) ≡ length (with_member nat_eq (nodes_in mask) k)
-counted_with mask k node byte even =
+abbrev one_if : Bool → ℕ
+one_if true = 1
+one_if false = 0
+
+-- bit x is among the bits 0 to n
+low_bit : (n x : ℕ) → n ≤ 7 → x ≤ 7 → bit_at (low_bits n) x ≡ one_if (nat_le x n)
+low_bit n x most less =
+    let row : all_below (λ x. nat_eq (bit_at (low_bits n) x) (one_if (nat_le x n))) 8 ≡ true =
+    below (λ n. all_below (λ x. nat_eq (bit_at (low_bits n) x) (one_if (nat_le x n))) 8) 8 n refl (omega arith) in
+    eqb-true _ _ (below (λ x. nat_eq (bit_at (low_bits n) x) (one_if (nat_le x n))) 8 x row (omega arith))
+
+within : (mask n x : ℕ) → n ≤ 7 → Has x all_nodes → bit_at (bit_and mask (low_bits n)) x ≡ min (bit_at mask x) (one_if (nat_le x n))
+within mask n x most there =
+    let node = is_node x there in
+    bit_at_and mask (low_bits n) x ∙ ap (λ (b : ℕ). min (bit_at mask x) b) (low_bit n x most node.1)
+
+-- the nodes in a mask that are nodes 1 to n
+among_low : (mask n : ℕ) → n ≤ 7 → SameMembers (nodes_in (bit_and mask (low_bits n))) (nodes_among n (nodes_in mask))
+among_low mask n most x = (
+  λ h.
+      let both = (has_node (bit_and mask (low_bits n)) x).0 h in
+      let node = is_node x both.0 in
+      let bit = within mask n x most both.0 in
+      elim (cases_Bool (nat_le x n)) [
+        | inl low ↦
+            let one : one_if (nat_le x n) ≡ 1 = ap one_if low in
+            passes (in_range 1 n) x (nodes_in mask) ((has_node mask x).1 (both.0, omega (arith, both.1, bit, one, bit_at-lt mask x)))
+            (and_from _ _ (le-leb 1 x node.0) low)
+        | inr high ↦
+            let none : one_if (nat_le x n) ≡ 0 = ap one_if high in
+            absurd (omega (arith, both.1, bit, none))
+      ],
+  λ h.
+      let both = has_passing (in_range 1 n) x (nodes_in mask) h in
+      let there = (has_node mask x).0 both.0 in
+      let one : one_if (nat_le x n) ≡ 1 = ap one_if (and_parts _ _ both.1).1 in
+      (has_node (bit_and mask (low_bits n)) x).1 (there.0, omega (arith, within mask n x most there.0, there.1, one)),
+)
+
+pub counted_within : (mask n : ℕ) → n ≤ 7 → mask < 256 → mask % 2 ≡ 0 → count_ones (bit_and mask (low_bits n)) ≡ length (nodes_among n (nodes_in mask))
+counted_within mask n most byte even =
+    let low : ℕ = bit_and mask (low_bits n) in
+    let less : low ≤ mask = and_le_l mask (low_bits n) in
+    let first : bit_at low 0 ≡ min (bit_at mask 0) (bit_at (low_bits n) 0) = bit_at_and mask (low_bits n) 0 in
+    let was : bit_at mask 0 ≡ mask % 2 = bit_at_lowest mask in
+    let is : bit_at low 0 ≡ low % 2 = bit_at_lowest low in
+    let still : low % 2 ≡ 0 = omega (arith, first, was, is, even) in
+    let whole : low ≡ 2 * (low / 2) = omega (arith, still) in
+    let ones_there : count_ones low ≡ length (nodes_in low) =
+    subst (λ (m : ℕ). count_ones m ≡ length (nodes_in m)) (sym whole) (counted (low / 2) (omega (arith, less, byte))) in
+    ones_there ∙ same_size (nodes_in low) (nodes_among n (nodes_in mask)) (are_nodes low).distinct
+    (set_passing (in_range 1 n) (nodes_in mask) (are_nodes mask).distinct) (among_low mask n most)
+
+-- the same with one node more
+pub counted_with : (mask k n : ℕ) → IsNode k → n ≤ 7 → mask < 256 → mask % 2 ≡ 0
+    → count_ones (bit_and (bit_or mask (1 * 2 ^ k % 256)) (low_bits n)) ≡ length (nodes_among n (with_member nat_eq (nodes_in mask) k))
+counted_with mask k n node most byte even =
     let more : ℕ = bit_or mask (1 * 2 ^ k % 256) in
     let below : more < 256 = or_lt 8 mask (1 * 2 ^ k % 256) byte (omega arith) in
-    let still : more % 2 ≡ 0 = even_still mask k node even in
-    let whole : more ≡ 2 * (more / 2) = omega (arith, still) in
-    let ones_there : count_ones more ≡ length (nodes_in more) =
-    subst (λ (m : ℕ). count_ones m ≡ length (nodes_in m)) (sym whole) (counted (more / 2) (omega (arith, below))) in
-    ones_there ∙ same_size (nodes_in more) (with_member nat_eq (nodes_in mask) k) (are_nodes more).distinct
-    (set_with nat_eq Decides-eqb (nodes_in mask) k (are_nodes mask).distinct) (with_node mask k node)
+    counted_within more n most below (even_still mask k node even)
+    ∙ same_size (nodes_among n (nodes_in more)) (nodes_among n (with_member nat_eq (nodes_in mask) k))
+    (set_passing (in_range 1 n) (nodes_in more) (are_nodes more).distinct)
+    (set_passing (in_range 1 n) (with_member nat_eq (nodes_in mask) k) (set_with nat_eq Decides-eqb (nodes_in mask) k (are_nodes mask).distinct))
+    (same_passing (in_range 1 n) (nodes_in more) (with_member nat_eq (nodes_in mask) k) (with_node mask k node))

@@ -1,8 +1,9 @@
 //! A set of nodes, such as those that sent a promise or a vote.
 
-ghost use Rattle.std.specs.Prelude.{◌≡◌, [], length, nat_eq};
+ghost use Rattle.std.specs.Prelude.{◌≡◌, ◌≤◌, [], length, nat_eq};
 ghost use Rattle.rp_base.specs.Sets.{SameMembers, with_member};
-ghost use Rattle.rp_base.specs.Majority.{AreNodes};
+ghost use Rattle.rp_base.specs.Majority.{AreNodes, nodes_among};
+ghost use Rattle.rp_base.specs.Masks.{low_bits};
 
 use crate::number::NodeId;
 use std::marker::Model;
@@ -40,12 +41,21 @@ impl Senders {
         self.mask.count_ones() as usize
     }
 
-    /// How many there are with one more, unless it is there.
-    pub fn len_with(&self, node: NodeId) -> usize
-        ensures value { result ≡ length (with_member nat_eq self.now node) }
+    /// How many of them are among the nodes 1 to `nodes`, at most 7.
+    pub fn len_within(&self, nodes: u8) -> usize
+        requires { nodes ≤ 7 }
+        ensures { result ≡ length (nodes_among nodes self.now) }
+    {
+        (self.mask & bits_up_to(nodes)).count_ones() as usize
+    }
+
+    /// How many of them and one more are among the nodes 1 to `nodes`, at most 7.
+    pub fn len_with(&self, node: NodeId, nodes: u8) -> usize
+        requires { nodes ≤ 7 }
+        ensures value { result ≡ length (nodes_among nodes (with_member nat_eq self.now node)) }
         ensures nodes { AreNodes 7 self.now }
     {
-        (self.mask | 1 << node.get()).count_ones() as usize
+        ((self.mask | 1 << node.get()) & bits_up_to(nodes)).count_ones() as usize
     }
 
     /// Adds a node, unless it is there.
@@ -54,4 +64,12 @@ impl Senders {
     {
         self.mask |= 1 << node.get();
     }
+}
+
+/// The bits 0 to `nodes`.
+fn bits_up_to(nodes: u8) -> u8
+    requires { nodes ≤ 7 }
+    ensures { result ≡ low_bits nodes }
+{
+    u8::MAX >> (7 - nodes)
 }

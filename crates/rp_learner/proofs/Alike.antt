@@ -4,10 +4,11 @@ use Rattle.std.specs.Prelude.{nat_eq, nat_le, filter}
 use Rattle.std.proofs.lemmas.Bool.Decides.{Decides-eqb}
 use Rattle.rp_base.specs.declared.record.Vote.{Vote}
 use Rattle.rp_base.specs.Sets.{Has, SameMembers, with_members}
-use Rattle.rp_base.specs.Majority.{majority_of}
-use Rattle.rp_base.specs.Promises.{HeardVote, same_vote, same_heard, voters_of, is_majority}
+use Rattle.rp_base.specs.Number.{in_range}
+use Rattle.rp_base.specs.Majority.{majority_of, nodes_among}
+use Rattle.rp_base.specs.Promises.{HeardVote, same_vote, same_heard, voters_of}
 use Rattle.rp_base.proofs.Sameness.{heard_decides}
-use Rattle.rp_base.proofs.Members.{same_test, same_with, same_passing, same_mapped, same_members, same_size, set_members}
+use Rattle.rp_base.proofs.Members.{same_test, same_with, same_passing, same_mapped, same_members, same_size, set_members, set_passing}
 use Rattle.rp_learner.specs.Learning.{Learning}
 use Rattle.rp_learner.specs.declared.learner.Standing.{Standing}
 use Rattle.rp_learner.specs.declared.learner.Standing.TheVariants.{Counting, Learned, Known}
@@ -34,23 +35,24 @@ same_on l m n one two = record {
 settled_alike : (l m : Learning) (i : ℕ) → SameLearning l m → is_settled l i ≡ is_settled m i
 settled_alike l m i same = same_test nat_eq Decides-eqb i l.settled m.settled same.settled
 
-voters_alike : (i : ℕ) (vote : Vote) (xs ys : List HeardVote) → SameMembers xs ys → length (voters_of i vote xs) ≡ length (voters_of i vote ys)
-voters_alike i vote xs ys same =
+voters_alike : (n i : ℕ) (vote : Vote) (xs ys : List HeardVote) → SameMembers xs ys → length (nodes_among n (voters_of i vote xs)) ≡ length (nodes_among n (voters_of i vote ys))
+voters_alike n i vote xs ys same =
     let test : HeardVote → Bool = λ h. nat_eq h.1 i && same_vote h.2 vote in
     let cast : List HeardVote → List ℕ = λ heard. map (λ (h : HeardVote). h.0) (filter test heard) in
     let alike : SameMembers (cast xs) (cast ys) =
     same_mapped (λ (h : HeardVote). h.0) (filter test xs) (filter test ys) (same_passing test xs ys same) in
-    same_size (voters_of i vote xs) (voters_of i vote ys)
-    (set_members nat_eq Decides-eqb [] (cast xs) tt) (set_members nat_eq Decides-eqb [] (cast ys) tt)
-    (same_members nat_eq Decides-eqb (cast xs) (cast ys) alike)
+    same_size (nodes_among n (voters_of i vote xs)) (nodes_among n (voters_of i vote ys))
+    (set_passing (in_range 1 n) (voters_of i vote xs) (set_members nat_eq Decides-eqb [] (cast xs) tt))
+    (set_passing (in_range 1 n) (voters_of i vote ys) (set_members nat_eq Decides-eqb [] (cast ys) tt))
+    (same_passing (in_range 1 n) (voters_of i vote xs) (voters_of i vote ys) (same_members nat_eq Decides-eqb (cast xs) (cast ys) alike))
 
 pub standing_alike : (l m : Learning) (from i : ℕ) (vote : Vote) → SameLearning l m → standing_with l from i vote ≡ standing_with m from i vote
 standing_alike l m from i vote same =
-    let count : Learning → ℕ = λ n. length (voters_of i vote (heard_with n from i vote)) in
-    let alike : count l ≡ count m =
-    voters_alike i vote (heard_with l from i vote) (heard_with m from i vote) (same_with same_heard heard_decides (from, i, vote) l.heard m.heard same.heard) in
-    ap (λ (b : Bool). cond b Known (cond (nat_le (majority_of l.nodes) (count l)) Learned Counting)) (settled_alike l m i same)
-    ∙ ap (λ (n : ℕ). cond (is_settled m i) Known (cond (nat_le (majority_of n) (count l)) Learned Counting)) same.nodes
+    let count : ℕ → Learning → ℕ = λ n k. length (nodes_among n (voters_of i vote (heard_with k from i vote))) in
+    let alike : count m.nodes l ≡ count m.nodes m =
+    voters_alike m.nodes i vote (heard_with l from i vote) (heard_with m from i vote) (same_with same_heard heard_decides (from, i, vote) l.heard m.heard same.heard) in
+    ap (λ (b : Bool). cond b Known (cond (nat_le (majority_of l.nodes) (count l.nodes l)) Learned Counting)) (settled_alike l m i same)
+    ∙ ap (λ (n : ℕ). cond (is_settled m i) Known (cond (nat_le (majority_of n) (count n l)) Learned Counting)) same.nodes
     ∙ ap (λ (k : ℕ). cond (is_settled m i) Known (cond (nat_le (majority_of m.nodes) k) Learned Counting)) alike
 
 pub decision_alike : (l m : Learning) (i : ℕ) → SameLearning l m → decision_at l i ≡ decision_at m i

@@ -8,9 +8,11 @@ use Rattle.std.proofs.lemmas.List.{map-append, append-nil}
 use Rattle.std.proofs.lemmas.List.Elements.{filter-append}
 use Rattle.rp_base.specs.declared.record.Vote.{Vote}
 use Rattle.rp_base.specs.Sets.{Has, IsSet, SameMembers, with_member, with_members}
+use Rattle.rp_base.specs.Number.{in_range}
+use Rattle.rp_base.specs.Majority.{nodes_among}
 use Rattle.rp_base.specs.Promises.{same_vote}
 use Rattle.rp_base.proofs.Sameness.{vote_equal, vote_same, decides_same}
-use Rattle.rp_base.proofs.Members.{has_split, has_left, has_right, has_mapped, has_with, with_has, has_members, member_stays, set_more, set_with, set_members, same_size}
+use Rattle.rp_base.proofs.Members.{has_split, has_left, has_right, has_mapped, has_with, with_has, has_members, member_stays, set_more, set_with, set_members, set_passing, same_size, same_with, same_passing}
 use Rattle.rp_learner.specs.declared.tally.Tally.{Tally}
 use Rattle.rp_learner.specs.Casts.{CastVote, casts_in, casts_of, AreTallies, index_from, same_cast, voters_with}
 
@@ -79,6 +81,26 @@ index_none (t ∷ ts) k vote h m =
       ]
     ]
 
+-- the tally found has its vote, and is there
+pub index_at : (ts : List Tally) (j : ℕ) (vote : Vote) → index_from 0 vote ts ≡ Some j → (t : Tally) × (j < length ts) × (slice_get ts j ≡ Some t) × (t.vote ≡ vote)
+index_at ts j vote h =
+    let hit = index_found ts 0 j vote h in
+    let at : slice_get ts j ≡ Some hit.1 = subst (λ (n : ℕ). slice_get ts n ≡ Some hit.1) (sym (omega (arith, hit.2))) hit.3 in
+    (hit.1, get_within ts j hit.1 at, at, hit.4)
+
+pub index_is : (ts : List Tally) (j : ℕ) (vote : Vote) (t : Tally) → index_from 0 vote ts ≡ Some j → slice_get ts j ≡ Some t → t.vote ≡ vote
+index_is ts j vote t h at =
+    let hit = index_at ts j vote h in
+    ap (λ (s : Tally). s.vote) (some_is (sym at ∙ hit.2)) ∙ hit.3
+
+-- what neither the first nor the others count
+pub no_other : (t : Tally) (ts : List Tally) (vote : Vote) → same_vote t.vote vote ≡ false → ¬ Has vote (map (λ s. s.vote) ts) → ¬ Has vote (map (λ s. s.vote) (t ∷ ts))
+no_other t ts vote miss none h =
+    elim h [
+      | inl e ↦ both_ways (same_vote t.vote vote) miss (subst (λ (v : Vote). same_vote v vote ≡ true) e (vote_same vote))
+      | inr later ↦ none later
+    ]
+
 -- ---- who cast a vote
 
 -- the senders of a vote, by the votes that were cast
@@ -136,27 +158,29 @@ senders_at (u ∷ ts) (suc n) t vote are at is =
     ∙ senders_at ts n t vote are.1 at is
 
 -- a set's members, each once, are as many
-as_many : (xs : List ℕ) (from : ℕ) → IsSet xs → length (with_member nat_eq xs from) ≡ length (with_member nat_eq (with_members nat_eq [] xs) from)
-as_many xs from distinct =
+as_many : (n : ℕ) (xs : List ℕ) (from : ℕ) → IsSet xs
+    → length (nodes_among n (with_member nat_eq xs from)) ≡ length (nodes_among n (with_member nat_eq (with_members nat_eq [] xs) from))
+as_many n xs from distinct =
     let once : List ℕ = with_members nat_eq [] xs in
-    same_size (with_member nat_eq xs from) (with_member nat_eq once from)
-    (set_with nat_eq Decides-eqb xs from distinct) (set_with nat_eq Decides-eqb once from (set_members nat_eq Decides-eqb [] xs tt))
-    (λ x. (
-      λ h. with_has nat_eq Decides-eqb x from once (elim (has_with nat_eq Decides-eqb x from xs h) [ inl old ↦ inl (member_stays nat_eq Decides-eqb x [] xs old) | inr e ↦ inr e ]),
-      λ h. with_has nat_eq Decides-eqb x from xs (elim (has_with nat_eq Decides-eqb x from once h) [
-        | inl old ↦ elim (has_members nat_eq Decides-eqb x [] xs old) [ inl none ↦ absurd none | inr there ↦ inl there ]
-        | inr e ↦ inr e
-      ]),
-    ))
+    let all : List ℕ = with_member nat_eq xs from in
+    let each : List ℕ = with_member nat_eq once from in
+    same_size (nodes_among n all) (nodes_among n each)
+    (set_passing (in_range 1 n) all (set_with nat_eq Decides-eqb xs from distinct))
+    (set_passing (in_range 1 n) each (set_with nat_eq Decides-eqb once from (set_members nat_eq Decides-eqb [] xs tt)))
+    (same_passing (in_range 1 n) all each (same_with nat_eq Decides-eqb from xs once (λ x. (
+      λ h. member_stays nat_eq Decides-eqb x [] xs h,
+      λ h. elim (has_members nat_eq Decides-eqb x [] xs h) [ inl none ↦ absurd none | inr there ↦ there ],
+    ))))
 
-pub count_at : (ts : List Tally) (n : ℕ) (t : Tally) (from : ℕ) (vote : Vote) → AreTallies ts → slice_get ts n ≡ Some t → t.vote ≡ vote → IsSet t.senders
-    → length (with_member nat_eq t.senders from) ≡ length (voters_with (casts_of ts) from vote)
-count_at ts n t from vote are at is distinct =
-    as_many t.senders from distinct
-    ∙ ap (λ (l : List ℕ). length (with_member nat_eq (with_members nat_eq [] l) from)) (sym (senders_at ts n t vote are at is))
+pub count_at : (ts : List Tally) (k : ℕ) (t : Tally) (n from : ℕ) (vote : Vote) → AreTallies ts → slice_get ts k ≡ Some t → t.vote ≡ vote → IsSet t.senders
+    → length (nodes_among n (with_member nat_eq t.senders from)) ≡ length (nodes_among n (voters_with (casts_of ts) from vote))
+count_at ts k t n from vote are at is distinct =
+    as_many n t.senders from distinct
+    ∙ ap (λ (l : List ℕ). length (nodes_among n (with_member nat_eq (with_members nat_eq [] l) from))) (sym (senders_at ts k t vote are at is))
 
-pub count_none : (ts : List Tally) (from : ℕ) (vote : Vote) → ¬ Has vote (map (λ t. t.vote) ts) → 1 ≡ length (voters_with (casts_of ts) from vote)
-count_none ts from vote none = ap (λ (l : List ℕ). length (with_member nat_eq (with_members nat_eq [] l) from)) (sym (senders_none ts vote none))
+pub count_none : (ts : List Tally) (n from : ℕ) (vote : Vote) → ¬ Has vote (map (λ t. t.vote) ts)
+    → length (nodes_among n (with_member nat_eq [] from)) ≡ length (nodes_among n (voters_with (casts_of ts) from vote))
+count_none ts n from vote none = ap (λ (l : List ℕ). length (nodes_among n (with_member nat_eq (with_members nat_eq [] l) from))) (sym (senders_none ts vote none))
 
 -- ---- one more vote
 

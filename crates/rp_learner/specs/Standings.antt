@@ -1,11 +1,11 @@
 -- What a learner knows, and what a vote makes of it. Lamport, "Paxos Made Simple", section 2.3: a value
 -- is learned once a majority of acceptors accepted it; here, all of them in one ballot, which is stricter.
-use Rattle.std.specs.Prelude.{◌≡◌, ℕ, Bool, not, nat_eq, List, [], filter, if◌then◌else◌}
+use Rattle.std.specs.Prelude.{◌≡◌, ℕ, Bool, nat_eq, List, [], if◌then◌else◌}
 use Rattle.std.specs.List.{list_any}
 use Rattle.rp_base.specs.declared.action.Action.{Action}
 use Rattle.rp_base.specs.declared.record.Vote.{Vote}
 use Rattle.rp_base.specs.Sets.{Has, SameMembers, with_member}
-use Rattle.rp_base.specs.Promises.{HeardVote, same_heard, voters_of, is_majority}
+use Rattle.rp_base.specs.Promises.{HeardVote, same_heard, makes_majority, heard_elsewhere}
 use Rattle.rp_learner.specs.Learning.{Learning}
 use Rattle.rp_learner.specs.declared.learner.Standing.{Standing}
 use Rattle.rp_learner.specs.declared.learner.Standing.TheVariants.{Counting, Learned, Known}
@@ -36,7 +36,7 @@ heard_with l from i vote = with_member same_heard l.heard (from, i, vote)
 abbrev pub standing_with : Learning → ℕ → ℕ → Vote → Standing
 standing_with l from i vote =
     if is_settled l i then Known
-    else if is_majority l.nodes (voters_of i vote (heard_with l from i vote)) then Learned
+    else if makes_majority l.nodes i vote (heard_with l from i vote) then Learned
     else Counting
 
 -- what a decision at a position is: known where it is settled, else learned
@@ -45,7 +45,7 @@ decision_at l i = if is_settled l i then decisions.Known else decisions.Learned
 
 -- the position settled, and the votes heard there let go
 abbrev pub with_settled : Learning → ℕ → Learning
-with_settled l i = record l { heard = filter (λ h. not (nat_eq h.1 i)) l.heard; settled = with_member nat_eq l.settled i }
+with_settled l i = record l { heard = heard_elsewhere l.heard i; settled = with_member nat_eq l.settled i }
 
 -- the learner where the vote left the position so
 abbrev pub with_standing : Learning → ℕ → ℕ → Vote → Standing → Learning

@@ -40,7 +40,7 @@ pub struct Learner {
 }
 
 impl Model for Learner {
-    ghost use Rattle.std.specs.Prelude.{length};
+    ghost use Rattle.std.specs.Prelude.{◌≤◌, length};
     ghost use Rattle.rp_learner.specs.Learning.{Learning};
 
     ghost Value = { Learning };
@@ -53,6 +53,8 @@ impl Model for Learner {
       heard = heard_from 1 l.places.items;
       settled = settled_from 1 l.places.items;
     } };
+
+    ghost invariant = { λ l. (3 ≤ l.nodes) × (l.nodes ≤ 7) };
 }
 
 impl Learner {
@@ -89,7 +91,7 @@ impl Learner {
             ballot,
             action: *action,
         };
-        let voters = count_with(&self.places, position, from, &vote);
+        let voters = count_with(&self.places, position, self.nodes, from, &vote);
         if voters >= usize::from(majority(self.nodes)) {
             Standing::Learned
         } else {

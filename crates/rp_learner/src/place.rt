@@ -1,12 +1,13 @@
 //! What is kept of one position.
 
-ghost use Rattle.std.specs.Prelude.{◌≡◌, length, OnOk, OnErr, option_copied};
+ghost use Rattle.std.specs.Prelude.{◌≡◌, ◌≤◌, length, OnOk, OnErr, option_copied};
 ghost use Rattle.rp_base.specs.Sets.{Has};
+ghost use Rattle.rp_base.specs.Majority.{nodes_among};
 ghost use Rattle.rp_learner.specs.Casts.{voters_with};
 ghost use Rattle.rp_learner.specs.Places.{place_at, votes_at, votes_in, is_settled_at, SamePlace, IsWithCast};
 
 use crate::tally::Tallies;
-use rp_base::{NodeId, Position, Vote};
+use rp_base::{NodeId, Position, Senders, Vote};
 use std::alloc::{AllocError, Global};
 
 /// A position: no vote was heard there, or these, or it is settled.
@@ -34,13 +35,20 @@ pub fn is_settled_at(places: &[Place], position: Position) -> bool
     }
 }
 
-/// How many nodes have cast the vote at the position, once this one has.
-pub fn count_with(places: &[Place], position: Position, from: NodeId, vote: &Vote) -> usize
-    ensures { result ≡ length (voters_with (votes_at places.now position) from vote.now) }
+/// How many of the nodes 1 to `nodes` have cast the vote at the position, once this one has.
+pub fn count_with(
+    places: &[Place],
+    position: Position,
+    nodes: u8,
+    from: NodeId,
+    vote: &Vote,
+) -> usize
+    requires { nodes ≤ 7 }
+    ensures { result ≡ length (nodes_among nodes (voters_with (votes_at places.now position) from vote.now)) }
 {
     match place_at(places, position) {
-        Some(Place::Heard(tallies)) => tallies.count_with(from, vote),
-        _ => 1,
+        Some(Place::Heard(tallies)) => tallies.count_with(nodes, from, vote),
+        _ => Senders::new().len_with(from, nodes),
     }
 }
 

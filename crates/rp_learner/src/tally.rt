@@ -1,7 +1,9 @@
 //! The votes heard at one position.
 
-ghost use Rattle.std.specs.Prelude.{◌≡◌, [], ◌∷◌, length, OnOk, OnErr};
+ghost use Rattle.std.specs.Prelude.{◌≡◌, ◌≤◌, [], ◌∷◌, length, OnOk, OnErr};
 ghost use Rattle.rp_base.specs.Sets.{Has, SameMembers, with_member};
+ghost use Rattle.rp_base.specs.Majority.{nodes_among};
+ghost use Rattle.rp_base.specs.Promises.{same_vote};
 ghost use Rattle.rp_learner.specs.Casts.{same_cast, index_from, voters_with};
 
 use rp_base::{NodeId, Senders, Vote};
@@ -44,6 +46,13 @@ impl Tally {
         senders.insert(from);
         Tally { vote, senders }
     }
+
+    /// Whether it counts this vote.
+    fn is_of(&self, vote: &Vote) -> bool
+        ensures { result ≡ same_vote self.now.vote vote.now }
+    {
+        self.vote == *vote
+    }
 }
 
 impl Tallies {
@@ -57,16 +66,17 @@ impl Tallies {
         }
     }
 
-    /// How many nodes have cast the vote, once this one has.
-    pub fn count_with(&self, from: NodeId, vote: &Vote) -> usize
-        ensures { result ≡ length (voters_with self.now from vote.now) }
+    /// How many of the nodes 1 to `nodes` have cast the vote, once this one has.
+    pub fn count_with(&self, nodes: u8, from: NodeId, vote: &Vote) -> usize
+        requires { nodes ≤ 7 }
+        ensures { result ≡ length (nodes_among nodes (voters_with self.now from vote.now)) }
     {
-        if self.first.vote == *vote {
-            return self.first.senders.len_with(from);
+        if self.first.is_of(vote) {
+            return self.first.senders.len_with(from, nodes);
         }
         match index_of(&self.others, vote) {
-            Some(index) => self.others[index].senders.len_with(from),
-            None => 1,
+            Some(index) => self.others[index].senders.len_with(from, nodes),
+            None => Senders::new().len_with(from, nodes),
         }
     }
 
@@ -77,7 +87,7 @@ impl Tallies {
         ensures err { OnErr result (self.new ≡ self.old) }
         ensures full { OnErr result (¬ Has (record { from = from; vote = vote.now }) self.old) }
     {
-        if self.first.vote == *vote {
+        if self.first.is_of(vote) {
             self.first.senders.insert(from);
             return Ok(());
         }
@@ -95,7 +105,7 @@ fn index_of(tallies: &[Tally], vote: &Vote) -> Option<usize>
 {
     let mut index = 0;
     for tally in tallies {
-        if tally.vote == *vote {
+        if tally.is_of(vote) {
             return Some(index);
         }
         index += 1;

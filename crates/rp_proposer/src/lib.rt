@@ -5,8 +5,9 @@ mod promises;
 mod proposal;
 mod proposer;
 
-pub use proposal::{Phase, Progress, one_offer_at_most};
+pub use proposal::{Progress, one_offer_at_most};
 pub use proposer::Proposer;
+pub use rp_base::Phase;
 
 #[cfg(test)]
 mod tests;

@@ -1,22 +1,13 @@
 //! A proposal that runs.
 
-ghost use Rattle.std.specs.Prelude.{◌≡◌, ℕ, ◌≤◌, List, ◌++◌, option_to_list};
-ghost use Rattle.rp_base.specs.Records.{highest};
+ghost use Rattle.std.specs.Prelude.{◌≡◌, ℕ, ◌≤◌, Some, List};
 ghost use Rattle.rp_base.specs.Promises.{Promise, offer_of};
-ghost use Rattle.rp_proposer.specs.Proposing.{RunningProposal, new_proposal, is_preparing, with_promise, is_promised, progress_of, noted, offers_made};
+ghost use Rattle.rp_base.specs.Proposals.{Proposal as RunningProposal, new_proposal, is_preparing, with_promise, is_promised, after_promise};
+ghost use Rattle.rp_proposer.specs.Proposing.{progress_of, offers_made};
 
 use crate::promises::{HeardPromise, Promises};
-use rp_base::{Action, Ballot, NodeId, Position, Senders, Vote, majority};
+use rp_base::{Action, Ballot, NodeId, Phase, Position, Senders, Vote, majority};
 use std::marker::Model;
-
-/// The two phases of a proposal (Lamport, "Paxos Made Simple", section 2.2).
-#[derive(Clone, Copy, Debug, PartialEq, Eq)]
-pub enum Phase {
-    /// The node asked for promises, and counts them.
-    Preparing,
-    /// A majority promised, and the node asked for votes.
-    Offering,
-}
 
 /// What a promise makes of a proposal.
 #[derive(Clone, Copy, Debug, PartialEq, Eq)]
@@ -43,16 +34,16 @@ pub(crate) struct Proposal {
 }
 
 impl Model for Proposal {
-    ghost use Rattle.std.specs.Prelude.{◌≡◌};
+    ghost use Rattle.std.specs.Prelude.{◌≡◌, Some};
     ghost use Rattle.rp_base.specs.Promises.{promisers_of, highest_vote};
-    ghost use Rattle.rp_proposer.specs.Proposing.{RunningProposal};
+    ghost use Rattle.rp_base.specs.Proposals as proposals;
 
-    ghost Value = { RunningProposal };
+    ghost Value = { proposals.Proposal };
 
     ghost view = { λ p. record {
       position = p.position;
       ballot = p.ballot;
-      own = p.own;
+      own = Some p.own;
       phase = p.phase;
       promises = p.promises.all;
     } };
@@ -63,7 +54,7 @@ impl Model for Proposal {
 impl Proposal {
     /// A proposal that begins.
     pub(crate) fn new(position: Position, ballot: Ballot, own: Action) -> Proposal
-        ensures { result ≡ new_proposal position ballot own }
+        ensures { result ≡ new_proposal position ballot (Some own) }
     {
         Proposal {
             position,
@@ -107,7 +98,7 @@ impl Proposal {
             own: self.own,
             phase: self.phase,
             senders: self.senders.with(promise.from),
-            last: higher(self.last, promise.last),
+            last: Vote::higher(self.last, promise.last),
             promises: self.promises.with(promise),
         }
     }
@@ -116,7 +107,7 @@ impl Proposal {
     fn is_promised(&self, nodes: u8) -> bool
         ensures { result ≡ is_promised nodes self.now }
     {
-        usize::from(majority(nodes)) <= self.senders.len()
+        usize::from(majority(nodes)) <= self.senders.len_within(nodes)
     }
 
     /// What it offers.
@@ -142,27 +133,14 @@ impl Proposal {
     }
 
     /// The proposal after a promise that counts.
-    pub(crate) fn noted(&self, nodes: u8, promise: &HeardPromise) -> Proposal
-        ensures { result ≡ noted nodes self.now promise.now }
+    pub(crate) fn after(&self, nodes: u8, promise: &HeardPromise) -> Proposal
+        ensures { result ≡ after_promise nodes self.now promise.now }
     {
         let mut after = self.with(promise);
         if after.is_promised(nodes) {
             after.phase = Phase::Offering;
         }
         after
-    }
-}
-
-/// The vote of the greater ballot, the first of two in one ballot.
-fn higher(first: Option<Vote>, second: Option<Vote>) -> Option<Vote>
-    ensures { result ≡ highest (option_to_list first ++ option_to_list second) }
-{
-    match second {
-        None => first,
-        Some(vote) => match first {
-            Some(other) if other.ballot.get() >= vote.ballot.get() => Some(other),
-            _ => Some(vote),
-        },
     }
 }
 

@@ -3,7 +3,8 @@
 ghost use Rattle.std.specs.Prelude.{◌≡◌, ℕ, ◌↔◌, ◌+◌, ◌<◌, ◌≤◌, ◌^◌, max, length, vec_capacity, IsTrue, IfOk, IsErrOf, IsOkUnless, option_copied};
 ghost use Rattle.rp_base.specs.Ballot.{number_of, round_of, next_ballot, IsAbove, IsNext};
 ghost use Rattle.rp_base.specs.Records.{started_of};
-ghost use Rattle.rp_proposer.specs.Proposing.{counted_by, restored, is_in, proposal_at, without_proposal, with_proposal, ballot_at, HasRoom, begins, progress_in, notes_promise, notes_refusal, settles};
+ghost use Rattle.rp_base.specs.Proposals.{is_in, proposal_at, without_proposal, with_proposal};
+ghost use Rattle.rp_proposer.specs.Proposing.{counted_by, restored, ballot_at, HasRoom, begins, progress_in, notes_promise, notes_refusal, settles};
 
 use crate::promises::HeardPromise;
 use crate::proposal::{Progress, Proposal};
@@ -70,7 +71,7 @@ impl Proposer {
         ensures full { IsErrOf result Fault.BallotsSpent ↔ (2 ^ 32 ≤ round_of (next_ballot self.now.node (counted_by self.now))) }
         ensures only { IsOkUnless result Fault.BallotsSpent }
     {
-        Ok(Ballot::next_for(self.node, greater(self.started, self.refused))?)
+        Ok(Ballot::next_for(self.node, Ballot::greater(self.started, self.refused))?)
     }
 
     /// The ballot of the proposal that runs at a position.
@@ -93,7 +94,7 @@ impl Proposer {
         ensures { self.new ≡ begins self.old position ballot own }
     {
         put(&mut self.proposals, Proposal::new(position, ballot, own));
-        self.started = greater(self.started, Some(ballot));
+        self.started = Ballot::greater(self.started, Some(ballot));
     }
 
     /// What a promise makes of the proposal at the position, were it noted: its sender counts once,
@@ -128,7 +129,7 @@ impl Proposer {
     {
         let noted = match proposal_at(&self.proposals, position) {
             Some(proposal) if proposal.ballot() == ballot && proposal.is_preparing() => {
-                proposal.noted(self.nodes, &HeardPromise { from, last })
+                proposal.after(self.nodes, &HeardPromise { from, last })
             }
             _ => return,
         };
@@ -142,7 +143,7 @@ impl Proposer {
     {
         if is_in(&self.proposals, position, ballot) {
             leave_out(&mut self.proposals, position);
-            self.refused = greater(self.refused, Some(promised));
+            self.refused = Ballot::greater(self.refused, Some(promised));
         }
     }
 
@@ -161,21 +162,10 @@ fn started_of(records: &[Rec]) -> Option<Ballot>
     let mut started: Option<Ballot> = None;
     for record in records {
         if let Rec::Started(ballot) = *record {
-            started = greater(started, Some(ballot));
+            started = Ballot::greater(started, Some(ballot));
         }
     }
     started
-}
-
-/// The greater of two ballots.
-fn greater(one: Option<Ballot>, other: Option<Ballot>) -> Option<Ballot>
-    ensures { number_of result ≡ max (number_of one) (number_of other) }
-{
-    match (one, other) {
-        (Some(ballot), Some(higher)) if ballot.get() < higher.get() => other,
-        (None, _) => other,
-        _ => one,
-    }
 }
 
 /// The proposal that runs at a position.

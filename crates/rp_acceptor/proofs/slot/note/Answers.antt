@@ -2,7 +2,7 @@ use Rattle.std.proofs.Common.{◌≡◌, ◌+◌, ◌<◌, max, [], ◌∷◌, �
 use Rattle.std.specs.Prelude.{filter_map, option_to_list}
 use Rattle.std.proofs.lemmas.List.{get_or_default}
 use Rattle.rp_base.specs.Ballot.{number_of}
-use Rattle.rp_base.specs.Records.{bound_at, vote_at, highest}
+use Rattle.rp_base.specs.Records.{bound_at, vote_in, highest}
 use Rattle.rp_acceptor.specs.Noted.{place_of}
 use Rattle.rp_acceptor.specs.declared.slot.Slot.{Slot}
 use Rattle.rp_acceptor.specs.Slots.{empty_slot, slot_at}
@@ -21,5 +21,5 @@ returns-clause-right c = λ records are.
     c.index.ensures ∙ get_or_default c.args.slots.now.items c.index_of-index.result c.index.result.now empty_slot within in
     slots_noted c.args.slots.now.items records c.args.rec.now c.with_record.result c.index_of-index.result place within
     (c.with_record.ensures.bound ∙ ap (λ (s : Slot). max (number_of s.bound) (bound_at (c.args.rec.now ∷ []) (place_of c.args.rec.now))) was)
-    (c.with_record.ensures.last ∙ ap (λ (s : Slot). highest (option_to_list s.last ++ filter_map (vote_at (place_of c.args.rec.now)) (c.args.rec.now ∷ []))) was)
+    (c.with_record.ensures.last ∙ ap (λ (s : Slot). highest (option_to_list s.last ++ filter_map (vote_in (place_of c.args.rec.now)) (c.args.rec.now ∷ []))) was)
     are

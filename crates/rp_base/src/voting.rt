@@ -1,6 +1,7 @@
 //! What an acceptor answers.
 
-use rp_base::{Ballot, Rec, Vote};
+use crate::ballot::Ballot;
+use crate::record::{Rec, Vote};
 
 /// The answer to a `Prepare`.
 #[derive(Clone, Copy, Debug, PartialEq, Eq)]

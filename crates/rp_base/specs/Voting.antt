@@ -1,6 +1,6 @@
--- What an acceptor answers, by the records that it noted. Lamport, "Paxos Made Simple", section 2.2,
--- phases 1b and 2b. That a lower ballot is answered by the bound, an equal one by nothing, and a
--- vote that was cast by the same again, is this project's own.
+-- What an acceptor answers, by its records. Lamport, "Paxos Made Simple", section 2.2, phases 1b and 2b.
+-- That a lower ballot is answered by the bound, an equal one by nothing, and a vote that was cast by the
+-- same again, is this project's own.
 use Rattle.std.specs.Prelude.{ℕ, nat_eq, nat_lt, Option, Some, None, List, if◌then◌else◌}
 use Rattle.rp_base.specs.declared.action.Action.{Action}
 use Rattle.rp_base.specs.declared.record.Vote.{Vote}
@@ -8,10 +8,10 @@ use Rattle.rp_base.specs.declared.record.Rec.{Rec}
 use Rattle.rp_base.specs.declared.record.Rec.TheVariants.{Promised, Voted}
 use Rattle.rp_base.specs.Action.{same_action}
 use Rattle.rp_base.specs.Records.{bound_at, last_vote_at}
-use Rattle.rp_acceptor.specs.declared.answer.PrepareAnswer.{PrepareAnswer}
-use Rattle.rp_acceptor.specs.declared.answer.PrepareAnswer.TheVariants as prepares
-use Rattle.rp_acceptor.specs.declared.answer.AcceptAnswer.{AcceptAnswer}
-use Rattle.rp_acceptor.specs.declared.answer.AcceptAnswer.TheVariants as accepts
+use Rattle.rp_base.specs.declared.voting.PrepareAnswer.{PrepareAnswer}
+use Rattle.rp_base.specs.declared.voting.PrepareAnswer.TheVariants as prepares
+use Rattle.rp_base.specs.declared.voting.AcceptAnswer.{AcceptAnswer}
+use Rattle.rp_base.specs.declared.voting.AcceptAnswer.TheVariants as accepts
 
 -- Prepare: above the bound a promise with the last vote; below it the bound; at it nothing
 abbrev pub prepare_answer : List Rec → ℕ → ℕ → PrepareAnswer

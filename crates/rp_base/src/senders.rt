@@ -44,7 +44,8 @@ impl Senders {
     /// How many of them are among the nodes 1 to `nodes`, at most 7.
     pub fn len_within(&self, nodes: u8) -> usize
         requires { nodes ≤ 7 }
-        ensures { result ≡ length (nodes_among nodes self.now) }
+        ensures value { result ≡ length (nodes_among nodes self.now) }
+        ensures nodes { AreNodes 7 self.now }
     {
         (self.mask & bits_up_to(nodes)).count_ones() as usize
     }

@@ -1,8 +1,11 @@
 -- What a node knows as a proposer, and what it does with promises and refusals. Lamport, "Paxos Made
 -- Simple", section 2.2; one proposal for each position as in section 3.
-use Rattle.std.specs.Prelude.{ℕ, ◌+◌, ◌<◌, Bool, true, false, ◌&&◌, nat_eq, max, Option, Some, None, option_map, List, [], ◌∷◌, length, if◌then◌else◌}
+use Rattle.std.specs.Prelude.{ℕ, suc, ◌+◌, ◌<◌, ◌≤◌, Bool, true, false, ◌&&◌, nat_eq, max, Option, Some, None, option_map, List, [], ◌∷◌, map, length, if◌then◌else◌}
+use Rattle.std.specs.List.{list_any}
 use Rattle.rp_base.specs.declared.action.Action.{Action}
 use Rattle.rp_base.specs.declared.record.Rec.{Rec}
+use Rattle.rp_base.specs.Action.{equal_items}
+use Rattle.rp_base.specs.Sets.{Has, IsSet}
 use Rattle.rp_base.specs.Ballot.{number_of, greatest_with}
 use Rattle.rp_base.specs.Records.{started_of}
 use Rattle.rp_base.specs.Promises.{Promise, offer_of}
@@ -35,14 +38,41 @@ most_running = 64
 abbrev pub HasRoom : List Proposal → ℕ → Type 0
 HasRoom proposals i = length (without_proposal proposals i) < most_running
 
+-- the position is one of 64 from the first on
+abbrev pub IsInWindow : ℕ → ℕ → Type 0
+IsInWindow first i = (first ≤ i) × (i < first + most_running)
+
+-- the proposals run at different positions of a window
+pub record AreInWindow (first : ℕ) (proposals : List Proposal) : Type 0 where
+  pub different : IsSet (map (λ p. p.position) proposals)
+  pub inside : (i : ℕ) → Has i (map (λ p. p.position) proposals) → IsInWindow first i
+
+-- the item is this action, if there is one
+abbrev pub is_equal_item : Action → Option Action → Bool
+is_equal_item item None = false
+is_equal_item item (Some own) = equal_items item own
+
+-- the item is the proposal's own action
+abbrev pub is_own : Action → Proposal → Bool
+is_own item p = is_equal_item item p.own
+
+-- the item is the own action of a proposal at another position
+abbrev pub is_own_elsewhere : List Proposal → ℕ → Action → Bool
+is_own_elsewhere proposals i item = list_any (is_own item) (without_proposal proposals i)
+
+-- the index of the proposal at a position, the first of them at k
+abbrev pub index_from : ℕ → ℕ → List Proposal → Option ℕ
+index_from k i [] = None
+index_from k i (p ∷ rest) = if nat_eq p.position i then Some k else index_from (suc k) i rest
+
 -- the ballot of the proposal that runs at a position, if one does
 abbrev pub ballot_at : List Proposal → ℕ → Option ℕ
 ballot_at proposals i = option_map (λ p. p.ballot) (proposal_at proposals i)
 
 -- a proposal begins at the position, in place of any other there, and its ballot is counted as started
-abbrev pub begins : ProposerPart → ℕ → ℕ → Action → ProposerPart
+abbrev pub begins : ProposerPart → ℕ → ℕ → Option Action → ProposerPart
 begins part i b own =
-    record part { proposals = with_proposal part.proposals (new_proposal i b (Some own)); started = max part.started b }
+    record part { proposals = with_proposal part.proposals (new_proposal i b own); started = max part.started b }
 
 -- what a promise in its ballot makes of a proposal: in phase 1 an offer, where it makes a majority
 abbrev pub progress_of : ℕ → Proposal → Promise → Progress
@@ -72,13 +102,15 @@ offers_made nodes p [] = 0
 offers_made nodes p (promise ∷ rest) =
     (if is_offer (progress_of nodes p promise) then 1 else 0) + offers_made nodes (noted nodes p promise) rest
 
--- a promise counts for the proposal that runs at its position, if it takes it
+-- a proposal once a promise in this ballot is noted, which counts if the proposal takes it
+abbrev pub once_noted : ℕ → ℕ → Proposal → Promise → Proposal
+once_noted nodes b p promise = if takes_promise b p then after_promise nodes p promise else p
+
+-- a promise is noted at the proposal that runs at its position
 abbrev pub notes_promise : ProposerPart → ℕ → Promise → Option Proposal → ProposerPart
 notes_promise part b promise None = part
 notes_promise part b promise (Some p) =
-    if takes_promise b p
-    then record part { proposals = with_proposal part.proposals (after_promise part.nodes p promise) }
-    else part
+    record part { proposals = with_proposal part.proposals (once_noted part.nodes b p promise) }
 
 -- a refusal of the proposal that runs at the position, in its ballot: the proposal ends, and the bound counts
 abbrev pub notes_refusal : ProposerPart → ℕ → ℕ → ℕ → ProposerPart

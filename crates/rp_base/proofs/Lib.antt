@@ -2,3 +2,4 @@ pub mod SetsMeet
 pub mod Members
 pub mod Sameness
 pub mod Masks
+pub mod MoreRecords

@@ -1,3 +1,2 @@
 pub mod Noted
-pub mod Histories
 pub mod Slots

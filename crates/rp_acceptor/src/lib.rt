@@ -3,7 +3,7 @@
 #![tactic(auto)]
 
 mod acceptor;
-mod history;
+mod page;
 mod slot;
 
 pub use acceptor::Acceptor;

@@ -1,116 +1,87 @@
--- One more record: what the records say with it, and what the slots are then.
-use Rattle.std.proofs.Common.{◌≡◌, ℕ, ◌+◌, ◌<◌, ◌≢◌, max, Bool, cond, true, false, Option, Some, None, List, [], ◌∷◌, ◌++◌, length, set, refl, sym, ap, ◌∙◌, inl, inr, arith}
+-- One more record: what the slots are then.
+use Rattle.std.proofs.Common.{◌≡◌, ℕ, ◌+◌, ◌<◌, ◌≢◌, max, Bool, cond, true, false, Option, Some, None, List, [], ◌∷◌, ◌++◌, length, refl, sym, ap, subst, ◌∙◌, inl, inr, arith}
 use Rattle.std.specs.Prelude.{nat_eq, filter_map, option_to_list}
 use Rattle.std.specs.List.{cons_option}
-use Rattle.std.proofs.Math.Nat.{zero-max, max-zero}
 use Rattle.std.proofs.lemmas.Bool.{cases_eq, ne_eqb}
-use Rattle.std.proofs.lemmas.List.{get_or-set_same, get_or-set_other}
-use Rattle.std.proofs.lemmas.List.Elements.{filter_map-append}
 use Rattle.rp_base.specs.declared.record.Vote.{Vote}
 use Rattle.rp_base.specs.declared.record.Rec.{Rec}
 use Rattle.rp_base.specs.declared.record.Rec.TheVariants.{Started, Promised, Voted, Learned}
 use Rattle.rp_base.specs.Ballot.{number_of}
-use Rattle.rp_base.specs.Records.{bound_at, higher_vote, highest, vote_at, last_vote_at}
-use Rattle.rp_acceptor.specs.Noted.{place_of}
+use Rattle.rp_base.specs.Sets.{Has}
+use Rattle.rp_base.specs.Records.{bound_in, bound_at, highest, vote_in, last_vote_at}
+use Rattle.rp_base.proofs.MoreRecords.{bound_push, last_push}
+use Rattle.rp_acceptor.specs.Noted.{places_in}
 use Rattle.rp_acceptor.specs.declared.slot.Slot.{Slot}
-use Rattle.rp_acceptor.specs.Slots.{empty_slot, slot_at, AreSlots}
+use Rattle.rp_acceptor.specs.Slots.{AreSlots}
 
--- the bound with one more record
-pub bound_push : (records : List Rec) (rec : Rec) (i : ℕ) → bound_at (records ++ rec ∷ []) i ≡ max (bound_at records i) (bound_at (rec ∷ []) i)
-bound_push [] rec i = sym (zero-max (bound_at (rec ∷ []) i))
-bound_push (Started ballot ∷ rest) rec i = bound_push rest rec i
-bound_push (Promised position ballot ∷ rest) rec i =
-    let more : ℕ = bound_at (rest ++ rec ∷ []) i in
-    let less : ℕ = bound_at rest i in
-    let one : ℕ = bound_at (rec ∷ []) i in
-    let h : more ≡ max less one = bound_push rest rec i in
-    elim (nat_eq position i) as (λ t. cond t (max ballot more) more ≡ max (cond t (max ballot less) less) one) [ true ↦ omega (arith, h) | false ↦ h ]
-bound_push (Voted position ballot action ∷ rest) rec i =
-    let more : ℕ = bound_at (rest ++ rec ∷ []) i in
-    let less : ℕ = bound_at rest i in
-    let one : ℕ = bound_at (rec ∷ []) i in
-    let h : more ≡ max less one = bound_push rest rec i in
-    elim (nat_eq position i) as (λ t. cond t (max ballot more) more ≡ max (cond t (max ballot less) less) one) [ true ↦ omega (arith, h) | false ↦ h ]
-bound_push (Learned position action ∷ rest) rec i = bound_push rest rec i
+bound_more : (records : List Rec) (rec : Rec) (i : ℕ) → bound_at (records ++ rec ∷ []) i ≡ max (bound_at records i) (bound_in i rec)
+bound_more records rec i = let h = bound_push records rec i in omega (arith, h)
 
--- of three votes the highest, whichever two are compared first
-higher_assoc : (v w : Vote) (h : Option Vote) → higher_vote v (Some (higher_vote w h)) ≡ higher_vote (higher_vote v (Some w)) h
-higher_assoc v w None = refl
-higher_assoc v w (Some u) = grind arith
+one_item : (o : Option Vote) → cons_option o [] ≡ option_to_list o
+one_item None = refl
+one_item (Some v) = refl
 
-higher_joined : (v : Vote) (o : Option Vote) (ws : List Vote) → higher_vote v (highest (option_to_list o ++ ws)) ≡ higher_vote (higher_vote v o) (highest ws)
-higher_joined v None ws = refl
-higher_joined v (Some w) ws = higher_assoc v w (highest ws)
+last_more : (records : List Rec) (rec : Rec) (i : ℕ) → last_vote_at (records ++ rec ∷ []) i ≡ highest (option_to_list (last_vote_at records i) ++ option_to_list (vote_in i rec))
+last_more records rec i = last_push records rec i ∙ ap (λ (l : List Vote). highest (option_to_list (last_vote_at records i) ++ l)) (one_item (vote_in i rec))
 
--- the highest of two lists, by the highest of the first
-highest-append : (vs ws : List Vote) → highest (vs ++ ws) ≡ highest (option_to_list (highest vs) ++ ws)
-highest-append [] ws = refl
-highest-append (v ∷ vs) ws = ap (λ (o : Option Vote). Some (higher_vote v o)) (highest-append vs ws) ∙ ap Some (higher_joined v (highest vs) ws)
-
--- the last vote with one more record
-pub last_push : (records : List Rec) (rec : Rec) (i : ℕ) → last_vote_at (records ++ rec ∷ []) i ≡ highest (option_to_list (last_vote_at records i) ++ filter_map (vote_at i) (rec ∷ []))
-last_push records rec i = ap highest (filter_map-append (vote_at i) records (rec ∷ [])) ∙ highest-append (filter_map (vote_at i) records) (filter_map (vote_at i) (rec ∷ []))
-
--- a record has no bound where it doesn't count
-bound_elsewhere : (rec : Rec) (i : ℕ) → place_of rec ≢ i → bound_at (rec ∷ []) i ≡ 0
+-- a record has no bound where it doesn't count, and no vote
+bound_elsewhere : (rec : Rec) (i : ℕ) → ¬ Has i (places_in rec) → bound_in i rec ≡ 0
 bound_elsewhere (Started ballot) i other = refl
-bound_elsewhere (Promised position ballot) i other = ap (λ (t : Bool). cond t (max ballot 0) 0) (ne_eqb position i other)
-bound_elsewhere (Voted position ballot action) i other = ap (λ (t : Bool). cond t (max ballot 0) 0) (ne_eqb position i other)
+bound_elsewhere (Promised position ballot) i other = ap (λ (t : Bool). cond t ballot 0) (ne_eqb position i (λ e. other (inl (sym e))))
+bound_elsewhere (Voted position ballot action) i other = ap (λ (t : Bool). cond t ballot 0) (ne_eqb position i (λ e. other (inl (sym e))))
 bound_elsewhere (Learned position action) i other = refl
 
--- nor a vote
-vote_elsewhere : (rec : Rec) (i : ℕ) → place_of rec ≢ i → filter_map (vote_at i) (rec ∷ []) ≡ []
+vote_elsewhere : (rec : Rec) (i : ℕ) → ¬ Has i (places_in rec) → vote_in i rec ≡ None
 vote_elsewhere (Started ballot) i other = refl
 vote_elsewhere (Promised position ballot) i other = refl
 vote_elsewhere (Voted position ballot action) i other =
     let vote : Vote = record { ballot = ballot; action = action } in
-    ap (λ (t : Bool). cons_option (cond t (Some vote) None) []) (ne_eqb position i other)
+    ap (λ (t : Bool). cond t (Some vote) None) (ne_eqb position i (λ e. other (inl (sym e))))
 vote_elsewhere (Learned position action) i other = refl
 
 -- so there it changes nothing
-bound_stays : (records : List Rec) (rec : Rec) (i : ℕ) → place_of rec ≢ i → bound_at (records ++ rec ∷ []) i ≡ bound_at records i
-bound_stays records rec i other = bound_push records rec i ∙ ap (max (bound_at records i)) (bound_elsewhere rec i other) ∙ max-zero (bound_at records i)
+bound_stays : (records : List Rec) (rec : Rec) (i : ℕ) → ¬ Has i (places_in rec) → bound_at (records ++ rec ∷ []) i ≡ bound_at records i
+bound_stays records rec i other = omega (arith, bound_more records rec i, bound_elsewhere rec i other)
 
 highest_again : (o : Option Vote) → highest (option_to_list o ++ []) ≡ o
 highest_again None = refl
 highest_again (Some v) = refl
 
-last_stays : (records : List Rec) (rec : Rec) (i : ℕ) → place_of rec ≢ i → last_vote_at (records ++ rec ∷ []) i ≡ last_vote_at records i
+last_stays : (records : List Rec) (rec : Rec) (i : ℕ) → ¬ Has i (places_in rec) → last_vote_at (records ++ rec ∷ []) i ≡ last_vote_at records i
 last_stays records rec i other =
-    last_push records rec i ∙ ap (λ (vs : List Vote). highest (option_to_list (last_vote_at records i) ++ vs)) (vote_elsewhere rec i other) ∙ highest_again (last_vote_at records i)
+    last_more records rec i
+    ∙ ap (λ (o : Option Vote). highest (option_to_list (last_vote_at records i) ++ option_to_list o)) (vote_elsewhere rec i other)
+    ∙ highest_again (last_vote_at records i)
 
 -- a record that counts nowhere leaves the slots right
-pub slots_stay : (slots : List Slot) (records : List Rec) (rec : Rec) → place_of rec ≡ 0 → AreSlots slots records → AreSlots slots (records ++ rec ∷ [])
-slots_stay slots records rec nowhere are = record {
-  bounds = λ index. are.bounds index ∙ sym (bound_stays records rec (index + 1) (λ here. omega (arith, nowhere, here)));
-  votes = λ index. are.votes index ∙ sym (last_stays records rec (index + 1) (λ here. omega (arith, nowhere, here)));
-}
+pub slots_stay : (slot : ℕ → Slot) (records : List Rec) (rec : Rec) → places_in rec ≡ [] → AreSlots slot records → AreSlots slot (records ++ rec ∷ [])
+slots_stay slot records rec nowhere are =
+    let none : (i : ℕ) → ¬ Has i (places_in rec) = λ i h. subst (λ (l : List ℕ). Has i l) nowhere h in
+    record {
+      bounds = λ index. are.bounds index ∙ sym (bound_stays records rec (index + 1) (none (index + 1)));
+      votes = λ index. are.votes index ∙ sym (last_stays records rec (index + 1) (none (index + 1)));
+    }
 
 -- the slots with the record noted in its place
-pub slots_noted : (slots : List Slot) (records : List Rec) (rec : Rec) (slot : Slot) (k : ℕ) → k + 1 ≡ place_of rec → k < length slots
-    → number_of slot.bound ≡ max (number_of (slot_at slots k).bound) (bound_at (rec ∷ []) (place_of rec))
-    → slot.last ≡ highest (option_to_list (slot_at slots k).last ++ filter_map (vote_at (place_of rec)) (rec ∷ []))
-    → AreSlots slots records → AreSlots (set slots k slot) (records ++ rec ∷ [])
-slots_noted slots records rec slot k place within bound last are =
-    let same : (index : ℕ) → index ≡ k → slot_at (set slots k slot) index ≡ slot =
-    λ index e. ap (λ (n : ℕ). slot_at (set slots k slot) n) e ∙ get_or-set_same slots k slot empty_slot within in
-    let other : (index : ℕ) → index ≢ k → slot_at (set slots k slot) index ≡ slot_at slots index =
-    λ index n. get_or-set_other slots k index slot empty_slot n in
+pub slots_noted : (before after : ℕ → Slot) (records : List Rec) (rec : Rec) (k : ℕ) → places_in rec ≡ (k + 1) ∷ []
+    → ((index : ℕ) → index ≢ k → after index ≡ before index)
+    → number_of (after k).bound ≡ max (number_of (before k).bound) (bound_in (k + 1) rec)
+    → (after k).last ≡ highest (option_to_list (before k).last ++ option_to_list (vote_in (k + 1) rec))
+    → AreSlots before records → AreSlots after (records ++ rec ∷ [])
+slots_noted before after records rec k place other bound last are =
+    let none : (index : ℕ) → index ≢ k → ¬ Has (index + 1) (places_in rec) = λ index ne h.
+    elim (subst (λ (l : List ℕ). Has (index + 1) l) place h) [ inl e ↦ ne (omega (arith, e)) | inr never ↦ never ] in
     record {
       bounds = λ index. elim (cases_eq index k) [
-        | inl e ↦ ap (λ (s : Slot). number_of s.bound) (same index e) ∙ bound
-            ∙ ap (λ (n : ℕ). max n (bound_at (rec ∷ []) (place_of rec))) (are.bounds k ∙ ap (bound_at records) place)
-            ∙ sym (bound_push records rec (place_of rec))
-            ∙ ap (bound_at (records ++ rec ∷ [])) (sym place ∙ ap (λ (n : ℕ). n + 1) (sym e))
-        | inr n ↦ ap (λ (s : Slot). number_of s.bound) (other index n) ∙ are.bounds index
-            ∙ sym (bound_stays records rec (index + 1) (λ here. n (omega (arith, place, here))))
+        | inl e ↦
+            let was = are.bounds k in
+            let more = bound_more records rec (k + 1) in
+            subst (λ (n : ℕ). number_of (after n).bound ≡ bound_at (records ++ rec ∷ []) (n + 1)) (sym e) (omega (arith, bound, was, more))
+        | inr n ↦ ap (λ (s : Slot). number_of s.bound) (other index n) ∙ are.bounds index ∙ sym (bound_stays records rec (index + 1) (none index n))
       ];
       votes = λ index. elim (cases_eq index k) [
-        | inl e ↦ ap (λ (s : Slot). s.last) (same index e) ∙ last
-            ∙ ap (λ (o : Option Vote). highest (option_to_list o ++ filter_map (vote_at (place_of rec)) (rec ∷ []))) (are.votes k ∙ ap (last_vote_at records) place)
-            ∙ sym (last_push records rec (place_of rec))
-            ∙ ap (last_vote_at (records ++ rec ∷ [])) (sym place ∙ ap (λ (n : ℕ). n + 1) (sym e))
-        | inr n ↦ ap (λ (s : Slot). s.last) (other index n) ∙ are.votes index
-            ∙ sym (last_stays records rec (index + 1) (λ here. n (omega (arith, place, here))))
+        | inl e ↦ subst (λ (n : ℕ). (after n).last ≡ last_vote_at (records ++ rec ∷ []) (n + 1)) (sym e)
+            (last ∙ ap (λ (o : Option Vote). highest (option_to_list o ++ option_to_list (vote_in (k + 1) rec))) (are.votes k) ∙ sym (last_more records rec (k + 1)))
+        | inr n ↦ ap (λ (s : Slot). s.last) (other index n) ∙ are.votes index ∙ sym (last_stays records rec (index + 1) (none index n))
       ];
     }

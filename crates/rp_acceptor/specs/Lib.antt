@@ -1,4 +1,2 @@
 pub mod Noted
-pub mod Answers
-pub mod Histories
 pub mod Slots

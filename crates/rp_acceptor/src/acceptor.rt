@@ -1,15 +1,15 @@
 //! The acceptor's questions and notes.
 
-ghost use Rattle.std.specs.Prelude.{◌≡◌, ◌≤◌, ◌<◌, max, [], ◌∷◌, ◌++◌, IfOk, IfSome, IfNone, OnOk, OnErr, IsOkUnless};
+ghost use Rattle.std.specs.Prelude.{◌≡◌, ◌≤◌, ◌<◌, [], ◌∷◌, ◌++◌, flat_map, IfOk, IfSome, IfNone, OnOk, OnErr, IsOkUnless};
 ghost use Rattle.rp_base.specs.Ballot.{number_of};
 ghost use Rattle.rp_base.specs.Records.{bound_at, last_vote_at};
-ghost use Rattle.rp_acceptor.specs.Noted.{place_of, room_for};
-ghost use Rattle.rp_acceptor.specs.Answers.{prepare_answer, vote_answer, accept_answer};
+ghost use Rattle.rp_base.specs.Sets.{Has};
+ghost use Rattle.rp_acceptor.specs.Noted.{nothing_noted, places_in, HasRoom, reserves, notes, restored};
+ghost use Rattle.rp_base.specs.Voting.{prepare_answer, vote_answer, accept_answer};
 
-use crate::answer::{AcceptAnswer, PrepareAnswer};
-use crate::history::History;
-use crate::slot::{Slot, grow, index_of, note, place_of, slot_at};
-use rp_base::{Action, Ballot, Fault, Position, Rec, Vote};
+use crate::page::{Page, make, note, slot_at};
+use crate::slot::{Slot, index_of, place_of};
+use rp_base::{AcceptAnswer, Action, Ballot, Fault, History, Position, PrepareAnswer, Rec, Vote};
 use std::alloc::Global;
 use std::marker::Model;
 
@@ -18,40 +18,43 @@ use std::marker::Model;
 /// Simple", section 2.5).
 #[derive(Drop)]
 pub struct Acceptor {
-    slots: Vec<Slot>,
-    history: History,
+    alloc: Global,
+    pages: Vec<Page>,
+    reserved: History<Position>,
+    records: History<Rec>,
 }
 
 impl Model for Acceptor {
-    ghost use Rattle.std.specs.Prelude.{length};
     ghost use Rattle.rp_acceptor.specs.Noted.{Noted};
 
     ghost Value = { Noted };
 
-    ghost use Rattle.rp_acceptor.specs.Slots.{AreSlots};
+    ghost use Rattle.rp_acceptor.specs.Slots.{AreKept};
 
-    ghost view = { λ a. record { records = a.history; room = length a.slots.items } };
+    ghost view = { λ a. record { records = a.records; reserved = a.reserved } };
 
-    ghost invariant = { λ a. AreSlots a.slots.items a.history };
+    ghost invariant = { λ a. AreKept a.pages.items a.reserved a.records };
 }
 
 impl Acceptor {
     /// An acceptor that has noted nothing, with no room.
     pub fn new(alloc: Global) -> Self
-        ensures empty { result ≡ record { records = []; room = 0 } }
+        ensures empty { result ≡ nothing_noted }
     {
         Acceptor {
-            slots: Vec::new(alloc),
-            history: History::new(),
+            alloc,
+            pages: Vec::new(alloc),
+            reserved: History::new(),
+            records: History::new(),
         }
     }
 
-    /// The acceptor that notes these records in order, with room up to the greatest position at
-    /// which one of them counts. `OutOfMemory` comes only where one of them is a promise or a vote,
-    /// and then there is no acceptor.
+    /// The acceptor that notes these records in order, with room at each position at which one of
+    /// them counts. `OutOfMemory` comes only where one of them is a promise or a vote, and then
+    /// there is no acceptor.
     pub fn restore(alloc: Global, records: &[Rec]) -> Result<Self, Fault>
-        ensures restored { IfOk result (λ acceptor. acceptor ≡ record { records = records.now; room = room_for records.now }) }
-        ensures full { OnErr result (0 < room_for records.now) }
+        ensures restored { IfOk result (λ acceptor. acceptor ≡ restored records.now) }
+        ensures full { OnErr result (¬ (flat_map places_in records.now ≡ [])) }
         ensures only { IsOkUnless result Fault.OutOfMemory }
     {
         let mut acceptor = Acceptor::new(alloc);
@@ -63,40 +66,42 @@ impl Acceptor {
 
     /// Makes room for the record and notes it.
     fn reserve_and_note(&mut self, rec: &Rec) -> Result<(), Fault>
-        ensures ok { OnOk result (self.new ≡ record { records = self.old.records ++ rec.now ∷ []; room = max self.old.room (place_of rec.now) }) }
-        ensures full { OnErr result (self.old.room < place_of rec.now) }
+        ensures records { OnOk result (self.new.records ≡ self.old.records ++ rec.now ∷ []) }
+        ensures reserved { OnOk result (self.new.reserved ≡ self.old.reserved ++ places_in rec.now) }
+        ensures full { OnErr result (¬ (places_in rec.now ≡ [])) }
         ensures only { IsOkUnless result Fault.OutOfMemory }
     {
-        if let Some(position) = place_of(rec) {
-            self.reserve(position)?;
+        match place_of(rec) {
+            Some(position) => {
+                self.reserve(position)?;
+                self.note(rec);
+            }
+            None => self.note(rec),
         }
-        self.note(rec);
         Ok(())
     }
 
-    /// Makes room, so that records up to this position can be noted. `OutOfMemory` comes only
-    /// where there was not room enough, and then nothing has changed.
+    /// Makes room, so that records at this position can be noted, however many. `OutOfMemory` comes
+    /// only where there was no room yet, and then nothing has changed.
     pub fn reserve(&mut self, position: Position) -> Result<(), Fault>
-        ensures ok { OnOk result (self.new ≡ record self.old { room = max self.old.room position }) }
+        ensures ok { OnOk result (self.new ≡ reserves self.old position) }
         ensures err { OnErr result (self.new ≡ self.old) }
-        ensures full { OnErr result (self.old.room < position) }
+        ensures full { OnErr result (¬ Has position self.old.reserved) }
         ensures only { IsOkUnless result Fault.OutOfMemory }
     {
-        let count = usize::from(position.get());
-        if self.slots.len() < count {
-            grow(&mut self.slots, count)?;
-        }
+        make(&mut self.pages, self.alloc, index_of(position))?;
+        self.reserved.push(position);
         Ok(())
     }
 
     /// Notes a record that is written. There is room for its position, if it is a promise or a vote;
     /// a record of another kind changes no answer.
     pub fn note(&mut self, rec: &Rec)
-        requires room { place_of rec.now ≤ self.old.room }
-        ensures noted { self.new ≡ record self.old { records = self.old.records ++ rec.now ∷ [] } }
+        requires room { HasRoom self.old rec.now }
+        ensures noted { self.new ≡ notes self.old rec.now }
     {
-        note(&mut self.slots, rec);
-        self.history.push(*rec);
+        note(&mut self.pages, rec);
+        remember(&mut self.records, rec);
     }
 
     /// What is kept for a position.
@@ -104,7 +109,7 @@ impl Acceptor {
         ensures bound { number_of result.bound ≡ bound_at self.now.records position }
         ensures last { result.last ≡ last_vote_at self.now.records position }
     {
-        slot_at(self.slots.as_slice(), index_of(position))
+        slot_at(&self.pages, index_of(position))
     }
 
     /// What is answered to a `Prepare` of the ballot at the position (section 2.2, phase 1b). The
@@ -162,5 +167,18 @@ fn vote(position: Position, ballot: Ballot, action: Action, last: Option<Vote>) 
         _ => AcceptAnswer::Vote {
             rec: Rec::Voted(position, ballot, action),
         },
+    }
+}
+
+/// Adds a record behind the others.
+fn remember(records: &mut History<Rec>, rec: &Rec)
+    ensures { records.new ≡ records.old ++ rec.now ∷ [] }
+{
+    // Case by case, since the proof of a move needs the action's type at hand.
+    match *rec {
+        Rec::Started(ballot) => records.push(Rec::Started(ballot)),
+        Rec::Promised(position, ballot) => records.push(Rec::Promised(position, ballot)),
+        Rec::Voted(position, ballot, action) => records.push(Rec::Voted(position, ballot, action)),
+        Rec::Learned(position, action) => records.push(Rec::Learned(position, action)),
     }
 }

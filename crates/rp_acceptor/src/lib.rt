@@ -3,12 +3,11 @@
 #![tactic(auto)]
 
 mod acceptor;
-mod answer;
-mod history;
+mod page;
 mod slot;
 
 pub use acceptor::Acceptor;
-pub use answer::{AcceptAnswer, PrepareAnswer};
+pub use rp_base::{AcceptAnswer, PrepareAnswer};
 
 #[cfg(test)]
 mod tests;

@@ -1,14 +1,12 @@
 //! What an acceptor keeps for a position.
 
-ghost use Rattle.std.specs.Prelude.{◌≡◌, max, List, Some, [], ◌∷◌, ◌++◌, ◌+◌, ◌≤◌, OnOk, OnErr, ℕ, length, option_to_list, filter_map};
+ghost use Rattle.std.specs.Prelude.{◌≡◌, max, [], ◌∷◌, ◌++◌, ◌+◌, Some, option_to_list};
 ghost use Rattle.rp_base.specs.Ballot.{number_of};
-ghost use Rattle.rp_base.specs.Records.{bound_at, vote_at, highest};
-ghost use Rattle.rp_acceptor.specs.Noted.{place_of};
-ghost use Rattle.rp_acceptor.specs.Slots.{empty_slot, slot_at, AreSlots};
-ghost use Rattle.rp_base.specs.declared.record.Rec.{Rec};
+ghost use Rattle.rp_base.specs.Records.{bound_in, vote_in, highest};
+ghost use Rattle.rp_acceptor.specs.Noted.{places_in};
+ghost use Rattle.rp_acceptor.specs.Slots.{empty_slot};
 
 use rp_base::{Ballot, Position, Rec, Vote};
-use std::alloc::AllocError;
 
 /// The bound at a position and the last vote there.
 #[derive(Clone, Copy)]
@@ -18,7 +16,7 @@ pub struct Slot {
 }
 
 /// Nothing is promised or voted for.
-fn empty() -> Slot
+pub fn empty() -> Slot
     ensures { result ≡ empty_slot }
 {
     Slot {
@@ -29,7 +27,7 @@ fn empty() -> Slot
 
 /// The position at which a record counts for an acceptor: that of a promise or a vote.
 pub fn place_of(rec: &Rec) -> Option<Position>
-    ensures { number_of result ≡ place_of rec.now }
+    ensures { option_to_list result ≡ places_in rec.now }
 {
     match rec {
         Rec::Promised(position, _) | Rec::Voted(position, _, _) => Some(*position),
@@ -44,80 +42,27 @@ pub fn index_of(position: Position) -> usize
     usize::from(position.get()) - 1
 }
 
-/// The slot at an index. Past the end it is an empty one.
-pub fn slot_at(slots: &[Slot], index: usize) -> Slot
-    ensures { result ≡ slot_at slots.now index }
-{
-    match slots.get(index) {
-        Some(slot) => *slot,
-        None => empty(),
-    }
-}
-
-/// The greater of a ballot, if there is one, and another.
-fn greater(one: Option<Ballot>, other: Ballot) -> Option<Ballot>
-    ensures { number_of result ≡ max (number_of one) other }
-{
-    match one {
-        Some(ballot) if ballot.get() >= other.get() => Some(ballot),
-        _ => Some(other),
-    }
-}
-
-/// The vote of the greater ballot, the first of two in one ballot.
-fn higher(first: Option<Vote>, second: Vote) -> Vote
-    ensures { Some result ≡ highest (option_to_list first ++ second ∷ []) }
-{
-    match first {
-        Some(vote) if vote.ballot.get() >= second.ballot.get() => vote,
-        _ => second,
-    }
-}
-
-/// The slot of the position at which a record counts, once the record is noted.
-fn with_record(slot: Slot, rec: &Rec) -> Slot
-    ensures bound { number_of result.bound ≡ max (number_of slot.bound) (bound_at (rec.now ∷ []) (place_of rec.now)) }
-    ensures last { result.last ≡ highest (option_to_list slot.last ++ filter_map (vote_at (place_of rec.now)) (rec.now ∷ [])) }
+/// The slot of a position at which a record counts, once the record is noted.
+pub fn with_record(slot: Slot, position: Position, rec: &Rec) -> Slot
+    requires { option_to_list (Some position) ≡ places_in rec.now }
+    ensures bound { number_of result.bound ≡ max (number_of slot.bound) (bound_in position rec.now) }
+    ensures last { result.last ≡ highest (option_to_list slot.last ++ option_to_list (vote_in position rec.now)) }
 {
     match rec {
         Rec::Promised(_, ballot) => Slot {
-            bound: greater(slot.bound, *ballot),
+            bound: Ballot::greater(slot.bound, Some(*ballot)),
             last: slot.last,
         },
         Rec::Voted(_, ballot, action) => Slot {
-            bound: greater(slot.bound, *ballot),
-            last: Some(higher(
+            bound: Ballot::greater(slot.bound, Some(*ballot)),
+            last: Vote::higher(
                 slot.last,
-                Vote {
+                Some(Vote {
                     ballot: *ballot,
                     action: *action,
-                },
-            )),
+                }),
+            ),
         },
         Rec::Started(_) | Rec::Learned(_, _) => slot,
     }
-}
-
-/// Makes empty slots until there are so many. Refused for memory, the slots stay.
-pub fn grow(slots: &mut Vec<Slot>, count: usize) -> Result<(), AllocError>
-    requires { length slots.old.items ≤ count }
-    ensures len { OnOk result (length slots.new.items ≡ count) }
-    ensures same { OnOk result ((index : ℕ) → slot_at slots.new.items index ≡ slot_at slots.old.items index) }
-    ensures err { OnErr result (slots.new.items ≡ slots.old.items) }
-{
-    slots.resize(count, empty())?;
-    Ok(())
-}
-
-/// Notes a record in the slot of its position, if it counts at one. The slot is there.
-pub fn note(slots: &mut Vec<Slot>, rec: &Rec)
-    requires { place_of rec.now ≤ length slots.old.items }
-    ensures len { length slots.new.items ≡ length slots.old.items }
-    ensures right { (records : List Rec) → AreSlots slots.old.items records → AreSlots slots.new.items (records ++ rec.now ∷ []) }
-{
-    let Some(position) = place_of(rec) else {
-        return;
-    };
-    let index = index_of(position);
-    slots[index] = with_record(slots[index], rec);
 }

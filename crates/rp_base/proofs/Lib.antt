@@ -1,2 +1,5 @@
 pub mod SetsMeet
-pub mod OneSenderMore
+pub mod Members
+pub mod Sameness
+pub mod Masks
+pub mod MoreRecords

@@ -2,7 +2,7 @@
 use Rattle.std.specs.Prelude.{ℕ, ◌≡◌, ◌<◌, ◌≤◌, ◌^◌, FitsSigned, Bool, true, false, nat_eq, nat_le, ◌&&◌}
 use Rattle.std.specs.Ordering.{int_eq}
 use Rattle.std.specs.Int.{w64}
-use Rattle.rp_base.specs.Number.{IsTask}
+use Rattle.rp_base.specs.Number.{IsTask, in_range}
 use Rattle.rp_base.specs.declared.action.Operation.{Operation}
 use Rattle.rp_base.specs.declared.action.Operation.TheVariants.{Function, Procedure, Entry, SetTimer, CancelTimer}
 use Rattle.rp_base.specs.declared.action.Action.{Action}
@@ -33,9 +33,6 @@ IsRight (Interrupt source occurrence) = IsIndex source × IsCount occurrence
 IsRight (Tick now) = now < 2 ^ 32
 
 -- the same as a test, for numbers that are within their types
-abbrev pub in_range : ℕ → ℕ → ℕ → Bool
-in_range low high n = nat_le low n && nat_le n high
-
 abbrev pub is_right_operation : Operation → Bool
 is_right_operation (Function index) = in_range 1 8 index
 is_right_operation (Procedure index) = in_range 1 8 index
@@ -66,3 +63,8 @@ same_action (Call t n o p a) (Call u m q r b) = nat_eq t u && nat_eq n m && nat_
 same_action (Interrupt s n) (Interrupt t m) = nat_eq s t && nat_eq n m
 same_action (Tick a) (Tick b) = nat_eq a b
 same_action _ _ = false
+
+-- the items are equal: calls by task and number, all else whole
+abbrev pub equal_items : Action → Action → Bool
+equal_items (Call task number o p a) (Call other same q r b) = nat_eq task other && nat_eq number same
+equal_items item other = same_action item other

@@ -1,6 +1,6 @@
 -- Ballots. Lamport, "Paxos Made Simple", section 2.2: proposers draw their numbers from disjoint sets.
 -- The form of the number is this project's own.
-use Rattle.std.specs.Prelude.{◌≡◌, ℕ, ◌+◌, ◌-◌, ◌*◌, ◌/◌, ◌%◌, ◌<◌, ◌≤◌, ◌^◌, max, Option, unwrap_or}
+use Rattle.std.specs.Prelude.{◌≡◌, ℕ, ◌+◌, ◌-◌, ◌*◌, ◌/◌, ◌%◌, ◌<◌, ◌≤◌, ◌^◌, max, Option, Some, unwrap_or}
 use Rattle.rp_base.specs.Number.{IsNode}
 
 -- the ballot of a round and the node that owns it
@@ -23,6 +23,10 @@ pub record IsBallot (b : ℕ) : Type 0 where
 -- a ballot as a number, 0 where there is none
 abbrev pub number_of : Option ℕ → ℕ
 number_of b = unwrap_or b 0
+
+-- the greatest ballot so far, if there is one, with another
+abbrev pub greatest_with : Option ℕ → ℕ → Option ℕ
+greatest_with ballot other = Some (max (number_of ballot) other)
 
 -- a ballot of this node above a number
 pub record IsAbove (node floor b : ℕ) : Type 0 where

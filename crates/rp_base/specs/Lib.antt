@@ -1,11 +1,14 @@
 pub mod Number
 pub mod Ballot
 pub mod Sets
+pub mod Masks
 pub mod Majority
 pub mod Action
 pub mod Fault
 pub mod Config
-pub mod Records
-pub mod Promises
 pub mod Right
+pub mod Records
+pub mod Voting
+pub mod Promises
+pub mod Proposals
 pub mod Histories

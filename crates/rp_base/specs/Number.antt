@@ -1,5 +1,5 @@
 -- Which numbers name nodes, tasks and positions (this project's own limits).
-use Rattle.std.specs.Prelude.{ℕ, ◌<◌, ◌≤◌, ◌^◌}
+use Rattle.std.specs.Prelude.{ℕ, Bool, ◌<◌, ◌≤◌, ◌^◌, ◌&&◌, nat_le}
 
 -- a node is 1 to 7
 abbrev pub IsNode : ℕ → Type 0
@@ -12,3 +12,7 @@ IsTask n = (1 ≤ n) × (n ≤ 8)
 -- a position of the log is 1 to 65,535
 abbrev pub IsPosition : ℕ → Type 0
 IsPosition n = (1 ≤ n) × (n < 2 ^ 16)
+
+-- the number is low to high, as a test
+abbrev pub in_range : ℕ → ℕ → ℕ → Bool
+in_range low high n = nat_le low n && nat_le n high

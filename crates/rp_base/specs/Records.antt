@@ -6,21 +6,29 @@ use Rattle.rp_base.specs.declared.record.Vote.{Vote}
 use Rattle.rp_base.specs.declared.record.Rec.{Rec}
 use Rattle.rp_base.specs.declared.record.Rec.TheVariants.{Started, Promised, Voted, Learned}
 
+-- the ballot in which a record leads, or 0
+abbrev pub started_in : Rec → ℕ
+started_in (Started ballot) = ballot
+started_in (Promised position ballot) = 0
+started_in (Voted position ballot action) = 0
+started_in (Learned position action) = 0
+
 -- the greatest ballot in which the records lead, or 0
 abbrev pub started_of : List Rec → ℕ
 started_of [] = 0
-started_of (Started ballot ∷ rest) = max ballot (started_of rest)
-started_of (Promised position ballot ∷ rest) = started_of rest
-started_of (Voted position ballot action ∷ rest) = started_of rest
-started_of (Learned position action ∷ rest) = started_of rest
+started_of (rec ∷ rest) = max (started_in rec) (started_of rest)
+
+-- the ballot that a record promises or votes in at a position, or 0
+abbrev pub bound_in : ℕ → Rec → ℕ
+bound_in i (Started ballot) = 0
+bound_in i (Promised position ballot) = if nat_eq position i then ballot else 0
+bound_in i (Voted position ballot action) = if nat_eq position i then ballot else 0
+bound_in i (Learned position action) = 0
 
 -- the bound at a position: the greatest ballot promised or voted in there, or 0
 abbrev pub bound_at : List Rec → ℕ → ℕ
 bound_at [] i = 0
-bound_at (Started ballot ∷ rest) i = bound_at rest i
-bound_at (Promised position ballot ∷ rest) i = if nat_eq position i then max ballot (bound_at rest i) else bound_at rest i
-bound_at (Voted position ballot action ∷ rest) i = if nat_eq position i then max ballot (bound_at rest i) else bound_at rest i
-bound_at (Learned position action ∷ rest) i = bound_at rest i
+bound_at (rec ∷ rest) i = max (bound_in i rec) (bound_at rest i)
 
 -- the vote of the greater ballot, the first of two in one ballot
 abbrev pub higher_vote : Vote → Option Vote → Vote
@@ -33,23 +41,32 @@ highest [] = None
 highest (vote ∷ rest) = Some (higher_vote vote (highest rest))
 
 -- the vote at a position that a record is, if it is one
-abbrev pub vote_at : ℕ → Rec → Option Vote
-vote_at i (Started ballot) = None
-vote_at i (Promised position ballot) = None
-vote_at i (Voted position ballot action) = if nat_eq position i then Some (record { ballot = ballot; action = action }) else None
-vote_at i (Learned position action) = None
+abbrev pub vote_in : ℕ → Rec → Option Vote
+vote_in i (Started ballot) = None
+vote_in i (Promised position ballot) = None
+vote_in i (Voted position ballot action) = if nat_eq position i then Some (record { ballot = ballot; action = action }) else None
+vote_in i (Learned position action) = None
 
 -- the last vote at a position: the one of the greatest ballot, the first of several
 abbrev pub last_vote_at : List Rec → ℕ → Option Vote
-last_vote_at records i = highest (filter_map (vote_at i) records)
+last_vote_at records i = highest (filter_map (vote_in i) records)
+
+-- the action that a record learns at a position, if it does
+abbrev pub learned_in : ℕ → Rec → Option Action
+learned_in i (Started ballot) = None
+learned_in i (Promised position ballot) = None
+learned_in i (Voted position ballot action) = None
+learned_in i (Learned position action) = if nat_eq position i then Some action else None
+
+-- the action, or else the other
+abbrev pub or_else : Option Action → Option Action → Option Action
+or_else None other = other
+or_else (Some action) other = Some action
 
 -- the action learned at a position, the first of several
 abbrev pub learned_at : List Rec → ℕ → Option Action
 learned_at [] i = None
-learned_at (Started ballot ∷ rest) i = learned_at rest i
-learned_at (Promised position ballot ∷ rest) i = learned_at rest i
-learned_at (Voted position ballot action ∷ rest) i = learned_at rest i
-learned_at (Learned position action ∷ rest) i = if nat_eq position i then Some action else learned_at rest i
+learned_at (rec ∷ rest) i = or_else (learned_in i rec) (learned_at rest i)
 
 -- an action in front of others, or nothing where it is missing
 abbrev pub unless_missing : Option Action → List Action → List Action

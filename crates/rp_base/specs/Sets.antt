@@ -1,5 +1,5 @@
 -- Finite sets, as lists in which nothing stands twice.
-use Rattle.std.specs.Prelude.{◌≡◌, ◌⊎◌, Bool, List, [], ◌∷◌, ◌++◌, if◌then◌else◌}
+use Rattle.std.specs.Prelude.{◌≡◌, ◌↔◌, ◌⊎◌, Bool, List, [], ◌∷◌, ◌++◌, if◌then◌else◌}
 use Rattle.std.specs.List.{list_any}
 
 -- x stands in the list
@@ -11,6 +11,10 @@ Has x (y ∷ ys) = (x ≡ y) ⊎ Has x ys
 abbrev pub IsSet : {A : Type 0} → List A → Type 0
 IsSet [] = Unit {0}
 IsSet (x ∷ xs) = (¬ Has x xs) × IsSet xs
+
+-- the two have the same members
+abbrev pub SameMembers : {A : Type 0} → List A → List A → Type 0
+SameMembers {A} xs ys = (x : A) → Has x xs ↔ Has x ys
 
 -- the list with x, at its end unless it is there
 abbrev pub with_member : {A : Type 0} → (A → A → Bool) → List A → A → List A

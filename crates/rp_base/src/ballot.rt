@@ -1,6 +1,6 @@
 //! Ballots, which order the attempts to decide a position.
 
-ghost use Rattle.std.specs.Prelude.{◌≡◌, ℕ, ◌↔◌, ◌<◌, ◌≤◌, ◌^◌, IsSome, IfSome, IfOk, IsErrOf, IsOkUnless};
+ghost use Rattle.std.specs.Prelude.{◌≡◌, ℕ, ◌↔◌, ◌<◌, ◌≤◌, ◌^◌, max, IsSome, IfSome, IfOk, IsErrOf, IsOkUnless};
 ghost use Rattle.rp_base.specs.Ballot.{IsBallot, ballot_of, round_of, owner_of, number_of, next_ballot, IsAbove, IsNext};
 
 use crate::fault::Fault;
@@ -69,6 +69,17 @@ impl Ballot {
     {
         let owner = (self.number % 8) as u8;
         NodeId::new(owner).unwrap()
+    }
+
+    /// The greater of two ballots, or the one that there is.
+    pub fn greater(one: Option<Ballot>, other: Option<Ballot>) -> Option<Ballot>
+        ensures { number_of result ≡ max (number_of one) (number_of other) }
+    {
+        match (one, other) {
+            (Some(ballot), Some(higher)) if ballot.get() < higher.get() => other,
+            (None, _) => other,
+            _ => one,
+        }
     }
 
     /// The least ballot of the node above a ballot, or above none. `BallotsSpent` where the node

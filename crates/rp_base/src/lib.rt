@@ -9,9 +9,12 @@ mod fault;
 mod history;
 mod majorities;
 mod number;
+mod proposal;
 mod record;
+mod records;
 mod reply;
 mod senders;
+mod voting;
 
 pub use action::{Action, Operation};
 pub use answers::Answers;
@@ -21,9 +24,12 @@ pub use fault::{DeckReason, Fault, PacketReason};
 pub use history::History;
 pub use majorities::{majorities_meet, majority};
 pub use number::{NodeId, Position, TaskId};
+pub use proposal::Phase;
 pub use record::{Rec, Vote};
+pub use records::{last_votes_lie_below, one_more_record};
 pub use reply::{Answer, Reply};
 pub use senders::Senders;
+pub use voting::{AcceptAnswer, PrepareAnswer};
 
 #[cfg(test)]
 mod tests;

@@ -1,5 +1,8 @@
 //! What a node writes down before it says it.
 
+ghost use Rattle.std.specs.Prelude.{◌≡◌, ◌++◌, option_to_list};
+ghost use Rattle.rp_base.specs.Records.{highest};
+
 use crate::action::Action;
 use crate::ballot::Ballot;
 use crate::number::Position;
@@ -9,6 +12,21 @@ use crate::number::Position;
 pub struct Vote {
     pub ballot: Ballot,
     pub action: Action,
+}
+
+impl Vote {
+    /// The vote of the greater ballot, the first of two in one ballot.
+    pub fn higher(first: Option<Vote>, second: Option<Vote>) -> Option<Vote>
+        ensures { result ≡ highest (option_to_list first ++ option_to_list second) }
+    {
+        match second {
+            None => first,
+            Some(vote) => match first {
+                Some(other) if other.ballot.get() >= vote.ballot.get() => Some(other),
+                _ => Some(vote),
+            },
+        }
+    }
 }
 
 /// A record of a node's stable store (Lamport, "Paxos Made Simple", section 2.5: an acceptor

@@ -1,29 +1,28 @@
 //! A set of nodes, such as those that sent a promise or a vote.
 
-ghost use Rattle.std.specs.Prelude.{◌≡◌, [], ◌∷◌, ◌++◌, false, length, nat_eq};
-ghost use Rattle.std.specs.List.{list_any};
-ghost use Rattle.rp_base.specs.Number.{IsNode};
-ghost use Rattle.rp_base.specs.Sets.{with_member};
+ghost use Rattle.std.specs.Prelude.{◌≡◌, ◌≤◌, [], length, nat_eq};
+ghost use Rattle.rp_base.specs.Sets.{SameMembers, with_member};
+ghost use Rattle.rp_base.specs.Majority.{AreNodes, nodes_among};
+ghost use Rattle.rp_base.specs.Masks.{low_bits};
 
 use crate::number::NodeId;
 use std::marker::Model;
 
-/// A set of nodes in the order in which they came: at most 7, in place.
+/// A set of nodes, at most 7: a mask in one byte, whose bit k is set where node k is in the set.
 #[derive(Debug, Drop)]
 pub struct Senders {
-    nodes: [NodeId; 7],
-    len: usize,
+    mask: u8,
 }
 
 impl Model for Senders {
-    ghost use Rattle.std.specs.Prelude.{◌≡◌, ℕ, List, ◌≤◌, length, take};
-    ghost use Rattle.rp_base.specs.Majority.{AreNodes};
+    ghost use Rattle.std.specs.Prelude.{◌≡◌, ◌%◌, ℕ, List};
+    ghost use Rattle.rp_base.specs.Masks.{nodes_in};
 
     ghost Value = { List ℕ };
 
-    ghost view = { λ s. take s.len s.nodes };
+    ghost view = { λ s. nodes_in s.mask };
 
-    ghost invariant = { λ s. (s.len ≤ 7) × (length s.nodes ≡ 7) × AreNodes 7 (take s.len s.nodes) };
+    ghost invariant = { λ s. s.mask % 2 ≡ 0 };
 }
 
 impl Senders {
@@ -31,55 +30,47 @@ impl Senders {
     pub fn new() -> Senders
         ensures { result ≡ [] }
     {
-        let unused = NodeId::new(1).unwrap();
-        Senders {
-            nodes: [unused; 7],
-            len: 0,
-        }
+        Senders { mask: 0 }
     }
 
     /// How many nodes there are, at most 7.
     pub fn len(&self) -> usize
-        ensures { result ≡ length self.now }
+        ensures value { result ≡ length self.now }
+        ensures nodes { AreNodes 7 self.now }
     {
-        self.len
+        self.mask.count_ones() as usize
     }
 
-    fn contains(&self, node: NodeId) -> bool
-        ensures value { result ≡ list_any (nat_eq node) self.now }
-        ensures in_range { IsNode node }
+    /// How many of them are among the nodes 1 to `nodes`, at most 7.
+    pub fn len_within(&self, nodes: u8) -> usize
+        requires { nodes ≤ 7 }
+        ensures value { result ≡ length (nodes_among nodes self.now) }
+        ensures nodes { AreNodes 7 self.now }
     {
-        let number = node.get();
-        self.nodes[..self.len]
-            .iter()
-            .any(|other| number == other.get())
+        (self.mask & bits_up_to(nodes)).count_ones() as usize
     }
 
-    /// These and a node that is not among them.
-    fn and(&self, node: NodeId) -> Senders
-        requires in_range { IsNode node }
-        requires absent { list_any (nat_eq node) self.now ≡ false }
-        ensures { result ≡ self.now ++ node ∷ [] }
+    /// How many of them and one more are among the nodes 1 to `nodes`, at most 7.
+    pub fn len_with(&self, node: NodeId, nodes: u8) -> usize
+        requires { nodes ≤ 7 }
+        ensures value { result ≡ length (nodes_among nodes (with_member nat_eq self.now node)) }
+        ensures nodes { AreNodes 7 self.now }
     {
-        let mut nodes = self.nodes;
-        nodes[self.len] = node;
-        Senders {
-            nodes,
-            len: self.len + 1,
-        }
+        ((self.mask | 1 << node.get()) & bits_up_to(nodes)).count_ones() as usize
     }
 
-    /// These and one more, unless it is there.
-    pub fn with(&self, node: NodeId) -> Senders
-        ensures { result ≡ with_member nat_eq self.now node }
+    /// Adds a node, unless it is there.
+    pub fn insert(&mut self, node: NodeId)
+        ensures { SameMembers self.new (with_member nat_eq self.old node) }
     {
-        if self.contains(node) {
-            Senders {
-                nodes: self.nodes,
-                len: self.len,
-            }
-        } else {
-            self.and(node)
-        }
+        self.mask |= 1 << node.get();
     }
+}
+
+/// The bits 0 to `nodes`.
+fn bits_up_to(nodes: u8) -> u8
+    requires { nodes ≤ 7 }
+    ensures { result ≡ low_bits nodes }
+{
+    u8::MAX >> (7 - nodes)
 }

@@ -146,7 +146,7 @@ fn a_node_that_comes_twice_counts_once(rt: HostRuntime) {
         let mut senders = Senders::new();
         for node in *nodes {
             if let Some(node) = NodeId::new(*node) {
-                senders = senders.with(node);
+                senders.insert(node);
             }
         }
         assert_eq!(rt; senders.len(), *count);

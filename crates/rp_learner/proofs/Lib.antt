@@ -1,6 +1,6 @@
-pub mod Sameness
-pub mod Members
+pub mod Tallies
 pub mod Placing
 pub mod Voters
 pub mod Writing
 pub mod Outcomes
+pub mod Alike

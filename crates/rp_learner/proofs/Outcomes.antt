@@ -1,19 +1,20 @@
 -- What holds at a position, by its place.
-use Rattle.std.proofs.Common.{◌≡◌, ℕ, zero, suc, ◌<◌, ◌≤◌, Bool, true, false, cond, Some, Result, Ok, Err, OnErr, List, [], length, map, replicate, set, sym, refl, subst, ap, ◌∙◌, inl, inr}
-use Rattle.std.specs.Prelude.{nat_eq, filter, slice_get}
+use Rattle.std.proofs.Common.{◌≡◌, ℕ, zero, suc, ◌<◌, ◌≤◌, Bool, true, false, cond, Option, Some, Result, Ok, Err, OnErr, List, [], length, map, replicate, set, sym, refl, subst, ap, ◌∙◌, inl, inr}
+use Rattle.std.specs.Prelude.{nat_eq, nat_le, slice_get}
 use Rattle.std.proofs.lemmas.Bool.{cases_Bool, le-leb, lt-leb, cond-true, cond-false}
 use Rattle.rp_base.specs.declared.record.Vote.{Vote}
-use Rattle.rp_base.specs.Majority.{majority_of}
-use Rattle.rp_base.specs.Sets.{with_member, with_members}
-use Rattle.rp_base.specs.Promises.{same_vote, voters_of, is_majority}
+use Rattle.rp_base.specs.Majority.{majority_of, nodes_among}
+use Rattle.rp_base.specs.Sets.{Has, with_member, with_members}
+use Rattle.rp_base.specs.Promises.{HeardVote, voters_of, makes_majority}
 use Rattle.rp_learner.specs.declared.place.Place.{Place}
 use Rattle.rp_learner.specs.declared.place.Place.TheVariants.{Unheard}
 use Rattle.rp_learner.specs.declared.learner.Standing.{Standing}
 use Rattle.rp_learner.specs.declared.learner.Standing.TheVariants.{Counting, Learned, Known}
-use Rattle.rp_learner.specs.Places.{votes_at, place_at, is_settled_in, settled_of, is_settled_at, IsWithCast, heard_from, settled_from}
+use Rattle.rp_learner.specs.Places.{votes_at, votes_in, votes_of, place_at, is_settled_in, settled_of, is_settled_at, IsWithCast, heard_from, settled_from}
 use Rattle.rp_learner.specs.Standings.{is_settled, heard_with, standing_with, with_standing, with_vote, SameLearning}
-use Rattle.rp_learner.proofs.Placing.{settled_at}
-use Rattle.rp_learner.proofs.Voters.{voters_at, voters_with}
+use Rattle.rp_learner.proofs.Placing.{settled_at, heard_at}
+use Rattle.rp_learner.specs.Casts.{voters_with}
+use Rattle.rp_learner.proofs.Voters.{voters_at, one_more_voter}
 use Rattle.rp_learner.proofs.Writing.{learning_of, hears}
 
 -- a learner without votes
@@ -30,26 +31,28 @@ module _ (nodes : ℕ) (places : List Place) (from i : ℕ) (vote : Vote) where
   pub known_at : is_settled_at places i ≡ true → Known ≡ standing_with (learning_of nodes places) from i vote
   known_at settled =
       sym (cond-true (is_settled (learning_of nodes places) i) Known
-      (cond (is_majority nodes (voters_of i vote (heard_with (learning_of nodes places) from i vote))) Learned Counting) (settled_at places i ∙ settled))
+      (cond (makes_majority nodes i vote (heard_with (learning_of nodes places) from i vote)) Learned Counting) (settled_at places i ∙ settled))
 
-  module _ (senders : List ℕ) (open_place : is_settled_at places i ≡ false)
-      (counted : senders ≡ with_member nat_eq (with_members nat_eq [] (map (λ c. c.from) (filter (λ c. same_vote c.vote vote) (votes_at places i)))) from) where
-    voters : senders ≡ voters_of i vote (heard_with (learning_of nodes places) from i vote)
-    voters = counted ∙ ap (λ (l : List ℕ). with_member nat_eq l from) (voters_at places i vote) ∙ voters_with i from vote (heard_from 1 places)
+  module _ (count : ℕ) (open_place : is_settled_at places i ≡ false) (counted : count ≡ length (nodes_among nodes (voters_with (votes_at places i) from vote))) where
+    voters : count ≡ length (nodes_among nodes (voters_of i vote (heard_with (learning_of nodes places) from i vote)))
+    voters =
+        counted
+        ∙ ap (λ (l : List ℕ). length (nodes_among nodes (with_member nat_eq l from))) (voters_at places i vote)
+        ∙ ap (λ (l : List ℕ). length (nodes_among nodes l)) (one_more_voter i from vote (heard_from 1 places))
 
-    by_majority : (b : Bool) → is_majority nodes senders ≡ b → standing_with (learning_of nodes places) from i vote ≡ cond b Learned Counting
+    by_majority : (b : Bool) → nat_le (majority_of nodes) count ≡ b → standing_with (learning_of nodes places) from i vote ≡ cond b Learned Counting
     by_majority b e =
         cond-false (is_settled (learning_of nodes places) i) Known
-        (cond (is_majority nodes (voters_of i vote (heard_with (learning_of nodes places) from i vote))) Learned Counting) (settled_at places i ∙ open_place)
-        ∙ ap (λ (t : Bool). cond t Learned Counting) (sym (ap (is_majority nodes) voters) ∙ e)
+        (cond (makes_majority nodes i vote (heard_with (learning_of nodes places) from i vote)) Learned Counting) (settled_at places i ∙ open_place)
+        ∙ ap (λ (t : Bool). cond t Learned Counting) (sym (ap (λ (n : ℕ). nat_le (majority_of nodes) n) voters) ∙ e)
 
     -- a majority of them learns the action
-    pub learned_at : majority_of nodes ≤ length senders → Learned ≡ standing_with (learning_of nodes places) from i vote
-    learned_at most = sym (by_majority true (le-leb (majority_of nodes) (length senders) most))
+    pub learned_at : majority_of nodes ≤ count → Learned ≡ standing_with (learning_of nodes places) from i vote
+    learned_at most = sym (by_majority true (le-leb (majority_of nodes) count most))
 
     -- fewer are counted
-    pub counting_at : length senders < majority_of nodes → Counting ≡ standing_with (learning_of nodes places) from i vote
-    counting_at few = sym (by_majority false (lt-leb (majority_of nodes) (length senders) few))
+    pub counting_at : count < majority_of nodes → Counting ≡ standing_with (learning_of nodes places) from i vote
+    counting_at few = sym (by_majority false (lt-leb (majority_of nodes) count few))
 
   known≢counting : Known ≡ Counting → ⊥
   known≢counting e = cc
@@ -69,6 +72,12 @@ module _ (nodes : ℕ) (places : List Place) (from i : ℕ) (vote : Vote) where
       let free : is_settled_in p ≡ false = sym (ap settled_of (ap (place_at places) at ∙ before)) ∙ open_at counting in
       subst (λ (s : Standing). SameLearning (learning_of nodes (set places k q)) (with_standing (learning_of nodes places) from i vote s)) (sym counting)
       (hears places k i at within nodes (record { from = from; vote = vote }) p q before free more)
+
+-- a vote that its place does not hold was not heard
+pub not_heard : (places : List Place) (from i : ℕ) (vote : Vote) (k : ℕ) (p : Place) → i ≡ suc k → slice_get places k ≡ Some p
+    → ¬ Has (record { from = from; vote = vote }) (votes_in p) → ¬ Has (let heard : HeardVote = (from, i, vote) in heard) (heard_from 1 places)
+not_heard places from i vote k p at before none h =
+    none (subst (λ (o : Option Place). Has (record { from = from; vote = vote }) (votes_of o)) (ap (place_at places) at ∙ before) ((heard_at places (from, i, vote)).0 h))
 
 -- what holds anyway holds after an error
 pub on_err : {T E P : Type 0} (r : Result T E) → P → OnErr r P

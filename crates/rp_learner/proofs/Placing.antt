@@ -5,11 +5,11 @@ use Rattle.std.specs.List.{list_any}
 use Rattle.std.proofs.lemmas.Bool.{both_ways, ne_eqb, eq-eqb, or_left, or_from}
 use Rattle.rp_base.specs.Sets.{Has}
 use Rattle.rp_base.specs.Promises.{HeardVote}
-use Rattle.rp_learner.specs.declared.place.CastVote.{CastVote}
+use Rattle.rp_learner.specs.Casts.{CastVote}
 use Rattle.rp_learner.specs.declared.place.Place.{Place}
 use Rattle.rp_learner.specs.declared.place.Place.TheVariants.{Unheard, Heard, Settled}
 use Rattle.rp_learner.specs.Places.{votes_in, votes_of, votes_at, is_settled_in, settled_of, is_settled_at, heard_from, if_settled, settled_from, SamePlace}
-use Rattle.rp_learner.proofs.Members.{has_split, has_left, has_right, has_mapped}
+use Rattle.rp_base.proofs.Members.{has_split, has_left, has_right, has_mapped}
 
 -- a vote of a node, heard at a position
 abbrev pub heard_as : ℕ → CastVote → HeardVote
@@ -88,19 +88,6 @@ settled_where (Settled ∷ places) i j (suc k) e =
 pub settled_at : (places : List Place) (j : ℕ) → list_any (nat_eq j) (settled_from 1 places) ≡ is_settled_at places j
 settled_at places zero = settled_below places 1 0 (omega arith)
 settled_at places (suc k) = settled_where places 1 (suc k) k (omega arith)
-
--- the place that was written, and the others
-pub get_written : {A : Type 0} (xs : List A) (k : ℕ) (x : A) → k < length xs → slice_get (set xs k x) k ≡ Some x
-get_written [] k x lt = absurd (omega (arith, lt))
-get_written (y ∷ xs) zero x lt = refl
-get_written (y ∷ xs) (suc k) x lt = get_written xs k x (omega (arith, lt))
-
-pub get_other : {A : Type 0} (xs : List A) (k j : ℕ) (x : A) → j ≢ k → slice_get (set xs k x) j ≡ slice_get xs j
-get_other [] k j x ne = refl
-get_other (y ∷ xs) zero zero x ne = absurd (ne refl)
-get_other (y ∷ xs) zero (suc j) x ne = refl
-get_other (y ∷ xs) (suc k) zero x ne = refl
-get_other (y ∷ xs) (suc k) (suc j) x ne = get_other xs k j x (λ e. ne (ap suc e))
 
 same_if_settled : (i : ℕ) (p q : Place) → is_settled_in q ≡ is_settled_in p → if_settled i q ≡ if_settled i p
 same_if_settled i Unheard Unheard e = refl

@@ -9,20 +9,17 @@ use Rattle.std.proofs.lemmas.List.Elements.{filter-append}
 use Rattle.rp_base.specs.Sets.{Has, with_member, with_members}
 use Rattle.rp_base.specs.declared.record.Vote.{Vote}
 use Rattle.rp_base.specs.Promises.{HeardVote, same_vote, same_heard, voters_of}
-use Rattle.rp_learner.specs.declared.place.CastVote.{CastVote}
+use Rattle.rp_learner.specs.Casts.{CastVote}
 use Rattle.rp_learner.specs.declared.place.Place.{Place}
 use Rattle.rp_learner.specs.Places.{votes_in, votes_of, votes_at, heard_from}
-use Rattle.rp_learner.proofs.Sameness.{vote_same, heard_decides}
-use Rattle.rp_learner.proofs.Members.{found, finds, passes, has_mapped, member_stays, with_members-append}
+use Rattle.rp_base.proofs.Sameness.{vote_same, heard_decides}
+use Rattle.rp_base.proofs.Members.{found, finds, passes, has_mapped, member_stays, with_members-append}
+use Rattle.rp_learner.proofs.Tallies.{senders_cast}
 use Rattle.rp_learner.proofs.Placing.{heard_as}
 
 -- the senders of this vote at this position
 abbrev senders_heard : ℕ → Vote → List HeardVote → List ℕ
 senders_heard i vote heard = map (λ h. h.0) (filter (λ h. nat_eq h.1 i && same_vote h.2 vote) heard)
-
--- the senders of this vote at one position
-abbrev senders_cast : Vote → List CastVote → List ℕ
-senders_cast vote votes = map (λ c. c.from) (filter (λ c. same_vote c.vote vote) votes)
 
 senders-append : (i : ℕ) (vote : Vote) (heard more : List HeardVote) → senders_heard i vote (heard ++ more) ≡ senders_heard i vote heard ++ senders_heard i vote more
 senders-append i vote heard more =
@@ -89,9 +86,9 @@ pub voters_at : (places : List Place) (j : ℕ) (vote : Vote) → with_members n
 voters_at places j vote = ap (with_members nat_eq []) (sym (senders_at places j vote))
 
 -- its sender is one more voter
-pub voters_with : (i from : ℕ) (vote : Vote) (heard : List HeardVote)
+pub one_more_voter : (i from : ℕ) (vote : Vote) (heard : List HeardVote)
     → with_member nat_eq (voters_of i vote heard) from ≡ voters_of i vote (with_member same_heard heard (from, i, vote))
-voters_with i from vote heard =
+one_more_voter i from vote heard =
     let this : HeardVote = (from, i, vote) in
     let counts : (nat_eq i i && same_vote vote vote) ≡ true = and_from (nat_eq i i) (same_vote vote vote) (eq-eqb i i refl) (vote_same vote) in
     let there = list_any (same_heard this) heard in

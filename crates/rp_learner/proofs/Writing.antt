@@ -4,17 +4,18 @@ use Rattle.std.specs.Prelude.{nat_eq, filter, slice_get}
 use Rattle.std.proofs.lemmas.Bool.{cases_eq, ne_eqb, eq-eqb, both_ways}
 use Rattle.std.proofs.lemmas.Bool.Decides.{Decides-eqb}
 use Rattle.std.proofs.lemmas.List.{length-set}
-use Rattle.rp_base.specs.Sets.{Has, with_member}
+use Rattle.rp_base.specs.Sets.{Has, SameMembers, with_member}
 use Rattle.rp_base.specs.Promises.{HeardVote, same_heard}
-use Rattle.rp_learner.specs.declared.place.CastVote.{CastVote}
+use Rattle.rp_learner.specs.Casts.{CastVote, same_cast}
 use Rattle.rp_learner.specs.declared.place.Place.{Place}
 use Rattle.rp_learner.specs.declared.place.Place.TheVariants.{Settled}
 use Rattle.rp_learner.specs.Learning.{Learning}
-use Rattle.rp_learner.specs.Places.{place_at, votes_in, votes_of, is_settled_in, settled_of, is_settled_at, same_cast, SamePlace, IsWithCast, heard_from, settled_from}
+use Rattle.rp_learner.specs.Places.{place_at, votes_in, votes_of, is_settled_in, settled_of, is_settled_at, SamePlace, IsWithCast, heard_from, settled_from}
 use Rattle.rp_learner.specs.Standings.{SameLearning, with_settled}
-use Rattle.rp_learner.proofs.Sameness.{heard_decides, cast_decides}
-use Rattle.rp_learner.proofs.Members.{has_passing, passes, found, finds, has_with, with_has}
-use Rattle.rp_learner.proofs.Placing.{cast_of, heard_at, settled_at, get_written, get_other, heard_kept, settled_kept}
+use Rattle.rp_base.proofs.Sameness.{heard_decides}
+use Rattle.rp_base.proofs.Members.{has_passing, passes, found, finds, has_with, with_has}
+use Rattle.rp_learner.proofs.Placing.{cast_of, heard_at, settled_at, heard_kept, settled_kept}
+use Rattle.rp_learner.proofs.Tallies.{cast_decides, get_written, get_other}
 
 -- what the places of so many nodes' learner stand for
 abbrev pub learning_of : ℕ → List Place → Learning
@@ -87,7 +88,7 @@ module _ (places : List Place) (k i : ℕ) (at : i ≡ suc k) (within : k < leng
       → (h : HeardVote) → Has h (heard_from 1 (set places k q)) ↔ Has h (with_member same_heard (heard_from 1 places) (cast.from, i, cast.vote))
   heard_more cast p q before free more h =
       let now = set places k q in
-      let votes : votes_in q ≡ with_member same_cast (votes_in p) cast = more.votes free in
+      let votes : SameMembers (votes_in q) (with_member same_cast (votes_in p) cast) = more.votes free in
       let was : h.1 ≡ i → place_at places h.1 ≡ Some p = λ same. ap (place_at places) (same ∙ at) ∙ before in
       let is : h.1 ≡ i → place_at now h.1 ≡ Some q = λ same. ap (place_at now) same ∙ written_at places k i q at within in
       let there : h.1 ≢ i → place_at now h.1 ≡ place_at places h.1 = λ other. other_at places k h.1 q (λ e. other (e ∙ sym at)) in
@@ -95,7 +96,7 @@ module _ (places : List Place) (k i : ℕ) (at : i ≡ suc k) (within : k < leng
         λ m. with_has same_heard heard_decides h (cast.from, i, cast.vote) (heard_from 1 places) (elim (cases_eq h.1 i) [
           | inl same ↦
               let held : Has (cast_of h) (votes_in q) = subst Held (is same) ((heard_at now h).0 m) in
-              elim (has_with same_cast cast_decides (cast_of h) cast (votes_in p) (subst (λ (l : List CastVote). Has (cast_of h) l) votes held)) [
+              elim (has_with same_cast cast_decides (cast_of h) cast (votes_in p) ((votes (cast_of h)).0 held)) [
                 | inl old ↦ inl ((heard_at places h).1 (subst Held (sym (was same)) old))
                 | inr new ↦ inr (λ t. ((new t).from, same t, (new t).vote))
               ]
@@ -108,8 +109,7 @@ module _ (places : List Place) (k i : ℕ) (at : i ≡ suc k) (within : k < leng
                 | inl old ↦ inl (subst Held (was same) ((heard_at places h).0 old))
                 | inr new ↦ inr (ap cast_of new)
               ] in
-              (heard_at now h).1 (subst Held (sym (is same)) (subst (λ (l : List CastVote). Has (cast_of h) l) (sym votes)
-              (with_has same_cast cast_decides (cast_of h) cast (votes_in p) held)))
+              (heard_at now h).1 (subst Held (sym (is same)) ((votes (cast_of h)).1 (with_has same_cast cast_decides (cast_of h) cast (votes_in p) held)))
           | inr other ↦ elim (has_with same_heard heard_decides h (cast.from, i, cast.vote) (heard_from 1 places) m) [
             | inl old ↦ (heard_at now h).1 (subst Held (sym (there other)) ((heard_at places h).0 old))
             | inr new ↦ absurd (other (ap (λ (k : HeardVote). k.1) new))

@@ -1,3 +1,4 @@
 pub mod Learning
+pub mod Casts
 pub mod Places
 pub mod Standings

@@ -1,8 +1,8 @@
 -- What the places of a learner hold, as sets of votes and positions (this project's own).
 use Rattle.std.specs.Prelude.{ℕ, zero, suc, ◌≡◌, Bool, true, false, ◌&&◌, nat_eq, Option, Some, None, List, [], ◌∷◌, ◌++◌, map, slice_get}
-use Rattle.rp_base.specs.Sets.{with_member}
-use Rattle.rp_base.specs.Promises.{HeardVote, same_vote}
-use Rattle.rp_learner.specs.declared.place.CastVote.{CastVote}
+use Rattle.rp_base.specs.Sets.{SameMembers, with_member}
+use Rattle.rp_base.specs.Promises.{HeardVote}
+use Rattle.rp_learner.specs.Casts.{CastVote, same_cast}
 use Rattle.rp_learner.specs.declared.place.Place.{Place}
 use Rattle.rp_learner.specs.declared.place.Place.TheVariants.{Unheard, Heard, Settled}
 
@@ -14,7 +14,7 @@ place_at places (suc k) = slice_get places k
 -- the votes that a place holds
 abbrev pub votes_in : Place → List CastVote
 votes_in Unheard = []
-votes_in (Heard votes) = votes.items
+votes_in (Heard votes) = votes
 votes_in Settled = []
 
 -- whether the place is a settled position
@@ -39,10 +39,6 @@ settled_of (Some place) = is_settled_in place
 abbrev pub is_settled_at : List Place → ℕ → Bool
 is_settled_at places i = settled_of (place_at places i)
 
--- the cast votes are the same
-abbrev pub same_cast : CastVote → CastVote → Bool
-same_cast c d = nat_eq c.from d.from && same_vote c.vote d.vote
-
 -- the two hold the same votes, and are settled or not alike
 pub record SamePlace (before after : Place) : Type 0 where
   pub mark : is_settled_in after ≡ is_settled_in before
@@ -51,7 +47,7 @@ pub record SamePlace (before after : Place) : Type 0 where
 -- the place after this vote was heard there: it holds the vote too, unless it is settled
 pub record IsWithCast (before : Place) (cast : CastVote) (after : Place) : Type 0 where
   pub mark : is_settled_in after ≡ is_settled_in before
-  pub votes : is_settled_in before ≡ false → votes_in after ≡ with_member same_cast (votes_in before) cast
+  pub votes : is_settled_in before ≡ false → SameMembers (votes_in after) (with_member same_cast (votes_in before) cast)
 
 -- the votes that the places hold, from position i on
 abbrev pub heard_from : ℕ → List Place → List HeardVote

@@ -1,19 +1,16 @@
 -- What a learner knows, and what a vote makes of it. Lamport, "Paxos Made Simple", section 2.3: a value
 -- is learned once a majority of acceptors accepted it; here, all of them in one ballot, which is stricter.
-use Rattle.std.specs.Prelude.{◌↔◌, ◌≡◌, ℕ, Bool, not, nat_eq, List, filter, if◌then◌else◌}
+use Rattle.std.specs.Prelude.{◌≡◌, ℕ, Bool, nat_eq, List, [], if◌then◌else◌}
 use Rattle.std.specs.List.{list_any}
+use Rattle.rp_base.specs.declared.action.Action.{Action}
 use Rattle.rp_base.specs.declared.record.Vote.{Vote}
-use Rattle.rp_base.specs.Sets.{Has, with_member}
-use Rattle.rp_base.specs.Promises.{HeardVote, same_heard, voters_of, is_majority}
+use Rattle.rp_base.specs.Sets.{Has, SameMembers, with_member}
+use Rattle.rp_base.specs.Promises.{HeardVote, same_heard, makes_majority, heard_elsewhere}
 use Rattle.rp_learner.specs.Learning.{Learning}
 use Rattle.rp_learner.specs.declared.learner.Standing.{Standing}
 use Rattle.rp_learner.specs.declared.learner.Standing.TheVariants.{Counting, Learned, Known}
 use Rattle.rp_learner.specs.declared.learner.Decision.{Decision}
 use Rattle.rp_learner.specs.declared.learner.Decision.TheVariants as decisions
-
--- the two have the same members
-abbrev pub SameMembers : {A : Type 0} → List A → List A → Type 0
-SameMembers {A} xs ys = (x : A) → Has x xs ↔ Has x ys
 
 -- the two hold the same, as sets
 pub record SameLearning (l m : Learning) : Type 0 where
@@ -21,6 +18,10 @@ pub record SameLearning (l m : Learning) : Type 0 where
   pub positions : l.max_positions ≡ m.max_positions
   pub heard : SameMembers l.heard m.heard
   pub settled : SameMembers l.settled m.settled
+
+-- the vote of a ballot for an action
+abbrev pub vote_for : ℕ → Action → Vote
+vote_for ballot action = record { ballot = ballot; action = action }
 
 -- whether the position is settled
 abbrev pub is_settled : Learning → ℕ → Bool
@@ -35,7 +36,7 @@ heard_with l from i vote = with_member same_heard l.heard (from, i, vote)
 abbrev pub standing_with : Learning → ℕ → ℕ → Vote → Standing
 standing_with l from i vote =
     if is_settled l i then Known
-    else if is_majority l.nodes (voters_of i vote (heard_with l from i vote)) then Learned
+    else if makes_majority l.nodes i vote (heard_with l from i vote) then Learned
     else Counting
 
 -- what a decision at a position is: known where it is settled, else learned
@@ -44,7 +45,7 @@ decision_at l i = if is_settled l i then decisions.Known else decisions.Learned
 
 -- the position settled, and the votes heard there let go
 abbrev pub with_settled : Learning → ℕ → Learning
-with_settled l i = record l { heard = filter (λ h. not (nat_eq h.1 i)) l.heard; settled = with_member nat_eq l.settled i }
+with_settled l i = record l { heard = heard_elsewhere l.heard i; settled = with_member nat_eq l.settled i }
 
 -- the learner where the vote left the position so
 abbrev pub with_standing : Learning → ℕ → ℕ → Vote → Standing → Learning
@@ -56,3 +57,24 @@ with_standing l from i vote Known = l
 -- settled position nothing is noted.
 abbrev pub with_vote : Learning → ℕ → ℕ → Vote → Learning
 with_vote l from i vote = with_standing l from i vote (standing_with l from i vote)
+
+-- The vote is one more of those that are counted: it settles nothing, and was not heard before.
+pub record IsOneMore (l : Learning) (from i : ℕ) (vote : Vote) : Type 0 where
+  pub counting : standing_with l from i vote ≡ Counting
+  pub unheard : ¬ Has (let heard : HeardVote = (from, i, vote) in heard) l.heard
+
+-- the second is the first with this vote noted, as a set
+abbrev pub NotesVote : Learning → ℕ → ℕ → Vote → Learning → Type 0
+NotesVote before from i vote after = SameLearning after (with_vote before from i vote)
+
+-- the second is the first with this position settled, as a set
+abbrev pub Settles : Learning → ℕ → Learning → Type 0
+Settles before i after = SameLearning after (with_settled before i)
+
+-- the two are of as many nodes and positions
+abbrev pub SameSizes : Learning → Learning → Type 0
+SameSizes l m = (l.nodes ≡ m.nodes) × (l.max_positions ≡ m.max_positions)
+
+-- a learner of so many nodes and positions that heard nothing
+abbrev pub fresh : ℕ → ℕ → Learning
+fresh nodes max_positions = record { nodes = nodes; max_positions = max_positions; heard = []; settled = [] }

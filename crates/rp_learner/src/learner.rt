@@ -1,9 +1,11 @@
 //! The learner of one node.
 
-ghost use Rattle.std.specs.Prelude.{◌≡◌, ◌≤◌, [], OnOk, OnErr, IfOk, IsOkUnless};
-ghost use Rattle.rp_learner.specs.Standings.{SameLearning, standing_with, decision_at, with_settled, with_vote};
+ghost use Rattle.std.specs.Prelude.{◌≡◌, ◌≤◌, ℕ, OnOk, OnErr, IfOk, IsOkUnless};
+ghost use Rattle.rp_base.specs.declared.record.Vote.{Vote};
+ghost use Rattle.rp_learner.specs.Learning.{Learning};
+ghost use Rattle.rp_learner.specs.Standings.{SameLearning, SameSizes, fresh, vote_for, standing_with, decision_at, with_settled, with_vote, NotesVote, Settles, IsOneMore};
 
-use crate::place::{CastVote, Place, hear, is_settled_at, senders_of, votes_at};
+use crate::place::{Place, count_with, hear, is_settled_at};
 use rp_base::{Action, Ballot, Fault, NodeId, Position, Vote, majority};
 use std::alloc::Global;
 use std::marker::Model;
@@ -38,7 +40,7 @@ pub struct Learner {
 }
 
 impl Model for Learner {
-    ghost use Rattle.std.specs.Prelude.{length};
+    ghost use Rattle.std.specs.Prelude.{◌≤◌, length};
     ghost use Rattle.rp_learner.specs.Learning.{Learning};
 
     ghost Value = { Learning };
@@ -51,13 +53,16 @@ impl Model for Learner {
       heard = heard_from 1 l.places.items;
       settled = settled_from 1 l.places.items;
     } };
+
+    ghost invariant = { λ l. (3 ≤ l.nodes) × (l.nodes ≤ 7) };
 }
 
 impl Learner {
-    /// A learner of this many nodes that has heard nothing, for positions 1 to `max_positions`. It
-    /// has the room of all their marks. `OutOfMemory` leaves nothing.
+    /// A learner of 3 to 7 nodes that has heard nothing, for positions 1 to `max_positions`. It has
+    /// the room of all their marks. `OutOfMemory` leaves nothing.
     pub fn new(alloc: Global, nodes: u8, max_positions: u16) -> Result<Self, Fault>
-        ensures fresh { IfOk result (λ l. l ≡ record { nodes = nodes; max_positions = max_positions; heard = []; settled = [] }) }
+        requires nodes { (3 ≤ nodes) × (nodes ≤ 7) }
+        ensures fresh { IfOk result (λ l. l ≡ fresh nodes max_positions) }
         ensures only { IsOkUnless result Fault.OutOfMemory }
     {
         let mut places = Vec::new(alloc);
@@ -67,8 +72,8 @@ impl Learner {
         Ok(Learner { nodes, places })
     }
 
-    /// What holds at the position once this vote of `from` for the action in the ballot is counted.
-    /// Nothing changes: `note_vote` counts it.
+    /// What holds at the position once this vote of `from`, one of the nodes, for the action in the
+    /// ballot is counted. Nothing changes: `note_vote` counts it.
     pub fn vote(
         &self,
         from: NodeId,
@@ -76,7 +81,8 @@ impl Learner {
         ballot: Ballot,
         action: &Action,
     ) -> Standing
-        ensures { result ≡ standing_with self.now from position (record { ballot = ballot; action = action.now }) }
+        requires sender { from ≤ self.now.nodes }
+        ensures { result ≡ standing_with self.now from position (vote_for ballot action.now) }
     {
         if is_settled_at(&self.places, position) {
             return Standing::Known;
@@ -85,17 +91,16 @@ impl Learner {
             ballot,
             action: *action,
         };
-        let others = senders_of(votes_at(&self.places, position), &vote);
-        let senders = others.with(from);
-        if senders.len() >= usize::from(majority(self.nodes)) {
+        let voters = count_with(&self.places, position, self.nodes, from, &vote);
+        if voters >= usize::from(majority(self.nodes)) {
             Standing::Learned
         } else {
             Standing::Counting
         }
     }
 
-    /// Counts a vote, at a position up to `max_positions`. Where `vote` answers `Learned` for it,
-    /// the position is settled. `OutOfMemory` leaves the learner as it was.
+    /// Counts a vote of one of the nodes, at a position up to `max_positions`. Where `vote` answers
+    /// `Learned` for it, the position is settled. `OutOfMemory` leaves the learner as it was.
     pub fn note_vote(
         &mut self,
         alloc: Global,
@@ -104,10 +109,12 @@ impl Learner {
         ballot: Ballot,
         action: &Action,
     ) -> Result<(), Fault>
-        requires { position ≤ self.old.max_positions }
-        ensures noted { OnOk result (SameLearning self.new (with_vote self.old from position (record { ballot = ballot; action = action.now }))) }
-        ensures sizes { (self.new.nodes ≡ self.old.nodes) × (self.new.max_positions ≡ self.old.max_positions) }
+        requires sender { from ≤ self.old.nodes }
+        requires position { position ≤ self.old.max_positions }
+        ensures noted { OnOk result (NotesVote self.old from position (vote_for ballot action.now) self.new) }
+        ensures sizes { SameSizes self.new self.old }
         ensures unchanged { OnErr result (self.new ≡ self.old) }
+        ensures full { OnErr result (IsOneMore self.old from position (vote_for ballot action.now)) }
         ensures only { IsOkUnless result Fault.OutOfMemory }
     {
         match self.vote(from, position, ballot, action) {
@@ -119,7 +126,7 @@ impl Learner {
                     action: *action,
                 };
                 let place = &mut self.places[usize::from(position.get()) - 1];
-                hear(alloc, place, CastVote { from, vote })?;
+                hear(alloc, place, from, &vote)?;
             }
         }
         Ok(())
@@ -138,10 +145,24 @@ impl Learner {
 
     /// Marks a position up to `max_positions` as settled, and lets go of the votes heard there.
     pub fn settled(&mut self, position: Position)
-        requires { position ≤ self.old.max_positions }
-        ensures settled { SameLearning self.new (with_settled self.old position) }
-        ensures sizes { (self.new.nodes ≡ self.old.nodes) × (self.new.max_positions ≡ self.old.max_positions) }
+        requires position { position ≤ self.old.max_positions }
+        ensures settled { Settles self.old position self.new }
+        ensures sizes { SameSizes self.new self.old }
     {
         self.places[usize::from(position.get()) - 1] = Place::Settled;
     }
 }
+
+/// Learners that hold the same, as sets, answer alike, and hold the same once the same is noted.
+pub fn same_learners_answer_alike()
+    ensures vote { (l m : Learning) (from i : ℕ) (vote : Vote) → SameLearning l m
+        → standing_with l from i vote ≡ standing_with m from i vote }
+    ensures decided { (l m : Learning) (i : ℕ) → SameLearning l m → decision_at l i ≡ decision_at m i }
+    ensures note_vote { (l m : Learning) (from i : ℕ) (vote : Vote) → SameLearning l m
+        → SameLearning (with_vote l from i vote) (with_vote m from i vote) }
+    ensures settled { (l m : Learning) (i : ℕ) → SameLearning l m
+        → SameLearning (with_settled l i) (with_settled m i) }
+    ensures equal { (l : Learning) → SameLearning l l }
+    ensures back { (l m : Learning) → SameLearning l m → SameLearning m l }
+    ensures on { (l m n : Learning) → SameLearning l m → SameLearning m n → SameLearning l n }
+{}

@@ -3,8 +3,9 @@
 
 mod learner;
 mod place;
+mod tally;
 
-pub use learner::{Decision, Learner, Standing};
+pub use learner::{Decision, Learner, Standing, same_learners_answer_alike};
 
 #[cfg(test)]
 mod tests;

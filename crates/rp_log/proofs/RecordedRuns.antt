@@ -7,15 +7,11 @@ use Rattle.std.proofs.lemmas.Map.Steps.{le-length_from_below}
 use Rattle.rp_base.specs.declared.action.Action.{Action}
 use Rattle.rp_base.specs.declared.record.Rec.{Rec}
 use Rattle.rp_base.specs.declared.record.Rec.TheVariants.{Started, Promised, Voted, Learned}
-use Rattle.rp_base.specs.Records.{learned_at, learned_run, applied_of, unless_missing}
+use Rattle.rp_base.specs.Records.{or_else, learned_in, learned_at, learned_run, applied_of, unless_missing}
 use Rattle.rp_log.specs.Contents.{Contents, action_at, next_to_take, IsTakenInOrder}
 use Rattle.rp_log.specs.Recorded.{LearnedAlike}
 
 -- ---- a record more
-
-abbrev or_else : Option Action → Option Action → Option Action
-or_else None other = other
-or_else (Some action) other = Some action
 
 or_none : (found : Option Action) → or_else found None ≡ found
 or_none None = refl
@@ -25,14 +21,14 @@ or_some : (found : Option Action) (v : Action) → or_else found (Some v) ≡ So
 or_some None v = refl
 or_some (Some action) v = refl
 
+or_assoc : (first second third : Option Action) → or_else first (or_else second third) ≡ or_else (or_else first second) third
+or_assoc None second third = refl
+or_assoc (Some action) second third = refl
+
 learned_more : (records : List Rec) (i j : ℕ) (v : Action) → learned_at (records ++ Learned i v ∷ []) j ≡ or_else (learned_at records j) (cond (nat_eq i j) (Some v) None)
-learned_more [] i j v = refl
-learned_more (Started ballot ∷ rest) i j v = learned_more rest i j v
-learned_more (Promised position ballot ∷ rest) i j v = learned_more rest i j v
-learned_more (Voted position ballot action ∷ rest) i j v = learned_more rest i j v
-learned_more (Learned position action ∷ rest) i j v =
-    elim (nat_eq position j) as (λ b. cond b (Some action) (learned_at (rest ++ Learned i v ∷ []) j) ≡ or_else (cond b (Some action) (learned_at rest j)) (cond (nat_eq i j) (Some v) None))
-    [ true ↦ refl | false ↦ learned_more rest i j v ]
+learned_more [] i j v = or_none (cond (nat_eq i j) (Some v) None)
+learned_more (rec ∷ rest) i j v =
+    ap (or_else (learned_in j rec)) (learned_more rest i j v) ∙ or_assoc (learned_in j rec) (learned_at rest j) (cond (nat_eq i j) (Some v) None)
 
 pub learned_alike : (records : List Rec) (old new : Contents) (i : ℕ) (v : Action) → LearnedAlike records old → action_at new i ≡ Some (unwrap_or (action_at old i) v) → ((j : ℕ) → j ≢ i → action_at new j ≡ action_at old j) → LearnedAlike (records ++ Learned i v ∷ []) new
 learned_alike records old new i v alike first others = λ j. ⊎_elim
@@ -117,7 +113,7 @@ is_spot (Learned position action ∷ rest) q found = ⊎_elim
     ap (λ b. b || list_any (nat_eq q) (spots rest)) (eq-eqb q (position - 1) spot))
     (λ (apart : position ≢ suc q).
     let later : IsSome (learned_at rest (suc q)) =
-    let Found : Bool → Type 0 = λ b. IsSome (cond b (Some action) (learned_at rest (suc q))) in
+    let Found : Bool → Type 0 = λ b. IsSome (or_else (cond b (Some action) None) (learned_at rest (suc q))) in
     subst Found (ne_eqb position (suc q) apart) found in
     ap (λ b. nat_eq q (position - 1) || b) (is_spot rest q later) ∙ or_true (nat_eq q (position - 1)))
     (cases_eq position (suc q))

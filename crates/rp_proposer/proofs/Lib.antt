@@ -1,4 +1,5 @@
-pub mod Fieldless
 pub mod OneOffer
 pub mod OnePromiseMore
+pub mod Promised
 pub mod Places
+pub mod Windows

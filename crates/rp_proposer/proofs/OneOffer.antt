@@ -1,22 +1,23 @@
 -- A proposal makes one offer at most.
-use Rattle.std.proofs.Common.{◌≡◌, ℕ, ◌+◌, ◌≤◌, true, false, cond, List, [], ◌∷◌, refl, arith}
+use Rattle.std.proofs.Common.{◌≡◌, ℕ, ◌+◌, ◌≤◌, true, false, cond, Option, List, [], ◌∷◌, refl, arith}
 use Rattle.rp_base.specs.declared.action.Action.{Action}
 use Rattle.rp_base.specs.Sets.{with_member}
 use Rattle.rp_base.specs.Promises.{Promise, same_promise, offer_of}
-use Rattle.rp_proposer.specs.declared.proposal.Phase.{Phase}
-use Rattle.rp_proposer.specs.declared.proposal.Phase.TheVariants.{Preparing, Offering}
+use Rattle.rp_base.specs.declared.proposal.Phase.{Phase}
+use Rattle.rp_base.specs.declared.proposal.Phase.TheVariants.{Preparing, Offering}
 use Rattle.rp_proposer.specs.declared.proposal.Progress.TheVariants.{Waiting, Offer}
-use Rattle.rp_proposer.specs.Proposing.{RunningProposal, is_promised, is_offer, offers_made}
+use Rattle.rp_base.specs.Proposals.{Proposal, is_promised}
+use Rattle.rp_proposer.specs.Proposing.{is_offer, offers_made}
 
 -- the proposal of these fields
-abbrev of_fields : ℕ → ℕ → Action → Phase → List Promise → RunningProposal
+abbrev of_fields : ℕ → ℕ → Option Action → Phase → List Promise → Proposal
 of_fields i b own phase promises = record { position = i; ballot = b; own = own; phase = phase; promises = promises }
 
-none_later : (nodes i b : ℕ) (own : Action) (promises more : List Promise) → offers_made nodes (of_fields i b own Offering promises) more ≡ 0
+none_later : (nodes i b : ℕ) (own : Option Action) (promises more : List Promise) → offers_made nodes (of_fields i b own Offering promises) more ≡ 0
 none_later nodes i b own promises [] = refl
 none_later nodes i b own promises (promise ∷ more) = omega (arith, none_later nodes i b own promises more)
 
-one_yet : (nodes i b : ℕ) (own : Action) (promises more : List Promise) → offers_made nodes (of_fields i b own Preparing promises) more ≤ 1
+one_yet : (nodes i b : ℕ) (own : Option Action) (promises more : List Promise) → offers_made nodes (of_fields i b own Preparing promises) more ≤ 1
 one_yet nodes i b own promises [] = omega arith
 one_yet nodes i b own promises (promise ∷ more) =
     let all : List Promise = with_member same_promise promises promise in
@@ -25,9 +26,9 @@ one_yet nodes i b own promises (promise ∷ more) =
       | false ↦ omega (arith, one_yet nodes i b own all more)
     ]
 
-in_phase : (nodes i b : ℕ) (own : Action) (phase : Phase) (promises more : List Promise) → offers_made nodes (of_fields i b own phase promises) more ≤ 1
+in_phase : (nodes i b : ℕ) (own : Option Action) (phase : Phase) (promises more : List Promise) → offers_made nodes (of_fields i b own phase promises) more ≤ 1
 in_phase nodes i b own Preparing promises more = one_yet nodes i b own promises more
 in_phase nodes i b own Offering promises more = omega (arith, none_later nodes i b own promises more)
 
-pub one_offer : (nodes : ℕ) (p : RunningProposal) (promises : List Promise) → offers_made nodes p promises ≤ 1
+pub one_offer : (nodes : ℕ) (p : Proposal) (promises : List Promise) → offers_made nodes p promises ≤ 1
 one_offer nodes p promises = in_phase nodes p.position p.ballot p.own p.phase p.promises promises

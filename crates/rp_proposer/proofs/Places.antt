@@ -1,41 +1,79 @@
--- The proposals at other positions than one where a proposal runs are fewer.
-use Rattle.std.proofs.Common.{◌≡◌, ℕ, ◌<◌, ◌≤◌, true, false, Some, List, [], ◌∷◌, length, inl, inr, refl, sym, ap, cond, ◌∙◌, arith}
+-- Where a proposal is, and what a change of it makes of all.
+use Rattle.std.proofs.Common.{◌≡◌, ℕ, zero, suc, ◌+◌, ◌<◌, ◌≤◌, true, false, Option, Some, None, List, [], ◌∷◌, ◌++◌, length, set, inl, inr, refl, sym, ap, subst, cond, ◌∙◌, arith}
+use Rattle.std.specs.Prelude.{nat_eq, slice_get, not}
+use Rattle.std.proofs.lemmas.Bool.{eq-eqb, ne_eqb}
 use Rattle.std.proofs.lemmas.Bool.Decides.{eqb_tells}
 use Rattle.rp_base.specs.Promises.{Promise}
-use Rattle.rp_proposer.specs.Proposing.{RunningProposal, proposal_at, without_proposal, noted, is_promised, with_promise}
-use Rattle.rp_proposer.specs.declared.proposal.Phase.TheVariants.{Offering}
+use Rattle.rp_base.specs.Proposals.{Proposal, proposal_at, without_proposal, with_proposal, after_promise, takes_promise, is_promised, with_promise}
+use Rattle.rp_base.specs.declared.proposal.Phase.TheVariants.{Offering}
+use Rattle.rp_proposer.specs.Proposing.{index_from, once_noted}
 
-pub others_at_most : (proposals : List RunningProposal) (i : ℕ) → length (without_proposal proposals i) ≤ length proposals
-others_at_most [] i = omega arith
-others_at_most (p ∷ proposals) i =
+-- a proposal is there, and another in its place is put there
+pub record IsFound (proposals : List Proposal) (i n : ℕ) (p : Proposal) : Type 0 where
+  pub within : n < length proposals
+  pub at : slice_get proposals n ≡ Some p
+  pub place : p.position ≡ i
+  pub runs : proposal_at proposals i ≡ Some p
+  pub put : (q : Proposal) → q.position ≡ i → with_proposal proposals q ≡ set proposals n q
+
+index_found : (proposals : List Proposal) (k j i : ℕ) → index_from k i proposals ≡ Some j → (n : ℕ) × (p : Proposal) × (j ≡ k + n) × IsFound proposals i n p
+index_found [] k j i h = absurd (cc)
+index_found (p ∷ proposals) k j i h =
     elim (eqb_tells p.position i) [
-      | inl same ↦ rw same.0 (omega (arith, others_at_most proposals i))
-      | inr other ↦ rw other.0 (omega (arith, others_at_most proposals i))
+      | inl same ↦
+          let is : Some k ≡ Some j = rw same.0 at h in
+          let here : k ≡ j = cc in
+          (0, p, omega (arith, here), record {
+            within = omega arith;
+            at = refl;
+            place = same.1;
+            runs = rw same.0;
+            put = λ q e. ap (λ t. cond t (q ∷ proposals) (p ∷ with_proposal proposals q)) (eq-eqb p.position q.position (same.1 ∙ sym e));
+          })
+      | inr other ↦
+          let rest = index_found proposals (suc k) j i (rw other.0 at h) in
+          (suc rest.0, rest.1, omega (arith, rest.2), record {
+            within = omega (arith, rest.3.within);
+            at = rest.3.at;
+            place = rest.3.place;
+            runs = rw other.0 rest.3.runs;
+            put = λ q e.
+                ap (λ t. cond t (q ∷ proposals) (p ∷ with_proposal proposals q)) (ne_eqb p.position q.position (λ same. other.1 (same ∙ e)))
+                ∙ ap (λ (l : List Proposal). p ∷ l) (rest.3.put q e);
+          })
     ]
 
-pub others_fewer : (proposals : List RunningProposal) (i : ℕ) (found : RunningProposal) → proposal_at proposals i ≡ Some found → length (without_proposal proposals i) < length proposals
-others_fewer [] i found h = absurd (cc)
-others_fewer (p ∷ proposals) i found h =
+pub index_at : (proposals : List Proposal) (j i : ℕ) → index_from 0 i proposals ≡ Some j → (p : Proposal) × IsFound proposals i j p
+index_at proposals j i h =
+    let hit = index_found proposals 0 j i h in
+    let same : hit.0 ≡ j = omega (arith, hit.2) in
+    (hit.1, subst (λ (n : ℕ). IsFound proposals i n hit.1) same hit.3)
+
+-- no proposal is there, and one that is put there stands behind the others
+pub record IsAbsent (proposals : List Proposal) (i : ℕ) : Type 0 where
+  pub none : proposal_at proposals i ≡ None
+  pub others : without_proposal proposals i ≡ proposals
+  pub put : (q : Proposal) → q.position ≡ i → with_proposal proposals q ≡ proposals ++ q ∷ []
+
+pub index_none : (proposals : List Proposal) (k i : ℕ) → index_from k i proposals ≡ None → IsAbsent proposals i
+index_none [] k i h = record { none = refl; others = refl; put = λ q e. refl }
+index_none (p ∷ proposals) k i h =
     elim (eqb_tells p.position i) [
-      | inl same ↦ rw same.0 (omega (arith, others_at_most proposals i))
-      | inr other ↦ rw other.0 (omega (arith, others_fewer proposals i found (rw other.0 at h)))
+      | inl same ↦ let is : Some k ≡ None = rw same.0 at h in absurd (cc)
+      | inr other ↦
+          let rest = index_none proposals (suc k) i (rw other.0 at h) in
+          record {
+            none = rw other.0 rest.none;
+            others = rw other.0 (ap (λ (l : List Proposal). p ∷ l) rest.others);
+            put = λ q e.
+                ap (λ t. cond t (q ∷ proposals) (p ∷ with_proposal proposals q)) (ne_eqb p.position q.position (λ same. other.1 (same ∙ e)))
+                ∙ ap (λ (l : List Proposal). p ∷ l) (rest.put q e);
+          }
     ]
 
--- the proposal that was found runs there
-found_there : (proposals : List RunningProposal) (i : ℕ) (found : RunningProposal) → proposal_at proposals i ≡ Some found → found.position ≡ i
-found_there [] i found h = absurd (cc)
-found_there (p ∷ proposals) i found h =
-    elim (eqb_tells p.position i) [
-      | inl same ↦ let is : Some p ≡ Some found = rw same.0 at h in let it : p ≡ found = cc in ap (λ (q : RunningProposal). q.position) (sym it) ∙ same.1
-      | inr other ↦ found_there proposals i found (rw other.0 at h)
-    ]
-
-stays_there : (nodes : ℕ) (p : RunningProposal) (promise : Promise) → (noted nodes p promise).position ≡ p.position
+stays_there : (nodes : ℕ) (p : Proposal) (promise : Promise) → (after_promise nodes p promise).position ≡ p.position
 stays_there nodes p promise = elim (is_promised nodes (with_promise p promise)) as (λ t. (cond t (record (with_promise p promise) { phase = Offering }) (with_promise p promise)).position ≡ p.position) [ true ↦ refl | false ↦ refl ]
 
--- a proposal that was found has room for itself after a promise
-pub room_for_noted : (proposals : List RunningProposal) (i nodes : ℕ) (found : RunningProposal) (promise : Promise) → proposal_at proposals i ≡ Some found
-    → length (without_proposal proposals (noted nodes found promise).position) < length proposals
-room_for_noted proposals i nodes found promise h =
-    let same : (noted nodes found promise).position ≡ i = stays_there nodes found promise ∙ found_there proposals i found h in
-    rw same (others_fewer proposals i found h)
+pub noted_there : (nodes b : ℕ) (p : Proposal) (promise : Promise) → (once_noted nodes b p promise).position ≡ p.position
+noted_there nodes b p promise =
+    elim (takes_promise b p) as (λ t. (cond t (after_promise nodes p promise) p).position ≡ p.position) [ true ↦ stays_there nodes p promise | false ↦ refl ]

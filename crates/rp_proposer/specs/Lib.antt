@@ -1,1 +1,3 @@
+pub mod Heard
 pub mod Proposing
+pub mod Room

@@ -1,12 +1,13 @@
 //! A node as a proposer: which ballot it leads in next, and what it offers once a majority promised.
 #![tactic(auto)]
 
-mod promises;
+mod promise;
 mod proposal;
 mod proposer;
 
-pub use proposal::{Phase, Progress, one_offer_at_most};
-pub use proposer::Proposer;
+pub use proposal::{Progress, one_offer_at_most};
+pub use proposer::{Proposer, a_window_has_room};
+pub use rp_base::Phase;
 
 #[cfg(test)]
 mod tests;

@@ -1,22 +1,14 @@
 //! A proposal that runs.
 
-ghost use Rattle.std.specs.Prelude.{◌≡◌, ℕ, ◌≤◌, List, ◌++◌, option_to_list};
-ghost use Rattle.rp_base.specs.Records.{highest};
+ghost use Rattle.std.specs.Prelude.{◌≡◌, ℕ, ◌≤◌, List};
+ghost use Rattle.rp_base.specs.Action.{equal_items};
 ghost use Rattle.rp_base.specs.Promises.{Promise, offer_of};
-ghost use Rattle.rp_proposer.specs.Proposing.{RunningProposal, new_proposal, is_preparing, with_promise, is_promised, progress_of, noted, offers_made};
+ghost use Rattle.rp_base.specs.Proposals.{Proposal as RunningProposal, new_proposal, is_preparing, with_promise, is_promised};
+ghost use Rattle.rp_proposer.specs.Proposing.{progress_of, once_noted, offers_made, is_own};
 
-use crate::promises::{HeardPromise, Promises};
-use rp_base::{Action, Ballot, NodeId, Position, Senders, Vote, majority};
+use crate::promise::HeardPromise;
+use rp_base::{Action, Ballot, History, NodeId, Phase, Position, Senders, Vote, majority};
 use std::marker::Model;
-
-/// The two phases of a proposal (Lamport, "Paxos Made Simple", section 2.2).
-#[derive(Clone, Copy, Debug, PartialEq, Eq)]
-pub enum Phase {
-    /// The node asked for promises, and counts them.
-    Preparing,
-    /// A majority promised, and the node asked for votes.
-    Offering,
-}
 
 /// What a promise makes of a proposal.
 #[derive(Clone, Copy, Debug, PartialEq, Eq)]
@@ -31,38 +23,40 @@ pub enum Progress {
 
 /// A proposal that runs. Of the promises that came it keeps who sent them, and the highest vote
 /// that they report: their offer depends on nothing else.
-#[derive(Debug, Drop)]
+#[derive(Drop)]
 pub(crate) struct Proposal {
     position: Position,
     ballot: Ballot,
-    own: Action,
+    own: Option<Action>,
     phase: Phase,
     senders: Senders,
     last: Option<Vote>,
-    promises: Promises,
+    heard: History<HeardPromise>,
 }
 
 impl Model for Proposal {
     ghost use Rattle.std.specs.Prelude.{◌≡◌};
+    ghost use Rattle.rp_base.specs.Sets.{SameMembers};
     ghost use Rattle.rp_base.specs.Promises.{promisers_of, highest_vote};
-    ghost use Rattle.rp_proposer.specs.Proposing.{RunningProposal};
+    ghost use Rattle.rp_base.specs.Proposals as proposals;
+    ghost use Rattle.rp_proposer.specs.Heard.{set_of};
 
-    ghost Value = { RunningProposal };
+    ghost Value = { proposals.Proposal };
 
     ghost view = { λ p. record {
       position = p.position;
       ballot = p.ballot;
       own = p.own;
       phase = p.phase;
-      promises = p.promises.all;
+      promises = set_of p.heard;
     } };
 
-    ghost invariant = { λ p. (p.senders ≡ promisers_of p.promises.all) × (p.last ≡ highest_vote p.promises.all) };
+    ghost invariant = { λ p. SameMembers p.senders (promisers_of (set_of p.heard)) × (p.last ≡ highest_vote (set_of p.heard)) };
 }
 
 impl Proposal {
     /// A proposal that begins.
-    pub(crate) fn new(position: Position, ballot: Ballot, own: Action) -> Proposal
+    pub(crate) fn new(position: Position, ballot: Ballot, own: Option<Action>) -> Proposal
         ensures { result ≡ new_proposal position ballot own }
     {
         Proposal {
@@ -72,7 +66,7 @@ impl Proposal {
             phase: Phase::Preparing,
             senders: Senders::new(),
             last: None,
-            promises: Promises::none(),
+            heard: History::new(),
         }
     }
 
@@ -97,72 +91,91 @@ impl Proposal {
         self.phase == Phase::Preparing
     }
 
-    /// The proposal with one more promise.
-    fn with(&self, promise: &HeardPromise) -> Proposal
-        ensures { result ≡ with_promise self.now promise.now }
+    /// Whether the item is its own action.
+    pub(crate) fn is_own(&self, item: &Action) -> bool
+        ensures { result ≡ is_own item.now self.now }
     {
-        Proposal {
-            position: self.position,
-            ballot: self.ballot,
-            own: self.own,
-            phase: self.phase,
-            senders: self.senders.with(promise.from),
-            last: higher(self.last, promise.last),
-            promises: self.promises.with(promise),
+        match &self.own {
+            Some(own) => equal_items(item, own),
+            None => false,
         }
+    }
+
+    /// What it offers with one promise more.
+    fn offer_with(&self, promise: &HeardPromise) -> Action
+        ensures { result ≡ offer_of self.now.own (with_promise self.now promise.now).promises }
+    {
+        match Vote::higher(self.last, promise.last) {
+            Some(vote) => vote.action,
+            None => self.own.unwrap_or(Action::Noop),
+        }
+    }
+
+    /// Whether a majority promised, with one promise more.
+    fn is_promised_with(&self, nodes: u8, promise: &HeardPromise) -> bool
+        requires { nodes ≤ 7 }
+        ensures { result ≡ is_promised nodes (with_promise self.now promise.now) }
+    {
+        self.senders.len_with(promise.from, nodes) >= usize::from(majority(nodes))
     }
 
     /// Whether a majority promised.
     fn is_promised(&self, nodes: u8) -> bool
+        requires { nodes ≤ 7 }
         ensures { result ≡ is_promised nodes self.now }
     {
-        usize::from(majority(nodes)) <= self.senders.len()
-    }
-
-    /// What it offers.
-    fn offer(&self) -> Action
-        ensures { result ≡ offer_of self.now.own self.now.promises }
-    {
-        match self.last {
-            Some(vote) => vote.action,
-            None => self.own,
-        }
+        self.senders.len_within(nodes) >= usize::from(majority(nodes))
     }
 
     /// What a promise in its ballot makes of it.
     pub(crate) fn progress(&self, nodes: u8, promise: &HeardPromise) -> Progress
+        requires { nodes ≤ 7 }
         ensures { result ≡ progress_of nodes self.now promise.now }
     {
-        let after = self.with(promise);
-        if self.is_preparing() && after.is_promised(nodes) {
-            Progress::Offer(after.offer())
+        if self.is_preparing() && self.is_promised_with(nodes, promise) {
+            Progress::Offer(self.offer_with(promise))
         } else {
             Progress::Waiting
         }
     }
 
-    /// The proposal after a promise that counts.
-    pub(crate) fn noted(&self, nodes: u8, promise: &HeardPromise) -> Proposal
-        ensures { result ≡ noted nodes self.now promise.now }
+    /// Adds a promise.
+    fn add(&mut self, promise: HeardPromise)
+        ensures { self.new ≡ with_promise self.old promise }
     {
-        let mut after = self.with(promise);
-        if after.is_promised(nodes) {
-            after.phase = Phase::Offering;
+        self.senders.insert(promise.from);
+        self.last = Vote::higher(self.last, promise.last);
+        self.heard.push(promise);
+    }
+
+    /// Notes a promise in a ballot, if it counts: with a majority the second phase begins.
+    pub(crate) fn note(&mut self, nodes: u8, ballot: Ballot, promise: HeardPromise)
+        requires { nodes ≤ 7 }
+        ensures { self.new ≡ once_noted nodes ballot self.old promise }
+    {
+        if self.ballot == ballot && self.is_preparing() {
+            self.add(promise);
+            if self.is_promised(nodes) {
+                self.phase = Phase::Offering;
+            }
         }
-        after
     }
 }
 
-/// The vote of the greater ballot, the first of two in one ballot.
-fn higher(first: Option<Vote>, second: Option<Vote>) -> Option<Vote>
-    ensures { result ≡ highest (option_to_list first ++ option_to_list second) }
+/// Whether two pending items are one: a call by its task and number, all else whole.
+fn equal_items(item: &Action, other: &Action) -> bool
+    ensures { result ≡ equal_items item.now other.now }
 {
-    match second {
-        None => first,
-        Some(vote) => match first {
-            Some(other) if other.ballot.get() >= vote.ballot.get() => Some(other),
-            _ => Some(vote),
-        },
+    match (item, other) {
+        (
+            Action::Call { task, number, .. },
+            Action::Call {
+                task: other,
+                number: same,
+                ..
+            },
+        ) => *task == *other && *number == *same,
+        _ => *item == *other,
     }
 }
 

@@ -1,11 +1,12 @@
 //! A node as a proposer.
 
-ghost use Rattle.std.specs.Prelude.{◌≡◌, ℕ, ◌↔◌, ◌+◌, ◌<◌, ◌≤◌, ◌^◌, max, length, vec_capacity, IsTrue, IfOk, IsErrOf, IsOkUnless, option_copied};
+ghost use Rattle.std.specs.Prelude.{◌≡◌, ℕ, List, ◌↔◌, ◌+◌, ◌<◌, ◌≤◌, ◌^◌, max, length, vec_capacity, IsTrue, IfOk, IsErrOf, IsOkUnless, option_copied};
 ghost use Rattle.rp_base.specs.Ballot.{number_of, round_of, next_ballot, IsAbove, IsNext};
 ghost use Rattle.rp_base.specs.Records.{started_of};
-ghost use Rattle.rp_proposer.specs.Proposing.{counted_by, restored, is_in, proposal_at, without_proposal, with_proposal, ballot_at, HasRoom, begins, progress_in, notes_promise, notes_refusal, settles};
+ghost use Rattle.rp_base.specs.Proposals.{Proposal as RunningProposal, is_in, proposal_at, without_proposal, with_proposal};
+ghost use Rattle.rp_proposer.specs.Proposing.{counted_by, restored, ballot_at, HasRoom, begins, is_own_elsewhere, index_from, AreInWindow, IsInWindow, progress_in, notes_promise, notes_refusal, settles};
 
-use crate::promises::HeardPromise;
+use crate::promise::HeardPromise;
 use crate::proposal::{Progress, Proposal};
 use rp_base::{Action, Ballot, Fault, NodeId, Position, Rec, Vote};
 use std::alloc::Global;
@@ -18,7 +19,7 @@ const MOST_RUNNING: usize = 64;
 /// until its position is settled, a refusal comes in its ballot, or another begins at its position.
 /// At most 64 run. Questions take `&self`; what takes effect is noted, after the record that goes
 /// before it.
-#[derive(Debug, Drop)]
+#[derive(Drop)]
 pub struct Proposer {
     node: NodeId,
     nodes: u8,
@@ -28,9 +29,9 @@ pub struct Proposer {
 }
 
 impl Model for Proposer {
-    ghost use Rattle.std.specs.Prelude.{◌≤◌, length, vec_capacity};
+    ghost use Rattle.std.specs.Prelude.{length, vec_capacity};
     ghost use Rattle.rp_base.specs.Ballot.{number_of};
-    ghost use Rattle.rp_proposer.specs.Proposing.{ProposerPart, most_running};
+    ghost use Rattle.rp_proposer.specs.Proposing.{ProposerPart};
 
     ghost Value = { ProposerPart };
 
@@ -42,13 +43,17 @@ impl Model for Proposer {
       refused = p.refused;
     } };
 
-    ghost invariant = { λ p. (length p.proposals.items ≤ most_running) × (most_running ≤ vec_capacity p.proposals) };
+    ghost use Rattle.rp_proposer.specs.Room.{IsWithin};
+
+    ghost invariant = { λ p. IsWithin p.nodes (length p.proposals.items) (vec_capacity p.proposals) };
 }
 
 impl Proposer {
-    /// The proposer of a node, of this many, that wrote these records: no proposal runs. It has room
+    /// The proposer of a node, one of 3 to 7, that wrote these records: no proposal runs. It has room
     /// for all that may run, so no other call takes memory. `OutOfMemory` where that is refused.
     pub fn restore(alloc: Global, node: NodeId, nodes: u8, records: &[Rec]) -> Result<Self, Fault>
+        requires nodes { (3 ≤ nodes) × (nodes ≤ 7) }
+        requires node { node ≤ nodes }
         ensures restored { IfOk result (λ proposer. proposer ≡ restored node nodes records.now) }
         ensures only { IsOkUnless result Fault.OutOfMemory }
     {
@@ -70,7 +75,7 @@ impl Proposer {
         ensures full { IsErrOf result Fault.BallotsSpent ↔ (2 ^ 32 ≤ round_of (next_ballot self.now.node (counted_by self.now))) }
         ensures only { IsOkUnless result Fault.BallotsSpent }
     {
-        Ok(Ballot::next_for(self.node, greater(self.started, self.refused))?)
+        Ballot::next_for(self.node, Ballot::greater(self.started, self.refused))
     }
 
     /// The ballot of the proposal that runs at a position.
@@ -87,17 +92,30 @@ impl Proposer {
         count_elsewhere(&self.proposals, position) < MOST_RUNNING
     }
 
-    /// Begins a proposal, in place of any other at its position. Its ballot counts as started.
-    pub fn begin(&mut self, position: Position, ballot: Ballot, own: Action)
-        requires { HasRoom self.old.proposals position }
+    /// Begins a proposal, in place of any other at its position, in a ballot of the node's above all
+    /// that it counted. The ballot counts as started.
+    pub fn begin(&mut self, position: Position, ballot: Ballot, own: Option<Action>)
+        requires room { HasRoom self.old.proposals position }
+        requires ballot { IsAbove self.old.node (counted_by self.old) ballot }
         ensures { self.new ≡ begins self.old position ballot own }
     {
         put(&mut self.proposals, Proposal::new(position, ballot, own));
-        self.started = greater(self.started, Some(ballot));
+        self.started = Ballot::greater(self.started, Some(ballot));
     }
 
-    /// What a promise makes of the proposal at the position, were it noted: its sender counts once,
-    /// and `last` is the last vote that it reports. It changes nothing.
+    /// Whether the item is the own action of a proposal that runs at another position: a call by its
+    /// task and number, all else whole.
+    pub fn is_own_elsewhere(&self, position: Position, item: &Action) -> bool
+        ensures { result ≡ is_own_elsewhere self.now.proposals position item.now }
+    {
+        self.proposals
+            .iter()
+            .filter(|proposal| proposal.position() != position)
+            .any(|proposal| proposal.is_own(item))
+    }
+
+    /// What a promise of one of the nodes makes of the proposal at the position, were it noted: its
+    /// sender counts once, and `last` is the last vote that it reports. It changes nothing.
     pub fn promise(
         &self,
         from: NodeId,
@@ -105,6 +123,7 @@ impl Proposer {
         ballot: Ballot,
         last: Option<Vote>,
     ) -> Progress
+        requires sender { from ≤ self.now.nodes }
         ensures { result ≡ progress_in self.now.nodes ballot (from, last) (proposal_at self.now.proposals position) }
     {
         match proposal_at(&self.proposals, position) {
@@ -115,8 +134,8 @@ impl Proposer {
         }
     }
 
-    /// Notes a promise. One that makes a majority begins the second phase, so there is no second
-    /// offer. One that comes later, or is stale, changes nothing.
+    /// Notes a promise of one of the nodes. One that makes a majority begins the second phase, so
+    /// there is no second offer. One that comes later, or is stale, changes nothing.
     pub fn note_promise(
         &mut self,
         from: NodeId,
@@ -124,15 +143,12 @@ impl Proposer {
         ballot: Ballot,
         last: Option<Vote>,
     )
+        requires sender { from ≤ self.old.nodes }
         ensures { self.new ≡ notes_promise self.old ballot (from, last) (proposal_at self.old.proposals position) }
     {
-        let noted = match proposal_at(&self.proposals, position) {
-            Some(proposal) if proposal.ballot() == ballot && proposal.is_preparing() => {
-                proposal.noted(self.nodes, &HeardPromise { from, last })
-            }
-            _ => return,
-        };
-        put(&mut self.proposals, noted);
+        if let Some(index) = index_of(&self.proposals, position) {
+            self.proposals[index].note(self.nodes, ballot, HeardPromise { from, last });
+        }
     }
 
     /// Counts a refusal of the proposal at the position in this ballot, whose sender has promised a
@@ -142,7 +158,7 @@ impl Proposer {
     {
         if is_in(&self.proposals, position, ballot) {
             leave_out(&mut self.proposals, position);
-            self.refused = greater(self.refused, Some(promised));
+            self.refused = Ballot::greater(self.refused, Some(promised));
         }
     }
 
@@ -161,21 +177,10 @@ fn started_of(records: &[Rec]) -> Option<Ballot>
     let mut started: Option<Ballot> = None;
     for record in records {
         if let Rec::Started(ballot) = *record {
-            started = greater(started, Some(ballot));
+            started = Ballot::greater(started, Some(ballot));
         }
     }
     started
-}
-
-/// The greater of two ballots.
-fn greater(one: Option<Ballot>, other: Option<Ballot>) -> Option<Ballot>
-    ensures { number_of result ≡ max (number_of one) (number_of other) }
-{
-    match (one, other) {
-        (Some(ballot), Some(higher)) if ballot.get() < higher.get() => other,
-        (None, _) => other,
-        _ => one,
-    }
 }
 
 /// The proposal that runs at a position.
@@ -219,13 +224,35 @@ fn leave_out(proposals: &mut Vec<Proposal>, position: Position)
     proposals.retain(|proposal| proposal.position() != position);
 }
 
-/// Puts a proposal in place of any other at its position.
+/// Where the proposal at a position is.
+fn index_of(proposals: &[Proposal], position: Position) -> Option<usize>
+    ensures { result ≡ index_from 0 position proposals.now }
+{
+    let mut index = 0;
+    for proposal in proposals {
+        if proposal.position() == position {
+            return Some(index);
+        }
+        index += 1;
+    }
+    None
+}
+
+/// Puts a proposal in place of the one at its position, or behind the others.
 fn put(proposals: &mut Vec<Proposal>, proposal: Proposal)
     requires { length (without_proposal proposals.old.items proposal.position) < vec_capacity proposals.old }
     ensures items { proposals.new.items ≡ with_proposal proposals.old.items proposal }
-    ensures one_more { length proposals.new.items ≡ length (without_proposal proposals.old.items proposal.position) + 1 }
+    ensures length { length proposals.new.items ≤ max (length proposals.old.items) (length (without_proposal proposals.old.items proposal.position) + 1) }
     ensures capacity { vec_capacity proposals.new ≡ vec_capacity proposals.old }
 {
-    leave_out(proposals, proposal.position());
-    proposals.push_reserved(proposal);
+    match index_of(proposals, proposal.position()) {
+        Some(index) => proposals[index] = proposal,
+        None => proposals.push_reserved(proposal),
+    }
 }
+
+/// Proposals at different positions of a window of 64 leave room to begin one there.
+pub fn a_window_has_room()
+    ensures { (proposals : List RunningProposal) (first i : ℕ) → AreInWindow first proposals
+        → IsInWindow first i → HasRoom proposals i }
+{}

@@ -1,5 +1,5 @@
 use Rattle.std.proofs.Common.{◌≡◌, drop}
-use Rattle.rp_proposer.specs.Proposing.{proposal_at}
+use Rattle.rp_base.specs.Proposals.{proposal_at}
 use Rattle.rp_proposer.proofs.proposer.proposal_at.Given as goal
 
 -- none was found so far, so what the rest has is what all have

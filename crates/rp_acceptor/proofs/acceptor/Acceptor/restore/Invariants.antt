@@ -1,9 +1,10 @@
-use Rattle.std.proofs.Common.{◌≡◌, ◌++◌, max, drop}
-use Rattle.rp_acceptor.specs.Noted.{room_for}
+use Rattle.std.proofs.Common.{◌≡◌, ◌++◌, drop}
+use Rattle.std.specs.Prelude.{flat_map}
+use Rattle.rp_acceptor.specs.Noted.{places_in}
 use Rattle.rp_acceptor.proofs.acceptor.Acceptor.restore.Given as goal
 
--- what was noted and the rest make all, and so do their rooms
+-- what was noted and the rest make all, and so does the room
 abbrev pub invariant-loop-rec : goal.invariant-loop-rec
 invariant-loop-rec l =
     (l.acceptor.records ++ drop l.rec-index l.records ≡ l.records)
-    × (max l.acceptor.room (room_for (drop l.rec-index l.records)) ≡ room_for l.records)
+    × (l.acceptor.reserved ++ flat_map places_in (drop l.rec-index l.records) ≡ flat_map places_in l.records)

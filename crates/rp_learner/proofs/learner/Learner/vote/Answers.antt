@@ -1,4 +1,4 @@
--- The senders counted are those who cast this vote, this one included.
+-- The voters counted are those who cast this vote, this one included.
 use Rattle.std.proofs.Common.{◌≡◌, ◌≤◌, ◌<◌, false, true, length, arith}
 use Rattle.rp_base.specs.Majority.{majority_of}
 use Rattle.rp_learner.specs.Places.{is_settled_at}
@@ -11,20 +11,20 @@ returns-then-is_settled_at c =
     rw (← c.deref.ensures.value, ← c.is_settled_at.ensures) c.if-is_settled_at.true in
     rw (← c.self.view_is) (known_at c.self.inside.nodes c.self.inside.places.items c.args.from c.args.position _ settled)
 
-pub returns-then-len-from : goal.returns-then-len-from
-returns-then-len-from c =
+pub returns-then-voters-from : goal.returns-then-voters-from
+returns-then-voters-from c =
     let free : is_settled_at c.self.inside.places.items c.args.position ≡ false =
     rw (← c.deref.ensures.value, ← c.is_settled_at.ensures) c.if-is_settled_at.false in
-    let most : majority_of c.self.inside.nodes ≤ length c.with-senders.result = omega (arith, c.if-len-from.true, c.from.ensures, c.majority.ensures, c.len.ensures) in
+    let most : majority_of c.self.inside.nodes ≤ c.count_with-voters.result = omega (arith, c.if-voters-from.true, c.from.ensures, c.majority.ensures) in
     rw (← c.self.view_is)
-    (learned_at c.self.inside.nodes c.self.inside.places.items c.args.from c.args.position _ c.with-senders.result free
-    (rw (← c.deref-2.ensures.value, ← c.votes_at.ensures, ← c.senders_of-others.ensures) c.with-senders.ensures) most)
+    (learned_at c.self.inside.nodes c.self.inside.places.items c.args.from c.args.position _ c.count_with-voters.result free
+    (rw (← c.deref-2.ensures.value) c.count_with-voters.ensures) most)
 
-pub returns-else-len-from : goal.returns-else-len-from
-returns-else-len-from c =
+pub returns-else-voters-from : goal.returns-else-voters-from
+returns-else-voters-from c =
     let free : is_settled_at c.self.inside.places.items c.args.position ≡ false =
     rw (← c.deref.ensures.value, ← c.is_settled_at.ensures) c.if-is_settled_at.false in
-    let few : length c.with-senders.result < majority_of c.self.inside.nodes = omega (arith, c.if-len-from.false, c.from.ensures, c.majority.ensures, c.len.ensures) in
+    let few : c.count_with-voters.result < majority_of c.self.inside.nodes = omega (arith, c.if-voters-from.false, c.from.ensures, c.majority.ensures) in
     rw (← c.self.view_is)
-    (counting_at c.self.inside.nodes c.self.inside.places.items c.args.from c.args.position _ c.with-senders.result free
-    (rw (← c.deref-2.ensures.value, ← c.votes_at.ensures, ← c.senders_of-others.ensures) c.with-senders.ensures) few)
+    (counting_at c.self.inside.nodes c.self.inside.places.items c.args.from c.args.position _ c.count_with-voters.result free
+    (rw (← c.deref-2.ensures.value) c.count_with-voters.ensures) few)

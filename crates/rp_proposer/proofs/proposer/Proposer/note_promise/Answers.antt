@@ -1,20 +1,33 @@
-use Rattle.std.proofs.Common.{◌≡◌, Some, ap, arith}
-use Rattle.std.specs.Prelude.{option_copied}
-use Rattle.rp_proposer.specs.Proposing.{proposal_at}
-use Rattle.rp_proposer.proofs.Places.{room_for_noted}
+use Rattle.std.proofs.Common.{◌≡◌, ◌<◌, ℕ, Some, None, Option, List, length, set, refl, sym, ap, ◌∙◌, arith}
+use Rattle.std.specs.Prelude.{slice_get, unwrap_or}
+use Rattle.std.proofs.lemmas.Option.{slice_get_read}
+use Rattle.rp_base.specs.Ballot.{number_of}
+use Rattle.rp_base.specs.Proposals.{Proposal, proposal_at}
+use Rattle.rp_proposer.specs.Proposing.{ProposerPart, notes_promise, once_noted}
+use Rattle.rp_proposer.proofs.Places.{index_at, index_none, noted_there}
 use Rattle.rp_proposer.proofs.proposer.Proposer.note_promise.Goals as goal
 
-pub put-requires : goal.put-requires
-put-requires c =
-    let copied = ap option_copied c.in-Some.is in
-    let found : proposal_at c.self.inside.proposals.items c.args.position ≡ Some c.in-Some.proposal.now = cc (copied, c.proposal_at.ensures, c.deref.ensures.value) in
-    let fewer = room_for_noted c.self.inside.proposals.items c.args.position c.self.inside.nodes c.in-Some.proposal.now (c.args.from, c.args.last) found in
-    rw c.noted-noted.ensures (omega (arith, fewer))
+pub index_mut-requires : goal.index_mut-requires
+index_mut-requires c =
+    let found = index_at c.self.inside.proposals.items c.in-Some.index c.args.position (rw (← c.deref.ensures.value, ← c.index_of.ensures) c.in-Some.is) in
+    omega (arith, found.1.within, c.deref.ensures.len)
 
-pub invariant_of-self : goal.invariant_of-self
-invariant_of-self c =
-    let copied = ap option_copied c.in-Some.is in
-    let found : proposal_at c.self.inside.proposals.items c.args.position ≡ Some c.in-Some.proposal.now = cc (copied, c.proposal_at.ensures, c.deref.ensures.value) in
-    let fewer = room_for_noted c.self.inside.proposals.items c.args.position c.self.inside.nodes c.in-Some.proposal.now (c.args.from, c.args.last) found in
-    let grown = rw c.noted-noted.ensures at c.put.ensures.one_more in
-    (omega (arith, fewer, grown), omega arith)
+pub returns-in-Some : goal.returns-in-Some
+returns-in-Some c =
+    let found = index_at c.self.inside.proposals.items c.in-Some.index c.args.position (rw (← c.deref.ensures.value, ← c.index_of.ensures) c.in-Some.is) in
+    let at : slice_get c.self.inside.proposals.items c.in-Some.index ≡ Some c.index_mut.result.now =
+    slice_get_read c.self.inside.proposals.items (length c.self.inside.proposals.items) c.in-Some.index c.index_mut.result.now refl found.1.within c.index_mut.ensures.value in
+    let same : c.index_mut.result.now ≡ found.0 = ap (λ (o : Option Proposal). unwrap_or o found.0) (sym at ∙ found.1.at) in
+    let noted : c.note.new.self ≡ once_noted c.self.inside.nodes c.args.ballot found.0 (c.args.from, c.args.last) =
+    c.note.ensures ∙ ap (λ (p : Proposal). once_noted c.self.inside.nodes c.args.ballot p (c.args.from, c.args.last)) same in
+    rw (← c.self.view_is, found.1.runs)
+    (ap (λ (l : List Proposal). record { node = c.self.inside.node; nodes = c.self.inside.nodes; proposals = l; started = number_of c.self.inside.started; refused = c.self.inside.refused })
+    (ap (λ (p : Proposal). set c.self.inside.proposals.items c.in-Some.index p) noted
+    ∙ sym (found.1.put (once_noted c.self.inside.nodes c.args.ballot found.0 (c.args.from, c.args.last))
+        (noted_there c.self.inside.nodes c.args.ballot found.0 (c.args.from, c.args.last) ∙ found.1.place))))
+
+pub returns-in_default : goal.returns-in_default
+returns-in_default c =
+    let absent = index_none c.self.inside.proposals.items 0 c.args.position (rw (← c.deref.ensures.value, ← c.index_of.ensures) c.in_default.is) in
+    let none : proposal_at c.args.self.now.proposals c.args.position ≡ None = ap (λ (part : ProposerPart). proposal_at part.proposals c.args.position) (sym c.self.view_is) ∙ absent.none in
+    rw none

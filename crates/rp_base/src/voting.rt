@@ -1,0 +1,29 @@
+//! What an acceptor answers.
+
+use crate::ballot::Ballot;
+use crate::record::{Rec, Vote};
+
+/// The answer to a `Prepare`.
+#[derive(Clone, Copy, Debug, PartialEq, Eq)]
+pub enum PrepareAnswer {
+    /// The ballot is above the bound: a promise, which reports the last vote. The record is to be
+    /// written, and then noted, before the promise is sent.
+    Promise { last: Option<Vote>, rec: Rec },
+    /// The ballot is below the bound, which is this.
+    Nack(Ballot),
+    /// The ballot is the bound: nothing is answered.
+    Silent,
+}
+
+/// The answer to an `Accept`.
+#[derive(Clone, Copy, Debug, PartialEq, Eq)]
+pub enum AcceptAnswer {
+    /// A vote. The record is to be written, and then noted, before the vote is told.
+    Vote { rec: Rec },
+    /// The last vote is this one: it is told again, and nothing is written.
+    Again,
+    /// The ballot is below the bound, which is this.
+    Nack(Ballot),
+    /// The last vote is for another action in this ballot: nothing is answered.
+    Silent,
+}

@@ -52,7 +52,7 @@ placed store name old value there within =
 found_keeps : (store : Store) (name : ℕ) (value : ℤ) (found : Option Ranged) → get store.ints name ≡ found → KeepsRanges store (with_found found store name value).0
 found_keeps store name value None there = keeps_same store
 found_keeps store name value (Some old) there =
-    elim (is_within old.low old.high value) as (λ b. is_within old.low old.high value ≡ b → KeepsRanges store (cond b (record store { ints = insert store.ints name (record old { value = value }) }, true) (store, false)).0)
+    elim (is_within old.low old.high value) as (λ b. is_within old.low old.high value ≡ b → KeepsRanges store (cond {A = Store × Bool} b (record store { ints = insert store.ints name (record old { value = value }) }, true) (store, false)).0)
     [ true ↦ (λ within. placed store name old value there within) | false ↦ (λ out. keeps_same store) ] refl
 
 assigned_keeps : (store : Store) (out : ℤ) (ran : Store × Bool) → KeepsRanges store ran.0 → KeepsRanges store (assigned out ran).0
@@ -77,15 +77,15 @@ each_keeps arg (e ∷ rest) store out =
     then_keeps store (effect_of arg e.0 store out) (in_order (map (effect_of arg) (map (λ e. e.0) rest))) (e.1 store out) (λ s o. each_keeps arg rest s o)
 
 abbrev step_of : ℤ → Stmt-F Stmt → Store → ℤ → Store
-step_of arg z store out = (effect_of_step arg (map-Stmt (effect_of arg) z) store out).0
+step_of arg z store out = (effect_of_step arg (map-Stmt Stmt Effect (effect_of arg) z) store out).0
 
-step_keeps : (arg : ℤ) (y : Stmt-F ((s : Stmt) × Keeps arg s)) (store : Store) (out : ℤ) → KeepsRanges store (step_of arg (map-Stmt (λ e. e.0) y) store out)
+step_keeps : (arg : ℤ) (y : Stmt-F ((s : Stmt) × Keeps arg s)) (store : Store) (out : ℤ) → KeepsRanges store (step_of arg (map-Stmt ((s : Stmt) × Keeps arg s) Stmt (λ e. e.0) y) store out)
 step_keeps arg (Stmt-F.Set name expr) store out =
     assigned_keeps store out (with_int store name (value_of expr store arg out)) (found_keeps store name (value_of expr store arg out) (get store.ints name) refl)
 step_keeps arg (Stmt-F.Put name test) store out = put_keeps store name (truth_of test store arg out)
 step_keeps arg (Stmt-F.Out expr) store out = keeps_same store
 step_keeps arg (Stmt-F.If test first second) store out =
-    elim (truth_of test store arg out) as (λ b. KeepsRanges store (cond b (in_order (map (effect_of arg) (map (λ e. e.0) first.items)) store out) (in_order (map (effect_of arg) (map (λ e. e.0) second.items)) store out)).0)
+    elim (truth_of test store arg out) as (λ b. KeepsRanges store (cond {A = Store × Outcome} b (in_order (map (effect_of arg) (map (λ e. e.0) first.items)) store out) (in_order (map (effect_of arg) (map (λ e. e.0) second.items)) store out)).0)
     [ true ↦ each_keeps arg first.items store out | false ↦ each_keeps arg second.items store out ]
 
 statement_keeps : (arg : ℤ) (statement : Stmt) → Keeps arg statement

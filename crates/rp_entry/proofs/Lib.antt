@@ -3,3 +3,4 @@ pub mod Acting
 pub mod Ending
 pub mod Results
 pub mod Accounting
+pub mod Keeping

@@ -2,6 +2,7 @@
 
 ghost use Rattle.std.specs.Prelude.{◌≡◌, ◌↔◌, List, ◌++◌, Option};
 ghost use Rattle.rp_base.specs.declared.reply.Answer.{Answer};
+ghost use Rattle.rp_body.specs.Ranges.{KeepsRanges};
 ghost use Rattle.rp_entry.specs.declared.operations.Operations.{Operations};
 ghost use Rattle.rp_entry.specs.declared.state.CallOutcome.{CallOutcome};
 ghost use Rattle.rp_entry.specs.Queue.{State};
@@ -38,6 +39,15 @@ pub fn actions_are_their_results()
     ensures { (operations : Operations) (before : State) (request : Request) (result : Acted)
         → Acts operations before request result.caller result.told result.after
         ↔ (acted operations before request ≡ result) }
+{}
+
+/// No action changes which whole numbers there are or a range, and values that lie in their ranges
+/// still do.
+pub fn actions_keep_ranges()
+    ensures { (operations : Operations) (before after : State) (request : Request)
+        (caller : Option CallOutcome) (told : List Answer)
+        → Acts operations before request caller told after
+        → KeepsRanges before.store after.store }
 {}
 
 /// Nobody who waits is forgotten or passed by: those that an action answers, and behind them those

@@ -2,15 +2,15 @@
 //! 3 `Tick`. In a call, a byte says which operation it is: 1 `Function`, 2 `Procedure`, 3 `Entry`,
 //! 4 `SetTimer`, 5 `CancelTimer`.
 
-ghost use Rattle.std.specs.Prelude.{◌≡◌, ◌++◌, OnOk};
+ghost use Rattle.std.specs.Prelude.{◌≡◌, ◌+◌, ◌≤◌, ◌++◌, length};
 ghost use Rattle.rp_codec.specs.Text.{operation_text, action_text};
 ghost use Rattle.rp_codec.specs.Reading.{Gives, is_task, entry_at, operation_at, index_at, call_at, any_call_at, interrupt_at, tick_at, action_at, own_call_at};
 
 use crate::fields::{put_i64, put_u32, read_count, read_i64, read_index};
 use crate::packet::Party;
 use crate::reader::Reader;
+use crate::short_text::ShortText;
 use rp_base::{Action, Operation, PacketReason, TaskId};
-use std::alloc::AllocError;
 
 /// 0, which means entry 1.
 fn read_entry(reader: &mut Reader) -> Result<Operation, PacketReason>
@@ -145,8 +145,10 @@ pub(crate) fn read_own_call(reader: &mut Reader, from: &Party) -> Result<Action,
     read_call(reader, task)
 }
 
-fn put_operation(out: &mut Vec<u8>, operation: Operation) -> Result<(), AllocError>
-    ensures { OnOk result (out.new.items ≡ out.old.items ++ operation_text operation) }
+fn put_operation(text: &mut ShortText, operation: Operation)
+    requires { length text.old + 2 ≤ 40 }
+    ensures text { text.new ≡ text.old ++ operation_text operation }
+    ensures len { length text.new ≡ length text.old + 2 }
 {
     let (kind, index) = match operation {
         Operation::Function(index) => (1, index),
@@ -155,15 +157,16 @@ fn put_operation(out: &mut Vec<u8>, operation: Operation) -> Result<(), AllocErr
         Operation::SetTimer(index) => (4, index),
         Operation::CancelTimer(index) => (5, index),
     };
-    out.extend_from_slice(&[kind, index])?;
-    Ok(())
+    text.put(&[kind, index]);
 }
 
-pub(crate) fn put_action(out: &mut Vec<u8>, action: Action) -> Result<(), AllocError>
-    ensures { OnOk result (out.new.items ≡ out.old.items ++ action_text action) }
+/// Adds an action's text, at most 17 bytes.
+pub(crate) fn put_action(text: &mut ShortText, action: Action)
+    requires { length text.old + 17 ≤ 40 }
+    ensures { text.new ≡ text.old ++ action_text action }
 {
     match action {
-        Action::Noop => out.push(0)?,
+        Action::Noop => text.put(&[0]),
         Action::Call {
             task,
             number,
@@ -171,22 +174,19 @@ pub(crate) fn put_action(out: &mut Vec<u8>, action: Action) -> Result<(), AllocE
             operation,
             arg,
         } => {
-            out.push(1)?;
-            out.push(task.get())?;
-            put_u32(out, number)?;
-            out.push(object)?;
-            put_operation(out, operation)?;
-            put_i64(out, arg)?;
+            text.put(&[1, task.get()]);
+            put_u32(text, number);
+            text.put(&[object]);
+            put_operation(text, operation);
+            put_i64(text, arg);
         }
         Action::Interrupt { source, occurrence } => {
-            out.push(2)?;
-            out.push(source)?;
-            put_u32(out, occurrence)?;
+            text.put(&[2, source]);
+            put_u32(text, occurrence);
         }
         Action::Tick { now } => {
-            out.push(3)?;
-            put_u32(out, now)?;
+            text.put(&[3]);
+            put_u32(text, now);
         }
     }
-    Ok(())
 }

@@ -1,15 +1,15 @@
 //! Packets to bytes.
 
-ghost use Rattle.std.specs.Prelude.{◌≡◌, ℕ, List, ◌++◌, IfOk, OnOk};
+ghost use Rattle.std.specs.Prelude.{◌≡◌, ℕ, List, ◌++◌, IfOk, OnOk, OnErr};
 ghost use Rattle.rp_codec.specs.Message.{Message, IsPacket};
-ghost use Rattle.rp_codec.specs.Text.{kind_number, party_text, text_of};
+ghost use Rattle.rp_codec.specs.Text.{kind_number, party_number, front_text, text_of};
 
 use crate::body_text::put_body;
+use crate::fields::{AUDIT, TASK_BASE, VERSION};
 use crate::packet::{Body, Packet, Party};
+use crate::report_text::put_report;
+use crate::short_text::{LONGEST, ShortText};
 use std::alloc::{AllocError, Global};
-
-/// How many bytes the longest packet has, a `Promise` with a call.
-const LONGEST: usize = 40;
 
 fn kind_number(body: &Body) -> u8
     ensures { result ≡ kind_number body.now }
@@ -21,21 +21,57 @@ fn kind_number(body: &Body) -> u8
         Body::Accept { .. } => 4,
         Body::Accepted { .. } => 5,
         Body::Decided { .. } => 6,
+        Body::Ask { .. } => 7,
         Body::Nack { .. } => 8,
         Body::Reply { .. } => 9,
+        Body::Report { .. } => 10,
     }
 }
 
-fn put_party(out: &mut Vec<u8>, party: Party) -> Result<(), AllocError>
-    ensures { OnOk result (out.new.items ≡ out.old.items ++ party_text party) }
+fn party_number(party: Party) -> u8
+    ensures { result ≡ party_number party }
 {
-    let number = match party {
+    match party {
         Party::Node(node) => node.get(),
-        Party::Task(task) => 16 + task.get(),
-        Party::Audit => 32,
-    };
-    out.push(number)?;
-    Ok(())
+        Party::Task(task) => TASK_BASE + task.get(),
+        Party::Audit => AUDIT,
+    }
+}
+
+/// The packet's text, of a report all but its actions.
+fn front_of(packet: &Packet) -> ShortText
+    ensures { result ≡ front_text packet.now }
+{
+    let mut text = ShortText::new();
+    let kind = kind_number(packet.body());
+    text.put(&[
+        VERSION,
+        kind,
+        party_number(packet.from()),
+        party_number(packet.to()),
+    ]);
+    put_body(&mut text, packet.body());
+    text
+}
+
+/// Puts the packet's one text behind the bytes. Where memory is refused, the bytes stay.
+pub fn encode_onto(packet: &Packet, out: &mut Vec<u8>) -> Result<(), AllocError>
+    ensures ok { OnOk result (out.new.items ≡ out.old.items ++ text_of packet.now) }
+    ensures err { OnErr result (out.new.items ≡ out.old.items) }
+{
+    let front = front_of(packet);
+    match packet.body() {
+        Body::Report { actions, .. } => put_report(out, &front, actions.as_slice()),
+        Body::Call { .. }
+        | Body::Prepare { .. }
+        | Body::Promise { .. }
+        | Body::Accept { .. }
+        | Body::Accepted { .. }
+        | Body::Decided { .. }
+        | Body::Ask { .. }
+        | Body::Nack { .. }
+        | Body::Reply { .. } => out.extend_from_slice(front.as_slice()),
+    }
 }
 
 /// The packet's one text.
@@ -43,11 +79,7 @@ pub fn encode(alloc: Global, packet: &Packet) -> Result<Vec<u8>, AllocError>
     ensures { IfOk result (λ v. v.items ≡ text_of packet.now) }
 {
     let mut out = Vec::with_capacity(alloc, LONGEST)?;
-    out.push(1)?;
-    out.push(kind_number(packet.body()))?;
-    put_party(&mut out, packet.from())?;
-    put_party(&mut out, packet.to())?;
-    put_body(&mut out, packet.body())?;
+    encode_onto(packet, &mut out)?;
     Ok(out)
 }
 

@@ -1,15 +1,24 @@
 //! The fields that stand in more than one text: numbers, positions and ballots. A reader answers
 //! the field's value and the bytes after it.
 
-ghost use Rattle.std.specs.Prelude.{◌≡◌, ◌++◌, ◌∷◌, [], OnOk};
+ghost use Rattle.std.specs.Prelude.{◌≡◌, ◌+◌, ◌≤◌, ◌++◌, length};
 ghost use Rattle.std.specs.Int.{w16, w32, w64};
 ghost use Rattle.rp_codec.specs.Text.{number_text, signed_text, position_text, ballot_text};
 ghost use Rattle.rp_codec.specs.Reading.{Gives, byte_at, number_at, signed_at, index_at, count_at, position_at, ballot_at};
 
 use crate::reader::Reader;
+use crate::short_text::ShortText;
 use byteorder::{BigEndian, ByteOrder};
 use rp_base::{Ballot, PacketReason, Position};
-use std::alloc::AllocError;
+
+/// The version of the texts, their first byte.
+pub(crate) const VERSION: u8 = 1;
+
+/// Task t is the party `TASK_BASE` + t.
+pub(crate) const TASK_BASE: u8 = 16;
+
+/// The party that is the audit.
+pub(crate) const AUDIT: u8 = 32;
 
 #[tactic(auto, unfolding(crate::specs::Reading::signed_at))]
 pub(crate) fn read_i64(reader: &mut Reader) -> Result<i64, PacketReason>
@@ -66,41 +75,53 @@ pub(crate) fn read_ballot(reader: &mut Reader) -> Result<Ballot, PacketReason>
 }
 
 #[tactic(auto, unfolding(crate::specs::Text::number_text))]
-pub(crate) fn put_u32(out: &mut Vec<u8>, number: u32) -> Result<(), AllocError>
-    ensures { OnOk result (out.new.items ≡ out.old.items ++ number_text w32 number) }
+pub(crate) fn put_u16(text: &mut ShortText, number: u16)
+    requires { length text.old + 2 ≤ 40 }
+    ensures text { text.new ≡ text.old ++ number_text w16 number }
+    ensures len { length text.new ≡ length text.old + 2 }
+{
+    let mut bytes = [0; 2];
+    BigEndian::write_u16(&mut bytes, number);
+    text.put(&bytes);
+}
+
+#[tactic(auto, unfolding(crate::specs::Text::number_text))]
+pub(crate) fn put_u32(text: &mut ShortText, number: u32)
+    requires { length text.old + 4 ≤ 40 }
+    ensures text { text.new ≡ text.old ++ number_text w32 number }
+    ensures len { length text.new ≡ length text.old + 4 }
 {
     let mut bytes = [0; 4];
     BigEndian::write_u32(&mut bytes, number);
-    out.extend_from_slice(&bytes)?;
-    Ok(())
+    text.put(&bytes);
 }
 
 #[tactic(auto, unfolding(crate::specs::Text::number_text))]
-pub(crate) fn put_i64(out: &mut Vec<u8>, number: i64) -> Result<(), AllocError>
-    ensures { OnOk result (out.new.items ≡ out.old.items ++ signed_text number) }
+pub(crate) fn put_i64(text: &mut ShortText, number: i64)
+    requires { length text.old + 8 ≤ 40 }
+    ensures text { text.new ≡ text.old ++ signed_text number }
+    ensures len { length text.new ≡ length text.old + 8 }
 {
     let mut bytes = [0; 8];
     BigEndian::write_i64(&mut bytes, number);
-    out.extend_from_slice(&bytes)?;
-    Ok(())
+    text.put(&bytes);
 }
 
-#[tactic(auto, unfolding(crate::specs::Text::number_text))]
-pub(crate) fn put_position(out: &mut Vec<u8>, position: Position) -> Result<(), AllocError>
-    ensures { OnOk result (out.new.items ≡ out.old.items ++ position_text position) }
+pub(crate) fn put_position(text: &mut ShortText, position: Position)
+    requires { length text.old + 2 ≤ 40 }
+    ensures text { text.new ≡ text.old ++ position_text position }
+    ensures len { length text.new ≡ length text.old + 2 }
 {
-    let mut bytes = [0; 2];
-    BigEndian::write_u16(&mut bytes, position.get());
-    out.extend_from_slice(&bytes)?;
-    Ok(())
+    put_u16(text, position.get());
 }
 
 #[tactic(auto, unfolding(crate::specs::Text::number_text))]
-pub(crate) fn put_ballot(out: &mut Vec<u8>, ballot: Ballot) -> Result<(), AllocError>
-    ensures { OnOk result (out.new.items ≡ out.old.items ++ ballot_text ballot) }
+pub(crate) fn put_ballot(text: &mut ShortText, ballot: Ballot)
+    requires { length text.old + 8 ≤ 40 }
+    ensures text { text.new ≡ text.old ++ ballot_text ballot }
+    ensures len { length text.new ≡ length text.old + 8 }
 {
     let mut bytes = [0; 8];
     BigEndian::write_u64(&mut bytes, ballot.get());
-    out.extend_from_slice(&bytes)?;
-    Ok(())
+    text.put(&bytes);
 }

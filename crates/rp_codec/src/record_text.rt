@@ -1,20 +1,18 @@
 //! Records as bytes: version 1, and then a byte that says which they are: 1 `Started`,
 //! 2 `Promised`, 3 `Voted`, 4 `Learned`.
 
-ghost use Rattle.std.specs.Prelude.{◌≡◌, ◌≤◌, ℕ, List, ◌++◌, ◌↔◌, length, Some, IsSome, IfSome, IfOk, OnOk};
+ghost use Rattle.std.specs.Prelude.{◌≡◌, ◌≤◌, ℕ, List, ◌++◌, ◌↔◌, length, Some, IsSome, IfSome, IfOk};
 ghost use Rattle.rp_base.specs.declared.record.Rec.{Rec};
 ghost use Rattle.rp_codec.specs.Record.{record_text, IsRecord, BeginsWithRecord};
 ghost use Rattle.rp_codec.specs.Reading.{Gives};
 ghost use Rattle.rp_codec.specs.RecordReading.{started_at, promised_at, voted_at, learned_at, record_at};
 
 use crate::action_text::{put_action, read_action};
-use crate::fields::{put_ballot, put_position, read_ballot, read_position};
+use crate::fields::{VERSION, put_ballot, put_position, read_ballot, read_position};
 use crate::reader::Reader;
+use crate::short_text::ShortText;
 use rp_base::{PacketReason, Rec};
 use std::alloc::{AllocError, Global};
-
-/// How many bytes the longest record has, a `Voted` with a call.
-const LONGEST: usize = 29;
 
 #[tactic(auto, unfolding(crate::specs::RecordReading::started_at))]
 fn read_started(reader: &mut Reader) -> Result<Rec, PacketReason>
@@ -57,7 +55,7 @@ fn read_record(reader: &mut Reader) -> Result<Rec, PacketReason>
     ensures { Gives result reader.new (record_at reader.old) }
 {
     let version = reader.byte()?;
-    if version != 1 {
+    if version != VERSION {
         return Err(PacketReason::Field);
     }
     let kind = reader.byte()?;
@@ -70,40 +68,41 @@ fn read_record(reader: &mut Reader) -> Result<Rec, PacketReason>
     }
 }
 
-fn put_record(out: &mut Vec<u8>, rec: &Rec) -> Result<(), AllocError>
-    ensures { OnOk result (out.new.items ≡ out.old.items ++ record_text rec.now) }
+/// The record's one text. It takes no memory.
+pub fn text_of_record(rec: &Rec) -> ShortText
+    ensures { result ≡ record_text rec.now }
 {
+    let mut text = ShortText::new();
     match *rec {
         Rec::Started(ballot) => {
-            out.extend_from_slice(&[1, 1])?;
-            put_ballot(out, ballot)
+            text.put(&[VERSION, 1]);
+            put_ballot(&mut text, ballot);
         }
         Rec::Promised(position, ballot) => {
-            out.extend_from_slice(&[1, 2])?;
-            put_position(out, position)?;
-            put_ballot(out, ballot)
+            text.put(&[VERSION, 2]);
+            put_position(&mut text, position);
+            put_ballot(&mut text, ballot);
         }
         Rec::Voted(position, ballot, action) => {
-            out.extend_from_slice(&[1, 3])?;
-            put_position(out, position)?;
-            put_ballot(out, ballot)?;
-            put_action(out, action)
+            text.put(&[VERSION, 3]);
+            put_position(&mut text, position);
+            put_ballot(&mut text, ballot);
+            put_action(&mut text, action);
         }
         Rec::Learned(position, action) => {
-            out.extend_from_slice(&[1, 4])?;
-            put_position(out, position)?;
-            put_action(out, action)
+            text.put(&[VERSION, 4]);
+            put_position(&mut text, position);
+            put_action(&mut text, action);
         }
     }
+    text
 }
 
-/// The record's one text.
+/// The record's one text, in memory.
 pub fn encode_rec(alloc: Global, rec: &Rec) -> Result<Vec<u8>, AllocError>
     ensures { IfOk result (λ v. v.items ≡ record_text rec.now) }
 {
-    let mut out = Vec::with_capacity(alloc, LONGEST)?;
-    put_record(&mut out, rec)?;
-    Ok(out)
+    Vec::from_slice(alloc, text_of_record(rec).as_slice())
 }
 
 /// The record whose text the bytes begin with, and how many bytes that text has. Any bytes may

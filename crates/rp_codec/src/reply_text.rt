@@ -1,14 +1,14 @@
 //! Replies as bytes, behind a byte that says which they are: 1 `Value`, 2 `Truth`,
 //! 3 `ConstraintError`, 4 `ProgramError`, 5 `NoSuchOperation`.
 
-ghost use Rattle.std.specs.Prelude.{◌≡◌, ◌++◌, OnOk};
+ghost use Rattle.std.specs.Prelude.{◌≡◌, ◌+◌, ◌≤◌, ◌++◌, length};
 ghost use Rattle.rp_codec.specs.Text.{reply_text};
 ghost use Rattle.rp_codec.specs.Reading.{Gives, value_at, truth_at, reply_at};
 
 use crate::fields::{put_i64, read_i64};
 use crate::reader::Reader;
+use crate::short_text::ShortText;
 use rp_base::{PacketReason, Reply};
-use std::alloc::AllocError;
 
 #[tactic(auto, unfolding(crate::specs::Reading::value_at))]
 fn read_value(reader: &mut Reader) -> Result<Reply, PacketReason>
@@ -45,21 +45,18 @@ pub(crate) fn read_reply(reader: &mut Reader) -> Result<Reply, PacketReason>
     }
 }
 
-pub(crate) fn put_reply(out: &mut Vec<u8>, reply: Reply) -> Result<(), AllocError>
-    ensures { OnOk result (out.new.items ≡ out.old.items ++ reply_text reply) }
+pub(crate) fn put_reply(text: &mut ShortText, reply: Reply)
+    requires { length text.old + 9 ≤ 40 }
+    ensures { text.new ≡ text.old ++ reply_text reply }
 {
     match reply {
         Reply::Value(value) => {
-            out.push(1)?;
-            put_i64(out, value)?;
+            text.put(&[1]);
+            put_i64(text, value);
         }
-        Reply::Truth(truth) => {
-            out.push(2)?;
-            out.push(u8::from(truth))?;
-        }
-        Reply::ConstraintError => out.push(3)?,
-        Reply::ProgramError => out.push(4)?,
-        Reply::NoSuchOperation => out.push(5)?,
+        Reply::Truth(truth) => text.put(&[2, u8::from(truth)]),
+        Reply::ConstraintError => text.put(&[3]),
+        Reply::ProgramError => text.put(&[4]),
+        Reply::NoSuchOperation => text.put(&[5]),
     }
-    Ok(())
 }

@@ -131,8 +131,10 @@ hears_grows w task (bodies.Promise position ballot last) = nothing_grows w
 hears_grows w task (bodies.Accept position ballot action) = nothing_grows w
 hears_grows w task (bodies.Accepted position ballot action) = nothing_grows w
 hears_grows w task (bodies.Decided position action) = nothing_grows w
+hears_grows w task (bodies.Ask position) = nothing_grows w
 hears_grows w task (bodies.Nack position ballot bound) = nothing_grows w
 hears_grows w task (bodies.Reply number reply) = task_grows w task number reply (part_at w.tasks task)
+hears_grows w task (bodies.Report first applied actions) = nothing_grows w
 
 turns_grow : (w : World) (me : ℕ) (part : NodePart) (turn : Result Turn Fault) → part_at w.nodes me ≡ Some part → GrowsIf w (turns_if w me part turn)
 turns_grow w me part (Ok turn) here = turn_grows w me part turn here

@@ -8,7 +8,7 @@ use Rattle.rp_codec.specs.Message.{Message}
 use Rattle.rp_codec.specs.declared.packet.Party.{Party}
 use Rattle.rp_codec.specs.declared.packet.Party.TheVariants.{Node, Task, Audit}
 use Rattle.rp_codec.specs.declared.packet.Body.{Body}
-use Rattle.rp_codec.specs.declared.packet.Body.TheVariants.{Call, Prepare, Promise, Accept, Accepted, Decided, Nack, Reply}
+use Rattle.rp_codec.specs.declared.packet.Body.TheVariants.{Call, Prepare, Promise, Accept, Accepted, Decided, Ask, Nack, Reply, Report}
 use Rattle.rp_model.specs.declared.part.Running.{Running}
 use Rattle.rp_model.specs.declared.part.Turn.{Turn}
 use Rattle.rp_model.specs.Says.{notes, drops_foreign}
@@ -41,8 +41,10 @@ is_allowed most from (Promise position ballot last) = not (nat_lt most position)
 is_allowed most from (Accept position ballot action) = not (nat_lt most position) && nat_eq (owner_of ballot) from
 is_allowed most from (Accepted position ballot action) = not (nat_lt most position)
 is_allowed most from (Decided position action) = not (nat_lt most position)
+is_allowed most from (Ask position) = not (nat_lt most position)
 is_allowed most from (Nack position ballot bound) = not (nat_lt most position)
 is_allowed most from (Reply number reply) = true
+is_allowed most from (Report first applied actions) = true
 
 -- the packet is for this node, and keeps to the configuration
 abbrev pub is_for_node : ℕ → ℕ → ℕ → Message → Bool
@@ -59,8 +61,10 @@ module _ {S : Type 0} (next : S → Action → S) (answers : S → Action → Li
   on_body nodes me records running from (Accepted position ballot action) =
       on_accepted next answers begin nodes me records running from position (record { ballot = ballot; action = action })
   on_body nodes me records running from (Decided position action) = on_decided next answers begin me records running position action
+  on_body nodes me records running from (Ask position) = notes running
   on_body nodes me records running from (Nack position ballot bound) = on_nack running position ballot bound
   on_body nodes me records running from (Reply number reply) = notes running
+  on_body nodes me records running from (Report first applied actions) = notes running
 
   -- a packet comes to a node
   abbrev pub receives : ℕ → ℕ → ℕ → List Rec → Running → Message → Turn

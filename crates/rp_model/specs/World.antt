@@ -120,8 +120,10 @@ task_hears w task (bodies.Promise position ballot last) = nothing_happens w
 task_hears w task (bodies.Accept position ballot action) = nothing_happens w
 task_hears w task (bodies.Accepted position ballot action) = nothing_happens w
 task_hears w task (bodies.Decided position action) = nothing_happens w
+task_hears w task (bodies.Ask position) = nothing_happens w
 task_hears w task (bodies.Nack position ballot bound) = nothing_happens w
 task_hears w task (bodies.Reply number reply) = task_takes w task number reply (part_at w.tasks task)
+task_hears w task (bodies.Report first applied actions) = nothing_happens w
 
 -- the next call of a task, whose calls are numbered from 1
 abbrev pub next_call : ℕ → TaskPart → ℕ → Operation → ℤ → Action

@@ -1,0 +1,54 @@
+//! Texts that need no memory.
+
+ghost use Rattle.std.specs.Prelude.{◌≡◌, ◌+◌, ◌≤◌, [], ◌++◌, length};
+
+use std::marker::Model;
+
+/// How many bytes the longest text but a report's has, that of a `Promise` with a call.
+pub(crate) const LONGEST: usize = 40;
+
+/// Bytes in order, at most 40, in place.
+#[derive(Drop)]
+pub struct ShortText {
+    bytes: [u8; LONGEST],
+    len: usize,
+}
+
+impl Model for ShortText {
+    ghost use Rattle.std.specs.Prelude.{◌≡◌, ℕ, List, ◌≤◌, length, take};
+
+    ghost Value = { List ℕ };
+
+    ghost view = { λ t. take t.len t.bytes };
+
+    ghost invariant = { λ t. (t.len ≤ 40) × (length t.bytes ≡ 40) };
+}
+
+impl ShortText {
+    pub(crate) fn new() -> Self
+        ensures { result ≡ [] }
+    {
+        ShortText {
+            bytes: [0; LONGEST],
+            len: 0,
+        }
+    }
+
+    /// Adds bytes behind the others.
+    #[inline(always)]
+    pub(crate) fn put<const N: usize>(&mut self, piece: &[u8; N])
+        requires { length self.old + N ≤ 40 }
+        ensures text { self.new ≡ self.old ++ piece.now }
+        ensures len { length self.new ≡ length self.old + N }
+    {
+        self.bytes[self.len..self.len + N].copy_from_slice(piece);
+        self.len += N;
+    }
+
+    /// The bytes in order.
+    pub fn as_slice(&self) -> &[u8]
+        ensures { result.now ≡ self.now }
+    {
+        &self.bytes[..self.len]
+    }
+}

@@ -1,3 +1,4 @@
 pub mod Effects
 pub mod Places
 pub mod Storing
+pub mod Ranges

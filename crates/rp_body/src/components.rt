@@ -45,7 +45,7 @@ impl Ranged {
 
 /// The components of an object: at most 8 whole numbers and at most 8 Booleans, in place. Those of a
 /// kind are named by the numbers from 0 in the order in which they were added.
-#[derive(Debug, Drop)]
+#[derive(Clone, Debug, Drop)]
 pub struct Components {
     ints: [Ranged; 8],
     bools: [bool; 8],

@@ -1,4 +1,6 @@
 pub mod Chains
 pub mod Acting
 pub mod Ending
+pub mod Results
 pub mod Accounting
+pub mod Keeping

@@ -3,5 +3,6 @@ pub mod Queue
 pub mod Replies
 pub mod Servicing
 pub mod Actions
+pub mod Results
 pub mod Accounting
 pub mod Protected

@@ -1,5 +1,5 @@
 -- The operations of a protected object, and which of them keep the limits (the limits are this project's own).
-use Rattle.std.specs.Prelude.{ℕ, zero, suc, ◌<◌, IsTrue, Option, None, List, slice_get, IfSome}
+use Rattle.std.specs.Prelude.{ℕ, zero, suc, ◌<◌, ◌≤◌, IsTrue, Option, None, List, length, slice_get, IfSome}
 use Rattle.std.specs.List.{All}
 use Rattle.rp_body.specs.declared.components.Limits.{Limits}
 use Rattle.rp_body.specs.Check.{expr_fits, cond_fits, KeepsLimits}
@@ -23,8 +23,14 @@ pub record EntryFits (limits : Limits) (entry : Entry) : Type 0 where
   pub barrier : entry.barrier < limits.bools
   pub body : KeepsLimits limits entry.body.items
 
--- each function, each procedure's body and the entry do so
+-- the most functions, and the most procedures, of an object
+abbrev pub most_operations : ℕ
+most_operations = 8
+
+-- there are no more, and each function, each procedure's body and the entry do so
 pub record OperationsFit (limits : Limits) (operations : Operations) : Type 0 where
+  pub function_count : length operations.functions.items ≤ most_operations
+  pub procedure_count : length operations.procedures.items ≤ most_operations
   pub functions : All (FunctionFits limits) operations.functions.items
   pub procedures : All (λ body. KeepsLimits limits body.items) operations.procedures.items
   pub entry : IfSome operations.entry (EntryFits limits)

@@ -1,12 +1,14 @@
 //! What follows from the rules of a protected object alone.
 
-ghost use Rattle.std.specs.Prelude.{◌≡◌, List, ◌++◌, Option};
+ghost use Rattle.std.specs.Prelude.{◌≡◌, ◌↔◌, List, ◌++◌, Option};
 ghost use Rattle.rp_base.specs.declared.reply.Answer.{Answer};
+ghost use Rattle.rp_body.specs.Ranges.{KeepsRanges};
 ghost use Rattle.rp_entry.specs.declared.operations.Operations.{Operations};
 ghost use Rattle.rp_entry.specs.declared.state.CallOutcome.{CallOutcome};
 ghost use Rattle.rp_entry.specs.Queue.{State};
 ghost use Rattle.rp_entry.specs.Servicing.{Services};
 ghost use Rattle.rp_entry.specs.Actions.{Request, Acts};
+ghost use Rattle.rp_entry.specs.Results.{Acted, acted};
 ghost use Rattle.rp_entry.specs.Accounting.{AccountsFor, joins};
 
 /// Servicing has an end from every state, and one alone, with the same answers told on the way.
@@ -29,6 +31,23 @@ pub fn actions_have_one_end()
         → Acts operations before request caller told one
         → Acts operations before request called heard other
         → (caller ≡ called) × (told ≡ heard) × (one ≡ other) }
+{}
+
+/// What an action comes to is the stated function of operations, state and request: the rules hold of
+/// exactly its result.
+pub fn actions_are_their_results()
+    ensures { (operations : Operations) (before : State) (request : Request) (result : Acted)
+        → Acts operations before request result.caller result.told result.after
+        ↔ (acted operations before request ≡ result) }
+{}
+
+/// No action changes which whole numbers there are or a range, and values that lie in their ranges
+/// still do.
+pub fn actions_keep_ranges()
+    ensures { (operations : Operations) (before after : State) (request : Request)
+        (caller : Option CallOutcome) (told : List Answer)
+        → Acts operations before request caller told after
+        → KeepsRanges before.store after.store }
 {}
 
 /// Nobody who waits is forgotten or passed by: those that an action answers, and behind them those

@@ -34,9 +34,9 @@ impl Model for Object {
 }
 
 impl Object {
-    /// The object of these operations and components, with nobody waiting, or `None` where an operation
-    /// does not keep the limits of the language or the barrier names no Boolean component. It takes no
-    /// memory.
+    /// The object of these operations and components, with nobody waiting, or `None` where there are more
+    /// than 8 functions or 8 procedures, an operation does not keep the limits of the language, or the
+    /// barrier names no Boolean component. It takes no memory.
     pub fn new(operations: Operations, components: Components) -> Option<Self>
         ensures { SomeIff result (OperationsFit (limits_of components) operations)
             (record { operations = operations; state = record { store = components; queue = [] } }) }

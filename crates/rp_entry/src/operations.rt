@@ -10,6 +10,9 @@ ghost use Rattle.rp_entry.specs.Replies.{function_reply};
 use rp_base::Reply;
 use rp_body::{Components, Cond, Expr, Limits, Stmt, check, truth, value};
 
+/// The most functions, and the most procedures, of an object.
+const MOST_OPERATIONS: usize = 8;
+
 /// A function: one expression or one condition, which reads the components and changes none.
 #[derive(Debug, Drop)]
 pub enum Function {
@@ -76,7 +79,8 @@ impl Entry {
 }
 
 impl Operations {
-    /// Whether each function, each body and the entry keep the limits.
+    /// Whether there are at most 8 functions and 8 procedures, and each function, each body and the
+    /// entry keep the limits.
     pub(crate) fn fit(&self, limits: &Limits) -> bool
         ensures { IsTrue result ↔ OperationsFit limits.now self.now }
     {
@@ -84,7 +88,9 @@ impl Operations {
             Some(entry) => entry.fits(limits),
             None => true,
         };
-        functions_fit(&self.functions, limits)
+        self.functions.len() <= MOST_OPERATIONS
+            && self.procedures.len() <= MOST_OPERATIONS
+            && functions_fit(&self.functions, limits)
             && procedures_fit(&self.procedures, limits)
             && entry_fits
     }

@@ -1,2 +1,6 @@
-pub mod FirstActions
+pub mod Places
+pub mod Views
+pub mod Tops
+pub mod Steps
+pub mod Learning
 pub mod RecordedRuns

@@ -1,6 +1,10 @@
 -- What the records of a node say was learned, against what its log took.
 use Rattle.std.proofs.Common.{◌≡◌, ◌≢◌, ℕ, zero, suc, ◌+◌, ◌-◌, ◌<◌, ◌≤◌, Bool, true, false, cond, ◌||◌, nat_eq, Option, Some, None, IsSome, unwrap_or, List, [], ◌∷◌, ◌++◌, length, is_some, refl, sym, ap, ap₂, subst, ◌∙◌, arith}
 use Rattle.std.specs.List.{slice_get, list_any}
+use Rattle.std.specs.Prelude.{option_and_then}
+use Rattle.std.specs.FinMap.{get, insert, get-insert}
+use Rattle.std.proofs.lemmas.Cmp.{nat_cmp_total}
+use Rattle.rp_log.proofs.Places.{same, same_is, same_apart}
 use Rattle.std.proofs.Math.Logic.{⊎_elim}
 use Rattle.std.proofs.lemmas.Bool.{cases_eq, eq-eqb, ne_eqb}
 use Rattle.std.proofs.lemmas.Map.Steps.{le-length_from_below}
@@ -8,7 +12,7 @@ use Rattle.rp_base.specs.declared.action.Action.{Action}
 use Rattle.rp_base.specs.declared.record.Rec.{Rec}
 use Rattle.rp_base.specs.declared.record.Rec.TheVariants.{Started, Promised, Voted, Learned}
 use Rattle.rp_base.specs.Records.{or_else, learned_in, learned_at, learned_run, applied_of, unless_missing}
-use Rattle.rp_log.specs.Contents.{Contents, action_at, next_to_take, IsTakenInOrder}
+use Rattle.rp_log.specs.Contents.{Contents, action_at, with_room, with_action, next_to_take, IsTakenInOrder}
 use Rattle.rp_log.specs.Recorded.{LearnedAlike}
 
 -- ---- a record more
@@ -45,6 +49,34 @@ learned_alike records old new i v alike first others = λ j. ⊎_elim
     learned_more records i j v ∙ ap (λ b. or_else (learned_at records j) (cond b (Some v) None)) test in
     others j (λ e. apart (sym e)) ∙ alike j ∙ sym (or_none (learned_at records j)) ∙ sym more)
     (cases_eq i j)
+
+abbrev learned_of : Option (Option Action) → Option Action
+learned_of place = option_and_then (λ learned. learned) place
+
+pub learned_with : (records : List Rec) (log : Contents) (i : ℕ) (v : Action) → LearnedAlike records log → LearnedAlike (records ++ Learned i v ∷ []) (with_action log i v)
+learned_with records log i v alike =
+    let place : Option Action = Some (unwrap_or (action_at log i) v) in
+    let found : (j : ℕ) → action_at (with_action log i v) j ≡ learned_of (cond (same j i) (Some place) (get log.places j)) = λ j. ap learned_of (get-insert nat_cmp_total log.places i place j) in
+    learned_alike records log (with_action log i v) i v alike
+    (found i ∙ ap (λ b. learned_of (cond b (Some place) (get log.places i))) (same_is i i refl))
+    (λ j apart. found j ∙ ap (λ b. learned_of (cond b (Some place) (get log.places j))) (same_apart j i apart))
+
+no_place : (place : Option (Option Action)) → is_some place ≡ false → place ≡ None
+no_place None e = refl
+no_place (Some x) e = absurd cc
+
+room_learned : (log : Contents) (i j : ℕ) (b : Bool) → is_some (get log.places i) ≡ b → action_at (cond b log (record log { places = insert log.places i None })) j ≡ action_at log j
+room_learned log i j true there = refl
+room_learned log i j false none =
+    ap learned_of (get-insert nat_cmp_total log.places i None j) ∙ ⊎_elim
+    (λ (e : j ≡ i).
+    let gone : get log.places j ≡ None = ap (get log.places) e ∙ no_place (get log.places i) none in
+    ap (λ b. learned_of (cond b (Some None) (get log.places j))) (same_is j i e) ∙ sym (ap learned_of gone))
+    (λ (apart : j ≢ i). ap (λ b. learned_of (cond b (Some None) (get log.places j))) (same_apart j i apart))
+    (cases_eq j i)
+
+pub reserved_alike : (records : List Rec) (log : Contents) (i : ℕ) → LearnedAlike records log → LearnedAlike records (with_room log i)
+reserved_alike records log i alike = λ j. room_learned log i j (is_some (get log.places i)) refl ∙ alike j
 
 -- ---- the taken actions as a run
 

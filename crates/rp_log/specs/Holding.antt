@@ -1,21 +1,64 @@
--- How a log's numbers fit what it learned (this project's own).
-use Rattle.std.specs.Prelude.{ℕ, zero, suc, ◌≡◌, ◌<◌, ◌≤◌, None, List, [], ◌++◌}
-use Rattle.std.specs.Option.{option_to_list}
+-- How a log keeps its places (this project's own).
+use Rattle.std.specs.Prelude.{ℕ, zero, suc, ◌+◌, ◌≡◌, ◌<◌, ◌≤◌, Bool, true, Option, Some, None, IsSome, option_and_then, List, [], ◌∷◌, ◌++◌, map, length, slice_get, if◌then◌else◌}
+use Rattle.std.specs.Ordering.{nat_cmp}
+use Rattle.std.specs.Option.{option_map, option_or}
+use Rattle.std.specs.List.{enumerate_from}
+use Rattle.std.specs.Map.{lookup}
+use Rattle.std.specs.BTreeMap.{is_at}
+use Rattle.std.specs.FinMap.{from_entries}
 use Rattle.rp_base.specs.declared.action.Action.{Action}
-use Rattle.rp_base.specs.Number.{IsPosition}
-use Rattle.rp_log.specs.Contents.{Places, action_in, IsLearnedIn}
+use Rattle.rp_log.specs.Contents.{Places}
 
--- the actions learned at positions 1 to n
-abbrev pub first_actions : Places → ℕ → List Action
-first_actions places zero = []
-first_actions places (suc n) = first_actions places n ++ option_to_list (action_in places (suc n))
+-- the positions ahead of the front, each with its action, if one was learned there
+abbrev pub Ahead : Type 0
+Ahead = List (ℕ × Option Action)
 
--- so many actions are taken, `next` is the least position not learned, and `top` the greatest learned, or 0
-pub record Fits (places : Places) (taken next top : ℕ) : Type 0 where
-  pub in_range : (i : ℕ) → IsLearnedIn places i → IsPosition i
-  pub taken_below : taken < next
-  pub next_bound : next ≤ 65536
-  pub learned_below : (i : ℕ) → 1 ≤ i → i < next → IsLearnedIn places i
-  pub gap : action_in places next ≡ None
-  pub top_learned : 0 < top → IsLearnedIn places top
-  pub none_above : (i : ℕ) → IsLearnedIn places i → i ≤ top
+-- what stands ahead at a position
+abbrev pub place_ahead : Ahead → ℕ → Option (Option Action)
+place_ahead ahead i = lookup (is_at (nat_cmp i)) ahead
+
+-- the action learned ahead at a position, if any
+abbrev pub action_ahead : Ahead → ℕ → Option Action
+action_ahead ahead i = option_and_then (λ learned. learned) (place_ahead ahead i)
+
+-- the position behind the front, where it is reserved
+abbrev pub next_place : Bool → ℕ → Ahead
+next_place reserved next = if reserved then (next, None) ∷ [] else []
+
+-- the places of the front, of the position behind it, and of those ahead
+abbrev pub places_of : List Action → Bool → Ahead → Places
+places_of front reserved ahead =
+    from_entries (enumerate_from 1 (map (λ action. Some action) front) ++ (next_place reserved (length front + 1) ++ ahead))
+
+-- the place of a position in the front
+abbrev pub front_place : List Action → ℕ → Option (Option Action)
+front_place front zero = None
+front_place front (suc k) = option_map (λ action. Some action) (slice_get front k)
+
+-- the places of `places_of`, position by position
+abbrev pub place_of : List Action → Bool → Ahead → ℕ → Option (Option Action)
+place_of front reserved ahead i =
+    option_or (front_place front i)
+    (option_or (place_ahead (next_place reserved (length front + 1)) i) (place_ahead ahead i))
+
+-- each of these positions lies behind the front, and is at most 65,535
+abbrev pub IsAhead : ℕ → Ahead → Type 0
+IsAhead front ahead = (i : ℕ) → IsSome (place_ahead ahead i) → (front < i) × (i ≤ 65535)
+
+-- how many places are reserved behind the front
+abbrev pub reserved_count : Bool → Ahead → ℕ
+reserved_count reserved ahead = length ahead + (if reserved then 1 else 0)
+
+-- The front has room for each place behind it, so many of its actions are taken, and `top` is the
+-- greatest position learned, or 0.
+pub record Fits (front : List Action) (reserved : Bool) (ahead : Ahead) (capacity taken top : ℕ) : Type 0 where
+  pub bound : length front ≤ 65535
+  pub behind : IsAhead (length front) ahead
+  pub next_once : reserved ≡ true → place_ahead ahead (length front + 1) ≡ None
+  pub next_bound : reserved ≡ true → length front < 65535
+  pub gap : action_ahead ahead (length front + 1) ≡ None
+  pub room : length front + reserved_count reserved ahead ≤ capacity
+  pub taken_within : taken ≤ length front
+  pub top_bound : top ≤ 65535
+  pub top_learned : 0 < top → IsSome (option_and_then (λ learned. learned) (place_of front reserved ahead top))
+  pub none_above : (i : ℕ) → IsSome (option_and_then (λ learned. learned) (place_of front reserved ahead i)) → i ≤ top

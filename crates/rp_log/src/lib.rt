@@ -1,7 +1,7 @@
 //! The log of one node: what it learned at each position, taken in the order of the positions.
 #![tactic(auto)]
 
-mod gap;
+mod front;
 mod log;
 mod recorded;
 #[cfg(test)]

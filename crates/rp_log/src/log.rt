@@ -1,10 +1,11 @@
 //! What a node learned, and how far it is taken.
 
-ghost use Rattle.std.specs.Prelude.{◌≡◌, ◌≢◌, ℕ, ◌<◌, ◌≤◌, ◌^◌, [], ◌∷◌, ◌++◌, length, unwrap_or, IfOk, IfSome, IfNone, IfErr, OnOk, OnErr};
+ghost use Rattle.std.specs.Prelude.{◌≡◌, ℕ, ◌<◌, ◌≤◌, [], ◌∷◌, ◌++◌, length, is_some, IfSome, IfNone, IfErr, OnOk, OnErr};
+ghost use Rattle.std.specs.FinMap.{get};
 ghost use Rattle.rp_base.specs.declared.fault.Fault.TheVariants.{OutOfMemory};
-ghost use Rattle.rp_log.specs.Contents.{empty_log, HasRoom, action_at, IsLearned, ready_of, IsTakenInOrder};
+ghost use Rattle.rp_log.specs.Contents.{empty_log, HasRoom, action_at, IsLearned, with_room, with_action, next_to_take, ready_of, IsTakenInOrder};
 
-use crate::gap::gap_from;
+use crate::front::{action_in, advance, learn_ahead, learned_at};
 use rp_base::{Action, Fault, Position};
 use std::alloc::Global;
 use std::collections::BTreeMap;
@@ -15,25 +16,33 @@ use std::marker::Model;
 /// "Paxos Made Simple", section 3).
 #[derive(Debug, Drop)]
 pub struct Log {
-    /// The reserved positions, each with the action that was learned there.
-    actions: BTreeMap<u32, Option<Action>>,
-    /// The last position taken, or 0.
-    applied: u16,
-    /// The least position that is not learned.
-    next: u32,
+    /// The actions learned at positions 1, 2, 3 and so on, up to the first at which none is.
+    front: Vec<Action>,
+    /// Whether the position behind the front is reserved here, and not among those ahead.
+    next_reserved: bool,
+    /// The reserved positions behind the front, each with the action that was learned there.
+    ahead: BTreeMap<u32, Option<Action>>,
+    /// How many of the front's actions were taken.
+    taken: u16,
     /// The greatest position learned, or 0.
     top: u16,
 }
 
 impl Model for Log {
-    ghost use Rattle.rp_log.specs.Contents.{Contents};
-    ghost use Rattle.rp_log.specs.Holding.{first_actions, Fits};
+    ghost use Rattle.std.specs.Prelude.{take, vec_capacity};
+    ghost use Rattle.rp_log.specs.Contents.{Contents, contents_code};
+    ghost use Rattle.rp_log.specs.Holding.{places_of, Fits};
 
     ghost Value = { Contents };
 
-    ghost view = { λ l. record { places = l.actions.entries; taken = first_actions l.actions.entries l.applied } };
+    ghost coded = { contents_code };
 
-    ghost invariant = { λ l. Fits l.actions.entries l.applied l.next l.top };
+    ghost view = { λ l. record {
+      places = places_of l.front.items l.next_reserved l.ahead.entries;
+      taken = take l.taken l.front.items;
+    } };
+
+    ghost invariant = { λ l. Fits l.front.items l.next_reserved l.ahead.entries (vec_capacity l.front) l.taken l.top };
 }
 
 impl Log {
@@ -42,68 +51,92 @@ impl Log {
         ensures { result ≡ empty_log }
     {
         Log {
-            actions: BTreeMap::new(alloc),
-            applied: 0,
-            next: 1,
+            front: Vec::new(alloc),
+            next_reserved: false,
+            ahead: BTreeMap::new(alloc),
+            taken: 0,
             top: 0,
         }
     }
 
-    /// Makes room for learning at the position, or is refused with `OutOfMemory`, which leaves the log
-    /// as it was. Where there is room already no memory is asked for.
+    /// Makes room for learning at the position, and at no other, or is refused with `OutOfMemory`,
+    /// which leaves the log as it was. Where there is room already no memory is asked for.
     pub fn reserve(&mut self, position: Position) -> Result<(), Fault>
-        ensures ok { OnOk result (HasRoom self.new position) }
-        ensures room { (i : ℕ) → HasRoom self.old i → HasRoom self.new i }
-        ensures learned { (i : ℕ) → action_at self.new i ≡ action_at self.old i }
-        ensures taken { self.new.taken ≡ self.old.taken }
+        ensures ok { OnOk result (self.new ≡ with_room self.old position) }
         ensures err { OnErr result (self.new ≡ self.old) }
         ensures only { IfErr result (λ fault. fault ≡ OutOfMemory) }
         ensures refused { OnErr result (¬ HasRoom self.old position) }
     {
+        if self.has_room(position) {
+            return Ok(());
+        }
+        self.front.reserve(self.ahead.len() + 2)?;
         let number = u32::from(position.get());
-        if !self.actions.contains_key(&number) {
-            self.actions.insert(number, None)?;
+        if number == self.front.len() as u32 + 1 {
+            self.next_reserved = true;
+        } else {
+            self.ahead.insert(number, None)?;
         }
         Ok(())
     }
 
+    /// Whether an action can be learned at the position without memory.
+    pub fn has_room(&self, position: Position) -> bool
+        ensures { result ≡ is_some (get self.now.places position) }
+    {
+        let number = u32::from(position.get());
+        let next = self.front.len() as u32 + 1;
+        if number < next {
+            return true;
+        }
+        if number == next && self.next_reserved {
+            return true;
+        }
+        self.ahead.contains_key(&number)
+    }
+
     /// Learns that the action is decided at the position. Where an action was learned already, that one
-    /// stays and nothing changes. The least unlearned position moves on past the positions that are
+    /// stays and nothing changes. The first unlearned position moves on past the positions that are
     /// learned ahead of it, each of which it passes once in the log's life.
     pub fn learn(&mut self, position: Position, action: Action)
         requires { HasRoom self.old position }
-        ensures first { action_at self.new position ≡ Some (unwrap_or (action_at self.old position) action) }
-        ensures others { (i : ℕ) → i ≢ position → action_at self.new i ≡ action_at self.old i }
-        ensures again { IsLearned self.old position → self.new ≡ self.old }
-        ensures room { (i : ℕ) → HasRoom self.old i → HasRoom self.new i }
-        ensures taken { self.new.taken ≡ self.old.taken }
+        ensures { self.new ≡ with_action self.old position action }
     {
         if self.get(position).is_some() {
             return;
         }
         let number = u32::from(position.get());
-        if let Some(place) = self.actions.get_mut(&number) {
-            *place = Some(action);
-        }
         self.top = self.top.max(position.get());
-        self.next = gap_from(&self.actions, self.next);
+        if number > self.front.len() as u32 + 1 {
+            learn_ahead(&mut self.ahead, number, action);
+            return;
+        }
+        self.next_reserved = false;
+        self.ahead.remove(&number);
+        self.front.push_reserved(action);
+        advance(&mut self.front, &mut self.ahead);
     }
 
     /// The action that was learned first at the position, or `None`.
     pub fn get(&self, position: Position) -> Option<Action>
         ensures { result ≡ action_at self.now position }
     {
-        *self.actions.get(&u32::from(position.get()))?
+        if let Some(action) = action_in(&self.front, usize::from(position.get() - 1)) {
+            return Some(action);
+        }
+        learned_at(&self.ahead, u32::from(position.get()))
     }
 
-    /// The least position at which nothing is learned, 1 to 65,535, or 65,536 where every position is
+    /// The first position at which nothing is learned, 1 to 65,535, or 65,536 where every position is
     /// learned.
     pub fn next_unlearned(&self) -> u32
         ensures in_range { (1 ≤ result) × (result ≤ 65536) }
         ensures below { (i : ℕ) → 1 ≤ i → i < result → IsLearned self.now i }
         ensures unlearned { ¬ IsLearned self.now result }
+        // Once nothing is ready it is the position behind those that were taken.
+        ensures taken { ready_of self.now ≡ None → result ≡ next_to_take self.now }
     {
-        self.next
+        self.front.len() as u32 + 1
     }
 
     /// The greatest position at which an action is learned, or `None` where none is.
@@ -123,10 +156,9 @@ impl Log {
         ensures none { IfNone result (self.new ≡ self.old) }
         ensures places { self.new.places ≡ self.old.places }
     {
-        let position = Position::new(self.applied.checked_add(1)?)?;
-        let action = self.get(position)?;
-        self.applied = position.get();
-        Some((position, action))
+        let action = action_in(&self.front, usize::from(self.taken))?;
+        self.taken += 1;
+        Some((Position::new(self.taken)?, action))
     }
 
     /// How many actions were taken, at most 65,535: those learned at the positions up to that number.
@@ -134,6 +166,6 @@ impl Log {
         ensures count { result ≡ length self.now.taken }
         ensures in_order { IsTakenInOrder self.now }
     {
-        u32::from(self.applied)
+        u32::from(self.taken)
     }
 }

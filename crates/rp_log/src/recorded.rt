@@ -1,20 +1,20 @@
 //! What a log takes, told by the records of its node.
 
-ghost use Rattle.std.specs.Prelude.{◌≡◌, ◌≢◌, ℕ, List, [], ◌∷◌, ◌++◌, length, unwrap_or};
+ghost use Rattle.std.specs.Prelude.{◌≡◌, ℕ, List, [], ◌∷◌, ◌++◌, length};
 ghost use Rattle.rp_base.specs.declared.action.Action.{Action};
 ghost use Rattle.rp_base.specs.declared.record.Rec.{Rec};
 ghost use Rattle.rp_base.specs.Records.{learned_run, applied_of};
-ghost use Rattle.rp_log.specs.Contents.{Contents, action_at, next_to_take, IsTakenInOrder};
+ghost use Rattle.rp_log.specs.Contents.{Contents, action_at, with_room, with_action, next_to_take, IsTakenInOrder};
 ghost use Rattle.rp_log.specs.Recorded.{LearnedAlike};
 
 /// A log that learns what its node records takes what the records apply: what was taken so far is what
 /// is learned at positions 1, 2, 3 and so on, and all that can be applied once nothing is ready.
 pub fn taken_as_recorded()
-    ensures learns { (records : List Rec) (old new : Contents) (i : ℕ) (v : Action)
-        → LearnedAlike records old
-        → action_at new i ≡ Some (unwrap_or (action_at old i) v)
-        → ((j : ℕ) → j ≢ i → action_at new j ≡ action_at old j)
-        → LearnedAlike (records ++ Rec.Learned i v ∷ []) new }
+    ensures reserves { (records : List Rec) (log : Contents) (i : ℕ)
+        → LearnedAlike records log → LearnedAlike records (with_room log i) }
+    ensures learns { (records : List Rec) (log : Contents) (i : ℕ) (v : Action)
+        → LearnedAlike records log
+        → LearnedAlike (records ++ Rec.Learned i v ∷ []) (with_action log i v) }
     ensures so_far { (records : List Rec) (log : Contents)
         → LearnedAlike records log → IsTakenInOrder log
         → log.taken ≡ learned_run records (length log.taken) 1 }

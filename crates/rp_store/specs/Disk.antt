@@ -1,35 +1,43 @@
 -- What a device holds, and what its calls do to it (this project's own). A device only appends: what
 -- it was given stands in order, and only a cut takes bytes away, from the end.
-use Rattle.std.specs.Prelude.{◌≡◌, ℕ, suc, ◌+◌, ◌<◌, ◌≤◌, min, List, [], ◌++◌, length, take}
+use Rattle.std.specs.Prelude.{◌≡◌, ℕ, suc, ◌+◌, ◌<◌, ◌≤◌, min, nat_lt, if◌then◌else◌, List, [], ◌++◌, length, take}
 
--- Its bytes, how many of them a stop leaves for sure, and how many calls failed, appended and cut
--- so far. The counts have no greatest value.
+-- Its bytes, how many of them a stop leaves for sure, how many calls failed so far, and how many
+-- of each kind succeeded. The counts have no greatest value.
 pub record Disk : Type 0 where
   pub contents : List ℕ
   pub stable : ℕ
   pub failures : ℕ
   pub appends : ℕ
+  pub syncs : ℕ
+  pub reads : ℕ
   pub cuts : ℕ
 
 -- a device that was never used
 abbrev pub empty_disk : Disk
-empty_disk = record { contents = []; stable = 0; failures = 0; appends = 0; cuts = 0 }
+empty_disk = record {
+  contents = []; stable = 0; failures = 0; appends = 0; syncs = 0; reads = 0; cuts = 0
+}
 
 -- after an append: the bytes stand at the end, and none of them is stable
 abbrev pub appended : List ℕ → Disk → Disk
-appended bytes d = record { contents = d.contents ++ bytes; stable = d.stable; failures = d.failures; appends = suc d.appends; cuts = d.cuts }
+appended bytes d = record d { contents = d.contents ++ bytes; appends = suc d.appends }
 
 -- after a sync: all is stable
 abbrev pub synced : Disk → Disk
-synced d = record { contents = d.contents; stable = length d.contents; failures = d.failures; appends = d.appends; cuts = d.cuts }
+synced d = record d { stable = length d.contents; syncs = suc d.syncs }
+
+-- after a read
+abbrev pub read_once : Disk → Disk
+read_once d = record d { reads = suc d.reads }
 
 -- after a cut: so many bytes from the front are left
 abbrev pub cut_to : ℕ → Disk → Disk
-cut_to len d = record { contents = take len d.contents; stable = min d.stable len; failures = d.failures; appends = d.appends; cuts = suc d.cuts }
+cut_to len d = record d { contents = take len d.contents; stable = min d.stable len; cuts = suc d.cuts }
 
 -- after a stop: what was stable, and so many of the bytes behind it, or all if there are no more
 abbrev pub stopped : ℕ → Disk → Disk
-stopped kept d = record { contents = take (d.stable + kept) d.contents; stable = d.stable; failures = d.failures; appends = d.appends; cuts = d.cuts }
+stopped kept d = record d { contents = take (d.stable + kept) d.contents }
 
 -- after a read that failed: as before, but for the failure
 pub record ReadFailed (old new : Disk) : Type 0 where
@@ -39,11 +47,14 @@ pub record ReadFailed (old new : Disk) : Type 0 where
   pub appends : new.appends ≡ old.appends
   pub cuts : new.cuts ≡ old.cuts
 
--- after an append, or the sync behind one, that failed: the old contents and some beginning of the bytes
+-- after an append, or the sync behind one, that failed: the old contents and some beginning of the
+-- bytes; no sync succeeded, and nothing was read or cut
 pub record AppendFailed (bytes : List ℕ) (old new : Disk) : Type 0 where
   pub cause : old.failures < new.failures
   pub contents : (kept : ℕ) × (new.contents ≡ old.contents ++ take kept bytes)
   pub stable : old.stable ≤ new.stable
+  pub syncs : new.syncs ≡ old.syncs
+  pub reads : new.reads ≡ old.reads
   pub cuts : new.cuts ≡ old.cuts
 
 -- after a sync that failed: the same contents, and no fewer of them stable
@@ -52,6 +63,8 @@ pub record SyncFailed (old new : Disk) : Type 0 where
   pub contents : new.contents ≡ old.contents
   pub stable : old.stable ≤ new.stable
   pub appends : new.appends ≡ old.appends
+  pub syncs : new.syncs ≡ old.syncs
+  pub reads : new.reads ≡ old.reads
   pub cuts : new.cuts ≡ old.cuts
 
 -- after a cut that failed: some front that is no shorter than what was to be left
@@ -61,16 +74,28 @@ pub record CutFailed (len : ℕ) (old new : Disk) : Type 0 where
   pub stable : min old.stable len ≤ new.stable
   pub appends : new.appends ≡ old.appends
 
--- Some front is left that is no shorter than this, what of it was stable still is, and nothing was appended.
+-- nothing changed but the count of reads
+pub record IsReadAtMost (old new : Disk) : Type 0 where
+  pub contents : new.contents ≡ old.contents
+  pub stable : new.stable ≡ old.stable
+  pub failures : new.failures ≡ old.failures
+  pub appends : new.appends ≡ old.appends
+  pub syncs : new.syncs ≡ old.syncs
+  pub cuts : new.cuts ≡ old.cuts
+
+-- Some front is left that is no shorter than this, what of it was stable still is, and nothing was
+-- appended.
 pub record KeepsFront (len : ℕ) (old new : Disk) : Type 0 where
   pub contents : (kept : ℕ) × (len ≤ kept) × (new.contents ≡ take kept old.contents)
   pub stable : min old.stable len ≤ new.stable
   pub appends : new.appends ≡ old.appends
 
--- What stood behind the front is off, by a cut only if there was something.
+-- What stood behind the front is off, by one cut if there was something and by none else.
 pub record IsTrimmed (len torn : ℕ) (old new : Disk) : Type 0 where
   pub contents : new.contents ≡ take len old.contents
   pub stable : min old.stable len ≤ new.stable
   pub failures : new.failures ≡ old.failures
   pub appends : new.appends ≡ old.appends
-  pub cuts : torn ≡ 0 → new.cuts ≡ old.cuts
+  pub syncs : new.syncs ≡ old.syncs
+  pub reads : new.reads ≡ old.reads
+  pub cuts : new.cuts ≡ (if nat_lt 0 torn then suc old.cuts else old.cuts)

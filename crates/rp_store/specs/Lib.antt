@@ -1,4 +1,5 @@
-pub mod Counts
 pub mod Disk
 pub mod Records
+pub mod Opening
 pub mod Stored
+pub mod Tearing

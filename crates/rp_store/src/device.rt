@@ -2,7 +2,7 @@
 
 ghost use Rattle.std.specs.Prelude.{◌≡◌, ◌⊎◌, ℕ, ◌≤◌, length, IfOk, IfErr, OnOk, IsErrOf};
 ghost use Rattle.rp_base.specs.declared.fault.Fault.TheVariants as faults;
-ghost use Rattle.rp_store.specs.Disk.{Disk, appended, synced, cut_to, stopped, ReadFailed, AppendFailed, SyncFailed, CutFailed};
+ghost use Rattle.rp_store.specs.Disk.{Disk, appended, synced, read_once, cut_to, stopped, ReadFailed, AppendFailed, SyncFailed, CutFailed};
 
 use rp_base::Fault;
 use std::alloc::Global;
@@ -11,7 +11,8 @@ use std::alloc::Global;
 /// appended since, a stop of the node leaves some beginning.
 ///
 /// A call fails with `Fault::Device`, which raises the failure count, or is refused for want of
-/// memory with `Fault::OutOfMemory`, and then nothing has changed. There is no other fault.
+/// memory with `Fault::OutOfMemory`, and then nothing has changed. There is no other fault. A call
+/// that succeeds is counted by its kind.
 pub trait Device: Drop {
     /// What it holds.
     ghost disk: { Self → Disk };
@@ -34,7 +35,7 @@ pub trait Device: Drop {
     /// All of its bytes.
     fn read(&mut self, alloc: Global) -> Result<Vec<u8>, Fault>
         ensures contents { IfOk result (λ bytes. bytes.items ≡ (disk self.old).contents) }
-        ensures ok { OnOk result (disk self.new ≡ disk self.old) }
+        ensures ok { OnOk result (disk self.new ≡ read_once (disk self.old)) }
         ensures refused { IsErrOf result Fault.OutOfMemory → disk self.new ≡ disk self.old }
         ensures failed { IsErrOf result Fault.Device → ReadFailed (disk self.old) (disk self.new) }
         ensures faults { IfErr result (λ fault. (fault ≡ faults.OutOfMemory) ⊎ (fault ≡ faults.Device)) };

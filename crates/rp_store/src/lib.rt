@@ -13,7 +13,7 @@ pub use count::Count;
 pub use device::{CutDevice, Device};
 pub use laws::{one_reading, stop_inside_open, stop_inside_put};
 pub use memory::MemDevice;
-pub use store::{Opened, Store};
+pub use store::{NotTorn, Opened, Store};
 
 #[cfg(test)]
 mod tests;

@@ -15,6 +15,8 @@ pub struct MemDevice {
     bytes: Vec<u8>,
     synced: usize,
     appends: Count,
+    syncs: Count,
+    reads: Count,
     cuts: Count,
 }
 
@@ -24,7 +26,15 @@ impl Model for MemDevice {
 
     ghost Value = { Disk };
 
-    ghost view = { λ m. record { contents = m.bytes.items; stable = m.synced; failures = 0; appends = m.appends; cuts = m.cuts } };
+    ghost view = { λ m. record {
+      contents = m.bytes.items;
+      stable = m.synced;
+      failures = 0;
+      appends = m.appends;
+      syncs = m.syncs;
+      reads = m.reads;
+      cuts = m.cuts;
+    } };
 
     ghost invariant = { λ m. m.synced ≤ length m.bytes.items };
 }
@@ -38,6 +48,8 @@ impl MemDevice {
             bytes: Vec::new(alloc),
             synced: 0,
             appends: Count::new(),
+            syncs: Count::new(),
+            reads: Count::new(),
             cuts: Count::new(),
         }
     }
@@ -54,11 +66,14 @@ impl Device for MemDevice {
 
     fn sync(&mut self) -> Result<(), Fault> {
         self.synced = self.bytes.len();
+        self.syncs.raise();
         Ok(())
     }
 
     fn read(&mut self, alloc: Global) -> Result<Vec<u8>, Fault> {
-        Ok(self.bytes.to_vec(alloc)?)
+        let bytes = self.bytes.to_vec(alloc)?;
+        self.reads.raise();
+        Ok(bytes)
     }
 
     fn len(&self) -> u64 {

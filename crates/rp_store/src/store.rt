@@ -1,12 +1,13 @@
 //! The store of a node's records.
 
-ghost use Rattle.std.specs.Prelude.{◌≡◌, ◌⊎◌, ℕ, ◌+◌, ◌<◌, ◌≤◌, true, false, List, length, IfOk, IfErr, OnOk, OnErr, IsErrOf, ◌↔◌};
+ghost use Rattle.std.specs.Prelude.{◌≡◌, ◌⊎◌, ◌+◌, ◌<◌, length, IfOk, IfErr, OnOk, OnErr, IsErrOf, false};
 ghost use Rattle.rp_base.specs.declared.fault.Fault.TheVariants as faults;
+ghost use Rattle.rp_base.specs.Right.{IsRightRecord};
 ghost use Rattle.rp_codec.specs.Record.{record_text};
-ghost use Rattle.rp_store.specs.Disk.{Disk, appended, synced, AppendFailed, IsTrimmed, KeepsFront};
-ghost use Rattle.rp_store.specs.Records.{records_text, AreRecordsOf, KeepsRecords};
+ghost use Rattle.rp_store.specs.Disk.{appended, stopped, synced, AppendFailed, IsTrimmed, KeepsFront};
+ghost use Rattle.rp_store.specs.Opening.{IsOpened, IsNotOpened};
 
-use crate::device::Device;
+use crate::device::{CutDevice, Device};
 use crate::reading::whole_records;
 use rp_base::{Fault, Rec};
 use rp_codec::encode_rec;
@@ -39,13 +40,24 @@ pub struct Opened<D: Device> {
     pub cut_bytes: u64,
 }
 
+/// A record that was not torn.
+#[derive(Drop)]
+pub enum NotTorn<D: Device> {
+    /// The device failed. Some beginning of the record's text may stand at its end.
+    Failed(D),
+    /// Nothing has changed: 1 memory ran out, 3 the device had failed before.
+    Refused(Fault, Store<D>),
+}
+
 /// Cuts off what is torn behind the whole records, if anything is.
 fn trim<D: Device>(device: &mut D, whole: usize, torn: usize) -> Result<(), Fault>
     requires { whole + torn ≡ length (D.disk device.old).contents }
     ensures ok { OnOk result (IsTrimmed whole torn (D.disk device.old) (D.disk device.new)) }
-    ensures err { OnErr result (KeepsFront whole (D.disk device.old) (D.disk device.new)) }
+    ensures refused { IsErrOf result Fault.OutOfMemory → D.disk device.new ≡ D.disk device.old }
+    ensures kept { OnErr result (KeepsFront whole (D.disk device.old) (D.disk device.new)) }
     ensures faults { IfErr result (λ fault. (fault ≡ faults.OutOfMemory) ⊎ (fault ≡ faults.Device)) }
-    ensures cause { IsErrOf result Fault.Device → (D.disk device.old).failures < (D.disk device.new).failures }
+    ensures cause { IsErrOf result Fault.Device
+        → (D.disk device.old).failures < (D.disk device.new).failures }
 {
     if torn == 0 {
         return Ok(());
@@ -55,15 +67,10 @@ fn trim<D: Device>(device: &mut D, whole: usize, torn: usize) -> Result<(), Faul
 
 /// Reads the device, cuts off what is torn and syncs. One sync, whatever it holds.
 fn restore<D: Device>(alloc: Global, device: &mut D) -> Result<(Vec<Rec>, u64), Fault>
-    ensures records { IfOk result (λ found. (torn : List ℕ) × AreRecordsOf (D.disk device.old).contents found.0.items torn × (found.1 ≡ length torn)) }
-    ensures contents { IfOk result (λ found. (D.disk device.new).contents ≡ records_text found.0.items) }
-    ensures stable { OnOk result ((D.disk device.new).stable ≡ length (D.disk device.new).contents) }
-    ensures cuts { IfOk result (λ found. found.1 ≡ 0 → (D.disk device.new).cuts ≡ (D.disk device.old).cuts) }
-    ensures appends { (D.disk device.new).appends ≡ (D.disk device.old).appends }
-    ensures failures { OnOk result ((D.disk device.new).failures ≡ (D.disk device.old).failures) }
-    ensures kept { OnErr result (KeepsRecords (D.disk device.old) (D.disk device.new)) }
-    ensures faults { IfErr result (λ fault. (fault ≡ faults.OutOfMemory) ⊎ (fault ≡ faults.Device)) }
-    ensures cause { IsErrOf result Fault.Device → (D.disk device.old).failures < (D.disk device.new).failures }
+    ensures ok { IfOk result (λ found.
+        IsOpened (D.disk device.old) found.0.items found.1 (D.disk device.new)) }
+    ensures err { IfErr result (λ fault.
+        IsNotOpened (D.disk device.old) fault (D.disk device.new)) }
 {
     let bytes = device.read(alloc)?;
     let (records, torn) = whole_records(alloc, &bytes)?;
@@ -76,7 +83,8 @@ fn restore<D: Device>(alloc: Global, device: &mut D) -> Result<(Vec<Rec>, u64), 
 fn write<D: Device>(device: &mut D, text: &[u8]) -> Result<(), Fault>
     ensures ok { OnOk result (D.disk device.new ≡ synced (appended text.now (D.disk device.old))) }
     ensures refused { IsErrOf result Fault.OutOfMemory → D.disk device.new ≡ D.disk device.old }
-    ensures failed { IsErrOf result Fault.Device → AppendFailed text.now (D.disk device.old) (D.disk device.new) }
+    ensures failed { IsErrOf result Fault.Device
+        → AppendFailed text.now (D.disk device.old) (D.disk device.new) }
     ensures faults { IfErr result (λ fault. (fault ≡ faults.OutOfMemory) ⊎ (fault ≡ faults.Device)) }
 {
     device.append(text)?;
@@ -84,22 +92,18 @@ fn write<D: Device>(device: &mut D, text: &[u8]) -> Result<(), Fault>
 }
 
 impl<D: Device> Store<D> {
-    ghost use Rattle.rp_store.specs.Stored.{IsUnchanged};
+    ghost use Rattle.rp_store.specs.Stored.{IsPut, IsNotPut};
 
     /// Reads the records of a device, cuts off what is torn behind them, and syncs, so that all
-    /// that it read is stable. It appends nothing. After a fault the device holds each whole record
-    /// that it held: 1 memory ran out, 2 the device failed.
+    /// that it read is stable. It appends nothing. Refused with 1 where memory ran out, and then
+    /// nothing has changed, or with 2 where the device failed: it holds each whole record that it
+    /// held, and behind them some beginning of what was torn.
     pub fn open(alloc: Global, device: D) -> Result<Opened<D>, (Fault, D)>
-        ensures records { IfOk result (λ opened. (torn : List ℕ) × AreRecordsOf (D.disk device).contents opened.records.items torn × (opened.cut_bytes ≡ length torn)) }
-        ensures contents { IfOk result (λ opened. (D.disk opened.store.device).contents ≡ records_text opened.records.items) }
-        ensures stable { IfOk result (λ opened. (D.disk opened.store.device).stable ≡ length (D.disk opened.store.device).contents) }
-        // It cuts only where something is torn, and appends nothing.
-        ensures cuts { IfOk result (λ opened. opened.cut_bytes ≡ 0 → (D.disk opened.store.device).cuts ≡ (D.disk device).cuts) }
-        ensures appends { IfOk result (λ opened. (D.disk opened.store.device).appends ≡ (D.disk device).appends) }
-        ensures failures { IfOk result (λ opened. (D.disk opened.store.device).failures ≡ (D.disk device).failures) }
+        ensures ok { IfOk result (λ opened. IsOpened (D.disk device)
+            opened.records.items opened.cut_bytes (D.disk opened.store.device)) }
         ensures working { IfOk result (λ opened. opened.store.failed ≡ false) }
-        ensures kept { IfErr result (λ refused. KeepsRecords (D.disk device) (D.disk refused.1)) }
-        ensures faults { IfErr result (λ refused. (refused.0 ≡ faults.OutOfMemory) ⊎ ((refused.0 ≡ faults.Device) × ((D.disk device).failures < (D.disk refused.1).failures))) }
+        ensures err { IfErr result (λ refused.
+            IsNotOpened (D.disk device) refused.0 (D.disk refused.1)) }
     {
         let mut device = device;
         match restore(alloc, &mut device) {
@@ -115,21 +119,16 @@ impl<D: Device> Store<D> {
         }
     }
 
-    /// Appends the record's text and syncs. It never cuts. It costs what the text is long, whatever
-    /// the device holds. Refused with 3 where the device failed since it was opened, with 1 where
-    /// memory ran out: then nothing has changed. After 2, some beginning of the text may stand at
-    /// the end.
+    /// Appends the record's text and syncs. It never cuts, and reads nothing. It costs what the text
+    /// is long, whatever the device holds. The record is a right one: opening would cut off any
+    /// other, and all records behind it. Refused with 3 where the device failed since it was opened,
+    /// with 1 where memory ran out: then nothing has changed. After 2, some beginning of the text may
+    /// stand at the end.
     pub fn put(&mut self, alloc: Global, rec: &Rec) -> Result<(), Fault>
-        // The old contents and the record's text, all stable.
-        ensures ok { OnOk result (D.disk self.new.device ≡ synced (appended (record_text rec.now) (D.disk self.old.device))) }
-        ensures working { OnOk result (self.new.failed ≡ false) }
-        ensures refused { IsErrOf result Fault.OutOfMemory → IsUnchanged D.disk self.old self.new }
-        ensures device { IsErrOf result Fault.Device → AppendFailed (record_text rec.now) (D.disk self.old.device) (D.disk self.new.device) }
-        ensures fails { IsErrOf result Fault.Device → self.new.failed ≡ true }
-        // From a failure on it answers 3 and does nothing.
-        ensures failed { IsErrOf result Fault.Failed ↔ (self.old.failed ≡ true) }
-        ensures still { self.old.failed ≡ true → IsUnchanged D.disk self.old self.new }
-        ensures faults { IfErr result (λ fault. (fault ≡ faults.OutOfMemory) ⊎ (fault ≡ faults.Device) ⊎ (fault ≡ faults.Failed)) }
+        requires { IsRightRecord rec.now }
+        ensures ok { OnOk result (IsPut D.disk (record_text rec.now) self.old self.new) }
+        ensures err { IfErr result (λ fault.
+            IsNotPut D.disk (record_text rec.now) self.old fault self.new) }
     {
         if self.failed {
             return Err(Fault::Failed);
@@ -140,10 +139,52 @@ impl<D: Device> Store<D> {
         result
     }
 
+    /// Whether the device failed since it was opened: then each `put` is refused with 3.
+    pub fn has_failed(&self) -> bool
+        ensures { result ≡ self.now.failed }
+    {
+        self.failed
+    }
+
+    /// How many bytes the device holds.
+    pub fn stored(&self) -> u64
+        ensures { result ≡ length (D.disk self.now.device).contents }
+    {
+        self.device.len()
+    }
+
     /// The device, as it stands.
     pub fn close(self) -> D
         ensures { result ≡ self.device }
     {
         self.device
+    }
+}
+
+impl<D: CutDevice> Store<D> {
+    ghost use Rattle.rp_store.specs.Tearing.{IsTorn, IsNotTorn};
+
+    /// What a stop of the node inside `put` leaves: the record's text is appended and not synced, and
+    /// the device stops with the first `kept` bytes of it, or all if there are no more.
+    pub fn tear(self, alloc: Global, rec: &Rec, kept: u64) -> Result<D, NotTorn<D>>
+        requires { IsRightRecord rec.now }
+        ensures ok { IfOk result (λ device. IsTorn D.disk (record_text rec.now) kept self device) }
+        ensures err { IfErr result (λ fault. IsNotTorn D.disk (record_text rec.now) self fault) }
+    {
+        if self.failed {
+            return Err(NotTorn::Refused(Fault::Failed, self));
+        }
+        let Ok(text) = encode_rec(alloc, rec) else {
+            return Err(NotTorn::Refused(Fault::OutOfMemory, self));
+        };
+        let mut store = self;
+        match store.device.append(&text) {
+            Ok(()) => {
+                store.device.stop(kept);
+                Ok(store.device)
+            }
+            Err(Fault::Device) => Err(NotTorn::Failed(store.device)),
+            Err(fault) => Err(NotTorn::Refused(fault, store)),
+        }
     }
 }

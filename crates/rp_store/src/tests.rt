@@ -1,3 +1,6 @@
+ghost use Rattle.std.specs.Prelude.{IfOk};
+ghost use Rattle.rp_base.specs.Right.{IsRightRecord};
+
 use super::*;
 use rp_base::{Action, Ballot, Fault, Operation, Position, Rec, TaskId};
 use std::alloc::Global;
@@ -20,12 +23,16 @@ const WRONG: [u8; 22] = [
     1, 1, 0, 0, 0, 0, 0, 0, 0, 9, 1, 2, 0, 1, 0, 0, 0, 0, 0, 0, 0, 0,
 ];
 
-fn started() -> Result<Rec, Fail> {
+fn started() -> Result<Rec, Fail>
+    ensures { IfOk result IsRightRecord }
+{
     Ok(Rec::Started(Ballot::new(9).ok_or("a ballot")?))
 }
 
 /// A vote for the first call of task 1, of procedure 1 of object 1 with 5.
-fn voted() -> Result<Rec, Fail> {
+fn voted() -> Result<Rec, Fail>
+    ensures { IfOk result IsRightRecord }
+{
     let call = Action::Call {
         task: TaskId::first(),
         number: 1,
@@ -69,14 +76,14 @@ fn opens<D: Device>(
     rt: &impl Abort,
     alloc: Global,
     device: D,
-    records: usize,
+    records: &[Rec],
     cut_bytes: u64,
 ) -> Result<(), Fail> {
     let first = opened(rt, alloc, device)?;
-    assert_eq!(rt; first.records.len(), records);
+    assert_eq!(rt; first.records.as_slice(), records);
     assert_eq!(rt; first.cut_bytes, cut_bytes);
     let again = opened(rt, alloc, first.store.close())?;
-    assert_eq!(rt; again.records.len(), records);
+    assert_eq!(rt; again.records.as_slice(), records);
     assert_eq!(rt; again.cut_bytes, 0);
     Ok(())
 }
@@ -87,7 +94,9 @@ fn puts<D: Device>(
     alloc: Global,
     store: &mut Store<D>,
     rec: &Rec,
-) -> Result<(), Fail> {
+) -> Result<(), Fail>
+    requires { IsRightRecord rec.now }
+{
     if let Err(fault) = store.put(alloc, rec) {
         assert_eq!(rt; fault, Fault::OutOfMemory);
         store.put(alloc, rec)?;
@@ -95,43 +104,49 @@ fn puts<D: Device>(
     Ok(())
 }
 
-/// Puts a record, appends a vote that is not synced, and stops with so many bytes of it.
-fn stops_behind_a_vote(
-    rt: &impl Abort,
-    alloc: Global,
-    kept: u64,
-    records: usize,
-    cut_bytes: u64,
-) -> Result<(), Fail> {
-    let mut store = opened(rt, alloc, MemDevice::new(alloc))?.store;
-    puts(rt, alloc, &mut store, &started()?)?;
-    let mut device = store.close();
-    appends(&mut device, &VOTED)?;
-    device.stop(kept);
-    opens(rt, alloc, device, records, cut_bytes)
+/// What a stop inside the put of the record leaves, tried once more where memory was refused.
+fn torn<D: CutDevice>(alloc: Global, store: Store<D>, rec: &Rec, kept: u64) -> Result<D, Fail>
+    requires { IsRightRecord rec.now }
+{
+    match store.tear(alloc, rec, kept) {
+        Err(NotTorn::Refused(Fault::OutOfMemory, store)) => {
+            Ok(store.tear(alloc, rec, kept).ok().ok_or("it is torn")?)
+        }
+        result => Ok(result.ok().ok_or("it is torn")?),
+    }
 }
 
 #[test]
 fn whole_records_are_told_and_the_rest_is_cut(rt: HostRuntime) -> Result<(), Fail> {
-    let cases: [(&[u8], usize, u64); 4] = [
-        (&[], 0, 0),
-        (&STARTED, 1, 0),
-        (&TORN, 1, 11),
-        (&WRONG, 1, 12),
+    let started = [started()?];
+    let cases: [(&[u8], &[Rec], u64); 4] = [
+        (&[], &[], 0),
+        (&STARTED, &started, 0),
+        (&TORN, &started, 11),
+        (&WRONG, &started, 12),
     ];
     for (bytes, records, cut_bytes) in &cases {
         let mut device = MemDevice::new(rt.alloc());
         appends(&mut device, bytes)?;
-        opens(&rt, rt.alloc(), device, *records, *cut_bytes)?;
+        opens(&rt, rt.alloc(), device, records, *cut_bytes)?;
     }
     Ok(())
 }
 
 #[test]
 fn a_stop_keeps_what_was_put_and_a_whole_record_behind_it(rt: HostRuntime) -> Result<(), Fail> {
-    let cases: [(u64, usize, u64); 4] = [(0, 1, 0), (28, 1, 28), (29, 2, 0), (1000, 2, 0)];
+    let (started, voted) = (started()?, voted()?);
+    let cases: [(u64, &[Rec], u64); 4] = [
+        (0, &[started], 0),
+        (28, &[started], 28),
+        (29, &[started, voted], 0),
+        (1000, &[started, voted], 0),
+    ];
     for (kept, records, cut_bytes) in &cases {
-        stops_behind_a_vote(&rt, rt.alloc(), *kept, *records, *cut_bytes)?;
+        let mut store = opened(&rt, rt.alloc(), MemDevice::new(rt.alloc()))?.store;
+        puts(&rt, rt.alloc(), &mut store, &started)?;
+        let device = torn(rt.alloc(), store, &voted, *kept)?;
+        opens(&rt, rt.alloc(), device, records, *cut_bytes)?;
     }
     Ok(())
 }
@@ -143,7 +158,7 @@ fn what_an_opening_read_stays_through_a_stop(rt: HostRuntime) -> Result<(), Fail
     let mut device = opened(&rt, rt.alloc(), device)?.store.close();
     device.stop(0);
     assert_eq!(rt; device.len(), 10);
-    opens(&rt, rt.alloc(), device, 1, 0)
+    opens(&rt, rt.alloc(), device, &[started()?], 0)
 }
 
 #[test]
@@ -152,6 +167,7 @@ fn a_put_refused_for_memory_writes_nothing(rt: HostRuntime) -> Result<(), Fail> 
     let mut store = opened(&rt, rt.alloc(), MemDevice::new(rt.alloc()))?.store;
     puts(&rt, rt.alloc(), &mut store, &started)?;
     puts(&rt, rt.alloc(), &mut store, &voted)?;
+    assert_eq!(rt; store.stored(), 39);
     let mut device = store.close();
     device.stop(0);
     let bytes = read(rt.alloc(), &mut device)?;
@@ -252,7 +268,8 @@ fn a_failed_sync_is_told_and_the_store_writes_no_more(rt: HostRuntime) -> Result
     let mut store = opened(&rt, rt.alloc(), device)?.store;
     assert_eq!(rt; vote_fault(rt.alloc(), &mut store)?, Some(Fault::Device));
     assert_eq!(rt; vote_fault(rt.alloc(), &mut store)?, Some(Fault::Failed));
+    assert!(rt; store.has_failed());
     let device = not_opened(rt.alloc(), store.close())?;
     assert_eq!(rt; device.len(), 39);
-    opens(&rt, rt.alloc(), device.inner, 2, 0)
+    opens(&rt, rt.alloc(), device.inner, &[started()?, voted()?], 0)
 }

@@ -1,8 +1,9 @@
 //! What a task keeps of its calls.
 
-ghost use Rattle.std.specs.Prelude.{◌≡◌, ◌↔◌, ◌⊎◌, ◌-◌, ◌^◌, None, IsSome, IfSome, IfOk, IfErr, OnErr, IsErrOf, IsTrue, if◌then◌else◌};
+ghost use Rattle.std.specs.Prelude.{◌≡◌, ◌↔◌, IfSome, IfOk, OnErr, IsTrue, if◌then◌else◌};
+ghost use Rattle.std.specs.Result.{result_err};
 ghost use Rattle.rp_base.specs.Action.{IsIndex, IsRight, IsRightOperation};
-ghost use Rattle.rp_tasks.specs.Calls.{no_calls, next_call, with_call, with_reply, IsOutstanding};
+ghost use Rattle.rp_tasks.specs.Calls.{no_calls, next_call, refusal_of, with_call, with_reply, IsOutstanding};
 
 use rp_base::{Action, Fault, Operation, Reply, TaskId};
 use std::marker::Model;
@@ -85,15 +86,13 @@ impl Stub {
         ensures value { IfOk result (λ call. call ≡ next_call self.old object operation arg) }
         ensures right { IfOk result IsRight }
         ensures made { IfOk result (λ call. self.new ≡ with_call self.old call) }
-        ensures busy { IsErrOf result Fault.TaskBusy ↔ IsSome self.old.outstanding }
-        ensures spent { IsErrOf result Fault.NumbersSpent ↔ ((self.old.outstanding ≡ None) × (self.old.made ≡ 2 ^ 32 - 1)) }
-        ensures only { IfErr result (λ fault. (fault ≡ Fault.TaskBusy) ⊎ (fault ≡ Fault.NumbersSpent)) }
+        ensures refused { result_err result ≡ refusal_of self.old }
         ensures err { OnErr result (self.new ≡ self.old) }
     {
-        if self.outstanding.is_some() {
-            return Err(Fault::TaskBusy);
+        if let Some(fault) = self.refusal() {
+            return Err(fault);
         }
-        let number = self.made.checked_add(1).ok_or(Fault::NumbersSpent)?;
+        let number = self.made + 1;
         let request = Request {
             object,
             operation,
@@ -104,13 +103,35 @@ impl Stub {
         Ok(request.call(self.task, number))
     }
 
-    /// The outstanding call again, the same in number and all else, or `None`.
-    pub fn retry(&self) -> Option<Action>
+    /// Why the next call is refused, if it is: `TaskBusy` while a call is outstanding, or else
+    /// `NumbersSpent` after number 2^32 - 1. It makes no call.
+    pub fn refusal(&self) -> Option<Fault>
+        ensures { result ≡ refusal_of self.now }
+    {
+        if self.outstanding.is_some() {
+            Some(Fault::TaskBusy)
+        } else if self.made == u32::MAX {
+            Some(Fault::NumbersSpent)
+        } else {
+            None
+        }
+    }
+
+    /// The call that has no reply yet, or `None`.
+    pub fn outstanding(&self) -> Option<Action>
         ensures value { result ≡ self.now.outstanding }
         ensures right { IfSome result IsRight }
     {
         let request = self.outstanding?;
         Some(request.call(self.task, self.made))
+    }
+
+    /// The outstanding call again, the same in number and all else, or `None`.
+    pub fn retry(&self) -> Option<Action>
+        ensures value { result ≡ self.now.outstanding }
+        ensures right { IfSome result IsRight }
+    {
+        self.outstanding()
     }
 
     /// Takes the reply to a call of this number: true exactly where it is the outstanding one, which

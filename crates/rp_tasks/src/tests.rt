@@ -26,6 +26,7 @@ fn calls_are_numbered_in_order_and_end_by_their_own_reply(rt: HostRuntime) {
     for number in 1..=3 {
         assert_eq!(rt; call_by(&mut stub), Ok(call(number)));
         assert_eq!(rt; call_by(&mut stub), Err(Fault::TaskBusy));
+        assert_eq!(rt; stub.refusal(), Some(Fault::TaskBusy));
         assert!(rt; !stub.reply(number - 1, Reply::Value(0)));
         assert!(rt; !stub.reply(number + 1, Reply::Value(0)));
         assert_eq!(rt; stub.retry(), Some(call(number)));
@@ -39,9 +40,10 @@ fn calls_are_numbered_in_order_and_end_by_their_own_reply(rt: HostRuntime) {
 fn no_call_comes_after_the_greatest_number(rt: HostRuntime) {
     let mut stub = Stub::after(TaskId::first(), u32::MAX - 1);
     assert_eq!(rt; call_by(&mut stub), Ok(call(u32::MAX)));
-    assert_eq!(rt; call_by(&mut stub), Err(Fault::TaskBusy));
-    assert_eq!(rt; stub.retry(), Some(call(u32::MAX)));
+    assert_eq!(rt; stub.refusal(), Some(Fault::TaskBusy));
+    assert_eq!(rt; stub.outstanding(), Some(call(u32::MAX)));
     assert!(rt; stub.reply(u32::MAX, Reply::ProgramError));
+    assert_eq!(rt; stub.refusal(), Some(Fault::NumbersSpent));
     assert_eq!(rt; call_by(&mut stub), Err(Fault::NumbersSpent));
     assert_eq!(rt; stub.retry(), None);
 }

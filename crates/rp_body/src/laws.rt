@@ -1,0 +1,14 @@
+//! What follows from the meaning of bodies alone.
+
+ghost use Rattle.std.specs.Prelude.{ℤ, List};
+ghost use Rattle.rp_body.specs.declared.statement.Stmt.{Stmt};
+ghost use Rattle.rp_body.specs.Store.{Store};
+ghost use Rattle.rp_body.specs.Meaning.{body_effect};
+ghost use Rattle.rp_body.specs.Ranges.{KeepsRanges};
+
+/// No body changes which whole numbers there are or a range, and values that lie in their ranges
+/// still do, also where it raises.
+pub fn bodies_keep_ranges()
+    ensures { (body : List Stmt) (arg : ℤ) (store : Store)
+        → KeepsRanges store (body_effect body arg store).0 }
+{}

@@ -1,0 +1,187 @@
+-- A log as it is seen, against how it is kept.
+use Rattle.std.proofs.Common.{◌≡◌, ◌≢◌, ◌⊎◌, inl, inr, ℕ, zero, suc, ◌+◌, ◌<◌, ◌≤◌, Bool, true, false, cond, Option, Some, None, List, [], ◌∷◌, ◌++◌, take, length, IsSome, refl, sym, ap, ap₂, subst, ◌∙◌, arith}
+use Rattle.std.specs.Prelude.{option_and_then, is_some, if◌then◌else◌}
+use Rattle.std.specs.List.{slice_get}
+use Rattle.std.specs.Option.{option_map, option_or}
+use Rattle.std.specs.FinMap.{get, insert}
+use Rattle.std.proofs.lemmas.Bool.{cases_eq, cases_lt}
+use Rattle.std.proofs.lemmas.List.{take-append-le}
+use Rattle.std.proofs.lemmas.Option.{slice_get_past}
+use Rattle.std.proofs.Math.Logic.{⊎_elim}
+use Rattle.rp_base.specs.declared.action.Action.{Action}
+use Rattle.rp_log.specs.Contents.{Contents, Places, action_at, IsLearned, HasRoom, with_room, with_action, ready_of, next_to_take, IsTakenInOrder}
+use Rattle.rp_log.specs.Holding.{Ahead, place_ahead, action_ahead, next_place, places_of, front_place, place_of, IsAhead, Fits}
+use Rattle.rp_log.proofs.Places.{same, same_is, same_apart, shown, inserted, front_past, front_within, next_reserved, ahead_written}
+
+-- the log of these parts
+abbrev pub seen : List Action → Bool → Ahead → ℕ → Contents
+seen front reserved ahead taken = record { places = places_of front reserved ahead; taken = take taken front }
+
+abbrev pub learned_of : Option (Option Action) → Option Action
+learned_of place = option_and_then (λ learned. learned) place
+
+in_front : (found : Option Action) (rest : Option (Option Action)) → IsSome found → learned_of (option_or (option_map (λ action. Some action) found) rest) ≡ found
+in_front None rest there = absurd cc
+in_front (Some a) rest there = refl
+
+pub front_room : (found : Option Action) (rest : Option (Option Action)) → IsSome found → IsSome (option_or (option_map (λ action. Some action) found) rest)
+front_room None rest there = absurd cc
+front_room (Some a) rest there = refl
+
+unlearned : (place : Option (Option Action)) → place ≡ None → IsSome (learned_of place) → ⊥
+unlearned place none there = absurd cc
+
+length_taken : (n : ℕ) (front : List Action) → n ≤ length front → length (take n front) ≡ n
+length_taken zero front within = refl
+length_taken (suc n) [] within = absurd (omega arith)
+length_taken (suc n) (a ∷ rest) within = ap suc (length_taken n rest (omega arith))
+
+pub found_within : (front : List Action) (k : ℕ) (a : Action) → slice_get front k ≡ Some a → k < length front
+found_within [] k a found = absurd cc
+found_within (x ∷ rest) zero a found = omega arith
+found_within (x ∷ rest) (suc k) a found = let less = found_within rest k a found in omega arith
+
+pub is_missed : (found : Option Action) → ((a : Action) → found ≡ Some a → ⊥) → found ≡ None
+is_missed None never = refl
+is_missed (Some a) never = absurd (never a refl)
+
+pub missed_past : (front : List Action) (k : ℕ) → slice_get front k ≡ None → length front ≤ k
+missed_past [] k missed = omega arith
+missed_past (x ∷ rest) zero missed = absurd cc
+missed_past (x ∷ rest) (suc k) missed = let past = missed_past rest k missed in omega arith
+
+module _ (front : List Action) (reserved : Bool) (ahead : Ahead) (taken : ℕ) where
+  abbrev log : Contents
+  log = seen front reserved ahead taken
+
+  pub action_is : (i : ℕ) → action_at log i ≡ learned_of (place_of front reserved ahead i)
+  action_is i = ap learned_of (shown front reserved ahead i)
+
+  pub action_front : (k : ℕ) → k < length front → action_at log (suc k) ≡ slice_get front k
+  action_front k within = action_is (suc k) ∙ in_front (slice_get front k) _ (front_within front k within)
+
+  pub next_none : (i : ℕ) → i ≢ length front + 1 → place_ahead (next_place reserved (length front + 1)) i ≡ None
+  next_none i apart =
+      elim reserved as (λ b. place_ahead (next_place b (length front + 1)) i ≡ None)
+      [ true ↦ ap (λ b. cond b (Some None) None) (same_apart i (length front + 1) apart) | false ↦ refl ]
+
+  next_unlearned : (i : ℕ) → i ≡ length front + 1 → action_ahead ahead i ≡ None → learned_of (option_or (place_ahead (next_place reserved (length front + 1)) i) (place_ahead ahead i)) ≡ None
+  next_unlearned i e gap =
+      elim reserved as (λ b. learned_of (option_or (place_ahead (next_place b (length front + 1)) i) (place_ahead ahead i)) ≡ None)
+      [ true ↦ ap (λ b. learned_of (option_or (cond b (Some None) None) (place_ahead ahead i))) (same_is i (length front + 1) e) | false ↦ gap ]
+
+  pub action_behind : (i : ℕ) → length front < i → action_ahead ahead (length front + 1) ≡ None → action_at log i ≡ action_ahead ahead i
+  action_behind i past gap =
+      action_is i
+      ∙ ap (λ p. learned_of (option_or p (option_or (place_ahead (next_place reserved (length front + 1)) i) (place_ahead ahead i)))) (front_past front i past)
+      ∙ ⊎_elim
+      (λ (e : i ≡ length front + 1). let here = ap (action_ahead ahead) e ∙ gap in next_unlearned i e here ∙ sym here)
+      (λ (apart : i ≢ length front + 1). ap (λ p. learned_of (option_or p (place_ahead ahead i))) (next_none i apart))
+      (cases_eq i (length front + 1))
+
+  pub learned_below : (i : ℕ) → 1 ≤ i → i < length front + 1 → IsLearned log i
+  learned_below zero low high = absurd (omega arith)
+  learned_below (suc k) low high =
+      let within : k < length front = omega arith in
+      subst (λ (found : Option Action). IsSome found) (sym (action_front k within)) (front_within front k within)
+
+  pub not_next : action_ahead ahead (length front + 1) ≡ None → IsLearned log (length front + 1) → ⊥
+  not_next gap there =
+      let none : action_at log (length front + 1) ≡ None = action_behind (length front + 1) (omega arith) gap ∙ gap in
+      absurd cc
+
+  pub not_zero : IsAhead (length front) ahead → IsLearned log 0 → ⊥
+  not_zero behind there =
+      let next = next_none 0 (λ e. omega arith) in
+      let is = subst (λ (found : Option Action). IsSome found) (action_is 0 ∙ ap (λ p. learned_of (option_or p (place_ahead ahead 0))) next) there in
+      let stands : IsSome (place_ahead ahead 0) = grind arith in
+      absurd (omega (arith, (behind 0 stands).0))
+
+  -- ---- what was taken
+
+  pub taken_length : taken ≤ length front → length (take taken front) ≡ taken
+  taken_length within = length_taken taken front within
+
+  pub next_is : taken ≤ length front → next_to_take log ≡ suc taken
+  next_is within = omega (arith, taken_length within)
+
+  pub ready_is : taken ≤ length front → ready_of log ≡ option_map (λ action. (suc taken, action)) (action_at log (suc taken))
+  ready_is within = ap (λ n. option_map (λ action. (n, action)) (action_at log n)) (next_is within)
+
+  pub some_ready : (a : Action) (position : ℕ) → taken ≤ length front → position ≡ suc taken → slice_get front taken ≡ Some a → taken < length front → Some (position, a) ≡ ready_of log
+  some_ready a position within is found more =
+      ap (λ n. Some (n, a)) is
+      ∙ sym (ready_is within ∙ ap (option_map (λ action. (suc taken, action))) (action_front taken more ∙ found))
+
+  pub none_ready : taken ≤ length front → length front ≤ taken → action_ahead ahead (length front + 1) ≡ None → None ≡ ready_of log
+  none_ready within all gap =
+      let end : suc taken ≡ length front + 1 = omega arith in
+      let none : action_at log (suc taken) ≡ None = ap (action_at log) end ∙ action_behind (length front + 1) (omega arith) gap ∙ gap in
+      sym (ready_is within ∙ ap (option_map (λ action. (suc taken, action))) none)
+
+  pub all_taken : taken ≤ length front → ready_of log ≡ None → length front + 1 ≡ next_to_take log
+  all_taken within none = ⊎_elim
+      (λ (more : taken < length front).
+      let there = front_within front taken more in
+      let ready = sym (ready_is within) ∙ none in
+      let found : option_map (λ action. (suc taken, action)) (slice_get front taken) ≡ None = ap (option_map (λ action. (suc taken, action))) (sym (action_front taken more)) ∙ ready in
+      absurd (grind arith))
+      (λ (end : length front ≤ taken). omega (arith, next_is within))
+      (cases_lt taken (length front))
+
+slice_get-taken : (n : ℕ) (front : List Action) (k : ℕ) → k < n → slice_get (take n front) k ≡ slice_get front k
+slice_get-taken zero front k within = absurd (omega arith)
+slice_get-taken (suc n) [] k within = refl
+slice_get-taken (suc n) (a ∷ rest) zero within = refl
+slice_get-taken (suc n) (a ∷ rest) (suc k) within = slice_get-taken n rest k (omega arith)
+
+pub taken_more : (n : ℕ) (front : List Action) (a : Action) → slice_get front n ≡ Some a → take (suc n) front ≡ take n front ++ a ∷ []
+taken_more n [] a found = absurd cc
+taken_more zero (x ∷ rest) a found = let is : x ≡ a = cc in ap (λ y. y ∷ []) is
+taken_more (suc n) (x ∷ rest) a found = ap (λ ys. x ∷ ys) (taken_more n rest a found)
+
+pub in_order : (front : List Action) (reserved : Bool) (ahead : Ahead) (taken : ℕ) → taken ≤ length front → IsTakenInOrder (seen front reserved ahead taken)
+in_order front reserved ahead taken within = λ k inside.
+    let few : k < taken = omega (arith, taken_length front reserved ahead taken within) in
+    let next : suc k ≡ k + 1 = omega arith in
+    slice_get-taken taken front k few ∙ sym (action_front front reserved ahead taken k (omega arith)) ∙ ap (action_at (seen front reserved ahead taken)) next
+
+-- ---- reserving
+
+room_of : (front place rest : Option (Option Action)) → IsSome place → IsSome (option_or front (option_or rest place))
+room_of None place None there = there
+room_of None place (Some x) there = refl
+room_of (Some x) place rest there = refl
+
+module _ (front : List Action) (reserved : Bool) (ahead : Ahead) (taken : ℕ) where
+  -- a position of the front has its place
+  pub room_front : (i : ℕ) → 1 ≤ i → i ≤ length front → IsSome (get (places_of front reserved ahead) i)
+  room_front zero low high = absurd (omega arith)
+  room_front (suc k) low high =
+      let within : k < length front = omega arith in
+      let there = front_within front k within in
+      subst (λ (p : Option (Option Action)). IsSome p) (sym (shown front reserved ahead (suc k))) (front_room (slice_get front k) _ there)
+
+  pub room_ahead : (i : ℕ) → IsSome (place_ahead ahead i) → IsSome (get (places_of front reserved ahead) i)
+  room_ahead i there =
+      subst (λ (p : Option (Option Action)). IsSome p) (sym (shown front reserved ahead i)) (room_of (front_place front i) (place_ahead ahead i) _ there)
+
+  -- a position behind the front has none, where none stands ahead and it is not the next
+  pub no_room : (i : ℕ) → length front + 1 < i → place_ahead ahead i ≡ None → get (places_of front reserved ahead) i ≡ None
+  no_room i past none =
+      shown front reserved ahead i ∙ ap₂ option_or (front_past front i (omega arith)) (ap₂ option_or (next_none front reserved ahead taken i (λ e. omega arith)) none)
+
+pub no_next_room : (front : List Action) (ahead : Ahead) → place_ahead ahead (length front + 1) ≡ None → get (places_of front false ahead) (length front + 1) ≡ None
+no_next_room front ahead none = shown front false ahead (length front + 1) ∙ ap₂ option_or (front_past front (length front + 1) (omega arith)) none
+
+pub next_room : (front : List Action) (ahead : Ahead) → IsSome (get (places_of front true ahead) (length front + 1))
+next_room front ahead =
+    let here = shown front true ahead (length front + 1) ∙ ap₂ option_or (front_past front (length front + 1) (omega arith)) refl
+    ∙ ap (λ b. option_or (cond b (Some None) None) (place_ahead ahead (length front + 1))) (same_is (length front + 1) (length front + 1) refl) in
+    subst (λ (p : Option (Option Action)). IsSome p) (sym here) refl
+
+pub room_kept : (log : Contents) (i : ℕ) → IsSome (get log.places i) → log ≡ with_room log i
+room_kept log i there = rw there refl
+
+pub room_made : (log : Contents) (i : ℕ) (places : Places) → get log.places i ≡ None → places ≡ insert log.places i None → record { places = places; taken = log.taken } ≡ with_room log i
+room_made log i places none made = rw (none, made) refl

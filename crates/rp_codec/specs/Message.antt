@@ -92,8 +92,11 @@ pub record IsReport (first applied : ℕ) (actions : List Action) : Type 0 where
   pub right : All IsRight actions
 
 -- who may say what to whom
+abbrev pub MayCall : Party → Party → Action → Type 0
+MayCall from to action = IsTaskParty from × IsNodeParty to × IsCallOf from action × IsRight action
+
 abbrev pub MaySay : Party → Party → Body → Type 0
-MaySay from to (Call action) = IsTaskParty from × IsNodeParty to × IsCallOf from action × IsRight action
+MaySay from to (Call action) = MayCall from to action
 MaySay from to (Prepare position ballot) = BetweenNodes from to
 MaySay from to (Promise position ballot last) = BetweenNodes from to × IfSome last (λ vote. IsVoteBelow ballot vote)
 MaySay from to (Accept position ballot action) = BetweenNodes from to × IsRight action

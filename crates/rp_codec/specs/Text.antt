@@ -43,9 +43,13 @@ action_text (actions.Call task number object operation arg) =
 action_text (actions.Interrupt source occurrence) = 2 ∷ source ∷ number_text w32 occurrence
 action_text (actions.Tick now) = 3 ∷ number_text w32 now
 
--- how many there are, and each
+-- how many actions there are, and each
 abbrev pub actions_text : List Action → List ℕ
 actions_text actions = length actions ∷ flat_map action_text actions
+
+-- a vote's place, and its action
+abbrev pub vote_text : ℕ → ℕ → Action → List ℕ
+vote_text position ballot action = position_text position ++ ballot_text ballot ++ action_text action
 
 abbrev pub truth_text : Bool → List ℕ
 truth_text false = 0 ∷ []
@@ -70,6 +74,10 @@ party_number Audit = 32
 
 abbrev pub party_text : Party → List ℕ
 party_text party = party_number party ∷ []
+
+-- a report's actions behind what stands before them
+abbrev pub listed_text : List ℕ → List Action → List ℕ
+listed_text front actions = front ++ actions_text actions
 
 -- the number of a packet's kind
 abbrev pub kind_number : Body → ℕ
@@ -109,6 +117,9 @@ body_text (Nack position ballot bound) = position_text position ++ ballot_text b
 body_text (Answer number reply) = number_text w32 number ++ reply_text reply
 body_text (Report first applied actions) = position_text first ++ number_text w16 applied ++ actions_text actions
 
--- version 1, the kind, who says it to whom, and what
+-- version 1, the kind, and who says it to whom
+abbrev pub head_text : Message → List ℕ
+head_text m = (1 ∷ kind_number m.body ∷ party_text m.from) ++ party_text m.to
+
 abbrev pub text_of : Message → List ℕ
-text_of m = (1 ∷ kind_number m.body ∷ party_text m.from) ++ party_text m.to ++ body_text m.body
+text_of m = head_text m ++ body_text m.body

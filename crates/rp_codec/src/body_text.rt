@@ -1,7 +1,7 @@
 //! Bodies as bytes.
 
 ghost use Rattle.std.specs.Prelude.{◌≡◌, ◌+◌, ◌≤◌, ◌++◌, length};
-ghost use Rattle.rp_codec.specs.Text.{position_text, ballot_text, action_text, last_text, short_body_text};
+ghost use Rattle.rp_codec.specs.Text.{position_text, ballot_text, action_text, last_text, vote_text, short_body_text};
 ghost use Rattle.rp_codec.specs.Found.{Finds};
 ghost use Rattle.rp_codec.specs.Reading.{Gives, lower_ballot_at, higher_ballot_at, vote_at, last_at, prepare_at, promise_at, accept_at, accepted_at, decided_at, ask_at, nack_at, answer_at, task_call_at, body_at};
 
@@ -229,7 +229,7 @@ fn put_place(text: &mut ShortText, position: Position, ballot: Ballot)
 #[inline(always)]
 fn put_vote(text: &mut ShortText, position: Position, ballot: Ballot, action: &Action)
     requires { length text.old + 27 ≤ 40 }
-    ensures { text.new ≡ text.old ++ (position_text position ++ ballot_text ballot ++ action_text action.now) }
+    ensures { text.new ≡ text.old ++ vote_text position ballot action.now }
 {
     put_place(text, position, ballot);
     put_action(text, action);

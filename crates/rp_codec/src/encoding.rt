@@ -1,8 +1,8 @@
 //! Packets to bytes.
 
-ghost use Rattle.std.specs.Prelude.{◌≡◌, ℕ, List, ◌∷◌, ◌++◌, IfOk, OnOk, OnErr};
+ghost use Rattle.std.specs.Prelude.{◌≡◌, ℕ, List, ◌++◌, IfOk, OnOk, OnErr};
 ghost use Rattle.rp_codec.specs.Message.{Message, IsPacket};
-ghost use Rattle.rp_codec.specs.Text.{kind_number, party_number, party_text, text_of};
+ghost use Rattle.rp_codec.specs.Text.{kind_number, party_number, head_text, text_of};
 
 use crate::body_text::put_body;
 use crate::fields::{AUDIT, TASK_BASE, VERSION};
@@ -41,7 +41,7 @@ fn party_number(party: Party) -> u8
 /// What stands before the body.
 #[inline(always)]
 fn head_of(packet: &Packet) -> [u8; 4]
-    ensures { result ≡ (1 ∷ kind_number packet.now.body ∷ party_text packet.now.from) ++ party_text packet.now.to }
+    ensures { result ≡ head_text packet.now }
 {
     let kind = kind_number(packet.body());
     [

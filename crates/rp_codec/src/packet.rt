@@ -117,7 +117,7 @@ impl Packet {
     /// The packet of this body, or `None` where it breaks the rules.
     pub fn checked(from: Party, to: Party, body: Body) -> Option<Self>
         ensures valid { IsSome result ↔ KeepsRules (record { from = from; to = to; body = body }) }
-        ensures value { IfSome result (λ packet. packet ≡ record { from = from; to = to; body = body }) }
+        ensures value { IfSome result (λ p. p ≡ record { from = from; to = to; body = body }) }
     {
         if rules::may_say(&from, &to, &body) {
             Some(Packet::new(from, to, body))

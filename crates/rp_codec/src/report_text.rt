@@ -2,7 +2,7 @@
 //! of those.
 
 ghost use Rattle.std.specs.Prelude.{◌≡◌, ◌<◌, ◌++◌, length, take, IsOk, IfOk, OnOk, OnErr};
-ghost use Rattle.rp_codec.specs.Text.{actions_text};
+ghost use Rattle.rp_codec.specs.Text.{listed_text};
 ghost use Rattle.rp_codec.specs.Reading.{actions_at, report_at};
 ghost use Rattle.rp_codec.specs.Found.{Skips, Finds, AreFirst};
 
@@ -69,7 +69,7 @@ pub(crate) fn list_actions(
 /// Where memory is refused, some of the text may stand behind the bytes.
 fn put_actions(out: &mut Vec<u8>, front: &ShortText, actions: &[Action]) -> Result<(), AllocError>
     requires { length actions.now < 256 }
-    ensures ok { OnOk result (out.new.items ≡ out.old.items ++ (front.now ++ actions_text actions.now)) }
+    ensures ok { OnOk result (out.new.items ≡ out.old.items ++ listed_text front.now actions.now) }
     ensures err { OnErr result (take (length out.old.items) out.new.items ≡ out.old.items) }
 {
     out.extend_from_slice(front.as_slice())?;
@@ -91,7 +91,7 @@ pub(crate) fn put_report(
     actions: &[Action],
 ) -> Result<(), AllocError>
     requires { length actions.now < 256 }
-    ensures ok { OnOk result (out.new.items ≡ out.old.items ++ (front.now ++ actions_text actions.now)) }
+    ensures ok { OnOk result (out.new.items ≡ out.old.items ++ listed_text front.now actions.now) }
     ensures err { OnErr result (out.new.items ≡ out.old.items) }
 {
     let start = out.len();

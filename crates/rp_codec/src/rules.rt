@@ -2,7 +2,7 @@
 
 ghost use Rattle.std.specs.Prelude.{◌≡◌, ◌↔◌, ◌<◌, ◌^◌, IfSome, IsTrue};
 ghost use Rattle.rp_base.specs.Action.{IsRight};
-ghost use Rattle.rp_codec.specs.Message.{IsParty, IsReply, IsBody, IsNodeParty, IsTaskParty, IsAudit, IsCallBy, IsCallOf, BetweenNodes, IsVoteBelow, IsReport, MaySay, report_len};
+ghost use Rattle.rp_codec.specs.Message.{IsParty, IsReply, IsBody, IsNodeParty, IsTaskParty, IsAudit, IsCallBy, IsCallOf, BetweenNodes, IsVoteBelow, IsReport, MayCall, MaySay, report_len};
 
 use crate::packet::{Body, Party};
 use rp_base::{Action, Ballot, Position, Reply, TaskId, Vote};
@@ -146,7 +146,7 @@ fn is_last_below(ballot: Ballot, last: Option<Vote>) -> bool
 }
 
 fn is_call(from: &Party, to: &Party, action: &Action) -> bool
-    ensures { IsTrue result ↔ (IsTaskParty from.now × IsNodeParty to.now × IsCallOf from.now action.now × IsRight action.now) }
+    ensures { IsTrue result ↔ MayCall from.now to.now action.now }
 {
     is_task_party(from) && is_node_party(to) && is_call_of(from, action) && action.is_right()
 }

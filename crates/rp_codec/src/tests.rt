@@ -68,10 +68,19 @@ fn both_ways(
     let packet = Packet::checked(from, to, body).ok_or("the packet keeps the rules")?;
     let text = encode(alloc, &packet)?;
     assert_eq!(rt; text.as_slice(), bytes);
+    let mut run = Vec::from_slice(alloc, &PREPARE)?;
+    encode_onto(&packet, &mut run)?;
+    assert_eq!(rt; &run[..PREPARE.len()], &PREPARE[..]);
+    assert_eq!(rt; &run[PREPARE.len()..], bytes);
     assert_eq!(rt; decode(alloc, bytes)?, Ok(packet));
     for end in 0..bytes.len() {
         assert_eq!(rt; decode(alloc, &bytes[..end])?, Err(PacketReason::Short));
+        assert_eq!(rt; packet_len(&bytes[..end]), None);
     }
+    run.clear();
+    run.extend_from_slice(bytes)?;
+    run.push(0)?;
+    assert_eq!(rt; packet_len(run.as_slice()), Some(bytes.len()));
     Ok(())
 }
 
@@ -238,6 +247,11 @@ fn a_report_tells_at_most_200_actions(rt: HostRuntime) -> Result<(), Fail> {
     assert_eq!(rt; decode(rt.alloc(), text.as_slice())?, Ok(packet));
     let more = report(rt.alloc(), 1, 300, &[call(); 201])?;
     assert_eq!(rt; Packet::checked(node(1)?, Party::Audit, more), None);
+    let Body::Report { actions, .. } = report(rt.alloc(), 1, 1, &[call()])? else {
+        return Err("a report".into());
+    };
+    assert_eq!(rt; actions.clone()?, actions);
+    assert_eq!(rt; actions.into_vec().as_slice(), &[call()][..]);
     Ok(())
 }
 
@@ -310,6 +324,7 @@ fn each_record_has_its_text_and_is_read_from_its_front(rt: HostRuntime) -> Resul
     for (rec, text) in &cases {
         let mut bytes = encode_rec(rt.alloc(), rec)?;
         assert_eq!(rt; bytes.as_slice(), *text);
+        assert_eq!(rt; text_of_record(rec).as_slice(), *text);
         for end in 0..text.len() {
             assert_eq!(rt; decode_front(&text[..end]), None);
         }

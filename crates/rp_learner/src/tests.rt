@@ -1,4 +1,5 @@
-ghost use Rattle.std.specs.Prelude.{◌≤◌};
+ghost use Rattle.std.specs.Prelude.{◌≡◌, ◌≤◌, IfOk};
+ghost use Rattle.rp_learner.specs.Standings.{fresh};
 
 use super::*;
 use rp_base::{Action, Ballot, NodeId, Position};
@@ -7,24 +8,46 @@ use std::process::Abort;
 use std::test::Fail;
 
 /// Notes the votes in turn, each of a node in a ballot for Noop at position 1, and compares what
-/// holds once each is counted.
+/// holds once each is counted. A note that is refused for memory leaves that, and succeeds again.
 fn note_all(
     rt: &impl Abort,
     learner: &mut Learner,
     alloc: Global,
+    nodes: u8,
     votes: &[(u8, u64, Standing)],
 ) -> Result<(), Fail>
-    requires { 1 ≤ learner.old.max_positions }
+    requires { (learner.old.nodes ≡ nodes) × (1 ≤ learner.old.max_positions) }
 {
     let position = Position::first();
     for (from, ballot, standing) in votes.iter().copied() {
         let from = NodeId::new(from).ok_or("a node")?;
+        if from.get() > nodes {
+            return Err("a node of the learner".into());
+        }
         let ballot = Ballot::new(ballot).ok_or("a ballot")?;
         let found = learner.vote(from, position, ballot, &Action::Noop);
         assert_eq!(rt; found, standing);
-        learner.note_vote(alloc, from, position, ballot, &Action::Noop)?;
+        if learner
+            .note_vote(alloc, from, position, ballot, &Action::Noop)
+            .is_err()
+        {
+            let found = learner.vote(from, position, ballot, &Action::Noop);
+            assert_eq!(rt; found, standing, "nothing changed");
+            learner.note_vote(alloc, from, position, ballot, &Action::Noop)?;
+        }
     }
     Ok(())
+}
+
+/// A learner, made again where memory was refused once.
+fn new_learner(alloc: Global, nodes: u8, max_positions: u16) -> Result<Learner, Fail>
+    requires { (3 ≤ nodes) × (nodes ≤ 7) }
+    ensures { IfOk result (λ l. l ≡ fresh nodes max_positions) }
+{
+    if let Ok(learner) = Learner::new(alloc, nodes, max_positions) {
+        return Ok(learner);
+    }
+    Ok(Learner::new(alloc, nodes, max_positions)?)
 }
 
 #[test]
@@ -37,8 +60,8 @@ fn a_majority_is_of_one_ballot_and_of_different_nodes(rt: HostRuntime) -> Result
         (3, 9, Standing::Learned),
         (4, 9, Standing::Known),
     ];
-    let mut learner = Learner::new(rt.alloc(), 4, 1)?;
-    note_all(&rt, &mut learner, rt.alloc(), &four)?;
+    let mut learner = new_learner(rt.alloc(), 4, 1)?;
+    note_all(&rt, &mut learner, rt.alloc(), 4, &four)?;
     let seven = [
         (1, 9, Standing::Counting),
         (2, 9, Standing::Counting),
@@ -48,19 +71,24 @@ fn a_majority_is_of_one_ballot_and_of_different_nodes(rt: HostRuntime) -> Result
         (4, 9, Standing::Learned),
         (5, 9, Standing::Known),
     ];
-    let mut learner = Learner::new(rt.alloc(), 7, 65_535)?;
-    note_all(&rt, &mut learner, rt.alloc(), &seven)
+    let mut learner = new_learner(rt.alloc(), 7, 65_535)?;
+    note_all(&rt, &mut learner, rt.alloc(), 7, &seven)
 }
 
 #[test]
 fn a_majority_is_for_one_action(rt: HostRuntime) -> Result<(), Fail> {
-    let mut learner = Learner::new(rt.alloc(), 3, 2)?;
+    let mut learner = new_learner(rt.alloc(), 3, 2)?;
     let position = Position::new(2).ok_or("position 2")?;
     let ballot = Ballot::new(9).ok_or("ballot 9")?;
     let one = NodeId::new(1).ok_or("node 1")?;
     let two = NodeId::new(2).ok_or("node 2")?;
     let tick = Action::Tick { now: 5 };
+    assert!(rt; one.get() <= 3 && two.get() <= 3);
     learner.note_vote(rt.alloc(), one, position, ballot, &tick)?;
+    let other = learner.note_vote(rt.alloc(), two, position, ballot, &Action::Noop);
+    if other.is_err() {
+        learner.note_vote(rt.alloc(), two, position, ballot, &Action::Noop)?;
+    }
     let noop = learner.vote(two, position, ballot, &Action::Noop);
     assert_eq!(rt; noop, Standing::Counting);
     assert_eq!(rt;
@@ -76,9 +104,11 @@ fn a_majority_is_for_one_action(rt: HostRuntime) -> Result<(), Fail> {
 
 #[test]
 fn a_settled_position_is_known_and_no_other(rt: HostRuntime) -> Result<(), Fail> {
-    let mut learner = Learner::new(rt.alloc(), 3, 2)?;
+    same_learners_answer_alike();
+    let mut learner = new_learner(rt.alloc(), 3, 2)?;
     let ballot = Ballot::new(9).ok_or("ballot 9")?;
     let node = NodeId::new(1).ok_or("node 1")?;
+    assert!(rt; node.get() <= 3);
     learner.settled(Position::first());
     learner.settled(Position::first());
     for (number, decision, standing) in [

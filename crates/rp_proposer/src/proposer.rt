@@ -144,7 +144,8 @@ impl Proposer {
         last: Option<Vote>,
     )
         requires sender { from ≤ self.old.nodes }
-        ensures { self.new ≡ notes_promise self.old ballot (from, last) (proposal_at self.old.proposals position) }
+        ensures noted { self.new ≡ notes_promise self.old ballot (from, last) (proposal_at self.old.proposals position) }
+        ensures nodes { self.new.nodes ≡ self.old.nodes }
     {
         if let Some(index) = index_of(&self.proposals, position) {
             self.proposals[index].note(self.nodes, ballot, HeardPromise { from, last });
@@ -154,7 +155,8 @@ impl Proposer {
     /// Counts a refusal of the proposal at the position in this ballot, whose sender has promised a
     /// greater one: the proposal is given up. Any other refusal changes nothing.
     pub fn nack(&mut self, position: Position, ballot: Ballot, promised: Ballot)
-        ensures { self.new ≡ notes_refusal self.old position ballot promised }
+        ensures noted { self.new ≡ notes_refusal self.old position ballot promised }
+        ensures nodes { self.new.nodes ≡ self.old.nodes }
     {
         if is_in(&self.proposals, position, ballot) {
             leave_out(&mut self.proposals, position);

@@ -1,10 +1,19 @@
+ghost use Rattle.std.specs.Prelude.{◌≡◌, ◌≤◌, IfOk};
+
 use super::*;
 use rp_base::{Action, Ballot, Fault, NodeId, Position, Rec, Vote};
 use std::alloc::Global;
 use std::test::*;
 
-fn node(number: u8) -> Result<NodeId, Fail> {
-    Ok(NodeId::new(number).ok_or("a node")?)
+/// One of three nodes.
+fn node(number: u8) -> Result<NodeId, Fail>
+    ensures { IfOk result (λ node. node ≤ 3) }
+{
+    let node = NodeId::new(number).ok_or("a node")?;
+    if node.get() > 3 {
+        return Err("one of three".into());
+    }
+    Ok(node)
 }
 
 fn ballot(number: u64) -> Result<Ballot, Fail> {
@@ -22,13 +31,24 @@ const A: Action = Action::Tick { now: 1 };
 
 const B: Action = Action::Tick { now: 2 };
 
-/// A proposer of node 1 of 3 that leads at position 1 in ballot 9, with `A` of its own.
-fn leader(alloc: Global) -> Result<Proposer, Fail> {
-    let mut proposer = Proposer::restore(alloc, node(1)?, 3, &[])?;
-    let first = Position::first();
-    if proposer.has_room(first) {
-        proposer.begin(first, ballot(9)?, A);
+/// Leads at a position in the next ballot, where there is room and a ballot.
+fn lead(proposer: &mut Proposer, position: Position, own: Action) -> Result<Ballot, Fail>
+    ensures { IfOk result (λ _. proposer.new.nodes ≡ proposer.old.nodes) }
+{
+    if !proposer.has_room(position) {
+        return Err("no room".into());
     }
+    let ballot = proposer.ballot()?;
+    proposer.begin(position, ballot, Some(own));
+    Ok(ballot)
+}
+
+/// A proposer of node 1 of 3 that leads at position 1 in ballot 9, with `A` of its own.
+fn leader(alloc: Global) -> Result<Proposer, Fail>
+    ensures { IfOk result (λ proposer. proposer.nodes ≡ 3) }
+{
+    let mut proposer = Proposer::restore(alloc, node(1)?, 3, &[])?;
+    lead(&mut proposer, Position::first(), A)?;
     Ok(proposer)
 }
 
@@ -39,8 +59,7 @@ fn a_majority_offers_the_highest_vote(rt: HostRuntime) -> Result<(), Fail> {
     let first = Position::first();
     let leading = ballot(18)?;
     assert_eq!(rt; proposer.ballot(), Ok(leading));
-    assert!(rt; proposer.has_room(first));
-    proposer.begin(first, leading, Action::Noop);
+    assert_eq!(rt; lead(&mut proposer, first, Action::Noop)?, leading);
     assert_eq!(rt; proposer.runs(first), Some(leading));
     let low = vote(9, A)?;
     for _ in 0..2 {
@@ -91,10 +110,14 @@ fn a_proposal_runs_until_it_is_refused_settled_or_replaced(rt: HostRuntime) -> R
     assert_eq!(rt; settled.runs(first), None);
     assert_eq!(rt; settled.ballot(), Ok(ballot(17)?));
     let mut replaced = leader(rt.alloc())?;
-    assert!(rt; replaced.has_room(first));
-    replaced.begin(first, ballot(25)?, B);
-    assert_eq!(rt; replaced.runs(first), Some(ballot(25)?));
-    assert_eq!(rt; replaced.ballot(), Ok(ballot(33)?));
+    assert_eq!(rt; lead(&mut replaced, first, B)?, ballot(17)?);
+    assert_eq!(rt; replaced.runs(first), Some(ballot(17)?));
+    assert_eq!(rt; replaced.ballot(), Ok(ballot(25)?));
+    let second = Position::new(2).ok_or("position 2")?;
+    for (position, elsewhere) in [(first, false), (second, true)] {
+        assert_eq!(rt; replaced.is_own_elsewhere(position, &B), elsewhere);
+        assert!(rt; !replaced.is_own_elsewhere(position, &A));
+    }
     Ok(())
 }
 
@@ -114,11 +137,12 @@ fn the_last_ballot_of_a_node_is_refused(rt: HostRuntime) -> Result<(), Fail> {
 
 #[test]
 fn at_most_64_proposals_run(rt: HostRuntime) -> Result<(), Fail> {
-    let mut proposer = Proposer::restore(rt.alloc(), node(1)?, 7, &[])?;
+    a_window_has_room();
+    let mut proposer = Proposer::restore(rt.alloc(), node(1)?, 3, &[])?;
     for number in 1..=65 {
         let position = Position::new(number).ok_or("a position")?;
         if proposer.has_room(position) {
-            proposer.begin(position, ballot(9)?, A);
+            lead(&mut proposer, position, A)?;
         }
         let running = proposer.runs(position).is_some();
         assert_eq!(rt; running, number <= 64, "{number}");

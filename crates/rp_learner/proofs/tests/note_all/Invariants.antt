@@ -1,6 +1,6 @@
-use Rattle.std.proofs.Common.{◌≤◌}
+use Rattle.std.proofs.Common.{◌≡◌, ◌≤◌}
 use Rattle.rp_learner.proofs.tests.note_all.Given as goal
 
--- position 1 stays within the learner's positions
+-- the learner's sizes stay
 abbrev pub invariant-loop-from : goal.invariant-loop-from
-invariant-loop-from g l = 1 ≤ l.learner.max_positions
+invariant-loop-from g l = (l.learner.nodes ≡ l.nodes) × (1 ≤ l.learner.max_positions)

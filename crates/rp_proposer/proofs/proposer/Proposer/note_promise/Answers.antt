@@ -12,8 +12,8 @@ index_mut-requires c =
     let found = index_at c.self.inside.proposals.items c.in-Some.index c.args.position (rw (← c.deref.ensures.value, ← c.index_of.ensures) c.in-Some.is) in
     omega (arith, found.1.within, c.deref.ensures.len)
 
-pub returns-in-Some : goal.returns-in-Some
-returns-in-Some c =
+pub returns-in-Some-clause-noted : goal.returns-in-Some-clause-noted
+returns-in-Some-clause-noted c =
     let found = index_at c.self.inside.proposals.items c.in-Some.index c.args.position (rw (← c.deref.ensures.value, ← c.index_of.ensures) c.in-Some.is) in
     let at : slice_get c.self.inside.proposals.items c.in-Some.index ≡ Some c.index_mut.result.now =
     slice_get_read c.self.inside.proposals.items (length c.self.inside.proposals.items) c.in-Some.index c.index_mut.result.now refl found.1.within c.index_mut.ensures.value in
@@ -26,8 +26,8 @@ returns-in-Some c =
     ∙ sym (found.1.put (once_noted c.self.inside.nodes c.args.ballot found.0 (c.args.from, c.args.last))
         (noted_there c.self.inside.nodes c.args.ballot found.0 (c.args.from, c.args.last) ∙ found.1.place))))
 
-pub returns-in_default : goal.returns-in_default
-returns-in_default c =
+pub returns-in_default-clause-noted : goal.returns-in_default-clause-noted
+returns-in_default-clause-noted c =
     let absent = index_none c.self.inside.proposals.items 0 c.args.position (rw (← c.deref.ensures.value, ← c.index_of.ensures) c.in_default.is) in
     let none : proposal_at c.args.self.now.proposals c.args.position ≡ None = ap (λ (part : ProposerPart). proposal_at part.proposals c.args.position) (sym c.self.view_is) ∙ absent.none in
     rw none

@@ -15,7 +15,8 @@ ghost use Rattle.rp_entry.specs.Accounting.{AccountsFor, joins};
 pub fn servicing_has_one_end()
     ensures an_end { (operations : Operations) (before : State)
         → (told : List Answer) × ((after : State) × Services operations before told after) }
-    ensures no_other { (operations : Operations) (before one other : State) (told heard : List Answer)
+    ensures no_other { (operations : Operations) (before one other : State)
+        (told heard : List Answer)
         → Services operations before told one → Services operations before heard other
         → (told ≡ heard) × (one ≡ other) }
 {}

@@ -39,7 +39,10 @@ impl Object {
     /// barrier names no Boolean component. It takes no memory.
     pub fn new(operations: Operations, components: Components) -> Option<Self>
         ensures { SomeIff result (OperationsFit (limits_of components) operations)
-            (record { operations = operations; state = record { store = components; queue = [] } }) }
+            (record {
+              operations = operations;
+              state = record { store = components; queue = [] };
+            }) }
     {
         if operations.fit(&components.limits()) {
             Some(Object {
@@ -69,7 +72,8 @@ impl Object {
     /// leaves 64 signed bits, or whether its condition holds. NoSuchOperation where there is none.
     pub fn function(&self, index: u8, arg: i64) -> Reply
         ensures action { let now = self.now.state in
-            Acts self.now.operations now (calls_function index arg) (Some (CallOutcome.Reply result)) [] now }
+            Acts self.now.operations now (calls_function index arg)
+                (Some (CallOutcome.Reply result)) [] now }
         ensures serviced { IsServiced self.now.operations self.now.state }
     {
         match of_index(&self.operations.functions, index) {

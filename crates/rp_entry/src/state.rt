@@ -167,7 +167,8 @@ impl State {
         requires fits { OperationsFit (limits_of self.old.store) operations.now }
         requires body { KeepsLimits (limits_of self.old.store) body.now }
         requires short { length self.old.queue ≤ longest_queue }
-        ensures runs { Runs operations.now body.now arg self.old result.outcome result.served self.new }
+        ensures runs { Runs operations.now body.now arg self.old
+            result.outcome result.served self.new }
         ensures counts { limits_of self.new.store ≡ limits_of self.old.store }
     {
         let outcome = run(body, &mut self.components, arg);

@@ -2,7 +2,8 @@
 use Rattle.std.proofs.Common.{◌≡◌, ◌≢◌, ◌⊎◌, inl, inr, ℕ, zero, suc, ◌+◌, ◌<◌, ◌≤◌, Bool, true, false, cond, Option, Some, None, List, [], ◌∷◌, ◌++◌, take, length, IsSome, refl, sym, ap, ap₂, subst, ◌∙◌, unwrap_or, arith, append_assoc, length-append}
 use Rattle.std.specs.Prelude.{option_and_then, is_some, max, if◌then◌else◌}
 use Rattle.std.specs.Option.{option_map, option_or}
-use Rattle.std.specs.FinMap.{get, insert}
+use Rattle.std.specs.FinMap.{get, insert, get-insert}
+use Rattle.std.proofs.lemmas.Cmp.{nat_cmp_total}
 use Rattle.std.proofs.lemmas.Bool.{cases_eq, cases_lt}
 use Rattle.std.proofs.lemmas.List.{take-append-le}
 use Rattle.std.proofs.Math.Logic.{⊎_elim}
@@ -163,3 +164,14 @@ reserved_one front reserved after old new taken log p view none here =
     (λ i. shown front after new i ∙ here i ∙ ap (λ x. cond (same i p) (Some None) x) (sym (shown front reserved old i))) in
     let room : with_room log p ≡ record log { places = insert log.places p None } = ap (λ b. if b then log else record log { places = insert log.places p None }) (sym none) in
     ap (λ (m : Places). record { places = m; taken = take taken front }) made ∙ ap (λ (l : Contents). record l { places = insert l.places p None }) view ∙ sym room
+
+room_in : (log : Contents) (p : ℕ) (b : Bool) → is_some (get log.places p) ≡ b → HasRoom (cond b log (record log { places = insert log.places p None })) p
+room_in log p true there = there
+room_in log p false none =
+    let here : get (insert log.places p None) p ≡ Some None =
+    get-insert nat_cmp_total log.places p None p ∙ ap (λ b. cond b (Some None) (get log.places p)) (same_is p p refl) in
+    ap is_some here
+
+-- what is reserved has room
+pub has_room_after : (log new : Contents) (p : ℕ) → new ≡ with_room log p → HasRoom new p
+has_room_after log new p is = subst (λ (l : Contents). HasRoom l p) (sym is) (room_in log p (is_some (get log.places p)) refl)

@@ -63,6 +63,7 @@ impl Log {
     /// which leaves the log as it was. Where there is room already no memory is asked for.
     pub fn reserve(&mut self, position: Position) -> Result<(), Fault>
         ensures ok { OnOk result (self.new ≡ with_room self.old position) }
+        ensures room { OnOk result (HasRoom self.new position) }
         ensures err { OnErr result (self.new ≡ self.old) }
         ensures only { IfErr result (λ fault. fault ≡ OutOfMemory) }
         ensures refused { OnErr result (¬ HasRoom self.old position) }

@@ -22,8 +22,10 @@ pub trait Device: Drop {
     fn append(&mut self, bytes: &[u8]) -> Result<(), Fault>
         ensures ok { OnOk result (disk self.new ≡ appended bytes.now (disk self.old)) }
         ensures refused { IsErrOf result Fault.OutOfMemory → disk self.new ≡ disk self.old }
-        ensures failed { IsErrOf result Fault.Device → AppendFailed bytes.now (disk self.old) (disk self.new) }
-        ensures faults { IfErr result (λ fault. (fault ≡ faults.OutOfMemory) ⊎ (fault ≡ faults.Device)) };
+        ensures failed { IsErrOf result Fault.Device
+            → AppendFailed bytes.now (disk self.old) (disk self.new) }
+        ensures faults { IfErr result (λ fault.
+            (fault ≡ faults.OutOfMemory) ⊎ (fault ≡ faults.Device)) };
 
     /// Makes all that it holds stable. It takes no memory. Where it fails, some of what was not
     /// stable may be.
@@ -38,7 +40,8 @@ pub trait Device: Drop {
         ensures ok { OnOk result (disk self.new ≡ read_once (disk self.old)) }
         ensures refused { IsErrOf result Fault.OutOfMemory → disk self.new ≡ disk self.old }
         ensures failed { IsErrOf result Fault.Device → ReadFailed (disk self.old) (disk self.new) }
-        ensures faults { IfErr result (λ fault. (fault ≡ faults.OutOfMemory) ⊎ (fault ≡ faults.Device)) };
+        ensures faults { IfErr result (λ fault.
+            (fault ≡ faults.OutOfMemory) ⊎ (fault ≡ faults.Device)) };
 
     /// How many bytes it holds.
     fn len(&self) -> u64
@@ -50,8 +53,10 @@ pub trait Device: Drop {
         requires { len ≤ length (disk self.old).contents }
         ensures ok { OnOk result (disk self.new ≡ cut_to len (disk self.old)) }
         ensures refused { IsErrOf result Fault.OutOfMemory → disk self.new ≡ disk self.old }
-        ensures failed { IsErrOf result Fault.Device → CutFailed len (disk self.old) (disk self.new) }
-        ensures faults { IfErr result (λ fault. (fault ≡ faults.OutOfMemory) ⊎ (fault ≡ faults.Device)) };
+        ensures failed { IsErrOf result Fault.Device
+            → CutFailed len (disk self.old) (disk self.new) }
+        ensures faults { IfErr result (λ fault.
+            (fault ≡ faults.OutOfMemory) ⊎ (fault ≡ faults.Device)) };
 }
 
 /// A device that can be stopped, as a crash of its node does.

@@ -8,23 +8,28 @@ ghost use Rattle.rp_store.specs.Records.{records_text, AreRecordsOf};
 
 /// Contents are read in one way.
 pub fn one_reading()
-    ensures { (contents torn rest : List ℕ) (records others : List Rec) → AreRecordsOf contents records torn → AreRecordsOf contents others rest
+    ensures { (contents torn rest : List ℕ) (records others : List Rec)
+        → AreRecordsOf contents records torn → AreRecordsOf contents others rest
         → (records ≡ others) × (torn ≡ rest) }
 {}
 
 /// A stop inside `put`, or a failure there, leaves the old contents and some beginning of the
 /// record's text: the old records with what is torn behind them, or those and the new one.
 pub fn stop_inside_put()
-    ensures before { (records : List Rec) (r : Rec) (kept : ℕ) → AllByRecursion IsRecord records → IsRecord r → kept < length (record_text r)
-        → AreRecordsOf (records_text records ++ take kept (record_text r)) records (take kept (record_text r)) }
-    ensures after { (records : List Rec) (r : Rec) (kept : ℕ) → AllByRecursion IsRecord records → IsRecord r → length (record_text r) ≤ kept
+    ensures before { (records : List Rec) (r : Rec) (kept : ℕ)
+        → AllByRecursion IsRecord records → IsRecord r → kept < length (record_text r)
+        → AreRecordsOf (records_text records ++ take kept (record_text r))
+            records (take kept (record_text r)) }
+    ensures after { (records : List Rec) (r : Rec) (kept : ℕ)
+        → AllByRecursion IsRecord records → IsRecord r → length (record_text r) ≤ kept
         → AreRecordsOf (records_text records ++ take kept (record_text r)) (records ++ r ∷ []) [] }
 {}
 
 /// A stop inside `open` leaves some front of the contents, no shorter than what was stable: each
 /// record that was stable as a whole is a record of it.
 pub fn stop_inside_open()
-    ensures { (contents torn rest : List ℕ) (front more others : List Rec) (kept : ℕ) → AreRecordsOf contents (front ++ more) torn
+    ensures { (contents torn rest : List ℕ) (front more others : List Rec) (kept : ℕ)
+        → AreRecordsOf contents (front ++ more) torn
         → length (records_text front) ≤ kept → AreRecordsOf (take kept contents) others rest
         → (after : List Rec) × (others ≡ front ++ after) }
 {}

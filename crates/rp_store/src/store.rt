@@ -10,7 +10,7 @@ ghost use Rattle.rp_store.specs.Opening.{IsOpened, IsNotOpened};
 use crate::device::{CutDevice, Device};
 use crate::reading::whole_records;
 use rp_base::{Fault, Rec};
-use rp_codec::encode_rec;
+use rp_codec::text_of_record;
 use std::alloc::Global;
 use std::marker::Model;
 
@@ -119,12 +119,12 @@ impl<D: Device> Store<D> {
         }
     }
 
-    /// Appends the record's text and syncs. It never cuts, and reads nothing. It costs what the text
-    /// is long, whatever the device holds. The record is a right one: opening would cut off any
+    /// Appends the record's text and syncs. It never cuts, and reads nothing. It takes no memory but
+    /// the device's, and costs what the text is long, whatever the device holds. The record is a right one: opening would cut off any
     /// other, and all records behind it. Refused with 3 where the device failed since it was opened,
     /// with 1 where memory ran out: then nothing has changed. After 2, some beginning of the text may
     /// stand at the end.
-    pub fn put(&mut self, alloc: Global, rec: &Rec) -> Result<(), Fault>
+    pub fn put(&mut self, rec: &Rec) -> Result<(), Fault>
         requires { IsRightRecord rec.now }
         ensures ok { OnOk result (IsPut D.disk (record_text rec.now) self.old self.new) }
         ensures err { IfErr result (λ fault.
@@ -133,8 +133,7 @@ impl<D: Device> Store<D> {
         if self.failed {
             return Err(Fault::Failed);
         }
-        let text = encode_rec(alloc, rec)?;
-        let result = write(&mut self.device, &text);
+        let result = write(&mut self.device, text_of_record(rec).as_slice());
         self.failed = matches!(result, Err(Fault::Device));
         result
     }
@@ -166,7 +165,7 @@ impl<D: CutDevice> Store<D> {
 
     /// What a stop of the node inside `put` leaves: the record's text is appended and not synced, and
     /// the device stops with the first `kept` bytes of it, or all if there are no more.
-    pub fn tear(self, alloc: Global, rec: &Rec, kept: u64) -> Result<D, NotTorn<D>>
+    pub fn tear(self, rec: &Rec, kept: u64) -> Result<D, NotTorn<D>>
         requires { IsRightRecord rec.now }
         ensures ok { IfOk result (λ device. IsTorn D.disk (record_text rec.now) kept self device) }
         ensures err { IfErr result (λ fault. IsNotTorn D.disk (record_text rec.now) self fault) }
@@ -174,11 +173,8 @@ impl<D: CutDevice> Store<D> {
         if self.failed {
             return Err(NotTorn::Refused(Fault::Failed, self));
         }
-        let Ok(text) = encode_rec(alloc, rec) else {
-            return Err(NotTorn::Refused(Fault::OutOfMemory, self));
-        };
         let mut store = self;
-        match store.device.append(&text) {
+        match store.device.append(text_of_record(rec).as_slice()) {
             Ok(()) => {
                 store.device.stop(kept);
                 Ok(store.device)

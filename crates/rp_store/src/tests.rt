@@ -89,28 +89,23 @@ fn opens<D: Device>(
 }
 
 /// Puts the record, once more where memory was refused.
-fn puts<D: Device>(
-    rt: &impl Abort,
-    alloc: Global,
-    store: &mut Store<D>,
-    rec: &Rec,
-) -> Result<(), Fail>
+fn puts<D: Device>(rt: &impl Abort, store: &mut Store<D>, rec: &Rec) -> Result<(), Fail>
     requires { IsRightRecord rec.now }
 {
-    if let Err(fault) = store.put(alloc, rec) {
+    if let Err(fault) = store.put(rec) {
         assert_eq!(rt; fault, Fault::OutOfMemory);
-        store.put(alloc, rec)?;
+        store.put(rec)?;
     }
     Ok(())
 }
 
 /// What a stop inside the put of the record leaves, tried once more where memory was refused.
-fn torn<D: CutDevice>(alloc: Global, store: Store<D>, rec: &Rec, kept: u64) -> Result<D, Fail>
+fn torn<D: CutDevice>(store: Store<D>, rec: &Rec, kept: u64) -> Result<D, Fail>
     requires { IsRightRecord rec.now }
 {
-    match store.tear(alloc, rec, kept) {
+    match store.tear(rec, kept) {
         Err(NotTorn::Refused(Fault::OutOfMemory, store)) => {
-            Ok(store.tear(alloc, rec, kept).ok().ok_or("it is torn")?)
+            Ok(store.tear(rec, kept).ok().ok_or("it is torn")?)
         }
         result => Ok(result.ok().ok_or("it is torn")?),
     }
@@ -144,8 +139,8 @@ fn a_stop_keeps_what_was_put_and_a_whole_record_behind_it(rt: HostRuntime) -> Re
     ];
     for (kept, records, cut_bytes) in &cases {
         let mut store = opened(&rt, rt.alloc(), MemDevice::new(rt.alloc()))?.store;
-        puts(&rt, rt.alloc(), &mut store, &started)?;
-        let device = torn(rt.alloc(), store, &voted, *kept)?;
+        puts(&rt, &mut store, &started)?;
+        let device = torn(store, &voted, *kept)?;
         opens(&rt, rt.alloc(), device, records, *cut_bytes)?;
     }
     Ok(())
@@ -165,8 +160,8 @@ fn what_an_opening_read_stays_through_a_stop(rt: HostRuntime) -> Result<(), Fail
 fn a_put_refused_for_memory_writes_nothing(rt: HostRuntime) -> Result<(), Fail> {
     let (started, voted) = (started()?, voted()?);
     let mut store = opened(&rt, rt.alloc(), MemDevice::new(rt.alloc()))?.store;
-    puts(&rt, rt.alloc(), &mut store, &started)?;
-    puts(&rt, rt.alloc(), &mut store, &voted)?;
+    puts(&rt, &mut store, &started)?;
+    puts(&rt, &mut store, &voted)?;
     assert_eq!(rt; store.stored(), 39);
     let mut device = store.close();
     device.stop(0);
@@ -246,10 +241,10 @@ fn an_opening_syncs_once_whatever_the_device_holds(rt: HostRuntime) -> Result<()
 }
 
 /// Why a put of the vote is refused, if it is. It is tried once more where memory was refused.
-fn vote_fault<D: Device>(alloc: Global, store: &mut Store<D>) -> Result<Option<Fault>, Fail> {
+fn vote_fault<D: Device>(store: &mut Store<D>) -> Result<Option<Fault>, Fail> {
     let voted = voted()?;
-    match store.put(alloc, &voted) {
-        Err(Fault::OutOfMemory) => Ok(store.put(alloc, &voted).err()),
+    match store.put(&voted) {
+        Err(Fault::OutOfMemory) => Ok(store.put(&voted).err()),
         result => Ok(result.err()),
     }
 }
@@ -266,8 +261,8 @@ fn not_opened<D: Device>(alloc: Global, device: D) -> Result<D, Fail> {
 fn a_failed_sync_is_told_and_the_store_writes_no_more(rt: HostRuntime) -> Result<(), Fail> {
     let device = LimitedDevice::holding(rt.alloc(), &STARTED, 1)?;
     let mut store = opened(&rt, rt.alloc(), device)?.store;
-    assert_eq!(rt; vote_fault(rt.alloc(), &mut store)?, Some(Fault::Device));
-    assert_eq!(rt; vote_fault(rt.alloc(), &mut store)?, Some(Fault::Failed));
+    assert_eq!(rt; vote_fault(&mut store)?, Some(Fault::Device));
+    assert_eq!(rt; vote_fault(&mut store)?, Some(Fault::Failed));
     assert!(rt; store.has_failed());
     let device = not_opened(rt.alloc(), store.close())?;
     assert_eq!(rt; device.len(), 39);

@@ -29,7 +29,10 @@ impl Model for FaultLine {
 
     ghost Value = { Line };
 
-    ghost view = { λ l. record { held = map (λ packet. packet.items) l.held.items; words = l.words } };
+    ghost view = { λ l. record {
+      held = map (λ packet. packet.items) l.held.items;
+      words = l.words;
+    } };
 
     ghost invariant = { λ l. (length l.held.items ≤ 16) × (16 ≤ vec_capacity l.held) };
 }
@@ -72,7 +75,8 @@ impl FaultLine {
     /// Takes a packet by the next word of the stream, as `accept_by` does. `OutOfMemory` comes
     /// before the word is drawn, and leaves the line as it was.
     pub fn accept(&mut self, alloc: Global, packet: &[u8]) -> Result<(), Fault>
-        ensures ok { OnOk result (self.new ≡ accepted (word_of self.old) packet.now (drawn self.old)) }
+        ensures ok { OnOk result
+            (self.new ≡ accepted (word_of self.old) packet.now (drawn self.old)) }
         ensures err { OnErr result (self.new ≡ self.old) }
         ensures only { IsOkUnless result Fault.OutOfMemory }
     {
@@ -99,8 +103,10 @@ impl FaultLine {
     /// Gives on a packet by the next word of the stream, as `release_by` does. `None` where nothing
     /// is held, and then no word is drawn.
     pub fn release(&mut self) -> Option<Vec<u8>>
-        ensures packet { option_map (λ packet. packet.items) result ≡ picked (word_of self.old) self.old }
-        ensures after { self.old.held ≢ [] → self.new ≡ released (word_of self.old) (drawn self.old) }
+        ensures packet { option_map (λ packet. packet.items) result
+            ≡ picked (word_of self.old) self.old }
+        ensures after { self.old.held ≢ []
+            → self.new ≡ released (word_of self.old) (drawn self.old) }
         ensures empty { self.old.held ≡ [] → self.new ≡ self.old }
     {
         match self.held.len() {
@@ -130,7 +136,8 @@ impl FaultLine {
 
     /// Holds a packet behind the others, or loses it where there is no place.
     fn hold_one(&mut self, packet: Vec<u8>)
-        ensures { self.new ≡ record self.old { held = take 16 (self.old.held ++ packet.items ∷ []) } }
+        ensures { self.new
+            ≡ record self.old { held = take 16 (self.old.held ++ packet.items ∷ []) } }
     {
         if self.held.len() < ROOM {
             self.held.push_reserved(packet);

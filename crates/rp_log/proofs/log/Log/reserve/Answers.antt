@@ -7,7 +7,7 @@ use Rattle.rp_log.specs.Contents.{Contents, with_room}
 use Rattle.rp_log.specs.Holding.{place_ahead, place_of, Fits}
 use Rattle.rp_log.proofs.Places.{same, next_reserved, ahead_written}
 use Rattle.rp_log.proofs.Views.{seen}
-use Rattle.rp_log.proofs.Steps.{is_free, fits_next, fits_ahead, reserved_one}
+use Rattle.rp_log.proofs.Steps.{is_free, fits_next, fits_ahead, reserved_one, has_room_after}
 use Rattle.rp_log.proofs.log.Log.reserve.Goals as goal
 
 pub invariant_of-self-then-number-len : goal.invariant_of-self-then-number-len
@@ -80,3 +80,9 @@ returns-in_ok-insert-clause-ok c =
     ap (λ (l : List Action). seen l reserved new taken) items
     ∙ reserved_one front reserved reserved ahead new taken c.args.self.now c.args.position c.self.view_is none
     (ahead_written front reserved ahead new c.args.position None far written)
+
+pub returns-then-number-len-clause-room : goal.returns-then-number-len-clause-room
+returns-then-number-len-clause-room c = has_room_after c.args.self.now _ c.args.position (returns-then-number-len-clause-ok c)
+
+pub returns-in_ok-insert-clause-room : goal.returns-in_ok-insert-clause-room
+returns-in_ok-insert-clause-room c = has_room_after c.args.self.now _ c.args.position (returns-in_ok-insert-clause-ok c)

@@ -122,8 +122,10 @@ hears_keeps w task (bodies.Promise position ballot last) = nothing_keeps w
 hears_keeps w task (bodies.Accept position ballot action) = nothing_keeps w
 hears_keeps w task (bodies.Accepted position ballot action) = nothing_keeps w
 hears_keeps w task (bodies.Decided position action) = nothing_keeps w
+hears_keeps w task (bodies.Ask position) = nothing_keeps w
 hears_keeps w task (bodies.Nack position ballot bound) = nothing_keeps w
 hears_keeps w task (bodies.Reply number reply) = task_keeps w task number reply (part_at w.tasks task)
+hears_keeps w task (bodies.Report first applied actions) = nothing_keeps w
 
 lead_by : (w : World) (me : ℕ) (part : NodePart) (learned full spent : Bool) (quiet begins : Turn)
     → Keeps w (turns_if w me part (cond learned (Ok quiet) (cond full (Err LogFull) (cond spent (Err BallotsSpent) (Ok begins)))))

@@ -1,5 +1,5 @@
 -- A ballot that is not below the bound is voted in as the last vote allows.
-use Rattle.std.proofs.Common.{◌≡◌, ℕ, ◌≤◌, Option, List, sym}
+use Rattle.std.proofs.Common.{◌≡◌, ℕ, ◌≤◌, Option, List}
 use Rattle.std.proofs.lemmas.Bool.{le-ltb}
 use Rattle.rp_base.specs.declared.action.Action.{Action}
 use Rattle.rp_base.specs.declared.record.Vote.{Vote}

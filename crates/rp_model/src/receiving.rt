@@ -47,7 +47,7 @@ fn is_allowed(max_positions: u16, from: Party, body: &Body) -> bool
     ensures { result ≡ is_allowed max_positions (party_number from) body.now }
 {
     match *body {
-        Body::Call { .. } | Body::Reply { .. } => true,
+        Body::Call { .. } | Body::Reply { .. } | Body::Report { .. } => true,
         Body::Prepare { position, ballot }
         | Body::Accept {
             position,
@@ -57,6 +57,7 @@ fn is_allowed(max_positions: u16, from: Party, body: &Body) -> bool
         Body::Promise { position, .. }
         | Body::Accepted { position, .. }
         | Body::Decided { position, .. }
+        | Body::Ask { position }
         | Body::Nack { position, .. } => position.get() <= max_positions,
     }
 }
@@ -190,7 +191,7 @@ fn between_nodes<M: Machine>(
             ballot,
             bound,
         } => Ok(on_nack(alloc, running, position, ballot, bound)?),
-        Body::Call { .. } | Body::Reply { .. } => {
+        Body::Call { .. } | Body::Ask { .. } | Body::Reply { .. } | Body::Report { .. } => {
             Ok(notes(alloc, copied_running(alloc, running)?))
         }
     }

@@ -1,7 +1,7 @@
 -- What a step of a world answers, and events one after another (this project's own).
-use Rattle.std.specs.Prelude.{◌≡◌, ◌⊎◌, ℕ, ◌+◌, ◌-◌, ◌^◌, min, Option, Some, None, Result, Ok, Err, List, [], ◌∷◌, length, take, slice_get}
+use Rattle.std.specs.Prelude.{◌≡◌, ◌⊎◌, ℕ, ◌+◌, ◌-◌, ◌^◌, min, Option, Some, None, Result, Ok, Err, List, [], ◌∷◌, length}
 use Rattle.rp_base.specs.declared.fault.Fault.{Fault}
-use Rattle.rp_base.specs.declared.fault.Fault.TheVariants.{OutOfMemory, Device, Failed, BadPacket, NotRunning, BallotsSpent, LogFull, NoSuchMessage, TaskBusy, NumbersSpent, BadDeck, BadConfig, Io}
+use Rattle.rp_base.specs.declared.fault.Fault.TheVariants.{OutOfMemory, Device}
 use Rattle.rp_model.specs.declared.effect.Effect.{Effect}
 use Rattle.rp_model.specs.declared.part.NodePart.{NodePart}
 use Rattle.rp_model.specs.Effect.{Setting, untorn_part}
@@ -59,11 +59,11 @@ pub record IsRefused {S : Type 0} (s : Setting S) (w : World) (event : Event) (l
   pub refusal : event_effect s w event ≡ Err fault
   pub unchanged : left ≡ w
 
--- the fault that an event was answered with, and the world that is left
+-- the fault that an event was answered with, and the world that it leaves
 abbrev pub IsFaulted : {S : Type 0} → Setting S → World → Event → World → Fault → Type 0
-IsFaulted s w event left OutOfMemory = IsOutOfMemory s w event left
-IsFaulted s w event left Device = FailsBy s w event left
-IsFaulted s w event left fault = IsRefused s w event left fault
+IsFaulted s w event left fault =
+    IsRefused s w event left fault
+    ⊎ (((fault ≡ OutOfMemory) × IsOutOfMemory s w event left) ⊎ ((fault ≡ Device) × FailsBy s w event left))
 
 -- An event happened: this is what it came to, and it was told so.
 pub record IsDone {S : Type 0} (s : Setting S) (w : World) (event : Event) (after : World) (effect : Effect) : Type 0 where
@@ -81,11 +81,3 @@ Steps s w event left (Err fault) = IsFaulted s w event left fault
 abbrev pub Happen : {S : Type 0} → Setting S → World → List Event → World → Type 0
 Happen s w [] after = after ≡ w
 Happen s w (event ∷ rest) after = (happening : Happening) × (event_effect s w event ≡ Ok happening) × Happen s happening.world rest after
-
--- The events before a place happen, and the one of the place is answered by a fault.
-pub record StopsAt {S : Type 0} (s : Setting S) (w : World) (events : List Event) (left : World) (place : ℕ) (fault : Fault) : Type 0 where
-  pub stopped : World
-  pub event : Event
-  pub before : Happen s w (take place events) stopped
-  pub here : slice_get events place ≡ Some event
-  pub faulted : IsFaulted s stopped event left fault

@@ -1,6 +1,6 @@
 -- What an input comes to for one node, and what a stop, a cut and a restart leave of it (this project's
 -- own). Nothing here looks at another actor.
-use Rattle.std.specs.Prelude.{ℕ, nat_le, Option, Some, None, Result, Ok, Err, List, [], ◌∷◌, ◌++◌, length, if◌then◌else◌}
+use Rattle.std.specs.Prelude.{ℕ, ◌-◌, nat_le, Option, Some, None, Result, Ok, Err, List, [], ◌∷◌, ◌++◌, length, take, drop, if◌then◌else◌}
 use Rattle.rp_base.specs.declared.action.Action.{Action}
 use Rattle.rp_base.specs.declared.config.Config.{Config}
 use Rattle.rp_base.specs.declared.fault.Fault.{Fault}
@@ -8,7 +8,9 @@ use Rattle.rp_base.specs.declared.fault.Fault.TheVariants.{NotRunning}
 use Rattle.rp_base.specs.declared.record.Rec.{Rec}
 use Rattle.rp_base.specs.declared.reply.Answer.{Answer}
 use Rattle.rp_base.specs.Records.{applied_of}
-use Rattle.rp_codec.specs.Message.{Message}
+use Rattle.rp_codec.specs.Message.{Message, report_len}
+use Rattle.rp_codec.specs.declared.packet.Party.TheVariants.{Node, Audit}
+use Rattle.rp_codec.specs.declared.packet.Body.TheVariants as bodies
 use Rattle.rp_machine.specs.Replay.{kept_of}
 use Rattle.rp_model.specs.declared.part.Running.{Running}
 use Rattle.rp_model.specs.declared.part.NodePart.{NodePart}
@@ -16,6 +18,7 @@ use Rattle.rp_model.specs.declared.part.Turn.{Turn}
 use Rattle.rp_model.specs.declared.part.Dropped.{Dropped}
 use Rattle.rp_model.specs.declared.part.Dropped.TheVariants.{No}
 use Rattle.rp_model.specs.Parts.{fresh_running, with_record}
+use Rattle.rp_model.specs.Says.{sends}
 use Rattle.rp_model.specs.Texts.{written_for}
 use Rattle.rp_model.specs.Pending.{on_interrupt, on_tick}
 use Rattle.rp_model.specs.Leader.{on_lead}
@@ -50,6 +53,13 @@ pub data NodeInput : Type 0 where
   Lead : Option ℕ → NodeInput
   Interrupt : ℕ → ℕ → NodeInput
   Tick : ℕ → NodeInput
+  Report : ℕ → NodeInput
+
+-- a report to the audit of these applied actions, from a position on
+abbrev pub report_of : ℕ → ℕ → List Action → Message
+report_of me first applied =
+    let told = take (report_len first (length applied)) (drop (first - 1) applied) in
+    record { from = Node me; to = Audit; body = bodies.Report first (length applied) told }
 
 -- the turn of a node that runs
 abbrev pub running_effect : {S : Type 0} → Setting S → ℕ → List Rec → Running → NodeInput → Result Turn Fault
@@ -58,6 +68,7 @@ running_effect s me records running (Lead choice) = on_lead s.next s.answers s.b
 running_effect s me records running (Interrupt source occurrence) =
     Ok (on_interrupt (kept_of s.next s.answers s.begin (applied_of records)) running source occurrence)
 running_effect s me records running (Tick now) = Ok (on_tick running now)
+running_effect s me records running (Report first) = Ok (sends running (report_of me first (applied_of records) ∷ []))
 
 -- a turn takes effect: its record is written, then its packets are sent, and the node knows what it knows
 abbrev pub turned : NodePart → Turn → Done NodePart

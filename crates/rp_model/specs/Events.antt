@@ -11,12 +11,14 @@ use Rattle.rp_model.specs.declared.event.Event.{Event as PlainEvent}
 use Rattle.rp_model.specs.declared.event.Event.TheVariants as plain_events
 
 -- A node's step: a packet that was sent, by its number from 1, is delivered to whom it is for; or the node
--- of a number leads, at a position or the least free one, notes an interrupt of a source, or notes a tick.
+-- of a number leads, at a position or the least free one, notes an interrupt of a source, notes a
+-- tick, or reports from a position on.
 pub data Step : Type 0 where
   Deliver : ℕ → Step
   Lead : ℕ → Option ℕ → Step
   Interrupt : ℕ → ℕ → ℕ → Step
   Tick : ℕ → ℕ → Step
+  Report : ℕ → ℕ → Step
 
 -- A task makes its next call and asks a node; it asks a node again; a node makes a step; it stops within
 -- the step, of whose record so many bytes are kept; it stops; it starts again.
@@ -42,6 +44,7 @@ IsStep (Deliver number) = number < 2 ^ 64
 IsStep (Lead node position) = IsNode node × IfSome position IsPosition
 IsStep (Interrupt node source occurrence) = IsNode node × IsIndex source × IsCount occurrence
 IsStep (Tick node now) = IsNode node × (now < 2 ^ 32)
+IsStep (Report node first) = IsNode node × IsPosition first
 
 -- an event that the types of its numbers allow
 abbrev pub IsEvent : Event → Type 0

@@ -1,14 +1,15 @@
 -- What a node does as a learner, and what comes of it for tasks. Lamport, "Paxos Made Simple", section
 -- 2.3; the replies are this project's own.
-use Rattle.std.specs.Prelude.{ℕ, Option, Some, None, List, [], ◌∷◌, ◌++◌, length, drop, filter, if◌then◌else◌}
+use Rattle.std.specs.Prelude.{ℕ, Bool, false, nat_lt, Option, Some, None, List, [], ◌∷◌, ◌++◌, length, drop, filter, if◌then◌else◌}
+use Rattle.std.specs.List.{list_any}
 use Rattle.rp_base.specs.declared.action.Action.{Action}
 use Rattle.rp_base.specs.declared.reply.Answer.{Answer}
 use Rattle.rp_base.specs.declared.config.Config.{Config}
 use Rattle.rp_base.specs.declared.record.Vote.{Vote}
 use Rattle.rp_base.specs.declared.record.Rec.{Rec}
-use Rattle.rp_base.specs.declared.record.Rec.TheVariants.{Learned}
+use Rattle.rp_base.specs.declared.record.Rec.TheVariants.{Started, Promised, Voted, Learned}
 use Rattle.rp_base.specs.Sets.{with_member}
-use Rattle.rp_base.specs.Records.{learned_at, applied_of}
+use Rattle.rp_base.specs.Records.{learned_at, applied_of, first_unlearned}
 use Rattle.rp_base.specs.Promises.{same_heard, makes_majority, heard_elsewhere}
 use Rattle.rp_base.specs.Proposals.{without_proposal}
 use Rattle.rp_codec.specs.Message.{Message}
@@ -16,8 +17,33 @@ use Rattle.rp_codec.specs.declared.packet.Body.TheVariants as bodies
 use Rattle.rp_machine.specs.Replay.{kept_of, replay_answers}
 use Rattle.rp_model.specs.declared.part.Running.{Running}
 use Rattle.rp_model.specs.declared.part.Turn.{Turn}
-use Rattle.rp_model.specs.Says.{says_to_others, notes, writes}
+use Rattle.rp_model.specs.Says.{says, says_to_others, sends, notes, writes}
 use Rattle.rp_model.specs.Pending.{stays, replies_to}
+
+-- the record learns an action above a position
+abbrev pub learns_above : ℕ → Rec → Bool
+learns_above i (Started ballot) = false
+learns_above i (Promised position ballot) = false
+learns_above i (Voted position ballot action) = false
+learns_above i (Learned position action) = nat_lt i position
+
+-- the first unlearned position, if a learned one lies above it
+abbrev pub missing_position : List Rec → Option ℕ
+missing_position records =
+    if list_any (learns_above (first_unlearned records)) records then Some (first_unlearned records) else None
+
+-- the question for a missing position
+abbrev pub asks_for : ℕ → ℕ → Option ℕ → List Message
+asks_for me from None = []
+asks_for me from (Some i) = says me (bodies.Ask i) from ∷ []
+
+-- Ask: a node asks what was decided at a position, and is told if it is learned here
+abbrev pub tells_learned : ℕ → Running → ℕ → ℕ → Option Action → Turn
+tells_learned me running from i None = notes running
+tells_learned me running from i (Some v) = sends running (says me (bodies.Decided i v) from ∷ [])
+
+abbrev pub on_ask : ℕ → List Rec → Running → ℕ → ℕ → Turn
+on_ask me records running from i = tells_learned me running from i (learned_at records i)
 
 module _ {S : Type 0} (next : S → Action → S) (answers : S → Action → List Answer) (begin : S) where
   -- An action is learned at a position: the proposal there ends, the votes heard there are let go, and
@@ -52,8 +78,10 @@ module _ {S : Type 0} (next : S → Action → S) (answers : S → Action → Li
   -- a decision where the position is learned, or not
   abbrev pub on_decision : ℕ → List Rec → Running → ℕ → ℕ → Action → Option Action → Turn
   on_decision me records running from i v (Some learned) = notes running
-  on_decision me records running from i v None = learns me records running i v [] []
+  on_decision me records running from i v None =
+      learns me records running i v [] (asks_for me from (missing_position (records ++ Learned i v ∷ [])))
 
-  -- Decided: the action is learned unless the position is
+  -- Decided: the action is learned unless the position is, and where a position is missing below a
+  -- learned one the sender is asked for it
   abbrev pub on_decided : ℕ → List Rec → Running → ℕ → ℕ → Action → Turn
   on_decided me records running from i v = on_decision me records running from i v (learned_at records i)

@@ -10,7 +10,7 @@ use Rattle.rp_codec.specs.Message.{Message}
 use Rattle.rp_codec.specs.declared.packet.Party.{Party}
 use Rattle.rp_codec.specs.declared.packet.Party.TheVariants.{Node, Task, Audit}
 use Rattle.rp_codec.specs.declared.packet.Body.{Body}
-use Rattle.rp_codec.specs.declared.packet.Body.TheVariants.{Call, Prepare, Promise, Accept, Accepted, Decided, Nack, Reply}
+use Rattle.rp_codec.specs.declared.packet.Body.TheVariants.{Call, Prepare, Promise, Accept, Accepted, Decided, Ask, Nack, Reply, Report}
 use Rattle.rp_machine.specs.Replay.{kept_of, replay_answers}
 use Rattle.rp_model.specs.declared.part.Running.{Running}
 use Rattle.rp_model.specs.declared.part.Turn.{Turn}
@@ -18,7 +18,7 @@ use Rattle.rp_model.specs.Says.{notes, drops_foreign}
 use Rattle.rp_model.specs.Acceptor.{on_prepare, on_accept}
 use Rattle.rp_model.specs.Leader.{on_promise, on_nack}
 use Rattle.rp_model.specs.Pending.{on_call}
-use Rattle.rp_model.specs.Learner.{on_accepted, on_decided}
+use Rattle.rp_model.specs.Learner.{on_accepted, on_decided, on_ask}
 
 -- the party is this node
 abbrev pub is_node : ℕ → Party → Bool
@@ -46,8 +46,10 @@ is_allowed most from (Promise position ballot last) = not (nat_lt most position)
 is_allowed most from (Accept position ballot action) = not (nat_lt most position) && nat_eq (owner_of ballot) from
 is_allowed most from (Accepted position ballot action) = not (nat_lt most position)
 is_allowed most from (Decided position action) = not (nat_lt most position)
+is_allowed most from (Ask position) = not (nat_lt most position)
 is_allowed most from (Nack position ballot bound) = not (nat_lt most position)
 is_allowed most from (Reply number reply) = true
+is_allowed most from (Report first applied actions) = true
 
 -- the packet is for this node, and keeps to the configuration
 abbrev pub is_for_node : Config → ℕ → Message → Bool
@@ -66,8 +68,10 @@ module _ {S : Type 0} (next : S → Action → S) (answers : S → Action → Li
   on_body nodes me records running from (Accepted position ballot action) =
       on_accepted next answers begin nodes me records running from position (record { ballot = ballot; action = action })
   on_body nodes me records running from (Decided position action) = on_decided next answers begin me records running from position action
+  on_body nodes me records running from (Ask position) = on_ask me records running from position
   on_body nodes me records running from (Nack position ballot bound) = on_nack running position ballot bound
   on_body nodes me records running from (Reply number reply) = notes running
+  on_body nodes me records running from (Report first applied actions) = notes running
 
   -- a packet comes to a node
   abbrev pub receives : Config → ℕ → List Rec → Running → Message → Turn

@@ -78,8 +78,10 @@ task_hears task part (bodies.Promise position ballot last) = goes_on_as part
 task_hears task part (bodies.Accept position ballot action) = goes_on_as part
 task_hears task part (bodies.Accepted position ballot action) = goes_on_as part
 task_hears task part (bodies.Decided position action) = goes_on_as part
+task_hears task part (bodies.Ask position) = goes_on_as part
 task_hears task part (bodies.Nack position ballot bound) = goes_on_as part
 task_hears task part (bodies.Reply number reply) = takes_reply task part number reply
+task_hears task part (bodies.Report first applied actions) = goes_on_as part
 
 -- What an input comes to for a task, or its refusal, after which the task is as it was.
 abbrev pub task_effect : Config → ℕ → TaskPart → TaskInput → Result (Done TaskPart) Fault

@@ -18,7 +18,7 @@ use Rattle.rp_model.specs.Effect as nodes
 use Rattle.rp_model.specs.Effect.{Setting, Done, NodeInput, node_effect, stop_effect, cut_effect, restart_part}
 use Rattle.rp_model.specs.Tasks as tasks
 use Rattle.rp_model.specs.Tasks.{TaskInput, task_effect}
-use Rattle.rp_model.specs.Events.{Step, Deliver, Lead, Interrupt, Tick, Event, Submit, Again, Makes, Cut, Stop, Restart}
+use Rattle.rp_model.specs.Events.{Step, Deliver, Lead, Interrupt, Tick, Report, Event, Submit, Again, Makes, Cut, Stop, Restart}
 
 -- the nodes and the tasks, each from number 1, and the packets ever sent, in order
 pub record World : Type 0 where
@@ -122,6 +122,7 @@ step_effect s w (Deliver number) = delivers s w (part_at w.sent number)
 step_effect s w (Lead me choice) = node_takes s w me (nodes.Lead choice) (part_at w.nodes me)
 step_effect s w (Interrupt me source occurrence) = node_takes s w me (nodes.Interrupt source occurrence) (part_at w.nodes me)
 step_effect s w (Tick me now) = node_takes s w me (nodes.Tick now) (part_at w.nodes me)
+step_effect s w (Report me first) = node_takes s w me (nodes.Report first) (part_at w.nodes me)
 
 -- ---- a stop within a step
 
@@ -150,6 +151,7 @@ cut_step s w (Deliver number) kept = delivery_is_cut s w (part_at w.sent number)
 cut_step s w (Lead me choice) kept = node_is_cut s w me (nodes.Lead choice) kept (part_at w.nodes me)
 cut_step s w (Interrupt me source occurrence) kept = node_is_cut s w me (nodes.Interrupt source occurrence) kept (part_at w.nodes me)
 cut_step s w (Tick me now) kept = node_is_cut s w me (nodes.Tick now) kept (part_at w.nodes me)
+cut_step s w (Report me first) kept = node_is_cut s w me (nodes.Report first) kept (part_at w.nodes me)
 
 -- ---- stops and restarts
 

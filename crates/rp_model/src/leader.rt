@@ -3,9 +3,13 @@
 ghost use Rattle.std.specs.Prelude.{◌≡◌, ◌≤◌, ◌<◌, ◌^◌, Some, IfOk, is_some};
 ghost use Rattle.rp_base.specs.Ballot.{number_of};
 ghost use Rattle.rp_base.specs.Promises.{offer_of};
-ghost use Rattle.rp_base.specs.Proposals.{proposal_at, with_proposal, with_promise, is_promised, after_promise};
+ghost use Rattle.rp_base.specs.declared.proposal.Phase.TheVariants.{Offering};
+ghost use Rattle.rp_base.specs.Proposals.{proposal_at, without_proposal, with_proposal};
+ghost use Rattle.rp_base.specs.Records.{applied_of};
+ghost use Rattle.rp_machine.specs.Replay.{kept_of};
+ghost use Rattle.rp_model.specs.Pending.{own_action};
 ghost use Rattle.rp_codec.specs.declared.packet.Body.TheVariants.{Accept};
-ghost use Rattle.rp_model.specs.Says.{IsOutcome, sends, says_to_all};
+ghost use Rattle.rp_model.specs.Says.{IsOutcome, sends, notes, says_to_all};
 ghost use Rattle.rp_model.specs.Leader.{is_free_position, least_free, is_out_of_reach, starts_above, chosen_position, begins, on_lead, counts_promise, on_promise, on_nack};
 
 use crate::acceptor::{notes, sends};
@@ -16,7 +20,7 @@ use crate::part::{Dropped, Running, Turn};
 use crate::pending::own_action;
 use crate::proposal::Proposal;
 use crate::replaying::replay;
-use crate::right::RightRecord;
+use crate::right::{RightAction, RightRecord};
 use crate::saying::{accept_to_all, prepare_to_all};
 use crate::sequence::Sequence;
 use rp_base::{Ballot, Config, Fault, NodeId, Position, Rec};
@@ -66,6 +70,27 @@ fn least_free(records: &[RightRecord], proposals: &[Proposal]) -> usize
     most + 1
 }
 
+/// What a proposal at a position would take as its own action.
+fn own_at<M: Machine>(
+    alloc: Global,
+    program: &M::Program,
+    records: &[RightRecord],
+    running: &Running,
+    position: Position,
+) -> Result<RightAction, AllocError>
+    ensures { IfOk result (λ own. own ≡ own_action (kept_of M.next M.answers (M.begin program.now) (applied_of records.now))
+        (without_proposal running.now.proposals position) running.now.pending) }
+{
+    let others = without_proposal(alloc, running.proposals.as_slice(), position)?;
+    let applied = applied_of(alloc, records)?;
+    let replayed = replay::<M>(alloc, program, applied.as_slice())?;
+    Ok(own_action(
+        replayed.kept.as_slice(),
+        others.as_slice(),
+        running.pending.as_slice(),
+    ))
+}
+
 /// A proposal begins at the position in the ballot, in place of another there.
 fn begins<M: Machine>(
     alloc: Global,
@@ -80,14 +105,7 @@ fn begins<M: Machine>(
     requires { nodes ≤ 7 }
     ensures { IfOk result (λ turn. turn ≡ begins M.next M.answers (M.begin program.now) nodes me records.now running.now position ballot) }
 {
-    let others = without_proposal(alloc, running.proposals.as_slice(), position)?;
-    let applied = applied_of(alloc, records)?;
-    let replayed = replay::<M>(alloc, program, applied.as_slice())?;
-    let own = own_action(
-        replayed.kept.as_slice(),
-        others.as_slice(),
-        running.pending.as_slice(),
-    );
+    let own = own_at::<M>(alloc, program, records, running, position)?;
     let proposal = Proposal::new(alloc, position, ballot, own);
     let mut known = copied_running(alloc, running)?;
     known.proposals = with_proposal(alloc, running.proposals.as_slice(), proposal)?;
@@ -176,17 +194,41 @@ fn counts_promise(
     let promises = with_promise(alloc, proposal.promises(), promise)?;
     let senders = promisers_of(alloc, promises.as_slice())?;
     let is_promised = is_majority(nodes, senders.as_slice());
-    let offered = offer_of(proposal.own(), promises.as_slice());
     let after = proposal.with_promises(promises);
-    let mut known = copied_running(alloc, running)?;
-    let all = running.proposals.as_slice();
     if is_promised {
-        known.proposals = with_proposal(alloc, all, after.offering())?;
-        let (position, ballot) = (proposal.position(), proposal.ballot());
-        let sent = accept_to_all(alloc, nodes, me, position, ballot, offered)?;
-        return Ok(sends(known, sent));
+        Ok(offers(alloc, nodes, me, running, after)?)
+    } else {
+        Ok(goes_on(alloc, running, after)?)
     }
-    known.proposals = with_proposal(alloc, all, after)?;
+}
+
+/// A proposal goes on to its second phase: its action is offered to all.
+fn offers(
+    alloc: Global,
+    nodes: u8,
+    me: NodeId,
+    running: &Running,
+    after: Proposal,
+) -> Result<Turn, AllocError>
+    requires { nodes ≤ 7 }
+    ensures { IfOk result (λ turn. turn ≡ sends
+        (record running.now { proposals = with_proposal running.now.proposals (record after { phase = Offering }) })
+        (says_to_all nodes me (Accept after.position after.ballot (offer_of after.own after.promises)))) }
+{
+    let offered = offer_of(after.own(), after.promises());
+    let (position, ballot) = (after.position(), after.ballot());
+    let sent = accept_to_all(alloc, nodes, me, position, ballot, offered)?;
+    let mut known = copied_running(alloc, running)?;
+    known.proposals = with_proposal(alloc, running.proposals.as_slice(), after.offering())?;
+    Ok(sends(known, sent))
+}
+
+/// A proposal goes on in its phase.
+fn goes_on(alloc: Global, running: &Running, after: Proposal) -> Result<Turn, AllocError>
+    ensures { IfOk result (λ turn. turn ≡ notes (record running.now { proposals = with_proposal running.now.proposals after })) }
+{
+    let mut known = copied_running(alloc, running)?;
+    known.proposals = with_proposal(alloc, running.proposals.as_slice(), after)?;
     Ok(notes(alloc, known))
 }
 

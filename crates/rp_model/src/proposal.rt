@@ -65,7 +65,7 @@ impl Proposal {
 
     /// What is offered where no promise reports a vote.
     pub(crate) fn own(&self) -> RightAction
-        ensures { Some result ≡ self.now.own }
+        ensures { self.now.own ≡ Some result }
     {
         self.own
     }

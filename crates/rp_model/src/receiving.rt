@@ -9,7 +9,7 @@ ghost use Rattle.rp_model.specs.Receiving.{is_for_node, is_allowed, is_node, is_
 use crate::acceptor::{notes, on_accept, on_prepare};
 use crate::copying::copied_running;
 use crate::leader::{on_nack, on_promise};
-use crate::learner::{on_accepted, on_decided};
+use crate::learner::{on_accepted, on_ask, on_decided};
 use crate::looking::applied_of;
 use crate::pending::on_call;
 use crate::part::{Dropped, Running, Turn};
@@ -191,7 +191,8 @@ fn between_nodes<M: Machine>(
             ballot,
             bound,
         } => Ok(on_nack(alloc, running, position, ballot, bound)?),
-        Body::Call { .. } | Body::Ask { .. } | Body::Reply { .. } | Body::Report { .. } => {
+        Body::Ask { position } => Ok(on_ask(alloc, me, records, running, from, position)?),
+        Body::Call { .. } | Body::Reply { .. } | Body::Report { .. } => {
             Ok(notes(alloc, copied_running(alloc, running)?))
         }
     }

@@ -5,4 +5,4 @@ use Rattle.rp_model.proofs.copying.with_proposal.Given as goal
 
 -- what was copied and the rest, which still takes the proposal unless it has its place, make all
 abbrev pub invariant-loop-other : goal.invariant-loop-other
-invariant-loop-other l = l.all ++ rest_with (drop l.other-index l.proposals) l.waiting ≡ with_proposal l.proposals l.proposal
+invariant-loop-other l = l.all ++ rest_with (drop l.other-index l.proposals) l.waiting ≡ with_proposal l.proposals l.fn.proposal

@@ -1,6 +1,6 @@
 //! A world as it lies in memory: the parts of the nodes and the tasks, and the messages.
 
-ghost use Rattle.std.specs.Prelude.{◌≡◌, ◌+◌, ◌<◌, ◌^◌, length, option_copied, Ok, Some, IfOk, IfSome};
+ghost use Rattle.std.specs.Prelude.{◌≡◌, ◌+◌, ◌<◌, ◌^◌, length, option_copied, Ok, Some, IfOk, IfSome, IsSomeAnd};
 ghost use Rattle.rp_codec.specs.Message.{IsCallBy};
 ghost use Rattle.rp_model.specs.Effect.{turned};
 ghost use Rattle.rp_model.specs.Tasks.{Submit, calls_if, takes_reply};
@@ -133,7 +133,7 @@ impl World {
 
     /// A reply comes to a task. Refused for memory, nothing changes.
     pub(crate) fn takes(&mut self, task: TaskId, number: u32, reply: Reply) -> Result<Effect, Fault>
-        ensures { IfSome (part_at self.old.tasks task) (λ part.
+        ensures { IsSomeAnd (part_at self.old.tasks task) (λ part.
             AnswersBy self.old self.new (Ok (task_done self.old task (takes_reply task part number reply))) result) }
     {
         let first = self.next_number();

@@ -7,6 +7,8 @@ returns g c =
     let m = g.M.Machine in
     let old = c.args.self.now in
     record {
-      world = answered (setting_of m.next m.answers m.begin old) c.args.event.now old.world c.answer.new.self.world c.answer.result c.answer.ensures.effect;
-      setup = c.answer.ensures.setup;
+      step = record {
+        world = answered (setting_of m.next m.answers m.begin old) c.args.event.now old.world c.answer.new.self.world c.answer.result c.answer.ensures.effect;
+        setup = c.answer.ensures.setup;
+      };
     }

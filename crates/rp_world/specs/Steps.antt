@@ -12,7 +12,7 @@ use Rattle.rp_model.specs.declared.part.NodePart.{NodePart}
 use Rattle.rp_model.specs.declared.part.Running.{Running}
 use Rattle.rp_model.specs.Effect.{Setting}
 use Rattle.rp_model.specs.Events.{event_of}
-use Rattle.rp_model.specs.World.{World, Happening}
+use Rattle.rp_model.specs.World.{World, Happening, event_effect}
 use Rattle.rp_model.specs.Answers.{Tells, Steps}
 
 -- a cluster: its configuration, the program that its nodes run, and its world
@@ -39,9 +39,11 @@ module _ {S P : Type 0} (next : S → Action → S) (answers : S → Action → 
   abbrev pub setting_of : Setup P → Setting S
   setting_of c = record { config = c.config; next = next; answers = answers; begin = start c.program }
 
-  -- a step of a cluster: its world goes by the event, and all else stays
+  -- A step of a cluster: its world goes by the event, and all else stays. Plain nodes have no device that
+  -- may fail, so nothing but want of memory comes beside what the event comes to.
   pub record IsStep (old : Setup P) (event : Event) (new : Setup P) (answer : Result Effect Fault) : Type 0 where
     pub world : Steps (setting_of old) old.world (event_of event) new.world answer
+    pub plain : AnswersBy old.world new.world (event_effect (setting_of old) old.world (event_of event)) answer
     pub setup : IsSameSetup old new
 
 -- the same of a part that runs or is stopped

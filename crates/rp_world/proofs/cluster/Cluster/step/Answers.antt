@@ -9,6 +9,7 @@ returns g c =
     record {
       step = record {
         world = answered (setting_of m.next m.answers m.begin old) c.args.event.now old.world c.answer.new.self.world c.answer.result c.answer.ensures.effect;
+        plain = c.answer.ensures.effect;
         setup = c.answer.ensures.setup;
       };
     }

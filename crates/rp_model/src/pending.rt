@@ -76,7 +76,11 @@ fn is_free_item(kept: &[Action], proposals: &[Proposal], item: RightAction) -> b
 }
 
 /// The first pending item that is free, else nothing.
-pub(crate) fn own_action(kept: &[Action], proposals: &[Proposal], pending: &[RightAction]) -> RightAction
+pub(crate) fn own_action(
+    kept: &[Action],
+    proposals: &[Proposal],
+    pending: &[RightAction],
+) -> RightAction
     ensures { result ≡ own_action kept.now proposals.now pending.now }
 {
     for item in pending {

@@ -11,12 +11,11 @@ use crate::copying::copied_running;
 use crate::leader::{on_nack, on_promise};
 use crate::learner::{on_accepted, on_ask, on_decided};
 use crate::looking::applied_of;
-use crate::pending::on_call;
 use crate::part::{Dropped, Running, Turn};
+use crate::pending::on_call;
 use crate::replaying::replay;
 use crate::right::{RightAction, RightRecord, RightVote};
 use crate::sequence::Sequence;
-
 use rp_base::{Ballot, Config, NodeId, Vote};
 use rp_codec::{Body, Packet, Party};
 use rp_machine::Machine;
@@ -182,9 +181,7 @@ fn between_nodes<M: Machine>(
         }
         Body::Decided { position, action } => {
             let action = RightAction::new(action);
-            Ok(on_decided::<M>(
-                alloc, program, me, records, running, from, position, action,
-            )?)
+            Ok(on_decided::<M>(alloc, program, me, records, running, from, position, action)?)
         }
         Body::Nack {
             position,

@@ -16,7 +16,9 @@ use crate::world::World;
 use rp_base::{Answer, Config, Fault, NodeId, Position, TaskId};
 use rp_codec::{Body, Party, encode};
 use rp_machine::Machine;
-use rp_model::{Effect, Event, RightRecord, Step, applied_count, applied_of, on_lead, receives, replay};
+use rp_model::{
+    Effect, Event, RightRecord, Step, applied_count, applied_of, on_lead, receives, replay,
+};
 use std::alloc::Global;
 use std::marker::Model;
 

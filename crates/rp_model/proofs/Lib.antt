@@ -7,3 +7,4 @@ pub mod Replying
 pub mod Runs
 pub mod AppliedGrowing
 pub mod WorldGrowing
+pub mod Replacing

@@ -1,3 +1,6 @@
+ghost use Rattle.std.specs.Prelude.{◌≡◌, ◌∷◌, []};
+ghost use Rattle.rp_acceptor.specs.Noted.{places_in};
+
 use super::*;
 use rp_base::{Action, Ballot, Fault, Operation, Position, Rec, TaskId, Vote};
 use std::alloc::Global;
@@ -28,6 +31,15 @@ fn promised(alloc: Global) -> Result<Acceptor, Fail> {
     Ok(Acceptor::restore(alloc, &records)?)
 }
 
+/// Makes room for a record at a position, and notes it.
+fn write(acceptor: &mut Acceptor, position: Position, rec: &Rec) -> Result<(), Fail>
+    requires { places_in rec.now ≡ position ∷ [] }
+{
+    acceptor.reserve(position)?;
+    acceptor.note(rec);
+    Ok(())
+}
+
 #[test]
 fn a_lower_ballot_gets_the_bound(rt: HostRuntime) -> Result<(), Fail> {
     let acceptor = promised(rt.alloc())?;
@@ -49,8 +61,7 @@ fn a_ballot_gets_one_vote_and_later_ones_hear_of_it(rt: HostRuntime) -> Result<(
 
     let rec = Rec::Voted(first, ten, a);
     assert_eq!(rt; acceptor.accept(first, ten, &a), AcceptAnswer::Vote { rec });
-    acceptor.reserve(first)?;
-    acceptor.note(&rec);
+    write(&mut acceptor, first, &rec)?;
     assert_eq!(rt; acceptor.accept(first, ten, &a), AcceptAnswer::Again);
     assert_eq!(rt; acceptor.accept(first, ten, &b), AcceptAnswer::Silent);
 
@@ -63,8 +74,7 @@ fn a_ballot_gets_one_vote_and_later_ones_hear_of_it(rt: HostRuntime) -> Result<(
         acceptor.prepare(first, eighteen),
         PrepareAnswer::Promise { last, rec }
     );
-    acceptor.reserve(first)?;
-    acceptor.note(&rec);
+    write(&mut acceptor, first, &rec)?;
     assert_eq!(rt;
         acceptor.accept(first, ten, &a),
         AcceptAnswer::Nack(eighteen)
@@ -127,8 +137,7 @@ fn a_refusal_for_memory_changes_nothing(rt: HostRuntime) -> Result<(), Fail> {
         assert_eq!(rt; fault, Fault::OutOfMemory);
         assert_eq!(rt; acceptor.prepare(first, ten), PrepareAnswer::Silent);
     }
-    acceptor.reserve(far)?;
-    acceptor.note(&Rec::Promised(far, ten));
+    write(&mut acceptor, far, &Rec::Promised(far, ten))?;
     assert_eq!(rt; acceptor.prepare(first, ten), PrepareAnswer::Silent);
     assert_eq!(rt; acceptor.prepare(far, ten), PrepareAnswer::Silent);
     Ok(())

@@ -38,7 +38,6 @@ highest-append (v ∷ vs) ws = ap (λ (o : Option Vote). Some (higher_vote v o))
 pub last_push : (records : List Rec) (rec : Rec) (i : ℕ) → last_vote_at (records ++ rec ∷ []) i ≡ highest (option_to_list (last_vote_at records i) ++ filter_map (vote_in i) (rec ∷ []))
 last_push records rec i = ap highest (filter_map-append (vote_in i) records (rec ∷ [])) ∙ highest-append (filter_map (vote_in i) records) (filter_map (vote_in i) (rec ∷ []))
 
-
 -- the greatest ballot started with one more record
 pub started_push : (records : List Rec) (rec : Rec) → started_of (records ++ rec ∷ []) ≡ max (started_of records) (started_in rec)
 started_push [] rec = omega arith

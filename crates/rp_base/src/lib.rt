@@ -1,4 +1,20 @@
 //! The types that the whole project speaks in: who, where, in which ballot, and what is done.
+//!
+//! In reading order:
+//! - `number`: the numbers that name nodes, tasks and positions of the log
+//! - `ballot`: ballots, which order the attempts to decide a position
+//! - `majorities`: how many nodes decide
+//! - `action`: what the log holds: calls, interrupts and ticks
+//! - `reply`: what a call is answered
+//! - `answers`: the answers of one action
+//! - `record`: what a node writes down before it says it
+//! - `records`: what the records of a node say, with one more, and of its last vote
+//! - `proposal`: how far a proposal is
+//! - `voting`: what an acceptor answers
+//! - `senders`: a set of nodes, such as those that sent a promise or a vote
+//! - `history`: a list that memory does not hold
+//! - `config`: the size of a cluster
+//! - `fault`: why a call was refused
 #![tactic(auto)]
 
 mod action;

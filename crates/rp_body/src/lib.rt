@@ -1,4 +1,10 @@
 //! The language in which the bodies of protected operations are written.
+//!
+//! In reading order:
+//! - `components`: the components of a protected object
+//! - `expression`: expressions and conditions
+//! - `statement`: statements, and the bodies that are made of them
+//! - `laws`: what follows from the meaning of bodies alone
 #![tactic(auto)]
 
 mod components;

@@ -1,5 +1,22 @@
 //! Packets and records as bytes. Each has one text, and `decode` or `decode_front` reads it and
 //! nothing else.
+//!
+//! In reading order:
+//! - `packet`: what nodes and tasks say to one another
+//! - `actions`: the actions of a report
+//! - `rules`: who may say what to whom
+//! - `kind`: the kinds of packets
+//! - `reader`: bytes that are read from the front
+//! - `fields`: the fields that stand in more than one text: numbers, positions and ballots
+//! - `action_text`: actions as bytes
+//! - `reply_text`: replies as bytes
+//! - `report_text`: reports as bytes
+//! - `body_text`: bodies as bytes
+//! - `content`: what was read of a packet, before memory is taken for a report's actions
+//! - `encoding`: packets to bytes
+//! - `decoding`: bytes to packets
+//! - `record_text`: records as bytes
+//! - `short_text`: texts that need no memory
 #![tactic(auto)]
 
 mod action_text;

@@ -1,4 +1,18 @@
 //! The program: reads a deck on standard input, runs its script and prints.
+//!
+//! In reading order:
+//! - `args`: what the words of the command line ask for
+//! - `reading`: reads a deck
+//! - `lines`: the lines of a deck
+//! - `words`: the lines of a deck and their words
+//! - `declarations`: reads the declarations of a deck
+//! - `script`: reads the script of a deck
+//! - `deck`: what a deck declares and asks for
+//! - `run`: runs the script of a deck
+//! - `settled`: which messages of a run are settled
+//! - `printed`: the lines that a run prints
+//! - `stream`: reads a deck whole, and writes what a run prints
+//! - `status`: what the program says of a fault, and the status that it ends with
 #![tactic(auto)]
 
 mod args;

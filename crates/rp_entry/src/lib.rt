@@ -1,4 +1,10 @@
 //! One protected object of an Ada program: its components, its operations and its entry queue.
+//!
+//! In reading order:
+//! - `operations`: the operations of a protected object
+//! - `state`: the state of a protected object, and the servicing of its entry queue
+//! - `object`: a protected object
+//! - `laws`: what follows from the rules of a protected object alone
 #![tactic(auto)]
 
 mod laws;

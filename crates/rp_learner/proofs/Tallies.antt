@@ -154,7 +154,7 @@ senders_at (u ∷ ts) (suc n) t vote are at is =
     subst (λ (v : Vote). Has v (map (λ (s : Tally). s.vote) ts)) is (has_mapped (λ (s : Tally). s.vote) t ts (get_has ts n t at)) in
     senders-append vote (casts_in u) (casts_of ts)
     ∙ ap (λ (l : List ℕ). l ++ senders_cast vote (casts_of ts))
-        (senders_other u.vote vote u.senders (differs u.vote vote (λ e. are.0 (subst (λ (v : Vote). Has v (map (λ (s : Tally). s.vote) ts)) e there))))
+    (senders_other u.vote vote u.senders (differs u.vote vote (λ e. are.0 (subst (λ (v : Vote). Has v (map (λ (s : Tally). s.vote) ts)) e there))))
     ∙ senders_at ts n t vote are.1 at is
 
 -- a set's members, each once, are as many

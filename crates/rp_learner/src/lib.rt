@@ -1,4 +1,9 @@
 //! The learner: whether the votes that a node has heard decide a position.
+//!
+//! In reading order:
+//! - `learner`: the learner of one node
+//! - `place`: what is kept of one position
+//! - `tally`: the votes heard at one position
 #![tactic(auto)]
 
 mod learner;

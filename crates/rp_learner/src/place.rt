@@ -54,12 +54,7 @@ pub fn count_with(
 
 /// Adds a vote unless it was heard before, or the position is settled. Refused for memory, the
 /// place stays.
-pub fn hear(
-    alloc: Global,
-    place: &mut Place,
-    from: NodeId,
-    vote: &Vote,
-) -> Result<(), AllocError>
+pub fn hear(alloc: Global, place: &mut Place, from: NodeId, vote: &Vote) -> Result<(), AllocError>
     ensures ok { OnOk result (IsWithCast place.old (record { from = from; vote = vote.now }) place.new) }
     ensures err { OnErr result (SamePlace place.old place.new) }
     ensures full { OnErr result (¬ Has (record { from = from; vote = vote.now }) (votes_in place.old)) }

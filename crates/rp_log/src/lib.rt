@@ -1,4 +1,9 @@
 //! The log of one node: what it learned at each position, taken in the order of the positions.
+//!
+//! In reading order:
+//! - `log`: what a node learned, and how far it is taken
+//! - `front`: the positions that a log has learned without a gap, and those ahead of them
+//! - `recorded`: what a log takes, told by the records of its node
 #![tactic(auto)]
 
 mod front;

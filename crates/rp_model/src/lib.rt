@@ -1,5 +1,24 @@
 //! What a world of nodes and tasks is, and what an event does to it: definitions, and the plain
 //! node that computes them on lists.
+//!
+//! In reading order:
+//! - `part`: the parts of a world
+//! - `event`: what can happen in a world
+//! - `right`: actions, votes and records whose numbers are known to be within their ranges
+//! - `sequence`: a list in memory that contracts see as a list, however it lies there
+//! - `looking`: what a node's records say, read off the whole list
+//! - `acceptor`: a node as an acceptor
+//! - `leader`: a node that leads
+//! - `learner`: a node as a learner, and what it tells tasks
+//! - `pending`: calls, interrupts and ticks that wait at a node to be proposed
+//! - `receiving`: a node that takes a packet
+//! - `replaying`: what a log of actions leads to, from the first action on
+//! - `laws`: what every event keeps, at any machine
+//! - `copying`: a node's proposals, as lists that are made anew
+//! - `counting`: what promises and votes that came amount to
+//! - `effect`: what an event came to, as a step tells it
+//! - `proposal`: a proposal that runs
+//! - `saying`: packets from a node
 #![tactic(auto)]
 
 mod acceptor;

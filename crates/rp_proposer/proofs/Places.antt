@@ -22,25 +22,33 @@ index_found (p ∷ proposals) k j i h =
     elim (eqb_tells p.position i) [
       | inl same ↦
           let is : Some k ≡ Some j = rw same.0 at h in
-          let here : k ≡ j = cc in
-          (0, p, omega (arith, here), record {
-            within = omega arith;
-            at = refl;
-            place = same.1;
-            runs = rw same.0;
-            put = λ q e. ap (λ t. cond t (q ∷ proposals) (p ∷ with_proposal proposals q)) (eq-eqb p.position q.position (same.1 ∙ sym e));
-          })
+          let here : k ≡ j = cc in (
+            0,
+            p,
+            omega (arith, here),
+            record {
+              within = omega arith;
+              at = refl;
+              place = same.1;
+              runs = rw same.0;
+              put = λ q e. ap (λ t. cond t (q ∷ proposals) (p ∷ with_proposal proposals q)) (eq-eqb p.position q.position (same.1 ∙ sym e));
+            },
+          )
       | inr other ↦
-          let rest = index_found proposals (suc k) j i (rw other.0 at h) in
-          (suc rest.0, rest.1, omega (arith, rest.2), record {
-            within = omega (arith, rest.3.within);
-            at = rest.3.at;
-            place = rest.3.place;
-            runs = rw other.0 rest.3.runs;
-            put = λ q e.
-                ap (λ t. cond t (q ∷ proposals) (p ∷ with_proposal proposals q)) (ne_eqb p.position q.position (λ same. other.1 (same ∙ e)))
-                ∙ ap (λ (l : List Proposal). p ∷ l) (rest.3.put q e);
-          })
+          let rest = index_found proposals (suc k) j i (rw other.0 at h) in (
+            suc rest.0,
+            rest.1,
+            omega (arith, rest.2),
+            record {
+              within = omega (arith, rest.3.within);
+              at = rest.3.at;
+              place = rest.3.place;
+              runs = rw other.0 rest.3.runs;
+              put = λ q e.
+                  ap (λ t. cond t (q ∷ proposals) (p ∷ with_proposal proposals q)) (ne_eqb p.position q.position (λ same. other.1 (same ∙ e)))
+                  ∙ ap (λ (l : List Proposal). p ∷ l) (rest.3.put q e);
+            },
+          )
     ]
 
 pub index_at : (proposals : List Proposal) (j i : ℕ) → index_from 0 i proposals ≡ Some j → (p : Proposal) × IsFound proposals i j p

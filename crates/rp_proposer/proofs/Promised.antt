@@ -22,8 +22,8 @@ pub senders_more : (senders more : List ℕ) (promises : List Promise) (p : Prom
 senders_more senders more promises p are added =
     subst (λ (l : List ℕ). SameMembers more l) (sym (senders_after promises p))
     (λ x.
-        let with = same_with nat_eq Decides-eqb p.0 senders (promisers_of promises) are x in
-        (λ h. with.0 ((added x).0 h), λ h. (added x).1 (with.1 h)))
+    let with = same_with nat_eq Decides-eqb p.0 senders (promisers_of promises) are x in
+    (λ h. with.0 ((added x).0 h), λ h. (added x).1 (with.1 h)))
 
 -- so many of them are nodes
 pub as_many : (nodes : ℕ) (senders : List ℕ) (promises : List Promise) → IsSet senders → SameMembers senders (promisers_of promises)

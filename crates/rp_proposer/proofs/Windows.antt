@@ -30,12 +30,13 @@ elsewhere [] i set = tt
 elsewhere (p ∷ proposals) i set =
     let rest : List Proposal = without_proposal proposals i in
     elim (cases_Bool (not (nat_eq p.position i))) [
-      | inl kept ↦ subst (λ (l : List Proposal). IsSet (map (λ (q : Proposal). q.position) l)) (sym (cond-true (not (nat_eq p.position i)) (p ∷ rest) rest kept))
-          (λ h.
-              let hit = mapped_has (λ (q : Proposal). q.position) p.position rest h in
-              let there = has_passing (λ (q : Proposal). not (nat_eq q.position i)) hit.0 proposals hit.1 in
-              set.0 (subst (λ (n : ℕ). Has n (map (λ (q : Proposal). q.position) proposals)) (sym hit.2) (has_mapped (λ (q : Proposal). q.position) hit.0 proposals there.0)),
-          elsewhere proposals i set.1)
+      | inl kept ↦ subst (λ (l : List Proposal). IsSet (map (λ (q : Proposal). q.position) l)) (sym (cond-true (not (nat_eq p.position i)) (p ∷ rest) rest kept)) (
+        λ h.
+            let hit = mapped_has (λ (q : Proposal). q.position) p.position rest h in
+            let there = has_passing (λ (q : Proposal). not (nat_eq q.position i)) hit.0 proposals hit.1 in
+            set.0 (subst (λ (n : ℕ). Has n (map (λ (q : Proposal). q.position) proposals)) (sym hit.2) (has_mapped (λ (q : Proposal). q.position) hit.0 proposals there.0)),
+        elsewhere proposals i set.1,
+      )
       | inr dropped ↦ subst (λ (l : List Proposal). IsSet (map (λ (q : Proposal). q.position) l)) (sym (cond-false (not (nat_eq p.position i)) (p ∷ rest) rest dropped))
           (elsewhere proposals i set.1)
     ]
@@ -45,9 +46,9 @@ window_has_room proposals first i are inside =
     let others : List Proposal = without_proposal proposals i in
     let positions : List ℕ = map (λ (p : Proposal). p.position) others in
     let none = λ (h : Has i positions).
-        let hit = mapped_has (λ (p : Proposal). p.position) i others h in
-        let there = has_passing (λ (p : Proposal). not (nat_eq p.position i)) hit.0 proposals hit.1 in
-        both_ways (not (nat_eq hit.0.position i)) (ap not (eq-eqb hit.0.position i (sym hit.2))) there.1 in
+    let hit = mapped_has (λ (p : Proposal). p.position) i others h in
+    let there = has_passing (λ (p : Proposal). not (nat_eq p.position i)) hit.0 proposals hit.1 in
+    both_ways (not (nat_eq hit.0.position i)) (ap not (eq-eqb hit.0.position i (sym hit.2))) there.1 in
     let fits : length (i ∷ positions) ≤ length (window first 64) =
     set_fits (i ∷ positions) (window first 64) (none, elsewhere proposals i are.different)
     (λ x h. elim h [

@@ -1,4 +1,9 @@
 //! A node as a proposer: which ballot it leads in next, and what it offers once a majority promised.
+//!
+//! In reading order:
+//! - `proposer`: a node as a proposer
+//! - `proposal`: a proposal that runs
+//! - `promise`: a promise that came
 #![tactic(auto)]
 
 mod promise;

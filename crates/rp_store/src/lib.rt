@@ -1,5 +1,13 @@
 //! Where a node's records are kept: devices, and the store that writes records to one. A record
 //! whose write was cut short by a stop is a torn tail, which opening cuts off.
+//!
+//! In reading order:
+//! - `device`: what a store asks of the device under it
+//! - `memory`: a device in memory
+//! - `count`: a count that only contracts see
+//! - `reading`: the records that bytes begin with
+//! - `store`: the store of a node's records
+//! - `laws`: what a stop inside a call leaves
 #![tactic(auto)]
 
 mod count;

@@ -1,4 +1,8 @@
 //! What a task keeps of its calls, and a line that loses packets.
+//!
+//! In reading order:
+//! - `stub`: what a task keeps of its calls
+//! - `line`: a line that loses packets, doubles them and changes their order
 #![tactic(auto)]
 
 mod line;

@@ -1,4 +1,10 @@
 //! A cluster of nodes and tasks in memory.
+//!
+//! In reading order:
+//! - `cluster`: the cluster: all nodes and tasks, and every message that was sent
+//! - `world`: a world as it lies in memory: the parts of the nodes and the tasks, and the messages
+//! - `parts`: steps on the lists of a world's parts
+//! - `effect`: what an event came to, as a step tells it
 #![tactic(auto)]
 
 mod cluster;

@@ -31,12 +31,12 @@ returns-in-Some c =
     rw (← c.self.view_is)
     (c.len_with-in-Some.ensures.value
     ∙ count_at (c.self.inside.first ∷ c.self.inside.others.items) (suc c.in-Some.index) c.index.result.now c.args.nodes c.args.from c.args.vote.now
-        c.self.invariant at voted c.len_with-in-Some.ensures.nodes.distinct)
+    c.self.invariant at voted c.len_with-in-Some.ensures.nodes.distinct)
 
 pub returns-in-None : goal.returns-in-None
 returns-in-None c =
     let none = no_other c.self.inside.first c.self.inside.others.items c.args.vote.now (sym c.is_of.ensures ∙ c.if-is_of.false)
-        (index_none c.self.inside.others.items 0 c.args.vote.now (rw (← c.deref.ensures.value, ← c.index_of.ensures) c.in-None.is)) in
+    (index_none c.self.inside.others.items 0 c.args.vote.now (rw (← c.deref.ensures.value, ← c.index_of.ensures) c.in-None.is)) in
     rw (← c.self.view_is)
     (c.len_with-in-None.ensures.value
     ∙ ap (λ (l : List ℕ). length (nodes_among c.args.nodes (with_member nat_eq l c.args.from))) c.new.ensures

@@ -32,14 +32,14 @@ invariant_of-self-in-Some c =
 pub invariant_of-self-in-Continue-1 : goal.invariant_of-self-in-Continue-1
 invariant_of-self-in-Continue-1 c =
     let none = no_other c.self.inside.first c.self.inside.others.items c.args.vote.now (sym c.is_of.ensures ∙ c.if-is_of.false)
-        (index_none c.self.inside.others.items 0 c.args.vote.now (rw (← c.deref.ensures.value, ← c.index_of.ensures) c.in-None.is)) in
+    (index_none c.self.inside.others.items 0 c.args.vote.now (rw (← c.deref.ensures.value, ← c.index_of.ensures) c.in-None.is)) in
     rw c.in_ok-push-in-None.ensures.items
     (more_tallies (c.self.inside.first ∷ c.self.inside.others.items) c.new.result c.args.vote.now c.new.ensures.vote none c.self.invariant)
 
 pub returns-in_err-push-in-None-clause-full : goal.returns-in_err-push-in-None-clause-full
 returns-in_err-push-in-None-clause-full c =
     let none = no_other c.self.inside.first c.self.inside.others.items c.args.vote.now (sym c.is_of.ensures ∙ c.if-is_of.false)
-        (index_none c.self.inside.others.items 0 c.args.vote.now (rw (← c.deref.ensures.value, ← c.index_of.ensures) c.in-None.is)) in
+    (index_none c.self.inside.others.items 0 c.args.vote.now (rw (← c.deref.ensures.value, ← c.index_of.ensures) c.in-None.is)) in
     on_err c.from_residual.result (rw (← c.self.view_is) (unheard (c.self.inside.first ∷ c.self.inside.others.items) c.args.from c.args.vote.now none))
 
 pub returns-in-Some-clause-ok : goal.returns-in-Some-clause-ok
@@ -57,6 +57,6 @@ returns-in-Some-clause-ok c =
 pub returns-in_ok-push-in-None-clause-ok : goal.returns-in_ok-push-in-None-clause-ok
 returns-in_ok-push-in-None-clause-ok c =
     let none = no_other c.self.inside.first c.self.inside.others.items c.args.vote.now (sym c.is_of.ensures ∙ c.if-is_of.false)
-        (index_none c.self.inside.others.items 0 c.args.vote.now (rw (← c.deref.ensures.value, ← c.index_of.ensures) c.in-None.is)) in
+    (index_none c.self.inside.others.items 0 c.args.vote.now (rw (← c.deref.ensures.value, ← c.index_of.ensures) c.in-None.is)) in
     rw (c.in_ok-push-in-None.ensures.items, ← c.self.view_is)
     (heard_first (c.self.inside.first ∷ c.self.inside.others.items) c.new.result c.args.from c.args.vote.now c.new.ensures.vote c.new.ensures.senders)

@@ -16,5 +16,5 @@ returns c =
     ∙ ap (λ (n : ℕ). nat_le (majority_of c.args.nodes) n) (c.len_with.ensures.value
     ∙ ap (λ (p : Promise). length (nodes_among c.args.nodes (with_member nat_eq c.self.inside.senders p.0))) c.promise.view_is
     ∙ as_many c.args.nodes more (with_member same_promise (set_of c.self.inside.heard) c.args.promise.now)
-        (set_with nat_eq Decides-eqb c.self.inside.senders c.args.promise.now.0 c.len_with.ensures.nodes.distinct)
-        (senders_more c.self.inside.senders more (set_of c.self.inside.heard) c.args.promise.now c.self.invariant.0 (λ x. (λ h. h, λ h. h)))))
+    (set_with nat_eq Decides-eqb c.self.inside.senders c.args.promise.now.0 c.len_with.ensures.nodes.distinct)
+    (senders_more c.self.inside.senders more (set_of c.self.inside.heard) c.args.promise.now c.self.invariant.0 (λ x. (λ h. h, λ h. h)))))

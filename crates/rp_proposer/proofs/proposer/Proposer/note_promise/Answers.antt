@@ -24,7 +24,7 @@ returns-in-Some-clause-noted c =
     (ap (λ (l : List Proposal). record { node = c.self.inside.node; nodes = c.self.inside.nodes; proposals = l; started = number_of c.self.inside.started; refused = c.self.inside.refused })
     (ap (λ (p : Proposal). set c.self.inside.proposals.items c.in-Some.index p) noted
     ∙ sym (found.1.put (once_noted c.self.inside.nodes c.args.ballot found.0 (c.args.from, c.args.last))
-        (noted_there c.self.inside.nodes c.args.ballot found.0 (c.args.from, c.args.last) ∙ found.1.place))))
+    (noted_there c.self.inside.nodes c.args.ballot found.0 (c.args.from, c.args.last) ∙ found.1.place))))
 
 pub returns-in_default-clause-noted : goal.returns-in_default-clause-noted
 returns-in_default-clause-noted c =

@@ -81,3 +81,7 @@ learned_run records (suc most) i = unless_missing (learned_at records i) (learne
 -- The applied list: the longest whose ith action is learned at i. (It is no longer than the records.)
 abbrev pub applied_of : List Rec → List Action
 applied_of records = learned_run records (length records) 1
+
+-- the first position that is not learned, all lower ones being so
+abbrev pub first_unlearned : List Rec → ℕ
+first_unlearned records = suc (length (applied_of records))

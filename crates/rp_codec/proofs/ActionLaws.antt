@@ -1,5 +1,7 @@
 -- An action that is read is the action that was written, and what was written is read again.
-use Rattle.std.proofs.Common.{◌≡◌, ℕ, true, eqb, List, [], ◌∷◌, ◌++◌, Ok, refl, sym, ap, ◌∙◌, append_assoc, ℤ}
+use Rattle.std.proofs.Common.{◌≡◌, ℕ, zero, suc, true, eqb, List, [], ◌∷◌, ◌++◌, length, Ok, refl, sym, ap, ◌∙◌, append_assoc, ℤ}
+use Rattle.std.specs.Prelude.{All, flat_map}
+use Rattle.std.proofs.lemmas.List.Elements.{All-nil, All-cons, All-head, All-tail}
 use Rattle.std.specs.Int.{w32}
 use Rattle.std.proofs.lemmas.Bool.{eqb-true, eq-eqb}
 use Rattle.rp_base.specs.Number.{IsTask}
@@ -12,7 +14,7 @@ use Rattle.rp_codec.specs.declared.packet.Party.{Party}
 use Rattle.rp_codec.specs.declared.packet.Party.TheVariants.{Node, Task, Audit}
 use Rattle.rp_codec.specs.Message.{IsCallBy, IsCallOf}
 use Rattle.rp_codec.specs.Text.{number_text, signed_text, operation_text, action_text}
-use Rattle.rp_codec.specs.Reading.{indexed_at, entry_at, operation_at, call_at, any_call_at, interrupt_at, tick_at, action_at, is_task, own_call_at}
+use Rattle.rp_codec.specs.Reading.{indexed_at, entry_at, operation_at, call_at, any_call_at, interrupt_at, tick_at, action_at, actions_at, is_task, own_call_at}
 use Rattle.rp_codec.proofs.Steps.{IsBytes, Yields, Took, then, when, guarded, weaker}
 use Rattle.rp_codec.proofs.FieldLaws.{TookByte, TookNumber32, TookSigned, TookIndex, TookCount, byte_took, number32_took, number32_again, signed_took, signed_again, index_took, index_again, count_took, count_again}
 
@@ -166,3 +168,35 @@ pub own_call_again : (from : Party) (action : Action) (rest : List ℕ) → IsCa
 own_call_again (Node n) action rest own right = absurd own
 own_call_again (Task t) action rest own right = own_call_by t action rest own right
 own_call_again Audit action rest own right = absurd own
+
+-- ---- lists of actions
+
+-- the texts of the actions, one behind the other
+abbrev pub each_text : List Action → List ℕ
+each_text actions = flat_map action_text actions
+
+-- so many right actions
+abbrev pub AreRight : ℕ → List Action → Type 0
+AreRight count actions = (length actions ≡ count) × All IsRight actions
+
+abbrev pub TookActions : ℕ → List ℕ → List Action × List ℕ → Type 0
+TookActions count bytes = Took each_text (AreRight count) bytes
+
+pub actions_took : (count : ℕ) (bytes : List ℕ) → IsBytes bytes → Yields (TookActions count bytes) (actions_at count bytes)
+unfolding actions_at
+actions_took zero bytes h = record { parts = refl; rest = h; right = (refl, All-nil IsRight) }
+actions_took (suc more) bytes h =
+    then (TookAction bytes) (TookActions (suc more) bytes) _ _ (action_took bytes h)
+    (λ action a. then (TookActions more action.1) (TookActions (suc more) bytes) _ _ (actions_took more action.1 a.rest)
+    (λ others o. record {
+      parts = rw (a.parts, o.parts) (simp append_assoc);
+      rest = o.rest;
+      right = (ap suc o.right.0, All-cons IsRight action.0 others.0 a.right o.right.1);
+    }))
+
+pub actions_again : (actions : List Action) (rest : List ℕ) → All IsRight actions → actions_at (length actions) (each_text actions ++ rest) ≡ Ok (actions, rest)
+unfolding actions_at
+actions_again [] rest right = refl
+actions_again (action ∷ others) rest right =
+    let parts : each_text (action ∷ others) ++ rest ≡ action_text action ++ (each_text others ++ rest) = simp append_assoc in
+    ap (actions_at (suc (length others))) parts ∙ rw (action_again action (each_text others ++ rest) (All-head IsRight action others right), actions_again others rest (All-tail IsRight action others right)) refl

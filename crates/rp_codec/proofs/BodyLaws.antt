@@ -1,8 +1,8 @@
 -- A body that is read is the body that was written, and what was written is read again.
-use Rattle.std.proofs.Common.{◌≡◌, ℕ, ◌<◌, true, false, ltb, eqb, List, ◌∷◌, ◌++◌, Option, Some, None, Ok, refl, ap, ◌∙◌, append_assoc}
+use Rattle.std.proofs.Common.{◌≡◌, ℕ, ◌<◌, true, false, ltb, eqb, List, ◌∷◌, ◌++◌, length, Option, Some, None, Ok, refl, sym, ap, ◌∙◌, append_assoc}
 use Rattle.std.specs.Prelude.{IfSome}
-use Rattle.std.specs.Int.{w32}
-use Rattle.std.proofs.lemmas.Bool.{eqb-true, ltb-true, lt-ltb}
+use Rattle.std.specs.Int.{w16, w32}
+use Rattle.std.proofs.lemmas.Bool.{eqb-true, eq-eqb, ltb-true, lt-ltb}
 use Rattle.rp_base.specs.Ballot.{IsBallot}
 use Rattle.rp_base.specs.declared.reply.Reply.{Reply}
 use Rattle.rp_base.specs.declared.reply.Reply.TheVariants as replies
@@ -11,13 +11,13 @@ use Rattle.rp_codec.specs.declared.packet.Party.{Party}
 use Rattle.rp_codec.specs.declared.packet.Body.{Body}
 use Rattle.rp_codec.specs.declared.packet.Body.TheVariants as bodies
 use Rattle.rp_codec.specs.declared.kind.Kind.{Kind}
-use Rattle.rp_codec.specs.declared.kind.Kind.TheVariants.{Call, Prepare, Promise, Accept, Accepted, Decided, Nack, Reply as Answer}
-use Rattle.rp_codec.specs.Message.{IsReply, IsBody, IsNodeParty, IsTaskParty, IsVoteBelow, MaySay}
+use Rattle.rp_codec.specs.declared.kind.Kind.TheVariants.{Call, Prepare, Promise, Accept, Accepted, Decided, Ask, Nack, Reply as Answer, Report}
+use Rattle.rp_codec.specs.Message.{IsReply, IsBody, IsNodeParty, IsTaskParty, IsAudit, IsVoteBelow, MaySay, report_len}
 use Rattle.rp_codec.specs.Text.{number_text, position_text, ballot_text, action_text, reply_text, last_text, kind_number, body_text}
-use Rattle.rp_codec.specs.Reading.{value_at, truth_at, reply_at, lower_ballot_at, higher_ballot_at, vote_at, last_at, prepare_at, promise_at, accept_at, accepted_at, decided_at, nack_at, answer_at, task_call_at, body_at}
-use Rattle.rp_codec.proofs.Steps.{IsBytes, Yields, Took, then, when, keeps}
-use Rattle.rp_codec.proofs.FieldLaws.{TookByte, TookSigned, TookCount, TookPosition, TookBallot, byte_took, signed_took, signed_again, count_took, count_again, position_took, position_again, ballot_took, ballot_again}
-use Rattle.rp_codec.proofs.ActionLaws.{TookAction, TookOwn, action_took, action_again, own_call_took, own_call_again}
+use Rattle.rp_codec.specs.Reading.{value_at, truth_at, reply_at, lower_ballot_at, higher_ballot_at, vote_at, last_at, prepare_at, promise_at, accept_at, accepted_at, decided_at, ask_at, nack_at, answer_at, report_at, task_call_at, body_at, actions_at}
+use Rattle.rp_codec.proofs.Steps.{IsBytes, Yields, Took, then, when, keeps, guarded}
+use Rattle.rp_codec.proofs.FieldLaws.{TookByte, TookNumber16, number16_took, number16_again, TookSigned, TookCount, TookPosition, TookBallot, byte_took, signed_took, signed_again, count_took, count_again, position_took, position_again, ballot_took, ballot_again}
+use Rattle.rp_codec.proofs.ActionLaws.{TookActions, each_text, actions_took, actions_again, TookAction, TookOwn, action_took, action_again, own_call_took, own_call_again}
 
 -- ---- replies
 
@@ -135,8 +135,10 @@ number_of Promise = 3
 number_of Accept = 4
 number_of Accepted = 5
 number_of Decided = 6
+number_of Ask = 7
 number_of Nack = 8
 number_of Answer = 9
+number_of Report = 10
 
 abbrev pub IsFrom : Kind → Party → Type 0
 IsFrom Call from = IsTaskParty from
@@ -145,8 +147,10 @@ IsFrom Promise from = IsNodeParty from
 IsFrom Accept from = IsNodeParty from
 IsFrom Accepted from = IsNodeParty from
 IsFrom Decided from = IsNodeParty from
+IsFrom Ask from = IsNodeParty from
 IsFrom Nack from = IsNodeParty from
 IsFrom Answer from = IsNodeParty from
+IsFrom Report from = IsNodeParty from
 
 abbrev pub IsTo : Kind → Party → Type 0
 IsTo Call to = IsNodeParty to
@@ -155,8 +159,10 @@ IsTo Promise to = IsNodeParty to
 IsTo Accept to = IsNodeParty to
 IsTo Accepted to = IsNodeParty to
 IsTo Decided to = IsNodeParty to
+IsTo Ask to = IsNodeParty to
 IsTo Nack to = IsNodeParty to
 IsTo Answer to = IsTaskParty to
+IsTo Report to = IsAudit to
 
 -- what reading a body of this kind shows
 pub record IsSaid (kind : Kind) (from : Party) (body : Body) : Type 0 where
@@ -211,6 +217,12 @@ decided_took from bytes h =
     (λ position p. then (TookAction position.1) (TookBody Decided from bytes) _ _ (action_took position.1 p.rest)
     (λ action a. record { parts = rw (p.parts, a.parts) (simp append_assoc); rest = a.rest; right = record { number = refl; ranges = p.right; rules = λ to f t. ((f, t), a.right) } }))
 
+ask_took : (from : Party) (bytes : List ℕ) → IsBytes bytes → Yields (TookBody Ask from bytes) (ask_at bytes)
+unfolding ask_at
+ask_took from bytes h =
+    then (TookPosition bytes) (TookBody Ask from bytes) _ _ (position_took bytes h)
+    (λ position p. record { parts = p.parts; rest = p.rest; right = record { number = refl; ranges = p.right; rules = λ to f t. (f, t) } })
+
 nack_took : (from : Party) (bytes : List ℕ) → IsBytes bytes → Yields (TookBody Nack from bytes) (nack_at bytes)
 unfolding nack_at
 nack_took from bytes h =
@@ -226,6 +238,26 @@ answer_took from bytes h =
     (λ number n. then (TookReply number.1) (TookBody Answer from bytes) _ _ (reply_took number.1 n.rest)
     (λ reply r. record { parts = rw (n.parts, r.parts) (simp append_assoc); rest = r.rest; right = record { number = refl; ranges = r.right; rules = λ to f t. (f, t, n.right) } }))
 
+report_took : (from : Party) (bytes : List ℕ) → IsBytes bytes → Yields (TookBody Report from bytes) (report_at bytes)
+unfolding report_at
+report_took from bytes h =
+    then (TookPosition bytes) (TookBody Report from bytes) _ _ (position_took bytes h)
+    (λ first p. then (TookNumber16 first.1) (TookBody Report from bytes) _ _ (number16_took first.1 p.rest)
+    (λ applied n. then (TookByte applied.1) (TookBody Report from bytes) _ _ (byte_took applied.1 n.rest)
+    (λ count c. guarded (TookBody Report from bytes) (eqb count.0 (report_len first.0 applied.0)) count _
+    (λ e. then (TookActions count.0 count.1) (TookBody Report from bytes) _ _ (actions_took count.0 count.1 c.rest)
+    (λ actions a.
+    let counted : count.0 ≡ length actions.0 = sym a.right.0 in
+    record {
+      parts = rw (p.parts, n.parts, c.parts, a.parts) (ap (λ (k : ℕ). position_text first.0 ++ (number_text w16 applied.0 ++ (k ∷ (each_text actions.0 ++ actions.1)))) counted ∙ simp append_assoc);
+      rest = a.rest;
+      right = record {
+        number = refl;
+        ranges = (p.right, n.right);
+        rules = λ to f t. (f, t, record { len = a.right.0 ∙ eqb-true _ _ e; right = a.right.1 });
+      };
+    })))))
+
 pub body_took : (kind : Kind) (from : Party) (bytes : List ℕ) → IsBytes bytes → Yields (TookBody kind from bytes) (body_at kind from bytes)
 unfolding body_at
 body_took Call from bytes h = task_call_took from bytes h
@@ -234,8 +266,10 @@ body_took Promise from bytes h = promise_took from bytes h
 body_took Accept from bytes h = accept_took from bytes h
 body_took Accepted from bytes h = accepted_took from bytes h
 body_took Decided from bytes h = decided_took from bytes h
+body_took Ask from bytes h = ask_took from bytes h
 body_took Nack from bytes h = nack_took from bytes h
 body_took Answer from bytes h = answer_took from bytes h
+body_took Report from bytes h = report_took from bytes h
 
 -- the kind of a body
 abbrev pub kind_of_body : Body → Kind
@@ -245,15 +279,17 @@ kind_of_body (bodies.Promise position ballot last) = Promise
 kind_of_body (bodies.Accept position ballot action) = Accept
 kind_of_body (bodies.Accepted position ballot action) = Accepted
 kind_of_body (bodies.Decided position action) = Decided
+kind_of_body (bodies.Ask position) = Ask
 kind_of_body (bodies.Nack position ballot bound) = Nack
 kind_of_body (bodies.Reply number reply) = Answer
+kind_of_body (bodies.Report first applied actions) = Report
 
 -- three fields, one behind the other
 regroup : (x y z rest : List ℕ) → (x ++ y ++ z) ++ rest ≡ x ++ (y ++ (z ++ rest))
 regroup x y z rest = simp append_assoc
 
 pub body_again : (from to : Party) (body : Body) (rest : List ℕ) → IsBody body → MaySay from to body → body_at (kind_of_body body) from (body_text body ++ rest) ≡ Ok (body, rest)
-unfolding body_at task_call_at prepare_at promise_at accept_at accepted_at decided_at nack_at answer_at
+unfolding body_at task_call_at prepare_at promise_at accept_at accepted_at decided_at ask_at nack_at answer_at report_at
 body_again from to (bodies.Call action) rest ranges rules = rw (own_call_again from action rest rules.2 rules.3) refl
 body_again from to (bodies.Prepare position ballot) rest ranges rules =
     ap prepare_at (append_assoc (position_text position) (ballot_text ballot) rest) ∙ rw (position_again position (ballot_text ballot ++ rest) ranges.0, ballot_again ballot rest ranges.1) refl
@@ -265,7 +301,12 @@ body_again from to (bodies.Accepted position ballot action) rest ranges rules =
     ap accepted_at (regroup (position_text position) (ballot_text ballot) (action_text action) rest) ∙ rw (position_again position (ballot_text ballot ++ (action_text action ++ rest)) ranges.0, ballot_again ballot (action_text action ++ rest) ranges.1, action_again action rest rules.1) refl
 body_again from to (bodies.Decided position action) rest ranges rules =
     ap decided_at (append_assoc (position_text position) (action_text action) rest) ∙ rw (position_again position (action_text action ++ rest) ranges, action_again action rest rules.1) refl
+body_again from to (bodies.Ask position) rest ranges rules = rw (position_again position rest ranges) refl
 body_again from to (bodies.Nack position ballot bound) rest ranges rules =
     ap nack_at (regroup (position_text position) (ballot_text ballot) (ballot_text bound) rest) ∙ rw (position_again position (ballot_text ballot ++ (ballot_text bound ++ rest)) ranges.0, ballot_again ballot (ballot_text bound ++ rest) ranges.1, higher_again ballot bound rest (ranges.2, rules.1)) refl
 body_again from to (bodies.Reply number reply) rest ranges rules =
     ap answer_at (append_assoc (number_text w32 number) (reply_text reply) rest) ∙ rw (count_again number (reply_text reply ++ rest) rules.2, reply_again reply rest ranges) refl
+body_again from to (bodies.Report first applied actions) rest ranges rules =
+    let told = rules.2 in
+    let parts : body_text (bodies.Report first applied actions) ++ rest ≡ position_text first ++ (number_text w16 applied ++ (length actions ∷ (each_text actions ++ rest))) = simp append_assoc in
+    ap report_at parts ∙ rw (position_again first (number_text w16 applied ++ (length actions ∷ (each_text actions ++ rest))) ranges.0, number16_again applied (length actions ∷ (each_text actions ++ rest)) ranges.1, eq-eqb _ _ told.len, actions_again actions rest told.right) refl

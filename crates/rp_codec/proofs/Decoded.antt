@@ -8,10 +8,11 @@ use Rattle.rp_base.specs.declared.fault.PacketReason.TheVariants.{Short, Long, V
 use Rattle.rp_codec.specs.declared.packet.Party.{Party}
 use Rattle.rp_codec.specs.declared.packet.Body.{Body}
 use Rattle.rp_codec.specs.declared.kind.Kind.{Kind}
-use Rattle.rp_codec.specs.declared.kind.Kind.TheVariants.{Call, Prepare, Promise, Accept, Accepted, Decided, Nack, Reply as Answer}
+use Rattle.rp_codec.specs.declared.kind.Kind.TheVariants.{Call, Prepare, Promise, Accept, Accepted, Decided, Ask, Nack, Reply as Answer, Report}
 use Rattle.rp_codec.specs.Kind.{kind_of, IsKind}
 use Rattle.rp_codec.specs.Message.{Message, KeepsRules, IsPacket}
 use Rattle.rp_codec.specs.Text.{text_of}
+use Rattle.rp_codec.specs.Decoding.{HasOtherVersion, HasNoKind, IsTooLong, IsDecoded}
 use Rattle.rp_codec.specs.Reading.{◌>>=◌, Read, from_at, to_at, body_at, said_at, known, version_at, kind_at, packet_at, all_of}
 use Rattle.rp_codec.proofs.Steps.{IsBytes, Yields}
 use Rattle.rp_codec.proofs.BodyLaws.{number_of}
@@ -33,20 +34,13 @@ number_from_kind n kind e =
     (choice (eqb n 4) n Accept kind _ (λ t. eqb-true _ _ t)
     (choice (eqb n 5) n Accepted kind _ (λ t. eqb-true _ _ t)
     (choice (eqb n 6) n Decided kind _ (λ t. eqb-true _ _ t)
+    (choice (eqb n 7) n Ask kind _ (λ t. eqb-true _ _ t)
     (choice (eqb n 8) n Nack kind _ (λ t. eqb-true _ _ t)
-    (choice (eqb n 9) n Answer kind _ (λ t. eqb-true _ _ t) (λ z. absurd cc))))))))
+    (choice (eqb n 9) n Answer kind _ (λ t. eqb-true _ _ t)
+    (choice (eqb n 10) n Report kind _ (λ t. eqb-true _ _ t) (λ z. absurd cc))))))))))
     e
 
 -- ---- a packet at the front
-
-abbrev pub HasOtherVersion : List ℕ → Type 0
-HasOtherVersion bytes = (n : ℕ) × (rest : List ℕ) × (n ≢ 1) × (bytes ≡ n ∷ rest)
-
-abbrev pub HasNoKind : List ℕ → Type 0
-HasNoKind bytes = (n : ℕ) × (rest : List ℕ) × (¬ IsKind n) × (bytes ≡ 1 ∷ n ∷ rest)
-
-abbrev pub IsTooLong : List ℕ → Type 0
-IsTooLong bytes = (p : Message) × (rest : List ℕ) × IsPacket p × (rest ≢ []) × (bytes ≡ text_of p ++ rest)
 
 abbrev Front : List ℕ → Result (Message × List ℕ) PacketReason → Type 0
 Front bytes (Ok x) = IsPacket x.0 × (bytes ≡ text_of x.0 ++ x.1)
@@ -167,12 +161,20 @@ found_in bytes (Err e) w = tt
 pub whole_found : (bytes : List ℕ) (r : Result Message PacketReason) → IsBytes bytes → r ≡ all_of bytes → IfOk r (λ m. IsPacket m × (bytes ≡ text_of m))
 whole_found bytes r h e = found_in bytes r (subst (Whole bytes) (sym e) (whole bytes h))
 
--- what was read, field by field, keeps the rules
-pub read_keeps : (bytes start after_version after_kind after_from after_to rest : List ℕ) (version : ℕ) (kind : Kind) (from to : Party) (body : Body) → IsBytes bytes → start ≡ bytes
-    → version_at start ≡ Ok (version, after_version) → kind_at after_version ≡ Ok (kind, after_kind) → from_at kind after_kind ≡ Ok (from, after_from) → to_at kind after_from ≡ Ok (to, after_to) → body_at kind from after_to ≡ Ok (body, rest)
-    → KeepsRules (record { from = from; to = to; body = body })
-unfolding packet_at said_at
-read_keeps bytes start after_version after_kind after_from after_to rest version kind from to body h begins e1 e2 e3 e4 e5 =
-    let read : packet_at start ≡ Ok (record { from = from; to = to; body = body }, rest) = rw (e1, e2, e3, e4, e5) refl in
-    let found = subst (Front bytes) (ap packet_at (sym begins) ∙ read) (front bytes h) in
+pub decoded : (bytes : List ℕ) (answer : Result Message PacketReason) → IsBytes bytes → answer ≡ all_of bytes → IsDecoded bytes answer
+decoded bytes answer h e = record {
+  found = whole_found bytes answer h e;
+  only = λ p packet text. e ∙ ap all_of text ∙ whole_again p packet;
+  exact = e;
+  long = (λ is. subst (Whole bytes) (sym e ∙ is) (whole bytes h), λ has. e ∙ long_again bytes has);
+  version = (λ is. subst (Whole bytes) (sym e ∙ is) (whole bytes h), λ has. e ∙ version_again bytes has);
+  kind = (λ is. subst (Whole bytes) (sym e ∙ is) (whole bytes h), λ has. e ∙ kind_again bytes has);
+}
+
+pub decoded_packet : (bytes : List ℕ) (packet message : Message) → IsBytes bytes → packet ≡ message → all_of bytes ≡ Ok message → IsDecoded bytes (Ok packet)
+decoded_packet bytes packet message h same e = decoded bytes (Ok packet) h (ap (λ (m : Message). Ok m) same ∙ sym e)
+
+pub decoded_rules : (bytes : List ℕ) (message : Message) → IsBytes bytes → all_of bytes ≡ Ok message → KeepsRules message
+decoded_rules bytes message h e =
+    let found = whole_found bytes (Ok message) h (sym e) in
     found.0.rules

@@ -101,6 +101,15 @@ number32_took bytes h = number_took w32 (2 ^ 32) wide32 bytes h
 pub number32_again : (n : ℕ) (rest : List ℕ) → n < 2 ^ 32 → number_at w32 (number_text w32 n ++ rest) ≡ Ok (n, rest)
 number32_again n rest lt = number_again w32 (2 ^ 32) wide32 n rest lt
 
+abbrev pub TookNumber16 : List ℕ → ℕ × List ℕ → Type 0
+TookNumber16 bytes = Took (number_text w16) (λ n. n < 2 ^ 16) bytes
+
+pub number16_took : (bytes : List ℕ) → IsBytes bytes → Yields (TookNumber16 bytes) (number_at w16 bytes)
+number16_took bytes h = number_took w16 (2 ^ 16) wide16 bytes h
+
+pub number16_again : (n : ℕ) (rest : List ℕ) → n < 2 ^ 16 → number_at w16 (number_text w16 n ++ rest) ≡ Ok (n, rest)
+number16_again n rest lt = number_again w16 (2 ^ 16) wide16 n rest lt
+
 abbrev pub TookSigned : List ℕ → ℤ × List ℕ → Type 0
 TookSigned bytes = Took signed_text (FitsSigned w64) bytes
 
@@ -152,12 +161,12 @@ TookPosition bytes = Took position_text IsPosition bytes
 pub position_took : (bytes : List ℕ) → IsBytes bytes → Yields (TookPosition bytes) (position_at bytes)
 unfolding position_at
 position_took bytes h =
-    then _ _ (number_at w16 bytes) (λ n. ruled (is_positive n.0) n) (number_took w16 (2 ^ 16) wide16 bytes h)
+    then _ _ (number_at w16 bytes) (λ n. ruled (is_positive n.0) n) (number16_took bytes h)
     (λ n t. keeps _ (is_positive n.0) n (λ e. record { parts = t.parts; rest = t.rest; right = (leb-true _ _ e, t.right) }))
 
 pub position_again : (n : ℕ) (rest : List ℕ) → IsPosition n → position_at (position_text n ++ rest) ≡ Ok (n, rest)
 unfolding position_at
-position_again n rest right = rw (number_again w16 (2 ^ 16) wide16 n rest right.1, le-leb _ _ right.0) refl
+position_again n rest right = rw (number16_again n rest right.1, le-leb _ _ right.0) refl
 
 abbrev pub TookBallot : List ℕ → ℕ × List ℕ → Type 0
 TookBallot bytes = Took ballot_text IsBallot bytes

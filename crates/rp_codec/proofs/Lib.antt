@@ -2,6 +2,7 @@ pub mod RuleTests
 pub mod Steps
 pub mod FieldLaws
 pub mod ActionLaws
+pub mod ListReading
 pub mod BodyLaws
 pub mod PacketLaws
 pub mod Decoded

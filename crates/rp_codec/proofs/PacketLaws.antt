@@ -1,17 +1,17 @@
 -- A packet that is read is the packet that was written, what was written is read again, and each
 -- reason tells what the bytes are.
-use Rattle.std.proofs.Common.{◌≡◌, ℕ, ◌+◌, ◌-◌, ◌≤◌, leb, ◌&&◌, List, ◌∷◌, ◌++◌, Some, Ok, refl, ap, ◌∙◌, append_assoc, arith}
-use Rattle.std.proofs.lemmas.Bool.{and_parts, leb-true, le-leb}
+use Rattle.std.proofs.Common.{◌≡◌, ℕ, ◌+◌, ◌-◌, ◌≤◌, leb, eqb, ◌&&◌, List, ◌∷◌, ◌++◌, Some, Ok, refl, ap, ◌∙◌, append_assoc, arith}
+use Rattle.std.proofs.lemmas.Bool.{and_parts, eqb-true, leb-true, le-leb}
 use Rattle.rp_codec.specs.declared.packet.Party.{Party}
 use Rattle.rp_codec.specs.declared.packet.Party.TheVariants.{Node, Task, Audit}
 use Rattle.rp_codec.specs.declared.packet.Body.{Body}
 use Rattle.rp_codec.specs.declared.packet.Body.TheVariants as bodies
 use Rattle.rp_codec.specs.declared.kind.Kind.{Kind}
-use Rattle.rp_codec.specs.declared.kind.Kind.TheVariants.{Call, Prepare, Promise, Accept, Accepted, Decided, Nack, Reply as Answer}
+use Rattle.rp_codec.specs.declared.kind.Kind.TheVariants.{Call, Prepare, Promise, Accept, Accepted, Decided, Ask, Nack, Reply as Answer, Report}
 use Rattle.rp_codec.specs.Kind.{kind_of}
-use Rattle.rp_codec.specs.Message.{Message, IsParty, IsNodeParty, IsTaskParty, MaySay, IsPacket}
+use Rattle.rp_codec.specs.Message.{Message, IsParty, IsNodeParty, IsTaskParty, IsAudit, MaySay, IsPacket}
 use Rattle.rp_codec.specs.Text.{party_text, kind_number, body_text, text_of}
-use Rattle.rp_codec.specs.Reading.{is_node, node_at, task_at, from_at, to_at, said_at, packet_at}
+use Rattle.rp_codec.specs.Reading.{is_node, node_at, task_at, audit_at, from_at, to_at, said_at, packet_at}
 use Rattle.rp_codec.proofs.RuleTests.{is_node_decides}
 use Rattle.rp_codec.proofs.Steps.{IsBytes, Yields, Took, then, guarded}
 use Rattle.rp_codec.proofs.FieldLaws.{TookByte, byte_took}
@@ -24,6 +24,9 @@ TookNode bytes = Took party_text (λ party. IsParty party × IsNodeParty party) 
 
 abbrev TookTask : List ℕ → Party × List ℕ → Type 0
 TookTask bytes = Took party_text (λ party. IsParty party × IsTaskParty party) bytes
+
+abbrev TookAudit : List ℕ → Party × List ℕ → Type 0
+TookAudit bytes = Took party_text (λ party. IsParty party × IsAudit party) bytes
 
 abbrev TookFrom : Kind → List ℕ → Party × List ℕ → Type 0
 TookFrom kind bytes = Took party_text (λ party. IsParty party × IsFrom kind party) bytes
@@ -49,6 +52,13 @@ task_took bytes h =
     let back : n.0 ≡ 16 + (n.0 - 16) = omega arith in
     record { parts = t.parts ∙ ap (λ (b : ℕ). b ∷ n.1) back; rest = t.rest; right = ((omega arith, omega arith), tt) }))
 
+audit_took : (bytes : List ℕ) → IsBytes bytes → Yields (TookAudit bytes) (audit_at bytes)
+unfolding audit_at
+audit_took bytes h =
+    then (TookByte bytes) (TookAudit bytes) _ _ (byte_took bytes h)
+    (λ n t. guarded (TookAudit bytes) (eqb n.0 32) n _
+    (λ e. record { parts = t.parts ∙ ap (λ (b : ℕ). b ∷ n.1) (eqb-true _ _ e); rest = t.rest; right = (tt, tt) }))
+
 from_took : (kind : Kind) (bytes : List ℕ) → IsBytes bytes → Yields (TookFrom kind bytes) (from_at kind bytes)
 unfolding from_at
 from_took Call bytes h = task_took bytes h
@@ -57,8 +67,10 @@ from_took Promise bytes h = node_took bytes h
 from_took Accept bytes h = node_took bytes h
 from_took Accepted bytes h = node_took bytes h
 from_took Decided bytes h = node_took bytes h
+from_took Ask bytes h = node_took bytes h
 from_took Nack bytes h = node_took bytes h
 from_took Answer bytes h = node_took bytes h
+from_took Report bytes h = node_took bytes h
 
 to_took : (kind : Kind) (bytes : List ℕ) → IsBytes bytes → Yields (TookTo kind bytes) (to_at kind bytes)
 unfolding to_at
@@ -68,8 +80,10 @@ to_took Promise bytes h = node_took bytes h
 to_took Accept bytes h = node_took bytes h
 to_took Accepted bytes h = node_took bytes h
 to_took Decided bytes h = node_took bytes h
+to_took Ask bytes h = node_took bytes h
 to_took Nack bytes h = node_took bytes h
 to_took Answer bytes h = task_took bytes h
+to_took Report bytes h = audit_took bytes h
 
 node_again : (party : Party) (rest : List ℕ) → IsParty party → IsNodeParty party → node_at (party_text party ++ rest) ≡ Ok (party, rest)
 unfolding node_at
@@ -85,6 +99,12 @@ task_again (Task t) rest range task =
     rw (le-leb 17 (16 + t) (omega arith), le-leb (16 + t) 24 (omega arith), back) refl
 task_again Audit rest range task = absurd task
 
+audit_again : (party : Party) (rest : List ℕ) → IsAudit party → audit_at (party_text party ++ rest) ≡ Ok (party, rest)
+unfolding audit_at
+audit_again (Node n) rest audit = absurd audit
+audit_again (Task t) rest audit = absurd audit
+audit_again Audit rest audit = refl
+
 from_again : (kind : Kind) (party : Party) (rest : List ℕ) → IsParty party → IsFrom kind party → from_at kind (party_text party ++ rest) ≡ Ok (party, rest)
 unfolding from_at
 from_again Call party rest range from = task_again party rest range from
@@ -93,8 +113,10 @@ from_again Promise party rest range from = node_again party rest range from
 from_again Accept party rest range from = node_again party rest range from
 from_again Accepted party rest range from = node_again party rest range from
 from_again Decided party rest range from = node_again party rest range from
+from_again Ask party rest range from = node_again party rest range from
 from_again Nack party rest range from = node_again party rest range from
 from_again Answer party rest range from = node_again party rest range from
+from_again Report party rest range from = node_again party rest range from
 
 to_again : (kind : Kind) (party : Party) (rest : List ℕ) → IsParty party → IsTo kind party → to_at kind (party_text party ++ rest) ≡ Ok (party, rest)
 unfolding to_at
@@ -104,8 +126,10 @@ to_again Promise party rest range to = node_again party rest range to
 to_again Accept party rest range to = node_again party rest range to
 to_again Accepted party rest range to = node_again party rest range to
 to_again Decided party rest range to = node_again party rest range to
+to_again Ask party rest range to = node_again party rest range to
 to_again Nack party rest range to = node_again party rest range to
 to_again Answer party rest range to = task_again party rest range to
+to_again Report party rest range to = audit_again party rest to
 
 -- ---- what stands behind the kind
 
@@ -144,8 +168,10 @@ may_send from to (bodies.Promise position ballot last) rules = rules.0
 may_send from to (bodies.Accept position ballot action) rules = rules.0
 may_send from to (bodies.Accepted position ballot action) rules = rules.0
 may_send from to (bodies.Decided position action) rules = rules.0
+may_send from to (bodies.Ask position) rules = rules
 may_send from to (bodies.Nack position ballot bound) rules = rules.0
 may_send from to (bodies.Reply number reply) rules = (rules.0, rules.1)
+may_send from to (bodies.Report first applied actions) rules = (rules.0, rules.1)
 
 said_again : (m : Message) (rest : List ℕ) → IsPacket m → said_at (kind_of_body m.body) (said_text m ++ rest) ≡ Ok (m, rest)
 unfolding said_at
@@ -164,8 +190,10 @@ kind_of_number (bodies.Promise position ballot last) = refl
 kind_of_number (bodies.Accept position ballot action) = refl
 kind_of_number (bodies.Accepted position ballot action) = refl
 kind_of_number (bodies.Decided position action) = refl
+kind_of_number (bodies.Ask position) = refl
 kind_of_number (bodies.Nack position ballot bound) = refl
 kind_of_number (bodies.Reply number reply) = refl
+kind_of_number (bodies.Report first applied actions) = refl
 
 pub packet_again : (m : Message) (rest : List ℕ) → IsPacket m → packet_at (text_of m ++ rest) ≡ Ok (m, rest)
 unfolding packet_at

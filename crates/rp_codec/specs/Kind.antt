@@ -1,7 +1,7 @@
 -- The kinds of packets, and their numbers.
 use Rattle.std.specs.Prelude.{ℕ, ◌==◌, if◌then◌else◌, Option, Some, None, IsSome}
 use Rattle.rp_codec.specs.declared.kind.Kind.{Kind}
-use Rattle.rp_codec.specs.declared.kind.Kind.TheVariants.{Call, Prepare, Promise, Accept, Accepted, Decided, Nack, Reply}
+use Rattle.rp_codec.specs.declared.kind.Kind.TheVariants.{Call, Prepare, Promise, Accept, Accepted, Decided, Ask, Nack, Reply, Report}
 
 -- the kind of a number
 abbrev pub kind_of : ℕ → Option Kind
@@ -12,8 +12,10 @@ kind_of n =
     if n == 4 then Some Accept else
     if n == 5 then Some Accepted else
     if n == 6 then Some Decided else
+    if n == 7 then Some Ask else
     if n == 8 then Some Nack else
     if n == 9 then Some Reply else
+    if n == 10 then Some Report else
     None
 
 -- the numbers of the kinds

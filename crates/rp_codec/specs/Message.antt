@@ -1,5 +1,5 @@
 -- What a packet says, and which of it may be said (the rules are this project's own).
-use Rattle.std.specs.Prelude.{◌≡◌, ℕ, ◌<◌, IfSome, FitsSigned}
+use Rattle.std.specs.Prelude.{◌≡◌, ℕ, ◌+◌, ◌-◌, ◌^◌, ◌<◌, min, List, length, All, IfSome, FitsSigned}
 use Rattle.std.specs.Int.{w64}
 use Rattle.rp_base.specs.Number.{IsNode, IsTask, IsPosition}
 use Rattle.rp_base.specs.Ballot.{IsBallot}
@@ -12,7 +12,7 @@ use Rattle.rp_base.specs.declared.record.Vote.{Vote}
 use Rattle.rp_codec.specs.declared.packet.Party.{Party}
 use Rattle.rp_codec.specs.declared.packet.Party.TheVariants.{Node, Task, Audit}
 use Rattle.rp_codec.specs.declared.packet.Body.{Body}
-use Rattle.rp_codec.specs.declared.packet.Body.TheVariants.{Call, Prepare, Promise, Accept, Accepted, Decided, Nack, Reply as Answer}
+use Rattle.rp_codec.specs.declared.packet.Body.TheVariants.{Call, Prepare, Promise, Accept, Accepted, Decided, Ask, Nack, Reply as Answer, Report}
 
 pub record Message : Type 0 where
   pub from : Party
@@ -41,8 +41,10 @@ IsBody (Promise position ballot last) = IsPosition position × IsBallot ballot �
 IsBody (Accept position ballot action) = IsPosition position × IsBallot ballot
 IsBody (Accepted position ballot action) = IsPosition position × IsBallot ballot
 IsBody (Decided position action) = IsPosition position
+IsBody (Ask position) = IsPosition position
 IsBody (Nack position ballot bound) = IsPosition position × IsBallot ballot × IsBallot bound
 IsBody (Answer number reply) = IsReply reply
+IsBody (Report first applied actions) = IsPosition first × (applied < 2 ^ 16)
 
 -- ---- what who makes a packet owes
 
@@ -55,6 +57,11 @@ abbrev pub IsTaskParty : Party → Type 0
 IsTaskParty (Node n) = ⊥
 IsTaskParty (Task t) = Unit {0}
 IsTaskParty Audit = ⊥
+
+abbrev pub IsAudit : Party → Type 0
+IsAudit (Node n) = ⊥
+IsAudit (Task t) = ⊥
+IsAudit Audit = Unit {0}
 
 abbrev pub IsCallBy : ℕ → Action → Type 0
 IsCallBy t actions.Noop = ⊥
@@ -75,6 +82,15 @@ BetweenNodes from to = IsNodeParty from × IsNodeParty to
 abbrev pub IsVoteBelow : ℕ → Vote → Type 0
 IsVoteBelow ballot vote = (vote.ballot < ballot) × IsRight vote.action
 
+-- how many actions a report tells: those applied from the first position on, and at most 200
+abbrev pub report_len : ℕ → ℕ → ℕ
+report_len first applied = min 200 (applied + 1 - first)
+
+-- what a report tells of the actions that were applied
+pub record IsReport (first applied : ℕ) (actions : List Action) : Type 0 where
+  pub len : length actions ≡ report_len first applied
+  pub right : All IsRight actions
+
 -- who may say what to whom
 abbrev pub MaySay : Party → Party → Body → Type 0
 MaySay from to (Call action) = IsTaskParty from × IsNodeParty to × IsCallOf from action × IsRight action
@@ -83,8 +99,10 @@ MaySay from to (Promise position ballot last) = BetweenNodes from to × IfSome l
 MaySay from to (Accept position ballot action) = BetweenNodes from to × IsRight action
 MaySay from to (Accepted position ballot action) = BetweenNodes from to × IsRight action
 MaySay from to (Decided position action) = BetweenNodes from to × IsRight action
+MaySay from to (Ask position) = BetweenNodes from to
 MaySay from to (Nack position ballot bound) = BetweenNodes from to × (ballot < bound)
 MaySay from to (Answer number reply) = IsNodeParty from × IsTaskParty to × IsCount number
+MaySay from to (Report first applied actions) = IsNodeParty from × IsAudit to × IsReport first applied actions
 
 abbrev pub KeepsRules : Message → Type 0
 KeepsRules m = MaySay m.from m.to m.body

@@ -1,5 +1,5 @@
 -- Reading from left to right, with the first fault that is met.
-use Rattle.std.specs.Prelude.{◌≡◌, ℕ, ◌-◌, ◌^◌, ◌%◌, Bool, true, false, ◌&&◌, List, [], ◌∷◌, length, take, drop, Option, Some, None, Result, Ok, Err, nat_lt, nat_le, ◌==◌, if◌then◌else◌, ℤ}
+use Rattle.std.specs.Prelude.{◌≡◌, ℕ, zero, suc, ◌-◌, ◌^◌, ◌%◌, Bool, true, false, ◌&&◌, List, [], ◌∷◌, length, take, drop, Option, Some, None, Result, Ok, Err, nat_lt, nat_le, ◌==◌, if◌then◌else◌, ℤ}
 use Rattle.std.specs.Int.{Width, w16, w32, w64, byte_len, from_be_bytes, cast_signed}
 use Rattle.rp_base.specs.declared.fault.PacketReason.{PacketReason}
 use Rattle.rp_base.specs.declared.fault.PacketReason.TheVariants.{Short, Long, Version, Kind as UnknownKind, Field}
@@ -15,9 +15,9 @@ use Rattle.rp_codec.specs.declared.packet.Party.TheVariants.{Node, Task, Audit}
 use Rattle.rp_codec.specs.declared.packet.Body.{Body}
 use Rattle.rp_codec.specs.declared.packet.Body.TheVariants as bodies
 use Rattle.rp_codec.specs.declared.kind.Kind.{Kind}
-use Rattle.rp_codec.specs.declared.kind.Kind.TheVariants.{Call, Prepare, Promise, Accept, Accepted, Decided, Nack, Reply as Answer}
+use Rattle.rp_codec.specs.declared.kind.Kind.TheVariants.{Call, Prepare, Promise, Accept, Accepted, Decided, Ask, Nack, Reply as Answer, Report}
 use Rattle.rp_codec.specs.Kind.{kind_of}
-use Rattle.rp_codec.specs.Message.{Message}
+use Rattle.rp_codec.specs.Message.{Message, report_len}
 
 infixl 10 ◌>>=◌
 abbrev pub ◌>>=◌ : {A B : Type 0} → Result A PacketReason → (A → Result B PacketReason) → Result B PacketReason
@@ -164,6 +164,14 @@ own_call_at from bytes = do
   own ← ruled (is_task from task.0) task
   call_at own.0 own.1
 
+-- so many actions, one behind the other
+unfoldable pub actions_at : ℕ → List ℕ → Read (List Action)
+actions_at zero bytes = Ok ([], bytes)
+actions_at (suc more) bytes = do
+  action ← action_at bytes
+  others ← actions_at more action.1
+  Ok (action.0 ∷ others.0, others.1)
+
 -- ---- replies
 
 unfoldable pub value_at : List ℕ → Read Reply
@@ -261,6 +269,11 @@ decided_at bytes = do
   action ← action_at position.1
   Ok (bodies.Decided position.0 action.0, action.1)
 
+unfoldable pub ask_at : List ℕ → Read Body
+ask_at bytes = do
+  position ← position_at bytes
+  Ok (bodies.Ask position.0, position.1)
+
 unfoldable pub nack_at : List ℕ → Read Body
 nack_at bytes = do
   position ← position_at bytes
@@ -279,6 +292,16 @@ task_call_at from bytes = do
   action ← own_call_at from bytes
   Ok (bodies.Call action.0, action.1)
 
+-- a report of as many actions as its numbers say
+unfoldable pub report_at : List ℕ → Read Body
+report_at bytes = do
+  first ← position_at bytes
+  applied ← number_at w16 first.1
+  count ← byte_at applied.1
+  right ← ruled (count.0 == report_len first.0 applied.0) count
+  actions ← actions_at right.0 right.1
+  Ok (bodies.Report first.0 applied.0 actions.0, actions.1)
+
 unfoldable pub body_at : Kind → Party → List ℕ → Read Body
 body_at Call from bytes = task_call_at from bytes
 body_at Prepare from bytes = prepare_at bytes
@@ -286,8 +309,10 @@ body_at Promise from bytes = promise_at bytes
 body_at Accept from bytes = accept_at bytes
 body_at Accepted from bytes = accepted_at bytes
 body_at Decided from bytes = decided_at bytes
+body_at Ask from bytes = ask_at bytes
 body_at Nack from bytes = nack_at bytes
 body_at Answer from bytes = answer_at bytes
+body_at Report from bytes = report_at bytes
 
 -- ---- packets
 
@@ -304,6 +329,13 @@ task_at bytes = do
   task ← ruled (nat_le 17 n.0 && nat_le n.0 24) n
   Ok (Task (task.0 - 16), task.1)
 
+-- the audit is 32
+unfoldable pub audit_at : List ℕ → Read Party
+audit_at bytes = do
+  n ← byte_at bytes
+  audit ← ruled (n.0 == 32) n
+  Ok (Audit, audit.1)
+
 -- who may send a kind, and to whom
 unfoldable pub from_at : Kind → List ℕ → Read Party
 from_at Call bytes = task_at bytes
@@ -312,8 +344,10 @@ from_at Promise bytes = node_at bytes
 from_at Accept bytes = node_at bytes
 from_at Accepted bytes = node_at bytes
 from_at Decided bytes = node_at bytes
+from_at Ask bytes = node_at bytes
 from_at Nack bytes = node_at bytes
 from_at Answer bytes = node_at bytes
+from_at Report bytes = node_at bytes
 
 unfoldable pub to_at : Kind → List ℕ → Read Party
 to_at Call bytes = node_at bytes
@@ -322,8 +356,10 @@ to_at Promise bytes = node_at bytes
 to_at Accept bytes = node_at bytes
 to_at Accepted bytes = node_at bytes
 to_at Decided bytes = node_at bytes
+to_at Ask bytes = node_at bytes
 to_at Nack bytes = node_at bytes
 to_at Answer bytes = task_at bytes
+to_at Report bytes = audit_at bytes
 
 -- what stands behind the kind
 unfoldable pub said_at : Kind → List ℕ → Read Message

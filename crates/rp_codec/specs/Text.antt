@@ -1,5 +1,5 @@
 -- The one text of each packet, and of its parts. Numbers stand with their highest byte first.
-use Rattle.std.specs.Prelude.{ℕ, ℤ, ◌+◌, Bool, true, false, List, [], ◌∷◌, ◌++◌, Option, Some, None}
+use Rattle.std.specs.Prelude.{ℕ, ℤ, ◌+◌, Bool, true, false, List, [], ◌∷◌, ◌++◌, length, flat_map, Option, Some, None}
 use Rattle.std.specs.Int.{Width, w16, w32, w64, to_be_bytes, cast_unsigned}
 use Rattle.rp_base.specs.declared.action.Operation.{Operation}
 use Rattle.rp_base.specs.declared.action.Operation.TheVariants as operations
@@ -11,7 +11,7 @@ use Rattle.rp_base.specs.declared.record.Vote.{Vote}
 use Rattle.rp_codec.specs.declared.packet.Party.{Party}
 use Rattle.rp_codec.specs.declared.packet.Party.TheVariants.{Node, Task, Audit}
 use Rattle.rp_codec.specs.declared.packet.Body.{Body}
-use Rattle.rp_codec.specs.declared.packet.Body.TheVariants.{Call, Prepare, Promise, Accept, Accepted, Decided, Nack, Reply as Answer}
+use Rattle.rp_codec.specs.declared.packet.Body.TheVariants.{Call, Prepare, Promise, Accept, Accepted, Decided, Ask, Nack, Reply as Answer, Report}
 use Rattle.rp_codec.specs.Message.{Message}
 
 -- a number in its type's bytes
@@ -43,6 +43,10 @@ action_text (actions.Call task number object operation arg) =
 action_text (actions.Interrupt source occurrence) = 2 ∷ source ∷ number_text w32 occurrence
 action_text (actions.Tick now) = 3 ∷ number_text w32 now
 
+-- how many there are, and each
+abbrev pub actions_text : List Action → List ℕ
+actions_text actions = length actions ∷ flat_map action_text actions
+
 abbrev pub truth_text : Bool → List ℕ
 truth_text false = 0 ∷ []
 truth_text true = 1 ∷ []
@@ -72,8 +76,10 @@ kind_number (Promise position ballot last) = 3
 kind_number (Accept position ballot action) = 4
 kind_number (Accepted position ballot action) = 5
 kind_number (Decided position action) = 6
+kind_number (Ask position) = 7
 kind_number (Nack position ballot bound) = 8
 kind_number (Answer number reply) = 9
+kind_number (Report first applied actions) = 10
 
 abbrev pub body_text : Body → List ℕ
 body_text (Call action) = action_text action
@@ -82,8 +88,10 @@ body_text (Promise position ballot last) = position_text position ++ ballot_text
 body_text (Accept position ballot action) = position_text position ++ ballot_text ballot ++ action_text action
 body_text (Accepted position ballot action) = position_text position ++ ballot_text ballot ++ action_text action
 body_text (Decided position action) = position_text position ++ action_text action
+body_text (Ask position) = position_text position
 body_text (Nack position ballot bound) = position_text position ++ ballot_text ballot ++ ballot_text bound
 body_text (Answer number reply) = number_text w32 number ++ reply_text reply
+body_text (Report first applied actions) = position_text first ++ number_text w16 applied ++ actions_text actions
 
 -- version 1, the kind, who says it to whom, and what
 abbrev pub text_of : Message → List ℕ

@@ -2,14 +2,19 @@
 
 ghost use Rattle.std.specs.Prelude.{◌≡◌, ◌++◌, OnOk};
 ghost use Rattle.rp_codec.specs.Text.{position_text, ballot_text, action_text, last_text, body_text};
-ghost use Rattle.rp_codec.specs.Reading.{Gives, lower_ballot_at, higher_ballot_at, vote_at, last_at, prepare_at, promise_at, accept_at, accepted_at, decided_at, nack_at, answer_at, task_call_at, body_at};
+ghost use Rattle.rp_codec.specs.Found.{Finds};
+ghost use Rattle.rp_codec.specs.Reading.{Gives, lower_ballot_at, higher_ballot_at, vote_at, last_at, prepare_at, promise_at, accept_at, accepted_at, decided_at, ask_at, nack_at, answer_at, task_call_at, body_at};
 
 use crate::action_text::{put_action, read_action, read_own_call};
-use crate::fields::{put_ballot, put_position, put_u32, read_ballot, read_count, read_position};
+use crate::content::Content;
+use crate::fields::{
+    put_ballot, put_position, put_u16, put_u32, read_ballot, read_count, read_position,
+};
 use crate::kind::Kind;
-use crate::packet::{Body, Party};
+use crate::packet::{Body, Packet, Party};
 use crate::reader::Reader;
 use crate::reply_text::{put_reply, read_reply};
+use crate::report_text::{put_actions, read_report};
 use rp_base::{Action, Ballot, PacketReason, Position, Vote};
 use std::alloc::AllocError;
 
@@ -151,21 +156,36 @@ fn read_task_call(reader: &mut Reader, from: &Party) -> Result<Body, PacketReaso
     Ok(Body::Call { action })
 }
 
-/// The body of a packet of this kind, from this party.
-#[tactic(auto, unfolding(crate::specs::Reading::body_at))]
-pub(crate) fn read_body(reader: &mut Reader, kind: Kind, from: &Party) -> Result<Body, PacketReason>
-    ensures { Gives result reader.new (body_at kind from.now reader.old) }
+#[tactic(auto, unfolding(crate::specs::Reading::ask_at))]
+fn read_ask(reader: &mut Reader) -> Result<Body, PacketReason>
+    ensures { Gives result reader.new (ask_at reader.old) }
 {
-    match kind {
+    let position = read_position(reader)?;
+    Ok(Body::Ask { position })
+}
+
+/// What a packet of this kind says, from this party.
+#[tactic(auto, unfolding(crate::specs::Reading::body_at))]
+pub(crate) fn read_content<'a>(
+    reader: &mut Reader<'a>,
+    kind: Kind,
+    from: &Party,
+) -> Result<Content<'a>, PacketReason>
+    ensures { Finds result reader.new (body_at kind from.now reader.old) }
+{
+    let body = match kind {
         Kind::Call => read_task_call(reader, from),
         Kind::Prepare => read_prepare(reader),
         Kind::Promise => read_promise(reader),
         Kind::Accept => read_accept(reader),
         Kind::Accepted => read_accepted(reader),
         Kind::Decided => read_decided(reader),
+        Kind::Ask => read_ask(reader),
         Kind::Nack => read_nack(reader),
         Kind::Reply => read_answer(reader),
-    }
+        Kind::Report => return read_report(reader),
+    };
+    Ok(Content::Whole(body?))
 }
 
 fn put_last(out: &mut Vec<u8>, last: Option<Vote>) -> Result<(), AllocError>
@@ -201,19 +221,19 @@ fn put_vote(
     put_action(out, action)
 }
 
-pub(crate) fn put_body(out: &mut Vec<u8>, body: &Body) -> Result<(), AllocError>
-    ensures { OnOk result (out.new.items ≡ out.old.items ++ body_text body.now) }
+pub(crate) fn put_body(out: &mut Vec<u8>, packet: &Packet) -> Result<(), AllocError>
+    ensures { OnOk result (out.new.items ≡ out.old.items ++ body_text packet.now.body) }
 {
-    match *body {
-        Body::Call { action } => put_action(out, action),
-        Body::Prepare { position, ballot } => put_place(out, position, ballot),
+    match packet.body() {
+        Body::Call { action } => put_action(out, *action),
+        Body::Prepare { position, ballot } => put_place(out, *position, *ballot),
         Body::Promise {
             position,
             ballot,
             last,
         } => {
-            put_place(out, position, ballot)?;
-            put_last(out, last)
+            put_place(out, *position, *ballot)?;
+            put_last(out, *last)
         }
         Body::Accept {
             position,
@@ -224,22 +244,32 @@ pub(crate) fn put_body(out: &mut Vec<u8>, body: &Body) -> Result<(), AllocError>
             position,
             ballot,
             action,
-        } => put_vote(out, position, ballot, action),
+        } => put_vote(out, *position, *ballot, *action),
         Body::Decided { position, action } => {
-            put_position(out, position)?;
-            put_action(out, action)
+            put_position(out, *position)?;
+            put_action(out, *action)
         }
+        Body::Ask { position } => put_position(out, *position),
         Body::Nack {
             position,
             ballot,
             bound,
         } => {
-            put_place(out, position, ballot)?;
-            put_ballot(out, bound)
+            put_place(out, *position, *ballot)?;
+            put_ballot(out, *bound)
         }
         Body::Reply { number, reply } => {
-            put_u32(out, number)?;
-            put_reply(out, reply)
+            put_u32(out, *number)?;
+            put_reply(out, *reply)
+        }
+        Body::Report {
+            first,
+            applied,
+            actions,
+        } => {
+            put_position(out, *first)?;
+            put_u16(out, *applied)?;
+            put_actions(out, actions.as_slice())
         }
     }
 }

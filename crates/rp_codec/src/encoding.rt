@@ -8,7 +8,7 @@ use crate::body_text::put_body;
 use crate::packet::{Body, Packet, Party};
 use std::alloc::{AllocError, Global};
 
-/// How many bytes the longest packet has, a `Promise` with a call.
+/// How many bytes the longest packet but a report has, a `Promise` with a call.
 const LONGEST: usize = 40;
 
 fn kind_number(body: &Body) -> u8
@@ -21,8 +21,10 @@ fn kind_number(body: &Body) -> u8
         Body::Accept { .. } => 4,
         Body::Accepted { .. } => 5,
         Body::Decided { .. } => 6,
+        Body::Ask { .. } => 7,
         Body::Nack { .. } => 8,
         Body::Reply { .. } => 9,
+        Body::Report { .. } => 10,
     }
 }
 
@@ -47,7 +49,7 @@ pub fn encode(alloc: Global, packet: &Packet) -> Result<Vec<u8>, AllocError>
     out.push(kind_number(packet.body()))?;
     put_party(&mut out, packet.from())?;
     put_party(&mut out, packet.to())?;
-    put_body(&mut out, packet.body())?;
+    put_body(&mut out, packet)?;
     Ok(out)
 }
 

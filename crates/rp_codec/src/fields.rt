@@ -66,6 +66,16 @@ pub(crate) fn read_ballot(reader: &mut Reader) -> Result<Ballot, PacketReason>
 }
 
 #[tactic(auto, unfolding(crate::specs::Text::number_text))]
+pub(crate) fn put_u16(out: &mut Vec<u8>, number: u16) -> Result<(), AllocError>
+    ensures { OnOk result (out.new.items ≡ out.old.items ++ number_text w16 number) }
+{
+    let mut bytes = [0; 2];
+    BigEndian::write_u16(&mut bytes, number);
+    out.extend_from_slice(&bytes)?;
+    Ok(())
+}
+
+#[tactic(auto, unfolding(crate::specs::Text::number_text))]
 pub(crate) fn put_u32(out: &mut Vec<u8>, number: u32) -> Result<(), AllocError>
     ensures { OnOk result (out.new.items ≡ out.old.items ++ number_text w32 number) }
 {
@@ -85,14 +95,10 @@ pub(crate) fn put_i64(out: &mut Vec<u8>, number: i64) -> Result<(), AllocError>
     Ok(())
 }
 
-#[tactic(auto, unfolding(crate::specs::Text::number_text))]
 pub(crate) fn put_position(out: &mut Vec<u8>, position: Position) -> Result<(), AllocError>
     ensures { OnOk result (out.new.items ≡ out.old.items ++ position_text position) }
 {
-    let mut bytes = [0; 2];
-    BigEndian::write_u16(&mut bytes, position.get());
-    out.extend_from_slice(&bytes)?;
-    Ok(())
+    put_u16(out, position.get())
 }
 
 #[tactic(auto, unfolding(crate::specs::Text::number_text))]

@@ -12,8 +12,10 @@ pub(crate) enum Kind {
     Accept,
     Accepted,
     Decided,
+    Ask,
     Nack,
     Reply,
+    Report,
 }
 
 impl Kind {
@@ -28,8 +30,10 @@ impl Kind {
             4 => Some(Kind::Accept),
             5 => Some(Kind::Accepted),
             6 => Some(Kind::Decided),
+            7 => Some(Kind::Ask),
             8 => Some(Kind::Nack),
             9 => Some(Kind::Reply),
+            10 => Some(Kind::Report),
             _ => None,
         }
     }

@@ -2,6 +2,7 @@
 
 ghost use Rattle.std.specs.Prelude.{◌≡◌, ◌↔◌, IsSome, IfSome};
 
+use crate::actions::Actions;
 use crate::rules;
 use rp_base::{Action, Ballot, NodeId, Position, TaskId, Vote};
 use std::alloc::AllocError;
@@ -52,6 +53,10 @@ pub enum Body {
         position: Position,
         action: Action,
     },
+    /// What is decided at the position?
+    Ask {
+        position: Position,
+    },
     /// The ballot is refused, since the node has promised `bound`, which is above it.
     Nack {
         position: Position,
@@ -63,11 +68,19 @@ pub enum Body {
         number: u32,
         reply: rp_base::Reply,
     },
+    /// The node has applied the actions of the positions up to `applied`, and these are those from
+    /// `first` on, as many as `report_len` says. `applied` is 0 where it has applied none.
+    Report {
+        first: Position,
+        applied: u16,
+        actions: Actions,
+    },
 }
 
 /// A body with who says it and who hears it, by the rules: a task calls a node, in a call of its
-/// own; a node replies to a task; all else goes from node to node. Actions are right, a promise's
-/// vote is in a lower ballot, and the bound of a `Nack` is above its ballot.
+/// own; a node replies to a task and reports to the audit; all else goes from node to node. Actions are right, a promise's
+/// vote is in a lower ballot, the bound of a `Nack` is above its ballot, and a report has as many
+/// actions as `report_len` says.
 #[derive(Debug, PartialEq, Eq, Drop)]
 pub struct Packet {
     from: Party,

@@ -41,6 +41,13 @@ impl<'a> Reader<'a> {
         self.rest.len()
     }
 
+    /// A second reader of the same bytes.
+    pub(crate) fn again(&self) -> Reader<'a>
+        ensures { result ≡ self.now }
+    {
+        Reader { rest: self.rest }
+    }
+
     pub(crate) fn byte(&mut self) -> Result<u8, PacketReason>
         ensures { Gives result self.new (byte_at self.old) }
     {

@@ -1,11 +1,14 @@
 //! Who may say what to whom.
 
-ghost use Rattle.std.specs.Prelude.{◌↔◌, IfSome, IsTrue};
+ghost use Rattle.std.specs.Prelude.{◌≡◌, ◌↔◌, ◌<◌, ◌^◌, IfSome, IsTrue};
 ghost use Rattle.rp_base.specs.Action.{IsRight};
-ghost use Rattle.rp_codec.specs.Message.{IsParty, IsReply, IsBody, IsNodeParty, IsTaskParty, IsCallBy, IsCallOf, BetweenNodes, IsVoteBelow, MaySay};
+ghost use Rattle.rp_codec.specs.Message.{IsParty, IsReply, IsBody, IsNodeParty, IsTaskParty, IsAudit, IsCallBy, IsCallOf, BetweenNodes, IsVoteBelow, IsReport, MaySay, report_len};
 
 use crate::packet::{Body, Party};
-use rp_base::{Action, Ballot, Reply, TaskId, Vote};
+use rp_base::{Action, Ballot, Position, Reply, TaskId, Vote};
+
+/// How many actions the longest report tells.
+const MOST_ACTIONS: u32 = 200;
 
 /// Shows that a party's number is within its range.
 pub(crate) fn party_in_range(party: &Party)
@@ -29,6 +32,10 @@ fn reply_in_range(reply: Reply)
         let _value = value;
     }
 }
+
+fn applied_in_range(applied: u16)
+    ensures { applied < 2 ^ 16 }
+{}
 
 /// Shows that each position and each ballot of a body is within its range.
 pub(crate) fn body_in_range(body: &Body)
@@ -62,7 +69,8 @@ pub(crate) fn body_in_range(body: &Body)
         Body::Decided {
             position,
             action: _,
-        } => {
+        }
+        | Body::Ask { position } => {
             let _number = position.get();
         }
         Body::Nack {
@@ -73,6 +81,10 @@ pub(crate) fn body_in_range(body: &Body)
             let _numbers = (position.get(), ballot.get(), bound.get());
         }
         Body::Reply { number: _, reply } => reply_in_range(reply),
+        Body::Report { first, applied, .. } => {
+            let _number = first.get();
+            applied_in_range(applied);
+        }
     }
 }
 
@@ -86,6 +98,12 @@ fn is_task_party(party: &Party) -> bool
     ensures { IsTrue result ↔ IsTaskParty party.now }
 {
     matches!(party, Party::Task(_))
+}
+
+fn is_audit(party: &Party) -> bool
+    ensures { IsTrue result ↔ IsAudit party.now }
+{
+    matches!(party, Party::Audit)
 }
 
 fn between_nodes(from: &Party, to: &Party) -> bool
@@ -133,13 +151,29 @@ fn is_call(from: &Party, to: &Party, action: &Action) -> bool
     is_task_party(from) && is_node_party(to) && is_call_of(from, action) && action.is_right()
 }
 
+/// How many actions a report from this position on tells, where the actions up to the position
+/// `applied` are applied: those that there are, and at most 200.
+pub fn report_len(first: Position, applied: u16) -> u8
+    ensures { result ≡ report_len first applied }
+{
+    let from_first = (u32::from(applied) + 1).saturating_sub(u32::from(first.get()));
+    from_first.min(MOST_ACTIONS) as u8
+}
+
+fn is_report(first: Position, applied: u16, actions: &[Action]) -> bool
+    ensures { IsTrue result ↔ IsReport first applied actions.now }
+{
+    actions.len() == usize::from(report_len(first, applied))
+        && actions.iter().all(|action| action.is_right())
+}
+
 /// Whether this party may say this to that one.
 pub(crate) fn may_say(from: &Party, to: &Party, body: &Body) -> bool
     ensures { IsTrue result ↔ MaySay from.now to.now body.now }
 {
     match body {
         Body::Call { action } => is_call(from, to, action),
-        Body::Prepare { .. } => between_nodes(from, to),
+        Body::Prepare { .. } | Body::Ask { .. } => between_nodes(from, to),
         Body::Promise { ballot, last, .. } => {
             between_nodes(from, to) && is_last_below(*ballot, *last)
         }
@@ -150,5 +184,12 @@ pub(crate) fn may_say(from: &Party, to: &Party, body: &Body) -> bool
             between_nodes(from, to) && ballot.get() < bound.get()
         }
         Body::Reply { number, .. } => is_node_party(from) && is_task_party(to) && *number >= 1,
+        Body::Report {
+            first,
+            applied,
+            actions,
+        } => {
+            is_node_party(from) && is_audit(to) && is_report(*first, *applied, actions.as_slice())
+        }
     }
 }

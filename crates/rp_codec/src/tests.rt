@@ -68,9 +68,9 @@ fn both_ways(
     let packet = Packet::checked(from, to, body).ok_or("the packet keeps the rules")?;
     let text = encode(alloc, &packet)?;
     assert_eq!(rt; text.as_slice(), bytes);
-    assert_eq!(rt; decode(bytes), Ok(packet));
+    assert_eq!(rt; decode(alloc, bytes)?, Ok(packet));
     for end in 0..bytes.len() {
-        assert_eq!(rt; decode(&bytes[..end]), Err(PacketReason::Short));
+        assert_eq!(rt; decode(alloc, &bytes[..end])?, Err(PacketReason::Short));
     }
     Ok(())
 }
@@ -155,8 +155,8 @@ fn nodes_vote_and_learn(rt: HostRuntime) -> Result<(), Fail> {
 }
 
 #[test]
-fn each_spoiled_prepare_has_its_reason(rt: HostRuntime) {
-    let cases: [(&[u8], PacketReason); 9] = [
+fn each_spoiled_prepare_has_its_reason(rt: HostRuntime) -> Result<(), Fail> {
+    let cases: [(&[u8], PacketReason); 7] = [
         (
             &[1, 2, 1, 1, 0, 1, 0, 0, 0, 0, 0, 0, 0],
             PacketReason::Short,
@@ -182,12 +182,84 @@ fn each_spoiled_prepare_has_its_reason(rt: HostRuntime) {
             PacketReason::Field,
         ),
         (&[], PacketReason::Short),
-        (&[1, 7, 2, 1, 0, 2], PacketReason::Kind),
-        (&[1, 10, 2, 32, 0, 2], PacketReason::Kind),
     ];
     for (bytes, reason) in &cases {
-        assert_eq!(rt; decode(bytes), Err(*reason));
+        assert_eq!(rt; decode(rt.alloc(), bytes)?, Err(*reason));
     }
+    Ok(())
+}
+
+const ASK: [u8; 6] = [1, 7, 2, 1, 0, 2];
+
+const REPORT: [u8; 26] = [
+    1, 10, 1, 32, 0, 1, 0, 1, 1, 1, 1, 0, 0, 0, 1, 1, 2, 1, 0, 0, 0, 0, 0, 0, 0, 5,
+];
+
+const REPORT_OF_NONE: [u8; 9] = [1, 10, 1, 32, 0, 2, 0, 1, 0];
+
+fn report(alloc: Global, first: u16, applied: u16, told: &[Action]) -> Result<Body, Fail> {
+    Ok(Body::Report {
+        first: Position::new(first).ok_or("a position")?,
+        applied,
+        actions: Actions::from_vec(Vec::from_slice(alloc, told)?),
+    })
+}
+
+#[test]
+fn a_node_asks_and_reports(rt: HostRuntime) -> Result<(), Fail> {
+    let position = Position::new(2).ok_or("a position")?;
+    both_ways(
+        &rt,
+        rt.alloc(),
+        node(2)?,
+        node(1)?,
+        Body::Ask { position },
+        &ASK,
+    )?;
+    let one = report(rt.alloc(), 1, 1, &[call()])?;
+    both_ways(&rt, rt.alloc(), node(1)?, Party::Audit, one, &REPORT)?;
+    let none = report(rt.alloc(), 2, 1, &[])?;
+    both_ways(
+        &rt,
+        rt.alloc(),
+        node(1)?,
+        Party::Audit,
+        none,
+        &REPORT_OF_NONE,
+    )
+}
+
+#[test]
+fn a_report_tells_at_most_200_actions(rt: HostRuntime) -> Result<(), Fail> {
+    let most = report(rt.alloc(), 1, 300, &[call(); 200])?;
+    let packet = Packet::checked(node(1)?, Party::Audit, most).ok_or("the report keeps the rules")?;
+    let text = encode(rt.alloc(), &packet)?;
+    assert_eq!(rt; text.len(), 3409);
+    assert_eq!(rt; decode(rt.alloc(), text.as_slice())?, Ok(packet));
+    let more = report(rt.alloc(), 1, 300, &[call(); 201])?;
+    assert_eq!(rt; Packet::checked(node(1)?, Party::Audit, more), None);
+    Ok(())
+}
+
+#[test]
+fn each_spoiled_ask_or_report_has_its_reason(rt: HostRuntime) -> Result<(), Fail> {
+    let cases: [(&[u8], PacketReason); 11] = [
+        (&[1, 7, 2, 1, 0], PacketReason::Short),
+        (&[1, 7, 2, 1, 0, 2, 0], PacketReason::Long),
+        (&[0, 7, 2, 1, 0, 2], PacketReason::Version),
+        (&[1, 7, 2, 1, 0, 0], PacketReason::Field),
+        (&[1, 7, 2, 17, 0, 2], PacketReason::Field),
+        (&[1, 10, 1, 32, 0, 2, 0, 2, 1], PacketReason::Short),
+        (&[1, 10, 1, 32, 0, 2, 0, 1, 0, 0], PacketReason::Long),
+        (&[2, 10, 1, 32, 0, 2, 0, 1, 0], PacketReason::Version),
+        (&[1, 11, 1, 32, 0, 2, 0, 1, 0], PacketReason::Kind),
+        (&[1, 10, 1, 32, 0, 2, 0, 1, 1, 0], PacketReason::Field),
+        (&[1, 10, 1, 32, 0, 2, 0, 2, 1, 4], PacketReason::Field),
+    ];
+    for (bytes, reason) in &cases {
+        assert_eq!(rt; decode(rt.alloc(), bytes)?, Err(*reason));
+    }
+    Ok(())
 }
 
 #[test]
@@ -206,7 +278,7 @@ fn no_wrong_packet_is_made(rt: HostRuntime) -> Result<(), Fail> {
 
 #[test]
 fn a_packet_tells_its_parts(rt: HostRuntime) -> Result<(), Fail> {
-    let packet = decode(&NACK)?;
+    let packet = decode(rt.alloc(), &NACK)??;
     assert_eq!(rt; packet.from(), node(3)?);
     assert_eq!(rt; packet.to(), node(1)?);
     assert!(rt; matches!(packet.body(), Body::Nack { .. }));

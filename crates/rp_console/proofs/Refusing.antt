@@ -3,7 +3,8 @@ use Rattle.std.proofs.Common.{length-set, ◌≡◌, ℕ, zero, suc, ◌-◌, �
 use Rattle.std.specs.Prelude.{slice_get, nat_lt, nat_le}
 use Rattle.std.proofs.lemmas.Bool.{le-leb}
 use Rattle.std.proofs.lemmas.Bool.Decides.{nat_tests}
-use Rattle.rp_base.specs.Action.{IsRightOperation, is_right, is_right_operation, in_range}
+use Rattle.rp_base.specs.Number.{in_range}
+use Rattle.rp_base.specs.Action.{IsRightOperation, is_right, is_right_operation}
 use Rattle.rp_base.specs.Fault.{code_of}
 use Rattle.rp_base.specs.declared.action.Action.{Action}
 use Rattle.rp_base.specs.declared.action.Operation.{Operation}
@@ -11,13 +12,9 @@ use Rattle.rp_base.specs.declared.action.Operation.TheVariants.{Function, Proced
 use Rattle.rp_base.specs.declared.config.Config.{Config}
 use Rattle.rp_base.specs.declared.fault.Fault.{Fault}
 use Rattle.rp_base.specs.declared.fault.Fault.TheVariants.{BallotsSpent, LogFull, TaskBusy, NumbersSpent, BadConfig}
-use Rattle.rp_base.specs.declared.reply.Answer.{Answer}
-use Rattle.rp_base.specs.declared.reply.Reply.{Reply}
 use Rattle.rp_codec.specs.Message.{Message}
 use Rattle.rp_codec.specs.declared.packet.Party.{Party}
 use Rattle.rp_codec.specs.declared.packet.Party.TheVariants.{Node, Task, Audit}
-use Rattle.rp_codec.specs.declared.packet.Body.{Body}
-use Rattle.rp_codec.specs.declared.packet.Body.TheVariants as bodies
 use Rattle.rp_model.specs.declared.event.Event.{Event}
 use Rattle.rp_model.specs.declared.event.Event.TheVariants.{Submit, Node as NodeStep}
 use Rattle.rp_model.specs.declared.event.Step.TheVariants.{Deliver, Lead}
@@ -26,7 +23,12 @@ use Rattle.rp_model.specs.declared.part.Running.{Running}
 use Rattle.rp_model.specs.declared.part.TaskPart.{TaskPart}
 use Rattle.rp_model.specs.declared.part.Turn.{Turn}
 use Rattle.rp_model.specs.Receiving.{receives}
-use Rattle.rp_model.specs.World.{World, Happening, part_at, node_turns, nothing_happens, takes, task_takes, task_hears, next_call, may_call, calls_if, submits, turns_if, node_hears, node_is_told, arrives, delivers, leads, node_leads, event_effect}
+use Rattle.rp_model.specs.Effect as nodes
+use Rattle.rp_model.specs.Effect.{Setting, Done, turned, turned_if, effect_while}
+use Rattle.rp_model.specs.Tasks as tasks
+use Rattle.rp_model.specs.Tasks.{next_call, may_call, calls_if, task_hears}
+use Rattle.rp_model.specs.Events.{event_of}
+use Rattle.rp_model.specs.World.{World, Happening, part_at, with_part, nothing_happens, node_done, task_done, node_done_if, task_done_if, task_takes, task_is_told, node_takes, node_hears, node_is_told, arrives, delivers, event_effect}
 use Rattle.rp_console.specs.Runs.{IsEventWithin}
 
 -- the number is one of those by which a script's step is refused
@@ -72,10 +74,21 @@ call_is_right task object part operation arg one most first last right =
 test_of_node : (nodes node : ℕ) → node ≤ nodes → nat_lt nodes node ≡ false
 test_of_node nodes node within = grind (arith, nat_tests)
 
+length_with : {A : Type 0} (parts : List A) (me : ℕ) (part : A) → length (with_part parts me part) ≡ length parts
+length_with {A = A} parts zero part = refl
+length_with {A = A} parts (suc i) part = length-set parts i part
+
+node_keeps : (w : World) (me : ℕ) (done : Done NodePart) → Keeps w (Ok (node_done w me done))
+node_keeps w me done = (length_with w.nodes me done.part, refl)
+
+task_keeps : (w : World) (task : ℕ) (done : Done TaskPart) → Keeps w (Ok (task_done w task done))
+task_keeps w task done = (refl, length_with w.tasks task done.part)
+
 -- what a call comes to
-call_keeps : (w : World) (task node : ℕ) (part : TaskPart) (call : Result Action Fault) → ((fault : Fault) → call ≡ Err fault → IsNumbered fault) → Keeps w (calls_if w task node part call)
+call_keeps : (w : World) (task node : ℕ) (part : TaskPart) (call : Result Action Fault) → ((fault : Fault) → call ≡ Err fault → IsNumbered fault)
+    → Keeps w (task_done_if w task (calls_if task node part call))
 call_keeps w task node part (Err fault) numbered = numbered fault refl
-call_keeps w task node part (Ok call) numbered = (refl, length-set w.tasks (task - 1) (record part { outstanding = Some call }))
+call_keeps w task node part (Ok call) numbered = (refl, length_with w.tasks task (record part { outstanding = Some call }))
 
 may_by : (spent beyond : Bool) (call : Action) (fault : Fault) → beyond ≡ false → cond spent (Err NumbersSpent) (cond beyond (Err BadConfig) (Ok call)) ≡ Err fault → IsNumbered fault
 may_by true beyond call fault right is = let same : NumbersSpent ≡ fault = cc in subst IsNumbered same (omega arith, omega arith)
@@ -91,7 +104,7 @@ may_numbered config node part call None fault within right is =
 
 submit_keeps : (config : Config) (w : World) (task node object : ℕ) (operation : Operation) (arg : ℤ) (part : Option TaskPart)
     → 1 ≤ task → task ≤ 8 → node ≤ config.nodes → 1 ≤ object → object ≤ 8 → IsRightOperation operation → (found : TaskPart) → part ≡ Some found
-    → Keeps w (submits config w task node object operation arg part)
+    → Keeps w (task_takes config w task (tasks.Submit node object operation arg) part)
 submit_keeps config w task node object operation arg None one most within first last right found there = absurd (cc)
 submit_keeps config w task node object operation arg (Some part) one most within first last right found there =
     let call = next_call task part object operation arg in
@@ -103,71 +116,60 @@ submit_keeps config w task node object operation arg (Some part) one most within
 nothing_keeps : (w : World) → Keeps w (Ok (nothing_happens w))
 nothing_keeps w = (refl, refl)
 
-either_keeps : (w : World) (b : Bool) (one other : Happening) → Keeps w (Ok one) → Keeps w (Ok other) → Keeps w (Ok (cond b one other))
-either_keeps w true one other is so = is
-either_keeps w false one other is so = so
-
-turn_keeps : (w : World) (me : ℕ) (part : NodePart) (turn : Turn) → Keeps w (Ok (node_turns w me part turn))
-turn_keeps w me part turn = (length-set w.nodes (me - 1) _, refl)
-
-task_keeps : (w : World) (task number : ℕ) (reply : Reply) (part : Option TaskPart) → Keeps w (Ok (task_takes w task number reply part))
-task_keeps w task number reply None = nothing_keeps w
-task_keeps w task number reply (Some part) =
-    either_keeps w (takes part number) _ (nothing_happens w) (refl, length-set w.tasks (task - 1) _) (nothing_keeps w)
-
-hears_keeps : (w : World) (task : ℕ) (body : Body) → Keeps w (Ok (task_hears w task body))
-hears_keeps w task (bodies.Call action) = nothing_keeps w
-hears_keeps w task (bodies.Prepare position ballot) = nothing_keeps w
-hears_keeps w task (bodies.Promise position ballot last) = nothing_keeps w
-hears_keeps w task (bodies.Accept position ballot action) = nothing_keeps w
-hears_keeps w task (bodies.Accepted position ballot action) = nothing_keeps w
-hears_keeps w task (bodies.Decided position action) = nothing_keeps w
-hears_keeps w task (bodies.Nack position ballot bound) = nothing_keeps w
-hears_keeps w task (bodies.Reply number reply) = task_keeps w task number reply (part_at w.tasks task)
-
 lead_by : (w : World) (me : ℕ) (part : NodePart) (learned full spent : Bool) (quiet begins : Turn)
-    → Keeps w (turns_if w me part (cond learned (Ok quiet) (cond full (Err LogFull) (cond spent (Err BallotsSpent) (Ok begins)))))
-lead_by w me part true full spent quiet begins = turn_keeps w me part quiet
+    → Keeps w (node_done_if w me (turned_if part (cond learned (Ok quiet) (cond full (Err LogFull) (cond spent (Err BallotsSpent) (Ok begins))))))
+lead_by w me part true full spent quiet begins = node_keeps w me (turned part quiet)
 lead_by w me part false true spent quiet begins = (omega arith, omega arith)
 lead_by w me part false false true quiet begins = (omega arith, omega arith)
-lead_by w me part false false false quiet begins = turn_keeps w me part begins
+lead_by w me part false false false quiet begins = node_keeps w me (turned part begins)
 
-module _ {S : Type 0} (next : S → Action → S) (answers : S → Action → List Answer) (begin : S) where
-  node_keeps : (config : Config) (w : World) (me : ℕ) (message : Message) (part : NodePart) (running : Option Running) → Keeps w (Ok (node_hears next answers begin config w me message part running))
-  node_keeps config w me message part None = nothing_keeps w
-  node_keeps config w me message part (Some running) = turn_keeps w me part (receives next answers begin config.nodes config.max_positions me part.records running message)
+module _ {S : Type 0} (s : Setting S) where
+  receive_keeps : (w : World) (me : ℕ) (message : Message) (part : NodePart) (running : Option Running)
+      → Keeps w (node_done_if w me (effect_while s me part (nodes.Receive message) running))
+  receive_keeps w me message part None = (omega arith, omega arith)
+  receive_keeps w me message part (Some running) =
+      node_keeps w me (turned part (receives s.next s.answers s.begin s.config me part.records running message))
 
-  told_keeps : (config : Config) (w : World) (me : ℕ) (message : Message) (part : Option NodePart) → Keeps w (Ok (node_is_told next answers begin config w me message part))
-  told_keeps config w me message None = nothing_keeps w
-  told_keeps config w me message (Some part) = node_keeps config w me message part part.running
+  hears_keep : (w : World) (me : ℕ) (message : Message) (part : NodePart) (running : Option Running) → Keeps w (node_hears s w me message part running)
+  hears_keep w me message part None = nothing_keeps w
+  hears_keep w me message part (Some running) = receive_keeps w me message part part.running
 
-  arrival_keeps : (config : Config) (w : World) (message : Message) (party : Party) → Keeps w (Ok (arrives next answers begin config w message party))
-  arrival_keeps config w message (Node me) = told_keeps config w me message (part_at w.nodes me)
-  arrival_keeps config w message (Task task) = hears_keeps w task message.body
-  arrival_keeps config w message Audit = nothing_keeps w
+  told_keeps : (w : World) (me : ℕ) (message : Message) (part : Option NodePart) → Keeps w (node_is_told s w me message part)
+  told_keeps w me message None = nothing_keeps w
+  told_keeps w me message (Some part) = hears_keep w me message part part.running
 
-  delivery_keeps : (config : Config) (w : World) (message : Option Message) → Keeps w (delivers next answers begin config w message)
-  delivery_keeps config w None = (omega arith, omega arith)
-  delivery_keeps config w (Some message) = arrival_keeps config w message message.to
+  task_told_keeps : (w : World) (task : ℕ) (message : Message) (part : Option TaskPart) → Keeps w (task_is_told s.config w task message part)
+  task_told_keeps w task message None = nothing_keeps w
+  task_told_keeps w task message (Some part) = task_keeps w task (task_hears task part message.body)
+
+  arrival_keeps : (w : World) (message : Message) (party : Party) → Keeps w (arrives s w message party)
+  arrival_keeps w message (Node me) = told_keeps w me message (part_at w.nodes me)
+  arrival_keeps w message (Task task) = task_told_keeps w task message (part_at w.tasks task)
+  arrival_keeps w message Audit = nothing_keeps w
+
+  delivery_keeps : (w : World) (message : Option Message) → Keeps w (delivers s w message)
+  delivery_keeps w None = (omega arith, omega arith)
+  delivery_keeps w (Some message) = arrival_keeps w message message.to
 
   -- ---- a leader
 
-  leads_keep : (config : Config) (w : World) (me : ℕ) (choice : Option ℕ) (part : NodePart) (running : Option Running) → Keeps w (leads next answers begin config w me choice part running)
-  leads_keep config w me choice part None = (omega arith, omega arith)
-  leads_keep config w me choice part (Some running) = lead_by w me part _ _ _ _ _
+  leads_keep : (w : World) (me : ℕ) (choice : Option ℕ) (part : NodePart) (running : Option Running)
+      → Keeps w (node_done_if w me (effect_while s me part (nodes.Lead choice) running))
+  leads_keep w me choice part None = (omega arith, omega arith)
+  leads_keep w me choice part (Some running) = lead_by w me part _ _ _ _ _
 
-  node_leads_keep : (config : Config) (w : World) (me : ℕ) (choice : Option ℕ) (part : Option NodePart) (found : NodePart) → part ≡ Some found
-      → Keeps w (node_leads next answers begin config w me choice part)
-  node_leads_keep config w me choice None found there = absurd (cc)
-  node_leads_keep config w me choice (Some part) found there = leads_keep config w me choice part part.running
+  node_leads_keep : (w : World) (me : ℕ) (choice : Option ℕ) (part : Option NodePart) (found : NodePart) → part ≡ Some found
+      → Keeps w (node_takes s w me (nodes.Lead choice) part)
+  node_leads_keep w me choice None found there = absurd (cc)
+  node_leads_keep w me choice (Some part) found there = leads_keep w me choice part part.running
 
   -- an event that names what there is
-  pub event_keeps : (config : Config) (w : World) (tasks objects : ℕ) (event : Event) → length w.nodes ≡ config.nodes → length w.tasks ≡ 8 → tasks ≤ 8 → objects ≤ 8
-      → IsEventWithin config.nodes tasks objects event → Keeps w (event_effect next answers begin config w event)
-  event_keeps config w tasks objects (Submit task node object operation arg) nodes eight few some event =
+  pub event_keeps : (w : World) (tasks objects : ℕ) (event : Event) → length w.nodes ≡ s.config.nodes → length w.tasks ≡ 8 → tasks ≤ 8 → objects ≤ 8
+      → IsEventWithin s.config.nodes tasks objects event → Keeps w (event_effect s w (event_of event))
+  event_keeps w tasks objects (Submit task node object operation arg) nodes eight few some event =
       let there = part_there w.tasks task event.0 (omega arith) in
-      submit_keeps config w task node object operation arg (part_at w.tasks task) event.0 (omega arith) event.3 event.4 (omega arith) event.6 there.0 there.1
-  event_keeps config w tasks objects (NodeStep (Deliver message)) nodes eight few some event = delivery_keeps config w (part_at w.sent message)
-  event_keeps config w tasks objects (NodeStep (Lead node position)) nodes eight few some event =
+      submit_keeps s.config w task node object operation arg (part_at w.tasks task) event.0 (omega arith) event.3 event.4 (omega arith) event.6 there.0 there.1
+  event_keeps w tasks objects (NodeStep (Deliver message)) nodes eight few some event = delivery_keeps w (part_at w.sent message)
+  event_keeps w tasks objects (NodeStep (Lead node position)) nodes eight few some event =
       let there = part_there w.nodes node event.0 (omega arith) in
-      node_leads_keep config w node position (part_at w.nodes node) there.0 there.1
+      node_leads_keep w node position (part_at w.nodes node) there.0 there.1

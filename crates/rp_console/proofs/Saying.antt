@@ -12,8 +12,8 @@ use Rattle.rp_model.specs.declared.event.Event.{Event}
 use Rattle.rp_model.specs.declared.event.Event.TheVariants.{Node as NodeStep}
 use Rattle.rp_model.specs.declared.event.Step.TheVariants.{Deliver}
 use Rattle.rp_model.specs.World.{Happening}
-use Rattle.rp_world.specs.Steps.{Steps}
-use Rattle.rp_world.specs.declared.effect.Effect.{Effect}
+use Rattle.rp_world.specs.Steps.{AnswersBy}
+use Rattle.rp_model.specs.declared.effect.Effect.{Effect}
 use Rattle.rp_console.specs.Output.{Setting, Play, Said, nothing_said, and_then, is_among, least_unsettled, settled_by, taken_text, effect_of, effect_said, event_said, drain_from, drained, command_said, script_said}
 use Rattle.rp_console.specs.Printed.{refused_line_of, limit_line_of}
 use Rattle.rp_console.specs.Runs.{Follows, Came}
@@ -73,7 +73,7 @@ ends run old new whole rest so_far last =
 
 -- a step that happened
 pub happened : (s : Setting) (line : ℕ) (play : Play) (settles : List ℕ) (wanted : Result Happening Fault) (run after : Run) (effect : Effect) (old new : Option (List ℕ))
-    → Follows run play → Steps run.cluster.world after.cluster.world wanted (Ok effect)
+    → Follows run play → AnswersBy run.cluster.world after.cluster.world wanted (Ok effect)
     → ((m : ℕ) → is_settled after.settled m ≡ (is_among settles m || is_settled run.settled m))
     → Appends old new (taken_text s.names effect.taken)
     → Came after old new (effect_said s line play settles wanted)
@@ -90,7 +90,7 @@ happened s line play settles (Err refusal) run after effect old new follows step
 
 -- a step that was refused by one of the numbers 5 to 10
 pub was_refused : (s : Setting) (line : ℕ) (play : Play) (settles : List ℕ) (wanted : Result Happening Fault) (run after : Run) (fault : Fault) (old new : Option (List ℕ))
-    → Follows run play → Steps run.cluster.world after.cluster.world wanted (Err fault) → after.settled ≡ run.settled → 5 ≤ code_of fault
+    → Follows run play → AnswersBy run.cluster.world after.cluster.world wanted (Err fault) → after.settled ≡ run.settled → 5 ≤ code_of fault
     → Appends old new (with_line_feed (refused_line_of line fault))
     → Came after old new (effect_said s line play settles wanted)
 was_refused s line play settles (Ok happening) run after fault old new follows steps same numbered written =
@@ -98,20 +98,13 @@ was_refused s line play settles (Ok happening) run after fault old new follows s
   where
     memory : 5 ≤ code_of OutOfMemory → ⊥
     memory le = omega arith
-was_refused s line play settles (Err refusal) run after fault old new follows steps same numbered written =
-    elim steps.1 [
-      | inl memory ↦ absurd (out (subst (λ (f : Fault). 5 ≤ code_of f) memory numbered))
-      | inr refused ↦ record {
-        follows = record {
-          world = steps.0 ∙ follows.world;
-          settled = λ m. ap (λ t. is_settled t m) same ∙ follows.settled m;
-        };
-        written = subst (λ (f : Fault). Appends old new (with_line_feed (refused_line_of line f))) refused written;
-      }
-    ]
-  where
-    out : 5 ≤ code_of OutOfMemory → ⊥
-    out le = omega arith
+was_refused s line play settles (Err refusal) run after fault old new follows steps same numbered written = record {
+  follows = record {
+    world = steps.0 ∙ follows.world;
+    settled = λ m. ap (λ t. is_settled t m) same ∙ follows.settled m;
+  };
+  written = subst (λ (f : Fault). Appends old new (with_line_feed (refused_line_of line f))) steps.1 written;
+}
 
 -- ---- the definitions, one step on
 

@@ -14,6 +14,8 @@ use Rattle.rp_model.specs.declared.event.Event.TheVariants.{Submit, Node as Node
 use Rattle.rp_model.specs.declared.event.Step.TheVariants as steps
 use Rattle.rp_model.specs.declared.part.NodePart.{NodePart}
 use Rattle.rp_model.specs.declared.part.Running.{Running}
+use Rattle.rp_model.specs.Effect as nodes
+use Rattle.rp_model.specs.Events.{event_of}
 use Rattle.rp_model.specs.World.{World, Happening, opening_world, event_effect, part_at}
 use Rattle.rp_console.specs.Printed.{reply_line_of, refused_line_of, applied_line_of, stopped_line_of, limit_line_of}
 use Rattle.rp_console.specs.Status.{with_line_feed}
@@ -83,9 +85,13 @@ module _ (s : Setting) where
   abbrev pub start_state : List ℤ
   start_state = replicate s.program (pos 0)
 
+  -- the configuration, and the tally with its start
+  abbrev pub tally_setting : nodes.Setting (List ℤ)
+  tally_setting = record { config = s.config; next = tally_next; answers = tally_answers; begin = start_state }
+
   -- the effect of an event
   abbrev pub effect_of : World → Event → Result Happening Fault
-  effect_of world event = event_effect tally_next tally_answers start_state s.config world event
+  effect_of world event = event_effect tally_setting world (event_of event)
 
   -- What happened prints the reply that a task takes, and settles its messages; what was dropped is not told.
   -- What was refused prints why, and leaves the play as it is.

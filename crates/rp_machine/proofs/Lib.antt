@@ -1,4 +1,5 @@
 pub mod Adding
 pub mod Image
 pub mod Replaying
+pub mod Calling
 pub mod Applying

@@ -1,49 +1,27 @@
 -- Replay goes on from a shorter list of actions to a longer one.
-use Rattle.std.proofs.Common.{◌≡◌, true, false, List, [], ◌∷◌, ◌++◌, if◌then◌else◌, refl, sym, ap, ◌∙◌, append_assoc, append-nil}
+use Rattle.std.proofs.Common.{◌≡◌, true, false, List, [], ◌∷◌, ◌++◌, if◌then◌else◌, refl, sym, append_assoc, append-nil, ◌∙◌}
 use Rattle.rp_base.specs.declared.action.Action.{Action}
 use Rattle.rp_base.specs.declared.reply.Answer.{Answer}
-use Rattle.rp_machine.specs.Replay.{state_from, answers_from, counts, kept_behind, kept_of, GoesOn}
+use Rattle.rp_machine.specs.Replay.{counts, Replayed, replay_step, replay_from, GoesOn}
 
 module _ {S : Type 0} (next : S → Action → S) (answers : S → Action → List Answer) where
-  -- the state after a list and another is that after the second, from that after the first
-  pub state_from-append : (s : S) (xs ys : List Action) → state_from next s (xs ++ ys) ≡ state_from next (state_from next s xs) ys
-  state_from-append s [] ys = refl
-  state_from-append s (x ∷ xs) ys = state_from-append (next s x) xs ys
+  -- two lists in a row: the second goes on from what the first came to
+  pub replay_from-append : (r : Replayed S) (xs ys : List Action) → replay_from next answers r (xs ++ ys) ≡ replay_from next answers (replay_from next answers r xs) ys
+  replay_from-append r [] ys = refl
+  replay_from-append r (x ∷ xs) ys = replay_from-append (replay_step next answers r x) xs ys
 
-  -- likewise the answers
-  pub answers_from-append : (s : S) (xs ys : List Action) → answers_from next answers s (xs ++ ys) ≡ answers_from next answers s xs ++ answers_from next answers (state_from next s xs) ys
-  answers_from-append s [] ys = refl
-  answers_from-append s (x ∷ xs) ys =
-      ap (λ rest. answers s x ++ rest) (answers_from-append (next s x) xs ys) ∙ sym (append_assoc (answers s x) (answers_from next answers (next s x) xs) (answers_from next answers (state_from next (next s x) xs) ys))
-
-module _ {S : Type 0} (next : S → Action → S) (answers : S → Action → List Answer) (begin : S) where
-  -- what counts of a list and another: of the second what counts behind the first
-  pub kept_behind-append : (kept xs ys : List Action) → kept_behind next answers begin kept (xs ++ ys) ≡ kept_behind next answers begin (kept_behind next answers begin kept xs) ys
-  kept_behind-append kept [] ys = refl
-  kept_behind-append kept (x ∷ xs) ys =
-      kept_behind-append (if counts next answers begin kept x then kept ++ x ∷ [] else kept) xs ys
-
-  -- what counted stays, and some more may count
-  further_than : (kept xs : List Action) → (further : List Action) × (kept_behind next answers begin kept xs ≡ kept ++ further)
-  further_than kept [] = ([], sym (append-nil kept))
-  further_than kept (x ∷ xs) =
-      elim (counts next answers begin kept x) as (λ b. (further : List Action) × (kept_behind next answers begin (if b then kept ++ x ∷ [] else kept) xs ≡ kept ++ further)) [
+  -- what counted and what was answered stays in front
+  pub goes_on_from : (r : Replayed S) (xs : List Action) → GoesOn r (replay_from next answers r xs)
+  goes_on_from r [] = record { further = []; more = []; kept = sym (append-nil r.kept); given = sym (append-nil r.given) }
+  goes_on_from r (x ∷ xs) =
+      elim (counts r.kept r.given x) as (λ b. GoesOn r (replay_from next answers (if b then record { state = next r.state x; kept = r.kept ++ x ∷ []; given = r.given ++ answers r.state x } else r) xs)) [
         | true ↦
-            let more = further_than (kept ++ x ∷ []) xs in
-            (x ∷ more.0, more.1 ∙ append_assoc kept (x ∷ []) more.0)
-        | false ↦ further_than kept xs
+            let rest = goes_on_from (record { state = next r.state x; kept = r.kept ++ x ∷ []; given = r.given ++ answers r.state x }) xs in
+            record {
+              further = x ∷ rest.further;
+              more = answers r.state x ++ rest.more;
+              kept = rest.kept ∙ append_assoc r.kept (x ∷ []) rest.further;
+              given = rest.given ∙ append_assoc r.given (answers r.state x) rest.more;
+            }
+        | false ↦ goes_on_from r xs
       ]
-
-  -- so the kept actions, the state and the answers go on
-  pub goes_on : (actions more : List Action) → (further : List Action) × GoesOn next answers begin actions more further
-  goes_on actions more =
-      let kept = kept_of next answers begin actions in
-      let further = further_than kept more in
-      let all : kept_of next answers begin (actions ++ more) ≡ kept ++ further.0 = kept_behind-append [] actions more ∙ further.1 in (
-        further.0,
-        record {
-          kept = all;
-          state = ap (state_from next begin) all ∙ state_from-append next answers begin kept further.0;
-          said = ap (answers_from next answers begin) all ∙ answers_from-append next answers begin kept further.0;
-        },
-      )

@@ -2,3 +2,4 @@ pub mod Calls
 pub mod Replay
 pub mod TallyRule
 pub mod TallyLaws
+pub mod Asked

@@ -29,50 +29,82 @@ one_to (suc n) = one_to n ++ suc n ∷ []
 abbrev pub is_for : ℕ → ℕ → Answer → Bool
 is_for task number answer = nat_eq answer.task task && nat_eq answer.number number
 
-module _ {S : Type 0} (next : S → Action → S) where
-  -- the state after these actions, from a state
-  abbrev pub state_from : S → List Action → S
-  state_from s [] = s
-  state_from s (action ∷ rest) = state_from (next s action) rest
+-- the numbers of the task's calls, in order
+abbrev pub numbers_of : ℕ → List Action → List ℕ
+numbers_of task actions = filter_map (number_for task) actions
+
+-- the occurrences of the source, in order
+abbrev pub occurrences_of : ℕ → List Action → List ℕ
+occurrences_of source actions = filter_map (occurrence_for source) actions
+
+-- the call is the task's next: its calls so far are those numbered 1 to below it
+abbrev pub is_next_number : List Action → ℕ → ℕ → Bool
+is_next_number kept task number = pointwise nat_eq (one_to number) (numbers_of task kept ++ number ∷ [])
+
+-- the call is answered
+abbrev pub is_answered : List Answer → ℕ → ℕ → Bool
+is_answered given task number = list_any (is_for task number) given
+
+-- each of the task's calls is answered: the task does not wait
+abbrev pub all_answered : List Action → List Answer → ℕ → Bool
+all_answered kept given task = list_all (is_answered given task) (numbers_of task kept)
+
+-- Whether an action counts behind those that counted, which gave these answers. A call does if it is the
+-- next of its task and the task does not wait; an interrupt if its occurrence is above those of its source
+-- that counted; a tick always; a Noop never.
+abbrev pub counts : List Action → List Answer → Action → Bool
+counts kept given Noop = false
+counts kept given (Call task number object operation arg) = is_next_number kept task number && all_answered kept given task
+counts kept given (Interrupt source occurrence) = list_all (λ earlier. nat_lt earlier occurrence) (occurrences_of source kept)
+counts kept given (Tick now) = true
+
+-- what a log of actions came to: the state, the actions that counted, and the answers in order
+pub record Replayed (S : Type 0) : Type 0 where
+  pub state : S
+  pub kept : List Action
+  pub given : List Answer
+
+-- a machine that nothing was applied to
+abbrev pub unmoved : {S : Type 0} → S → Replayed S
+unmoved begin = record { state = begin; kept = []; given = [] }
 
 module _ {S : Type 0} (next : S → Action → S) (answers : S → Action → List Answer) where
-  -- the answers to these actions in order, from a state
-  abbrev pub answers_from : S → List Action → List Answer
-  answers_from s [] = []
-  answers_from s (action ∷ rest) = answers s action ++ answers_from (next s action) rest
+  -- the answers to one action more: the machine's where it counts, else none
+  abbrev pub answers_behind : Replayed S → Action → List Answer
+  answers_behind r action = if counts r.kept r.given action then answers r.state action else []
+
+  -- one action more: where it counts the machine takes it, else nothing changes
+  abbrev pub replay_step : Replayed S → Action → Replayed S
+  replay_step r action =
+      if counts r.kept r.given action
+      then record { state = next r.state action; kept = r.kept ++ action ∷ []; given = r.given ++ answers r.state action }
+      else r
+
+  -- going on: one action after another
+  abbrev pub replay_from : Replayed S → List Action → Replayed S
+  replay_from r [] = r
+  replay_from r (action ∷ rest) = replay_from (replay_step r action) rest
 
 module _ {S : Type 0} (next : S → Action → S) (answers : S → Action → List Answer) (begin : S) where
-  -- Whether the action counts behind those that counted. A call does if the task's calls that counted
-  -- are exactly those numbered below it and each has its answer; an interrupt if its occurrence is
-  -- above those of its source that counted; a tick always; a Noop never.
-  abbrev pub counts : List Action → Action → Bool
-  counts kept Noop = false
-  counts kept (Call task number object operation arg) =
-      pointwise nat_eq (one_to number) (filter_map (number_for task) kept ++ number ∷ [])
-      && list_all (λ earlier. list_any (is_for task earlier) (answers_from next answers begin kept)) (filter_map (number_for task) kept)
-  counts kept (Interrupt source occurrence) =
-      list_all (λ earlier. nat_lt earlier occurrence) (filter_map (occurrence_for source) kept)
-  counts kept (Tick now) = true
+  -- what a log comes to, from the start on
+  abbrev pub replay_of : List Action → Replayed S
+  replay_of actions = replay_from next answers (unmoved begin) actions
 
-  -- the actions that counted so far, and those of the rest that count behind them
-  abbrev pub kept_behind : List Action → List Action → List Action
-  kept_behind kept [] = kept
-  kept_behind kept (action ∷ rest) = kept_behind (if counts kept action then kept ++ action ∷ [] else kept) rest
-
-  -- the actions of a list that count
+  -- the actions of a log that count
   abbrev pub kept_of : List Action → List Action
-  kept_of actions = kept_behind [] actions
+  kept_of actions = (replay_of actions).kept
 
-  -- the state that a list of actions leads to: the machine's steps over those that count
+  -- the state that a log leads to
   abbrev pub replay_state : List Action → S
-  replay_state actions = state_from next begin (kept_of actions)
+  replay_state actions = (replay_of actions).state
 
-  -- the answers that a list of actions leads to, in order
+  -- the answers that a log leads to, in order
   abbrev pub replay_answers : List Action → List Answer
-  replay_answers actions = answers_from next answers begin (kept_of actions)
+  replay_answers actions = (replay_of actions).given
 
-  -- a list of actions, and then more, of which the further ones count: state and answers go on
-  pub record GoesOn (actions more further : List Action) : Type 0 where
-    pub kept : kept_of (actions ++ more) ≡ kept_of actions ++ further
-    pub state : replay_state (actions ++ more) ≡ state_from next (replay_state actions) further
-    pub said : replay_answers (actions ++ more) ≡ replay_answers actions ++ answers_from next answers (replay_state actions) further
+-- One log's outcome goes on to another: what counted and what was answered stand before what came.
+pub record GoesOn {S : Type 0} (before after : Replayed S) : Type 0 where
+  pub further : List Action
+  pub more : List Answer
+  pub kept : after.kept ≡ before.kept ++ further
+  pub given : after.given ≡ before.given ++ more

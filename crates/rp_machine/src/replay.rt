@@ -5,18 +5,18 @@ ghost use Rattle.rp_base.specs.Action.{IsRight};
 ghost use Rattle.rp_base.specs.Sets.{Has};
 ghost use Rattle.rp_base.specs.declared.action.Action.{Action};
 ghost use Rattle.rp_machine.specs.Calls.{MayApply};
-ghost use Rattle.rp_machine.specs.Replay.{counts, kept_behind, kept_of, replay_state, GoesOn};
+ghost use Rattle.rp_machine.specs.Replay.{counts, Replayed, replay_from, replay_of, replay_state, GoesOn};
 
 use crate::machine::Machine;
 
-/// A longer log goes on from the shorter: what counted still counts, in its place, and the state and
-/// the answers go on from those of the shorter.
+/// A longer log goes on from the shorter: the machine goes on from the state that it was in, and what
+/// counted and what was answered stands in its place.
 pub fn replay_goes_on<M: Machine>()
-    ensures kept { (begin : M) (actions more : List Action)
-        → kept_of M.next M.answers begin (actions ++ more)
-        ≡ kept_behind M.next M.answers begin (kept_of M.next M.answers begin actions) more }
-    ensures further { (begin : M) (actions more : List Action)
-        → (further : List Action) × GoesOn M.next M.answers begin actions more further }
+    ensures from { (begin : M) (actions more : List Action)
+        → replay_of M.next M.answers begin (actions ++ more)
+        ≡ replay_from M.next M.answers (replay_of M.next M.answers begin actions) more }
+    ensures on { (before : Replayed M) (more : List Action)
+        → GoesOn before (replay_from M.next M.answers before more) }
 {}
 
 /// Replay of right actions stays in the program's states, and where a further action counts, no call
@@ -27,8 +27,7 @@ pub fn replay_may_go_on<M: Machine>()
         → M.runs program (replay_state M.next M.answers (M.begin program) actions) }
     ensures may { (program : M.Program) (actions : List Action) (further : Action)
         → ((action : Action) → Has action actions → IsRight action)
-        → let begin = M.begin program in
-        let kept = kept_of M.next M.answers begin actions in
-        IsTrue (counts M.next M.answers begin kept further)
-        → MayApply (M.waiting (replay_state M.next M.answers begin actions)) further }
+        → let before = replay_of M.next M.answers (M.begin program) actions in
+        IsTrue (counts before.kept before.given further)
+        → MayApply (M.waiting before.state) further }
 {}

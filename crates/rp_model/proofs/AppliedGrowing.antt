@@ -4,20 +4,17 @@ use Rattle.std.specs.Prelude.{nat_eq}
 use Rattle.rp_base.specs.declared.action.Action.{Action}
 use Rattle.rp_base.specs.declared.record.Rec.{Rec}
 use Rattle.rp_base.specs.declared.record.Rec.TheVariants.{Started, Promised, Voted, Learned}
-use Rattle.rp_base.specs.Records.{learned_at, learned_run, unless_missing, applied_of}
+use Rattle.rp_base.specs.Records.{or_else, learned_in, learned_at, learned_run, unless_missing, applied_of}
 
 -- what is learned stays learned
 learned_stays : (records more : List Rec) (i : ℕ) (action : Action) → learned_at records i ≡ Some action → learned_at (records ++ more) i ≡ Some action
 learned_stays [] more i action here = absurd cc
-learned_stays (Started ballot ∷ rest) more i action here = learned_stays rest more i action here
-learned_stays (Promised position ballot ∷ rest) more i action here = learned_stays rest more i action here
-learned_stays (Voted position ballot v ∷ rest) more i action here = learned_stays rest more i action here
-learned_stays (Learned position v ∷ rest) more i action here = by (nat_eq position i) here (learned_stays rest more i action)
+learned_stays (rec ∷ rest) more i action here = by (learned_in i rec) here (learned_stays rest more i action)
   where
-    by : (b : Bool) → cond b (Some v) (learned_at rest i) ≡ Some action → (learned_at rest i ≡ Some action → learned_at (rest ++ more) i ≡ Some action)
-        → cond b (Some v) (learned_at (rest ++ more) i) ≡ Some action
-    by true here stays = here
-    by false here stays = stays here
+    by : (found : Option Action) → or_else found (learned_at rest i) ≡ Some action → (learned_at rest i ≡ Some action → learned_at (rest ++ more) i ≡ Some action)
+        → or_else found (learned_at (rest ++ more) i) ≡ Some action
+    by (Some v) here stays = here
+    by None here stays = stays here
 
 -- a run begins the longer one
 run_grows : (records more : List Rec) (most fuel i : ℕ) → most ≤ fuel → (further : List Action) × (learned_run (records ++ more) fuel i ≡ learned_run records most i ++ further)

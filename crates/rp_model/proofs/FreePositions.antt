@@ -1,8 +1,8 @@
 -- The first free position from one on, where that one is not free.
 use Rattle.std.proofs.Common.{◌≡◌, ℕ, suc, ◌+◌, ◌-◌, ◌<◌, Bool, false, cond, List, sym, ap, ◌∙◌, arith}
 use Rattle.rp_base.specs.declared.record.Rec.{Rec}
-use Rattle.rp_model.specs.declared.part.Proposal.{Proposal}
-use Rattle.rp_model.specs.Leading.{is_free_position, free_from}
+use Rattle.rp_base.specs.Proposals.{Proposal}
+use Rattle.rp_model.specs.Leader.{is_free_position, free_from}
 
 pub free_goes_on : (records : List Rec) (proposals : List Proposal) (most place total : ℕ) → place < most → is_free_position records proposals (place + 1) ≡ false
     → free_from records proposals (most - place) (place + 1) ≡ total → free_from records proposals (most - (place + 1)) (place + 1 + 1) ≡ total

@@ -7,3 +7,5 @@ pub mod Replying
 pub mod Runs
 pub mod AppliedGrowing
 pub mod WorldGrowing
+pub mod Replacing
+pub mod Deciding

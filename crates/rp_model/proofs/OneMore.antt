@@ -1,14 +1,13 @@
 -- One action more of a log that is replayed.
-use Rattle.std.proofs.Common.{◌≡◌, ℕ, ◌+◌, ◌<◌, Bool, true, false, List, [], ◌∷◌, ◌++◌, length, take, get_or, if◌then◌else◌, refl, sym, ap, subst, ◌∙◌, ◌⊎◌, inl, inr}
-use Rattle.std.proofs.lemmas.List.{append-nil, append_assoc, take_more}
+use Rattle.std.proofs.Common.{◌≡◌, ℕ, ◌+◌, ◌<◌, Bool, true, false, List, [], ◌∷◌, ◌++◌, length, take, get_or, if◌then◌else◌, sym, ap, subst, ◌∙◌, ◌⊎◌, inl, inr}
+use Rattle.std.proofs.lemmas.List.{take_more}
 use Rattle.rp_base.specs.declared.action.Action.{Action}
-use Rattle.rp_base.specs.declared.action.Action.TheVariants.{Noop, Call, Interrupt, Tick}
 use Rattle.rp_base.specs.declared.reply.Answer.{Answer}
 use Rattle.rp_base.specs.Action.{IsRight}
 use Rattle.rp_base.specs.Sets.{Has}
-use Rattle.rp_machine.specs.Replay.{state_from, answers_from, counts, kept_behind, kept_of, replay_state, replay_answers}
+use Rattle.rp_machine.specs.Replay.{counts, Replayed, unmoved, replay_step, replay_of}
+use Rattle.rp_machine.proofs.Replaying.{replay_from-append}
 use Rattle.rp_machine.specs.Calls.{CallName, MayApply}
-use Rattle.rp_model.specs.Counting.{counts_with}
 
 -- every action of the list is right
 abbrev pub AllRight : List Action → Type 0
@@ -32,88 +31,40 @@ right_more actions i x lt read right so_far action h =
     ]
 
 module _ {S : Type 0} (next : S → Action → S) (answers : S → Action → List Answer) (begin : S) where
-  -- an action counts if it does with the answers to those before it
-  pub counts_as : (kept : List Action) (given : List Answer) (action : Action) → given ≡ answers_from next answers begin kept
-      → counts_with kept given action ≡ counts next answers begin kept action
-  counts_as kept given Noop same = refl
-  counts_as kept given (Call task number object operation arg) same =
-      ap (λ (said : List Answer). counts_with kept said (Call task number object operation arg)) same
-  counts_as kept given (Interrupt source occurrence) same = refl
-  counts_as kept given (Tick now) same = refl
-
-  state_more : (s : S) (xs : List Action) (x : Action) → state_from next s (xs ++ x ∷ []) ≡ next (state_from next s xs) x
-  state_more s [] x = refl
-  state_more s (y ∷ xs) x = state_more (next s y) xs x
-
-  answers_more : (s : S) (xs : List Action) (x : Action) → answers_from next answers s (xs ++ x ∷ []) ≡ answers_from next answers s xs ++ answers (state_from next s xs) x
-  answers_more s [] x = append-nil (answers s x)
-  answers_more s (y ∷ xs) x =
-      ap (λ (rest : List Answer). answers s y ++ rest) (answers_more (next s y) xs x)
-      ∙ sym (append_assoc (answers s y) (answers_from next answers (next s y) xs) (answers (state_from next (next s y) xs) x))
-
-  kept_more : (kept xs : List Action) (x : Action) → kept_behind next answers begin kept (xs ++ x ∷ [])
-      ≡ (let before = kept_behind next answers begin kept xs in if counts next answers begin before x then before ++ x ∷ [] else before)
-  kept_more kept [] x = refl
-  kept_more kept (y ∷ xs) x = kept_more (if counts next answers begin kept y then kept ++ y ∷ [] else kept) xs x
-
-  -- what a list of actions led to
-  pub record IsReplay (actions : List Action) (machine : S) (counted : List Action) (given : List Answer) : Type 0 where
-    pub state : machine ≡ replay_state next answers begin actions
-    pub kept : counted ≡ kept_of next answers begin actions
-    pub said : given ≡ replay_answers next answers begin actions
-
   -- the list with the action behind those before
   longer : (actions : List Action) (i : ℕ) (x : Action) → i < length actions → x ≡ get_or actions i x → take (i + 1) actions ≡ take i actions ++ x ∷ []
   longer actions i x lt read = take_more actions i x lt ∙ ap (λ (y : Action). take i actions ++ y ∷ []) (sym read)
 
-  kept_longer : (actions : List Action) (i : ℕ) (x : Action) (machine : S) (kept : List Action) (given : List Answer) (b : Bool) → i < length actions → x ≡ get_or actions i x
-      → IsReplay (take i actions) machine kept given → counts_with kept given x ≡ b
-      → kept_of next answers begin (take (i + 1) actions) ≡ (if b then kept ++ x ∷ [] else kept)
-  kept_longer actions i x machine kept given b lt read done e =
-      let same : counts next answers begin kept x ≡ b =
-      sym (counts_as kept given x (done.said ∙ ap (answers_from next answers begin) (sym done.kept))) ∙ e in
-      ap (kept_of next answers begin) (longer actions i x lt read)
-      ∙ kept_more [] (take i actions) x
-      ∙ ap (λ (before : List Action). if counts next answers begin before x then before ++ x ∷ [] else before) (sym done.kept)
-      ∙ ap (λ (t : Bool). if t then kept ++ x ∷ [] else kept) same
+  -- what a log came to is this machine, with these actions that counted and these answers
+  abbrev pub IsReplay : List Action → S → List Action → List Answer → Type 0
+  IsReplay actions machine kept given = let r : Replayed S = record { state = machine; kept = kept; given = given } in r ≡ replay_of next answers begin actions
+
+  replay_longer : (actions : List Action) (i : ℕ) (x : Action) (r : Replayed S) (b : Bool) → i < length actions → x ≡ get_or actions i x
+      → r ≡ replay_of next answers begin (take i actions) → counts r.kept r.given x ≡ b
+      → (if b then record { state = next r.state x; kept = r.kept ++ x ∷ []; given = r.given ++ answers r.state x } else r) ≡ replay_of next answers begin (take (i + 1) actions)
+  replay_longer actions i x r b lt read led test =
+      sym (ap (replay_of next answers begin) (longer actions i x lt read) ∙ replay_from-append next answers (unmoved begin) (take i actions) (x ∷ [])
+      ∙ ap (λ (before : Replayed S). replay_step next answers before x) (sym led)
+      ∙ ap (λ (t : Bool). if t then record { state = next r.state x; kept = r.kept ++ x ∷ []; given = r.given ++ answers r.state x } else r) test)
 
   -- an action that counts is applied
   pub counts_more : (actions : List Action) (i : ℕ) (x : Action) (machine : S) (kept : List Action) (given : List Answer) → i < length actions → x ≡ get_or actions i x
-      → IsReplay (take i actions) machine kept given → counts_with kept given x ≡ true
+      → IsReplay (take i actions) machine kept given → counts kept given x ≡ true
       → IsReplay (take (i + 1) actions) (next machine x) (kept ++ x ∷ []) (given ++ answers machine x)
-  counts_more actions i x machine kept given lt read done e =
-      let all = kept_longer actions i x machine kept given true lt read done e in
-      let state : machine ≡ state_from next begin kept = done.state ∙ ap (state_from next begin) (sym done.kept) in
-      let said : given ≡ answers_from next answers begin kept = done.said ∙ ap (answers_from next answers begin) (sym done.kept) in
-      record {
-        state = ap (λ (s : S). next s x) state ∙ sym (state_more begin kept x) ∙ sym (ap (state_from next begin) all);
-        kept = sym all;
-        said =
-            ap (λ (s : S). given ++ answers s x) state
-            ∙ ap (λ (before : List Answer). before ++ answers (state_from next begin kept) x) said
-            ∙ sym (answers_more begin kept x)
-            ∙ sym (ap (answers_from next answers begin) all);
-      }
+  counts_more actions i x machine kept given lt read led test =
+      replay_longer actions i x (record { state = machine; kept = kept; given = given }) true lt read led test
 
   -- another is passed over
   pub counts_not : (actions : List Action) (i : ℕ) (x : Action) (machine : S) (kept : List Action) (given : List Answer) → i < length actions → x ≡ get_or actions i x
-      → IsReplay (take i actions) machine kept given → counts_with kept given x ≡ false
+      → IsReplay (take i actions) machine kept given → counts kept given x ≡ false
       → IsReplay (take (i + 1) actions) machine kept given
-  counts_not actions i x machine kept given lt read done e =
-      let all = kept_longer actions i x machine kept given false lt read done e in
-      record {
-        state = done.state ∙ ap (state_from next begin) (sym done.kept ∙ sym all);
-        kept = sym all;
-        said = done.said ∙ ap (answers_from next answers begin) (sym done.kept ∙ sym all);
-      }
+  counts_not actions i x machine kept given lt read led test =
+      replay_longer actions i x (record { state = machine; kept = kept; given = given }) false lt read led test
 
   -- an action that counts may be applied
   pub may_apply : (waiting : S → List CallName) (actions : List Action) (x : Action) (machine : S) (kept : List Action) (given : List Answer)
-      → IsReplay actions machine kept given → counts_with kept given x ≡ true
-      → (counts next answers begin (kept_of next answers begin actions) x ≡ true → MayApply (waiting (replay_state next answers begin actions)) x)
+      → IsReplay actions machine kept given → counts kept given x ≡ true
+      → ((let before = replay_of next answers begin actions in counts before.kept before.given x) ≡ true → MayApply (waiting (replay_of next answers begin actions).state) x)
       → MayApply (waiting machine) x
-  may_apply waiting actions x machine kept given done e may =
-      let said : given ≡ answers_from next answers begin kept = done.said ∙ ap (answers_from next answers begin) (sym done.kept) in
-      let counting : counts next answers begin (kept_of next answers begin actions) x ≡ true =
-      ap (λ (before : List Action). counts next answers begin before x) (sym done.kept) ∙ sym (counts_as kept given x said) ∙ e in
-      subst (λ (s : S). MayApply (waiting s) x) (sym done.state) (may counting)
+  may_apply waiting actions x machine kept given led test may =
+      subst (λ (before : Replayed S). MayApply (waiting before.state) x) (sym led) (may (subst (λ (before : Replayed S). counts before.kept before.given x ≡ true) led test))

@@ -9,7 +9,7 @@ use Rattle.rp_base.specs.declared.reply.Answer.{Answer}
 use Rattle.rp_codec.specs.Message.{Message}
 use Rattle.rp_codec.specs.declared.packet.Body.TheVariants.{Reply}
 use Rattle.rp_model.specs.Says.{says_to_task}
-use Rattle.rp_model.specs.Learning.{is_answered_by, replies_to}
+use Rattle.rp_model.specs.Pending.{is_answered_by, replies_to}
 
 abbrev reply_of : ℕ → Answer → Message
 reply_of me answer = says_to_task me (Reply answer.number answer.reply) answer.task

@@ -1,39 +1,35 @@
 -- What each event adds to a world.
-use Rattle.std.proofs.Common.{◌≡◌, ℕ, zero, suc, ◌-◌, Bool, true, false, cond, ℤ, Result, Ok, Err, Option, Some, None, List, [], ◌∷◌, ◌++◌, length, ◌⊎◌, inl, inr, refl, sym, ap, subst, ◌∙◌, arith}
+use Rattle.std.proofs.Common.{◌≡◌, ℕ, zero, suc, Bool, true, false, cond, Result, Ok, Err, Option, Some, None, List, [], ◌∷◌, ◌++◌, length, ◌⊎◌, inl, inr, refl, sym, ap, subst, ◌∙◌, arith}
 use Rattle.std.proofs.lemmas.List.{append-nil}
-use Rattle.std.specs.Prelude.{slice_get, slice_set}
+use Rattle.std.specs.Prelude.{nat_le, slice_get, slice_set}
 use Rattle.rp_base.specs.declared.action.Action.{Action}
-use Rattle.rp_base.specs.declared.action.Operation.{Operation}
 use Rattle.rp_base.specs.declared.config.Config.{Config}
 use Rattle.rp_base.specs.declared.fault.Fault.{Fault}
 use Rattle.rp_base.specs.declared.record.Rec.{Rec}
-use Rattle.rp_base.specs.declared.reply.Reply.{Reply}
-use Rattle.rp_base.specs.declared.reply.Answer.{Answer}
 use Rattle.rp_base.specs.Records.{applied_of}
 use Rattle.rp_codec.specs.Message.{Message}
 use Rattle.rp_codec.specs.declared.packet.Party.{Party}
 use Rattle.rp_codec.specs.declared.packet.Party.TheVariants.{Node, Task, Audit}
-use Rattle.rp_codec.specs.declared.packet.Body.{Body}
-use Rattle.rp_codec.specs.declared.packet.Body.TheVariants as bodies
 use Rattle.rp_model.specs.declared.part.Running.{Running}
 use Rattle.rp_model.specs.declared.part.NodePart.{NodePart}
 use Rattle.rp_model.specs.declared.part.TaskPart.{TaskPart}
 use Rattle.rp_model.specs.declared.part.Turn.{Turn}
-use Rattle.rp_model.specs.declared.event.Step.{Step}
-use Rattle.rp_model.specs.declared.event.Step.TheVariants.{Deliver, Lead}
-use Rattle.rp_model.specs.declared.event.Event.{Event}
-use Rattle.rp_model.specs.declared.event.Event.TheVariants.{Submit, Node as NodeStep}
-use Rattle.rp_model.specs.Receiving.{receives}
-use Rattle.rp_model.specs.Leading.{on_lead}
-use Rattle.rp_model.specs.World.{World, Happening, part_at, with_record, node_turns, nothing_happens, takes, task_takes, task_hears, next_call, may_call, calls_if, submits, turns_if, node_hears, node_is_told, arrives, delivers, leads, node_leads, step_effect, event_effect}
+use Rattle.rp_model.specs.Parts.{with_record}
+use Rattle.rp_model.specs.Texts.{written_for}
+use Rattle.rp_model.specs.Effect as nodes
+use Rattle.rp_model.specs.Effect.{Setting, Done, NodeInput, running_effect, turned_if, effect_while, node_effect, stop_part, cut_part, cut_if, stops_while, restart_while, restart_part}
+use Rattle.rp_model.specs.Tasks as tasks
+use Rattle.rp_model.specs.Tasks.{TaskInput, task_effect}
+use Rattle.rp_model.specs.Events.{Step, Deliver, Lead, Interrupt, Tick, Report, Event, Submit, Again, Makes, Cut, Stop, Restart}
+use Rattle.rp_model.specs.World.{World, Happening, part_at, with_part, nothing_happens, node_done, task_done, node_done_if, task_done_if, task_takes, task_is_told, node_takes, node_hears, node_is_told, arrives, delivers, step_effect, node_is_cut, hearing_is_cut, arrival_is_cut, delivery_is_cut, cut_step, stops, restarts, event_effect}
 use Rattle.rp_model.specs.Growing.{Grows}
 use Rattle.rp_model.proofs.AppliedGrowing.{applied_more}
 
 -- the records go on
-abbrev pub GoesOn : NodePart → NodePart → Type 0
-GoesOn old new = (more : List Rec) × (new.records ≡ old.records ++ more)
+abbrev pub RecordsGoOn : NodePart → NodePart → Type 0
+RecordsGoOn old new = (more : List Rec) × (new.records ≡ old.records ++ more)
 
-goes_on_same : (old new : NodePart) → old ≡ new → GoesOn old new
+goes_on_same : (old new : NodePart) → old ≡ new → RecordsGoOn old new
 goes_on_same old new same = ([], sym (append-nil old.records ∙ ap (λ (part : NodePart). part.records) same))
 
 -- where one part is set, each is as it was or is the one that was set
@@ -58,14 +54,14 @@ written_more : (records : List Rec) (written : Option Rec) → (more : List Rec)
 written_more records None = ([], sym (append-nil records))
 written_more records (Some rec) = (rec ∷ [], refl)
 
-applied_on : (old new : NodePart) → GoesOn old new → (further : List Action) × (applied_of new.records ≡ applied_of old.records ++ further)
+applied_on : (old new : NodePart) → RecordsGoOn old new → (further : List Action) × (applied_of new.records ≡ applied_of old.records ++ further)
 applied_on old new goes =
     let grown = applied_more old.records goes.0 in
     (grown.0, ap applied_of goes.1 ∙ grown.1)
 
 -- a world grows where its nodes' records go on
 grows : (w : World) (happening : Happening) → happening.world.sent ≡ w.sent ++ happening.sends → length happening.world.nodes ≡ length w.nodes
-    → ((node : ℕ) (old new : NodePart) → part_at w.nodes node ≡ Some old → part_at happening.world.nodes node ≡ Some new → GoesOn old new) → Grows w happening
+    → ((node : ℕ) (old new : NodePart) → part_at w.nodes node ≡ Some old → part_at happening.world.nodes node ≡ Some new → RecordsGoOn old new) → Grows w happening
 grows w happening sent nodes records = record {
   sent = sent;
   nodes = nodes;
@@ -82,99 +78,154 @@ grows_beside w happening same sent =
 nothing_grows : (w : World) → Grows w (nothing_happens w)
 nothing_grows w = grows_beside w (nothing_happens w) refl (sym (append-nil w.sent))
 
-turn_grows : (w : World) (me : ℕ) (part : NodePart) (turn : Turn) → part_at w.nodes me ≡ Some part → Grows w (node_turns w me part turn)
-turn_grows w zero part turn here = absurd cc
-turn_grows w (suc place) part turn here =
-    let after : NodePart = record part { records = with_record part.records turn.written; running = Some turn.running } in
-    grows w (node_turns w (suc place) part turn) refl (length_set w.nodes (suc place - 1) after) each
-  where
-    each : (node : ℕ) (old new : NodePart) → part_at w.nodes node ≡ Some old → part_at (node_turns w (suc place) part turn).world.nodes node ≡ Some new → GoesOn old new
-    each zero old new one two = absurd cc
-    each (suc j) old new one two =
-        let after : NodePart = record part { records = with_record part.records turn.written; running = Some turn.running } in
-        let same : place ≡ suc place - 1 = omega arith in
-        let at : slice_get w.nodes (suc place - 1) ≡ Some part = subst (λ (i : ℕ). slice_get w.nodes i ≡ Some part) same here in
-        elim (get_set w.nodes (suc place - 1) j part after old new at one two) [
-          | inl both ↦
-              let more = written_more part.records turn.written in
-              (more.0, ap (λ (p : NodePart). p.records) both.1 ∙ more.1 ∙ sym (ap (λ (p : NodePart). p.records ++ more.0) both.0))
-          | inr same ↦ goes_on_same old new same
-        ]
+-- where one part is put back, each is as it was or is that one
+get_with : {A : Type 0} (parts : List A) (me place : ℕ) (was is old new : A) → part_at parts me ≡ Some was → part_at parts place ≡ Some old → part_at (with_part parts me is) place ≡ Some new
+    → ((old ≡ was) × (new ≡ is)) ⊎ (old ≡ new)
+get_with parts zero place was is old new here one two = absurd cc
+get_with parts (suc i) zero was is old new here one two = absurd cc
+get_with parts (suc i) (suc j) was is old new here one two = get_set parts i j was is old new here one two
+
+length_with : {A : Type 0} (parts : List A) (me : ℕ) (part : A) → length (with_part parts me part) ≡ length parts
+length_with parts zero part = refl
+length_with parts (suc i) part = length_set parts i part
+
+-- what an actor's step comes to, if it is not refused, lets the records go on
+abbrev pub OnIf : NodePart → Result (Done NodePart) Fault → Type 0
+OnIf part (Ok done) = RecordsGoOn part done.part
+OnIf part (Err fault) = Unit {0}
+
+node_grows : (w : World) (me : ℕ) (part : NodePart) (done : Done NodePart) → part_at w.nodes me ≡ Some part → RecordsGoOn part done.part → Grows w (node_done w me done)
+node_grows w me part done here goes =
+    grows w (node_done w me done) refl (length_with w.nodes me done.part)
+    (λ node old new one two. elim (get_with w.nodes me node part done.part old new here one two) [
+      | inl both ↦ (goes.0, ap (λ (p : NodePart). p.records) both.1 ∙ goes.1 ∙ sym (ap (λ (p : NodePart). p.records ++ goes.0) both.0))
+      | inr same ↦ goes_on_same old new same
+    ])
 
 -- what happened, if it did, makes the world grow
 abbrev pub GrowsIf : World → Result Happening Fault → Type 0
 GrowsIf w (Ok happening) = Grows w happening
 GrowsIf w (Err fault) = Unit {0}
 
-call_grows : (w : World) (task node : ℕ) (part : TaskPart) (call : Result Action Fault) → GrowsIf w (calls_if w task node part call)
-call_grows w task node part (Err fault) = tt
-call_grows w task node part (Ok call) = grows_beside w _ refl refl
+node_grows_if : (w : World) (me : ℕ) (part : NodePart) (done : Result (Done NodePart) Fault) → part_at w.nodes me ≡ Some part → OnIf part done → GrowsIf w (node_done_if w me done)
+node_grows_if w me part (Ok done) here goes = node_grows w me part done here goes
+node_grows_if w me part (Err fault) here goes = tt
 
-submit_grows : (config : Config) (w : World) (task node object : ℕ) (operation : Operation) (arg : ℤ) (part : Option TaskPart) → GrowsIf w (submits config w task node object operation arg part)
-submit_grows config w task node object operation arg None = tt
-submit_grows config w task node object operation arg (Some part) =
-    call_grows w task node part (may_call config node part (next_call task part object operation arg) part.outstanding)
+task_grows_if : (w : World) (task : ℕ) (done : Result (Done TaskPart) Fault) → GrowsIf w (task_done_if w task done)
+task_grows_if w task (Ok done) = grows_beside w (task_done w task done) refl refl
+task_grows_if w task (Err fault) = tt
 
-either_grows : (w : World) (b : Bool) (one other : Happening) → Grows w one → Grows w other → Grows w (cond b one other)
-either_grows w true one other is so = is
-either_grows w false one other is so = so
+-- ---- one node
 
-task_grows : (w : World) (task number : ℕ) (reply : Reply) (part : Option TaskPart) → Grows w (task_takes w task number reply part)
-task_grows w task number reply None = nothing_grows w
-task_grows w task number reply (Some part) =
-    either_grows w (takes part number) _ (nothing_happens w) (grows_beside w _ refl (sym (append-nil w.sent))) (nothing_grows w)
+turned_on : (part : NodePart) (turn : Result Turn Fault) → OnIf part (turned_if part turn)
+turned_on part (Ok turn) = written_more part.records turn.written
+turned_on part (Err fault) = tt
 
-hears_grows : (w : World) (task : ℕ) (body : Body) → Grows w (task_hears w task body)
-hears_grows w task (bodies.Call action) = nothing_grows w
-hears_grows w task (bodies.Prepare position ballot) = nothing_grows w
-hears_grows w task (bodies.Promise position ballot last) = nothing_grows w
-hears_grows w task (bodies.Accept position ballot action) = nothing_grows w
-hears_grows w task (bodies.Accepted position ballot action) = nothing_grows w
-hears_grows w task (bodies.Decided position action) = nothing_grows w
-hears_grows w task (bodies.Nack position ballot bound) = nothing_grows w
-hears_grows w task (bodies.Reply number reply) = task_grows w task number reply (part_at w.tasks task)
+same_on : (part : NodePart) → (more : List Rec) × (part.records ≡ part.records ++ more)
+same_on part = ([], sym (append-nil part.records))
 
-turns_grow : (w : World) (me : ℕ) (part : NodePart) (turn : Result Turn Fault) → part_at w.nodes me ≡ Some part → GrowsIf w (turns_if w me part turn)
-turns_grow w me part (Ok turn) here = turn_grows w me part turn here
-turns_grow w me part (Err fault) here = tt
+cut_on : (kept : ℕ) (part : NodePart) (written : Option Rec) → RecordsGoOn part (cut_part kept part written)
+cut_on kept part None = same_on part
+cut_on kept part (Some rec) = by (nat_le (length (written_for rec)) kept)
+  where
+    by : (b : Bool) → RecordsGoOn part (cond b (stop_part (record part { records = part.records ++ rec ∷ [] })) (stop_part (record part { torn = kept })))
+    by true = (rec ∷ [], refl)
+    by false = same_on part
 
-module _ {S : Type 0} (next : S → Action → S) (answers : S → Action → List Answer) (begin : S) where
-  node_grows : (config : Config) (w : World) (me : ℕ) (message : Message) (part : NodePart) (running : Option Running) → part_at w.nodes me ≡ Some part
-      → Grows w (node_hears next answers begin config w me message part running)
-  node_grows config w me message part None here = nothing_grows w
-  node_grows config w me message part (Some running) here =
-      turn_grows w me part (receives next answers begin config.nodes config.max_positions me part.records running message) here
+cut_if_on : (kept : ℕ) (part : NodePart) (done : Result (Done NodePart) Fault) → OnIf part (cut_if kept part done)
+cut_if_on kept part (Ok done) = cut_on kept part done.written
+cut_if_on kept part (Err fault) = tt
 
-  told_grows : (config : Config) (w : World) (me : ℕ) (message : Message) (part : Option NodePart) → part_at w.nodes me ≡ part
-      → Grows w (node_is_told next answers begin config w me message part)
-  told_grows config w me message None here = nothing_grows w
-  told_grows config w me message (Some part) here = node_grows config w me message part part.running here
+stop_on : (part : NodePart) (running : Option Running) → OnIf part (stops_while part running)
+stop_on part None = tt
+stop_on part (Some running) = same_on part
 
-  arrival_grows : (config : Config) (w : World) (message : Message) (party : Party) → Grows w (arrives next answers begin config w message party)
-  arrival_grows config w message (Node me) = told_grows config w me message (part_at w.nodes me) refl
-  arrival_grows config w message (Task task) = hears_grows w task message.body
-  arrival_grows config w message Audit = nothing_grows w
+restart_on : (part : NodePart) (running : Option Running) → RecordsGoOn part (restart_while part running).part
+restart_on part None = same_on part
+restart_on part (Some running) = same_on part
 
-  delivery_grows : (config : Config) (w : World) (message : Option Message) → GrowsIf w (delivers next answers begin config w message)
-  delivery_grows config w None = tt
-  delivery_grows config w (Some message) = arrival_grows config w message message.to
+module _ {S : Type 0} (s : Setting S) where
+  effect_on : (me : ℕ) (part : NodePart) (input : NodeInput) (running : Option Running) → OnIf part (effect_while s me part input running)
+  effect_on me part input None = tt
+  effect_on me part input (Some running) = turned_on part (running_effect s me part.records running input)
 
-  leads_grow : (config : Config) (w : World) (me : ℕ) (choice : Option ℕ) (part : NodePart) (running : Option Running) → part_at w.nodes me ≡ Some part
-      → GrowsIf w (leads next answers begin config w me choice part running)
-  leads_grow config w me choice part None here = tt
-  leads_grow config w me choice part (Some running) here =
-      turns_grow w me part (on_lead next answers begin config.nodes config.max_positions me part.records running choice) here
+  -- ---- one event
 
-  lead_grows : (config : Config) (w : World) (me : ℕ) (choice : Option ℕ) (part : Option NodePart) → part_at w.nodes me ≡ part
-      → GrowsIf w (node_leads next answers begin config w me choice part)
-  lead_grows config w me choice None here = tt
-  lead_grows config w me choice (Some part) here = leads_grow config w me choice part part.running here
+  takes_grow : (w : World) (me : ℕ) (input : NodeInput) (part : Option NodePart) → part_at w.nodes me ≡ part → GrowsIf w (node_takes s w me input part)
+  takes_grow w me input None here = tt
+  takes_grow w me input (Some part) here = node_grows_if w me part (node_effect s me part input) here (effect_on me part input part.running)
 
-  step_grows : (config : Config) (w : World) (step : Step) → GrowsIf w (step_effect next answers begin config w step)
-  step_grows config w (Deliver number) = delivery_grows config w (part_at w.sent number)
-  step_grows config w (Lead node position) = lead_grows config w node position (part_at w.nodes node) refl
+  hears_grow : (w : World) (me : ℕ) (message : Message) (part : NodePart) (running : Option Running) → part_at w.nodes me ≡ Some part → GrowsIf w (node_hears s w me message part running)
+  hears_grow w me message part None here = nothing_grows w
+  hears_grow w me message part (Some running) here =
+      node_grows_if w me part (node_effect s me part (nodes.Receive message)) here (effect_on me part (nodes.Receive message) part.running)
+
+  told_grows : (w : World) (me : ℕ) (message : Message) (part : Option NodePart) → part_at w.nodes me ≡ part → GrowsIf w (node_is_told s w me message part)
+  told_grows w me message None here = nothing_grows w
+  told_grows w me message (Some part) here = hears_grow w me message part part.running here
+
+  task_told_grows : (w : World) (task : ℕ) (message : Message) (part : Option TaskPart) → GrowsIf w (task_is_told s.config w task message part)
+  task_told_grows w task message None = nothing_grows w
+  task_told_grows w task message (Some part) = task_grows_if w task (task_effect s.config task part (tasks.Take message))
+
+  arrival_grows : (w : World) (message : Message) (party : Party) → GrowsIf w (arrives s w message party)
+  arrival_grows w message (Node me) = told_grows w me message (part_at w.nodes me) refl
+  arrival_grows w message (Task task) = task_told_grows w task message (part_at w.tasks task)
+  arrival_grows w message Audit = nothing_grows w
+
+  delivery_grows : (w : World) (message : Option Message) → GrowsIf w (delivers s w message)
+  delivery_grows w None = tt
+  delivery_grows w (Some message) = arrival_grows w message message.to
+
+  step_grows : (w : World) (step : Step) → GrowsIf w (step_effect s w step)
+  step_grows w (Deliver number) = delivery_grows w (part_at w.sent number)
+  step_grows w (Lead me choice) = takes_grow w me (nodes.Lead choice) (part_at w.nodes me) refl
+  step_grows w (Interrupt me source occurrence) = takes_grow w me (nodes.Interrupt source occurrence) (part_at w.nodes me) refl
+  step_grows w (Tick me now) = takes_grow w me (nodes.Tick now) (part_at w.nodes me) refl
+  step_grows w (Report me first) = takes_grow w me (nodes.Report first) (part_at w.nodes me) refl
+
+  cuts_grow : (w : World) (me : ℕ) (input : NodeInput) (kept : ℕ) (part : Option NodePart) → part_at w.nodes me ≡ part → GrowsIf w (node_is_cut s w me input kept part)
+  cuts_grow w me input kept None here = tt
+  cuts_grow w me input kept (Some part) here = node_grows_if w me part (cut_if kept part (node_effect s me part input)) here (cut_if_on kept part (node_effect s me part input))
+
+  hearing_cut_grows : (w : World) (message : Message) (me : ℕ) (part : Option NodePart) (kept : ℕ) → part_at w.nodes me ≡ part → GrowsIf w (hearing_is_cut s w message me part kept)
+  hearing_cut_grows w message me None kept here = tt
+  hearing_cut_grows w message me (Some part) kept here =
+      node_grows_if w me part (cut_if kept part (node_effect s me part (nodes.Receive message))) here (cut_if_on kept part (node_effect s me part (nodes.Receive message)))
+
+  arrival_cut_grows : (w : World) (message : Message) (party : Party) (kept : ℕ) → GrowsIf w (arrival_is_cut s w message party kept)
+  arrival_cut_grows w message (Node me) kept = hearing_cut_grows w message me (part_at w.nodes me) kept refl
+  arrival_cut_grows w message (Task task) kept = tt
+  arrival_cut_grows w message Audit kept = tt
+
+  delivery_cut_grows : (w : World) (message : Option Message) (kept : ℕ) → GrowsIf w (delivery_is_cut s w message kept)
+  delivery_cut_grows w None kept = tt
+  delivery_cut_grows w (Some message) kept = arrival_cut_grows w message message.to kept
+
+  cut_grows : (w : World) (step : Step) (kept : ℕ) → GrowsIf w (cut_step s w step kept)
+  cut_grows w (Deliver number) kept = delivery_cut_grows w (part_at w.sent number) kept
+  cut_grows w (Lead me choice) kept = cuts_grow w me (nodes.Lead choice) kept (part_at w.nodes me) refl
+  cut_grows w (Interrupt me source occurrence) kept = cuts_grow w me (nodes.Interrupt source occurrence) kept (part_at w.nodes me) refl
+  cut_grows w (Tick me now) kept = cuts_grow w me (nodes.Tick now) kept (part_at w.nodes me) refl
+  cut_grows w (Report me first) kept = cuts_grow w me (nodes.Report first) kept (part_at w.nodes me) refl
+
+  stops_grow : (w : World) (me : ℕ) (part : Option NodePart) → part_at w.nodes me ≡ part → GrowsIf w (stops w me part)
+  stops_grow w me None here = tt
+  stops_grow w me (Some part) here = node_grows_if w me part (stops_while part part.running) here (stop_on part part.running)
+
+  restarts_grow : (w : World) (me : ℕ) (part : Option NodePart) → part_at w.nodes me ≡ part → GrowsIf w (restarts w me part)
+  restarts_grow w me None here = tt
+  restarts_grow w me (Some part) here = node_grows w me part (restart_part part) here (restart_on part part.running)
+
+  task_grows : (w : World) (task : ℕ) (input : TaskInput) (part : Option TaskPart) → GrowsIf w (task_takes s.config w task input part)
+  task_grows w task input None = tt
+  task_grows w task input (Some part) = task_grows_if w task (task_effect s.config task part input)
 
   -- every event's effect makes the world grow
-  pub event_grows : (config : Config) (w : World) (event : Event) → GrowsIf w (event_effect next answers begin config w event)
-  event_grows config w (Submit task node object operation arg) = submit_grows config w task node object operation arg (part_at w.tasks task)
-  event_grows config w (NodeStep step) = step_grows config w step
+  pub event_grows : (w : World) (event : Event) → GrowsIf w (event_effect s w event)
+  event_grows w (Submit task node object operation arg) = task_grows w task (tasks.Submit node object operation arg) (part_at w.tasks task)
+  event_grows w (Again task node) = task_grows w task (tasks.Again node) (part_at w.tasks task)
+  event_grows w (Makes step) = step_grows w step
+  event_grows w (Cut step kept) = cut_grows w step kept
+  event_grows w (Stop me) = stops_grow w me (part_at w.nodes me) refl
+  event_grows w (Restart me) = restarts_grow w me (part_at w.nodes me) refl

@@ -10,7 +10,7 @@ use Rattle.rp_codec.specs.Message.{Message}
 use Rattle.rp_codec.specs.declared.packet.Party.TheVariants.{Node}
 use Rattle.rp_codec.specs.declared.packet.Body.TheVariants as bodies
 use Rattle.rp_machine.specs.Calls.{CallName, calls_of, call_of}
-use Rattle.rp_machine.specs.Replay.{counts, kept_of, replay_answers}
+use Rattle.rp_machine.specs.Replay.{counts, replay_of, replay_answers}
 
 -- a node said to some node that it promises, with this last vote
 abbrev pub HasPromised : List Message → ℕ → ℕ → ℕ → Option Vote → Type 0
@@ -44,7 +44,7 @@ module _ {S : Type 0} (next : S → Action → S) (answers : S → Action → Li
     pub stands : slice_get actions (position - 1) ≡ Some action
     pub first : 1 ≤ position
     pub is_call : calls_of action ≡ call ∷ []
-    pub takes_effect : counts next answers begin (kept_of next answers begin (take (position - 1) actions)) action ≡ true
+    pub takes_effect : (let before = replay_of next answers begin (take (position - 1) actions) in counts before.kept before.given action) ≡ true
 
   -- the answer of a call in a list of actions: the one that its replay gives
   abbrev pub IsAnswerOf : List Action → CallName → Answer → Type 0

@@ -1,35 +1,35 @@
--- Words on the lists of a node's part (this project's own).
-use Rattle.std.specs.Prelude.{ℕ, Bool, true, false, not, ◌&&◌, nat_eq, Option, List, [], ◌∷◌, ◌++◌, filter, find}
-use Rattle.rp_base.specs.declared.action.Action.{Action}
-use Rattle.rp_base.specs.declared.action.Action.TheVariants.{Call}
-use Rattle.rp_base.specs.Action.{same_action}
-use Rattle.rp_base.specs.Promises.{HeardVote}
-use Rattle.rp_model.specs.declared.part.Phase.{Phase}
-use Rattle.rp_model.specs.declared.part.Phase.TheVariants.{Preparing, Offering}
-use Rattle.rp_model.specs.declared.part.Proposal.{Proposal}
+-- What a node and a task know at first, and how a node's records grow (this project's own).
+use Rattle.std.specs.Prelude.{ℕ, Bool, true, nat_le, Option, Some, None, List, [], ◌∷◌, ◌++◌, filter}
+use Rattle.rp_base.specs.declared.record.Rec.{Rec}
+use Rattle.rp_base.specs.declared.record.Rec.TheVariants.{Started, Promised, Voted, Learned}
+use Rattle.rp_model.specs.declared.part.Running.{Running}
+use Rattle.rp_model.specs.declared.part.NodePart.{NodePart}
+use Rattle.rp_model.specs.declared.part.TaskPart.{TaskPart}
 
--- the proposal that runs at a position, if one does
-abbrev pub proposal_at : List Proposal → ℕ → Option Proposal
-proposal_at proposals i = find (λ p. nat_eq p.position i) proposals
+-- no proposal, no vote heard, nothing pending, and no refusal
+abbrev pub fresh_running : Running
+fresh_running = record { proposals = []; heard = []; pending = []; refused = None }
 
--- the proposals at other positions
-abbrev pub without_proposal : List Proposal → ℕ → List Proposal
-without_proposal proposals i = filter (λ p. not (nat_eq p.position i)) proposals
+-- a node that runs and wrote nothing
+abbrev pub fresh_node : NodePart
+fresh_node = record { records = []; torn = 0; running = Some fresh_running }
 
--- the proposals, this one in place of any other at its position
-abbrev pub with_proposal : List Proposal → Proposal → List Proposal
-with_proposal proposals p = without_proposal proposals p.position ++ p ∷ []
+-- a task that called nothing
+abbrev pub fresh_task : TaskPart
+fresh_task = record { outstanding = None; replies = [] }
 
--- it waits for promises
-abbrev pub is_preparing : Phase → Bool
-is_preparing Preparing = true
-is_preparing Offering = false
+-- the records with the one that was written, if one was
+abbrev pub with_record : List Rec → Option Rec → List Rec
+with_record records None = records
+with_record records (Some rec) = records ++ rec ∷ []
 
--- the votes heard at other positions
-abbrev pub heard_elsewhere : List HeardVote → ℕ → List HeardVote
-heard_elsewhere heard i = filter (λ h. not (nat_eq h.1 i)) heard
+-- the record is at a position of the log, or at none
+abbrev pub is_in_log : ℕ → Rec → Bool
+is_in_log most (Started ballot) = true
+is_in_log most (Promised position ballot) = nat_le position most
+is_in_log most (Voted position ballot action) = nat_le position most
+is_in_log most (Learned position action) = nat_le position most
 
--- The items are equal: calls by task and number, all else whole.
-abbrev pub equal_items : Action → Action → Bool
-equal_items (Call task number o p a) (Call other same q r b) = nat_eq task other && nat_eq number same
-equal_items item other = same_action item other
+-- the records that count in a node's part: those above the log are skipped one by one
+abbrev pub records_in_log : ℕ → List Rec → List Rec
+records_in_log most records = filter (is_in_log most) records

@@ -1,19 +1,24 @@
 -- What a node does with a packet (this project's own table over Lamport's messages).
 use Rattle.std.specs.Prelude.{ℕ, Bool, true, false, not, ◌&&◌, nat_eq, nat_lt, List, if◌then◌else◌}
 use Rattle.rp_base.specs.declared.action.Action.{Action}
+use Rattle.rp_base.specs.declared.config.Config.{Config}
 use Rattle.rp_base.specs.declared.reply.Answer.{Answer}
 use Rattle.rp_base.specs.declared.record.Rec.{Rec}
 use Rattle.rp_base.specs.Ballot.{owner_of}
+use Rattle.rp_base.specs.Records.{applied_of}
 use Rattle.rp_codec.specs.Message.{Message}
 use Rattle.rp_codec.specs.declared.packet.Party.{Party}
 use Rattle.rp_codec.specs.declared.packet.Party.TheVariants.{Node, Task, Audit}
 use Rattle.rp_codec.specs.declared.packet.Body.{Body}
-use Rattle.rp_codec.specs.declared.packet.Body.TheVariants.{Call, Prepare, Promise, Accept, Accepted, Decided, Nack, Reply}
+use Rattle.rp_codec.specs.declared.packet.Body.TheVariants.{Call, Prepare, Promise, Accept, Accepted, Decided, Ask, Nack, Reply, Report}
+use Rattle.rp_machine.specs.Replay.{kept_of, replay_answers}
 use Rattle.rp_model.specs.declared.part.Running.{Running}
 use Rattle.rp_model.specs.declared.part.Turn.{Turn}
 use Rattle.rp_model.specs.Says.{notes, drops_foreign}
-use Rattle.rp_model.specs.Voting.{on_prepare, on_promise, on_accept, on_nack}
-use Rattle.rp_model.specs.Learning.{on_call, on_accepted, on_decided}
+use Rattle.rp_model.specs.Acceptor.{on_prepare, on_accept}
+use Rattle.rp_model.specs.Leader.{on_promise, on_nack}
+use Rattle.rp_model.specs.Pending.{on_call}
+use Rattle.rp_model.specs.Learner.{on_accepted, on_decided, on_ask}
 
 -- the party is this node
 abbrev pub is_node : ℕ → Party → Bool
@@ -22,16 +27,16 @@ is_node me (Task t) = false
 is_node me Audit = false
 
 -- the party is no node above these
-abbrev pub is_within : ℕ → Party → Bool
-is_within nodes (Node k) = not (nat_lt nodes k)
-is_within nodes (Task t) = true
-is_within nodes Audit = true
+abbrev pub is_no_node_above : ℕ → Party → Bool
+is_no_node_above nodes (Node k) = not (nat_lt nodes k)
+is_no_node_above nodes (Task t) = true
+is_no_node_above nodes Audit = true
 
 -- the party's number among the nodes or the tasks
-abbrev pub number_of_party : Party → ℕ
-number_of_party (Node k) = k
-number_of_party (Task t) = t
-number_of_party Audit = 0
+abbrev pub party_number : Party → ℕ
+party_number (Node k) = k
+party_number (Task t) = t
+party_number Audit = 0
 
 -- the position is within the log, and who asks for a ballot owns it
 abbrev pub is_allowed : ℕ → ℕ → Body → Bool
@@ -41,30 +46,36 @@ is_allowed most from (Promise position ballot last) = not (nat_lt most position)
 is_allowed most from (Accept position ballot action) = not (nat_lt most position) && nat_eq (owner_of ballot) from
 is_allowed most from (Accepted position ballot action) = not (nat_lt most position)
 is_allowed most from (Decided position action) = not (nat_lt most position)
+is_allowed most from (Ask position) = not (nat_lt most position)
 is_allowed most from (Nack position ballot bound) = not (nat_lt most position)
 is_allowed most from (Reply number reply) = true
+is_allowed most from (Report first applied actions) = true
 
 -- the packet is for this node, and keeps to the configuration
-abbrev pub is_for_node : ℕ → ℕ → ℕ → Message → Bool
-is_for_node nodes most me message =
-    is_node me message.to && is_within nodes message.from && is_allowed most (number_of_party message.from) message.body
+abbrev pub is_for_node : Config → ℕ → Message → Bool
+is_for_node config me message =
+    is_node me message.to && is_no_node_above config.nodes message.from && is_allowed config.max_positions (party_number message.from) message.body
 
 module _ {S : Type 0} (next : S → Action → S) (answers : S → Action → List Answer) (begin : S) where
   -- by what the packet says
   abbrev pub on_body : ℕ → ℕ → List Rec → Running → ℕ → Body → Turn
-  on_body nodes me records running from (Call action) = on_call next answers begin me records running action
+  on_body nodes me records running from (Call action) =
+      let applied = applied_of records in
+      on_call me (kept_of next answers begin applied) (replay_answers next answers begin applied) running action
   on_body nodes me records running from (Prepare position ballot) = on_prepare me records running from position ballot
   on_body nodes me records running from (Promise position ballot last) = on_promise nodes me running from position ballot last
   on_body nodes me records running from (Accept position ballot action) = on_accept me records running from position ballot action
   on_body nodes me records running from (Accepted position ballot action) =
       on_accepted next answers begin nodes me records running from position (record { ballot = ballot; action = action })
-  on_body nodes me records running from (Decided position action) = on_decided next answers begin me records running position action
+  on_body nodes me records running from (Decided position action) = on_decided next answers begin me records running from position action
+  on_body nodes me records running from (Ask position) = on_ask me records running from position
   on_body nodes me records running from (Nack position ballot bound) = on_nack running position ballot bound
   on_body nodes me records running from (Reply number reply) = notes running
+  on_body nodes me records running from (Report first applied actions) = notes running
 
   -- a packet comes to a node
-  abbrev pub receives : ℕ → ℕ → ℕ → List Rec → Running → Message → Turn
-  receives nodes most me records running message =
-      if is_for_node nodes most me message
-      then on_body nodes me records running (number_of_party message.from) message.body
+  abbrev pub receives : Config → ℕ → List Rec → Running → Message → Turn
+  receives config me records running message =
+      if is_for_node config me message
+      then on_body config.nodes me records running (party_number message.from) message.body
       else drops_foreign running

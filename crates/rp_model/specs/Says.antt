@@ -47,7 +47,12 @@ drops_foreign running = record { written = None; sent = []; running = running; d
 abbrev pub drops_full : Running → Turn
 drops_full running = record { written = None; sent = []; running = running; dropped = Full }
 
--- What a call returned is what a definition says, value or fault, unless memory ran out.
+-- memory was wanting for a value
+abbrev pub IsWanting : {A : Type 0} → Fault → Result A Fault → Type 0
+IsWanting fault (Ok value) = fault ≡ OutOfMemory
+IsWanting fault (Err refusal) = ⊥
+
+-- What a call returned is what a definition says, value or refusal; or memory was wanting for the value.
 abbrev pub IsOutcome : {A : Type 0} → Result A Fault → Result A Fault → Type 0
 IsOutcome (Ok value) wanted = wanted ≡ Ok value
-IsOutcome (Err fault) wanted = (fault ≡ OutOfMemory) ⊎ (wanted ≡ Err fault)
+IsOutcome (Err fault) wanted = (wanted ≡ Err fault) ⊎ IsWanting fault wanted

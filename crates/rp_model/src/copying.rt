@@ -1,25 +1,13 @@
 //! A node's proposals, as lists that are made anew.
 
 ghost use Rattle.std.specs.Prelude.{◌≡◌, IfOk, OnOk, option_copied};
-ghost use Rattle.rp_model.specs.Parts.{proposal_at, without_proposal, with_proposal};
+ghost use Rattle.rp_base.specs.Proposals.{proposal_at, without_proposal, with_proposal};
 
-use crate::part::{Proposal, Running};
+use crate::part::Running;
+use crate::proposal::Proposal;
 use crate::sequence::Sequence;
 use rp_base::Position;
 use std::alloc::{AllocError, Global};
-
-/// The same proposal.
-fn copied_proposal(alloc: Global, proposal: &Proposal) -> Result<Proposal, AllocError>
-    ensures { IfOk result (λ copy. copy ≡ proposal.now) }
-{
-    Ok(Proposal {
-        position: proposal.position,
-        ballot: proposal.ballot,
-        own: proposal.own,
-        phase: proposal.phase,
-        promises: Sequence::from_slice(alloc, proposal.promises.as_slice())?,
-    })
-}
 
 /// The same proposals.
 fn copied_proposals(alloc: Global, proposals: &[Proposal]) -> Result<Sequence<Proposal>, AllocError>
@@ -27,7 +15,7 @@ fn copied_proposals(alloc: Global, proposals: &[Proposal]) -> Result<Sequence<Pr
 {
     let mut copies = Sequence::new(alloc);
     for proposal in proposals {
-        copies.push(copied_proposal(alloc, proposal)?)?;
+        copies.push(proposal.copied(alloc)?)?;
     }
     Ok(copies)
 }
@@ -49,7 +37,7 @@ pub(crate) fn proposal_at(proposals: &[Proposal], position: Position) -> Option<
     ensures { option_copied result ≡ proposal_at proposals.now position }
 {
     for proposal in proposals {
-        if proposal.position == position {
+        if proposal.position() == position {
             return Some(proposal);
         }
     }
@@ -66,14 +54,14 @@ pub(crate) fn without_proposal(
 {
     let mut others = Sequence::new(alloc);
     for proposal in proposals {
-        if proposal.position != position {
-            others.push(copied_proposal(alloc, proposal)?)?;
+        if proposal.position() != position {
+            others.push(proposal.copied(alloc)?)?;
         }
     }
     Ok(others)
 }
 
-/// The proposals, this one in place of any other at its position.
+/// The proposals, this one in place of the one at its position, or behind them.
 pub(crate) fn with_proposal(
     alloc: Global,
     proposals: &[Proposal],
@@ -81,7 +69,22 @@ pub(crate) fn with_proposal(
 ) -> Result<Sequence<Proposal>, AllocError>
     ensures { IfOk result (λ all. all ≡ with_proposal proposals.now proposal) }
 {
-    let mut all = without_proposal(alloc, proposals, proposal.position)?;
-    all.push(proposal)?;
+    let mut all = Sequence::new(alloc);
+    let mut waiting = Some(proposal);
+    for other in proposals {
+        match waiting {
+            Some(new) if new.position() == other.position() => {
+                all.push(new)?;
+                waiting = None;
+            }
+            rest => {
+                all.push(other.copied(alloc)?)?;
+                waiting = rest;
+            }
+        }
+    }
+    if let Some(new) = waiting {
+        all.push(new)?;
+    }
     Ok(all)
 }

@@ -1,9 +1,10 @@
 //! What promises and votes that came amount to.
 
-ghost use Rattle.std.specs.Prelude.{◌≡◌, nat_eq, IfOk, OnOk};
+ghost use Rattle.std.specs.Prelude.{◌≡◌, nat_eq, length, Some, IfOk, OnOk};
 ghost use Rattle.std.specs.List.{list_any};
 ghost use Rattle.rp_base.specs.Sets.{with_member};
-ghost use Rattle.rp_base.specs.Promises.{same_promise, promisers_of, highest_vote, offer_of, same_heard, voters_of, is_majority};
+ghost use Rattle.rp_base.specs.Promises.{same_promise, promisers_of, highest_vote, offer_of, same_heard, voters_of};
+ghost use Rattle.rp_base.specs.Majority.{nodes_among, is_majority};
 
 use crate::looking::higher;
 use crate::right::{RightAction, RightVote};
@@ -34,11 +35,21 @@ fn add_node(nodes: &mut Vec<NodeId>, node: NodeId) -> Result<(), AllocError>
     Ok(())
 }
 
-/// Whether these nodes, none of them twice, are more than half.
+/// How many of these are among the nodes 1 to `nodes`.
+fn count_within(nodes: u8, senders: &[NodeId]) -> usize
+    ensures { result ≡ length (nodes_among nodes senders.now) }
+{
+    senders
+        .iter()
+        .filter(|node| (1..=nodes).contains(&node.get()))
+        .count()
+}
+
+/// Whether these, none of them twice, are more than half of the nodes.
 pub(crate) fn is_majority(nodes: u8, senders: &[NodeId]) -> bool
     ensures { result ≡ is_majority nodes senders.now }
 {
-    usize::from(majority(nodes)) <= senders.len()
+    usize::from(majority(nodes)) <= count_within(nodes, senders)
 }
 
 /// Who sent the promises, each once.
@@ -70,7 +81,7 @@ pub(crate) fn highest_vote(promises: &[CountedPromise]) -> Option<RightVote>
 
 /// What is offered: the action of that vote, or the own one where there is none.
 pub(crate) fn offer_of(own: RightAction, promises: &[CountedPromise]) -> RightAction
-    ensures { result ≡ offer_of own promises.now }
+    ensures { result ≡ offer_of (Some own) promises.now }
 {
     match highest_vote(promises) {
         Some(vote) => RightAction::new(vote.get().action),

@@ -1,12 +1,13 @@
 //! What every event keeps, at any machine.
 
-ghost use Rattle.std.specs.Prelude.{◌≡◌, ℕ, Some, Ok, List, ◌++◌, length};
+ghost use Rattle.std.specs.Prelude.{◌≡◌, ℕ, Some, Ok, List, [], ◌++◌, length};
 ghost use Rattle.rp_base.specs.Records.{applied_of};
 ghost use Rattle.rp_base.specs.declared.action.Action.{Action};
-ghost use Rattle.rp_base.specs.declared.config.Config.{Config};
 ghost use Rattle.rp_base.specs.declared.record.Rec.{Rec};
-ghost use Rattle.rp_model.specs.declared.event.Event.{Event};
+ghost use Rattle.rp_model.specs.Effect.{Setting};
+ghost use Rattle.rp_model.specs.Events.{Event};
 ghost use Rattle.rp_model.specs.World.{World, Happening, event_effect};
+ghost use Rattle.rp_model.specs.Facts.{IsOrder};
 ghost use Rattle.rp_model.specs.Growing.{Grows};
 
 use rp_machine::Machine;
@@ -19,7 +20,12 @@ pub fn applied_grows()
 /// An event's effect adds packets at the end of those that were sent, and each node's records and
 /// applied list grow at their ends. No node comes or goes.
 pub fn worlds_grow<M: Machine>()
-    ensures { (program : M.Program) (config : Config) (before : World) (event : Event) (happening : Happening)
-        → event_effect M.next M.answers (M.begin program) config before event ≡ Ok happening
+    ensures { (setting : Setting M) (before : World) (event : Event) (happening : Happening)
+        → event_effect setting before event ≡ Ok happening
         → Grows before happening }
+{}
+
+/// The order of a world in which nothing was sent is empty.
+pub fn nothing_is_decided_at_first()
+    ensures { (nodes : ℕ) (order : List Action) → IsOrder nodes [] order → order ≡ [] }
 {}

@@ -1,6 +1,6 @@
 //! What a node's records say, read off the whole list.
 
-ghost use Rattle.std.specs.Prelude.{◌≡◌, max, [], ◌∷◌, ◌++◌, Some, ◌≤◌, length, IfOk, IfSome, option_to_list};
+ghost use Rattle.std.specs.Prelude.{◌≡◌, [], ◌∷◌, ◌++◌, Some, ◌≤◌, length, IfOk, IfSome, option_to_list};
 ghost use Rattle.rp_base.specs.Right.{IsRightVote};
 ghost use Rattle.rp_base.specs.declared.action.Action.{Action};
 ghost use Rattle.rp_base.specs.Ballot.{number_of};
@@ -17,20 +17,10 @@ pub(crate) fn started_of(records: &[RightRecord]) -> Option<Ballot>
     let mut greatest: Option<Ballot> = None;
     for record in records {
         if let Rec::Started(ballot) = record.get() {
-            greatest = greater(greatest, ballot);
+            greatest = Ballot::greater(greatest, Some(ballot));
         }
     }
     greatest
-}
-
-/// The greater of a ballot, if there is one, and another.
-pub(crate) fn greater(one: Option<Ballot>, other: Ballot) -> Option<Ballot>
-    ensures { number_of result ≡ max (number_of one) other }
-{
-    match one {
-        Some(ballot) if ballot.get() >= other.get() => Some(ballot),
-        _ => Some(other),
-    }
 }
 
 /// The greatest ballot promised or voted in at a position.
@@ -42,7 +32,7 @@ pub(crate) fn bound_at(records: &[RightRecord], position: usize) -> Option<Ballo
         match record.get() {
             Rec::Promised(at, ballot) | Rec::Voted(at, ballot, _)
                 if usize::from(at.get()) == position => {
-                bound = greater(bound, ballot);
+                bound = Ballot::greater(bound, Some(ballot));
             }
             _ => {}
         }

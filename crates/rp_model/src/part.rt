@@ -1,30 +1,10 @@
 //! The parts of a world.
 
+use crate::proposal::Proposal;
 use crate::right::{RightAction, RightRecord, RightVote};
 use crate::sequence::Sequence;
 use rp_base::{Answer, Ballot, NodeId, Position};
 use rp_codec::Packet;
-
-/// The two phases of a proposal (Lamport, "Paxos Made Simple", section 2.2).
-#[derive(Clone, Copy, Debug, PartialEq, Eq)]
-pub enum Phase {
-    /// The leader asked for promises, and counts them.
-    Preparing,
-    /// It asked for votes.
-    Offering,
-}
-
-/// A node's attempt to decide a position in a ballot of its own.
-#[derive(Debug, Drop)]
-pub struct Proposal {
-    pub position: Position,
-    pub ballot: Ballot,
-    /// What is offered where no promise reports a vote.
-    pub own: RightAction,
-    pub phase: Phase,
-    /// The set of the promises that came: who sent it, and the last vote that it reports.
-    pub promises: Sequence<(NodeId, Option<RightVote>)>,
-}
 
 /// What a node knows while it runs, and loses when it stops.
 #[derive(Debug, Drop)]

@@ -4,14 +4,18 @@ ghost use Rattle.std.specs.Prelude.{◌≡◌, ◌≤◌, nat_eq, IfOk, IfSome};
 ghost use Rattle.rp_base.specs.Ballot.{owner_of};
 ghost use Rattle.rp_base.specs.Right.{IsRightVote};
 ghost use Rattle.rp_codec.specs.declared.packet.Party.TheVariants.{Node};
-ghost use Rattle.rp_model.specs.Receiving.{is_for_node, is_allowed, is_node, is_within, number_of_party, on_body, receives};
+ghost use Rattle.rp_model.specs.Receiving.{is_for_node, is_allowed, is_node, is_no_node_above, party_number, on_body, receives};
 
+use crate::acceptor::{notes, on_accept, on_prepare};
 use crate::copying::copied_running;
-use crate::learning::{on_accepted, on_call, on_decided};
+use crate::leader::{on_nack, on_promise};
+use crate::learner::{on_accepted, on_ask, on_decided};
+use crate::looking::applied_of;
 use crate::part::{Dropped, Running, Turn};
+use crate::pending::on_call;
+use crate::replaying::replay;
 use crate::right::{RightAction, RightRecord, RightVote};
 use crate::sequence::Sequence;
-use crate::voting::{notes, on_accept, on_nack, on_prepare, on_promise};
 use rp_base::{Ballot, Config, NodeId, Vote};
 use rp_codec::{Body, Packet, Party};
 use rp_machine::Machine;
@@ -28,8 +32,8 @@ fn is_node(me: NodeId, party: Party) -> bool
 }
 
 /// Whether the party is no node above these.
-fn is_within(nodes: u8, party: Party) -> bool
-    ensures { result ≡ is_within nodes party }
+fn is_no_node_above(nodes: u8, party: Party) -> bool
+    ensures { result ≡ is_no_node_above nodes party }
 {
     match party {
         Party::Node(node) => node.get() <= nodes,
@@ -39,10 +43,10 @@ fn is_within(nodes: u8, party: Party) -> bool
 
 /// Whether the position is within the log, and who asks for a ballot owns it.
 fn is_allowed(max_positions: u16, from: Party, body: &Body) -> bool
-    ensures { result ≡ is_allowed max_positions (number_of_party from) body.now }
+    ensures { result ≡ is_allowed max_positions (party_number from) body.now }
 {
     match *body {
-        Body::Call { .. } | Body::Reply { .. } => true,
+        Body::Call { .. } | Body::Reply { .. } | Body::Report { .. } => true,
         Body::Prepare { position, ballot }
         | Body::Accept {
             position,
@@ -52,13 +56,14 @@ fn is_allowed(max_positions: u16, from: Party, body: &Body) -> bool
         Body::Promise { position, .. }
         | Body::Accepted { position, .. }
         | Body::Decided { position, .. }
+        | Body::Ask { position }
         | Body::Nack { position, .. } => position.get() <= max_positions,
     }
 }
 
 /// Whether the ballot is the party's own.
 fn owns(party: Party, ballot: Ballot) -> bool
-    ensures { result ≡ nat_eq (owner_of ballot) (number_of_party party) }
+    ensures { result ≡ nat_eq (owner_of ballot) (party_number party) }
 {
     let number = match party {
         Party::Node(node) => node.get(),
@@ -70,10 +75,10 @@ fn owns(party: Party, ballot: Ballot) -> bool
 
 /// Whether the packet is for this node, and keeps to the configuration.
 fn is_for_node(config: Config, me: NodeId, packet: &Packet) -> bool
-    ensures { result ≡ is_for_node config.nodes config.max_positions me packet.now }
+    ensures { result ≡ is_for_node config me packet.now }
 {
     is_node(me, packet.to())
-        && is_within(config.nodes, packet.from())
+        && is_no_node_above(config.nodes, packet.from())
         && is_allowed(config.max_positions, packet.from(), packet.body())
 }
 
@@ -88,7 +93,7 @@ pub fn receives<M: Machine>(
     packet: &Packet,
 ) -> Result<Turn, AllocError>
     requires { config.nodes ≤ 7 }
-    ensures { IfOk result (λ turn. turn ≡ receives M.next M.answers (M.begin program.now) config.nodes config.max_positions me records.now running.now packet.now) }
+    ensures { IfOk result (λ turn. turn ≡ receives M.next M.answers (M.begin program.now) config me records.now running.now packet.now) }
 {
     if !is_for_node(config, me, packet) {
         return Ok(Turn {
@@ -112,7 +117,7 @@ fn on_body<M: Machine>(
     packet: &Packet,
 ) -> Result<Turn, AllocError>
     requires { nodes ≤ 7 }
-    ensures { IfOk result (λ turn. turn ≡ on_body M.next M.answers (M.begin program.now) nodes me records.now running.now (number_of_party packet.now.from) packet.now.body) }
+    ensures { IfOk result (λ turn. turn ≡ on_body M.next M.answers (M.begin program.now) nodes me records.now running.now (party_number packet.now.from) packet.now.body) }
 {
     if let Party::Node(from) = packet.from() {
         return Ok(between_nodes::<M>(alloc, program, nodes, me, records, running, from, packet)?);
@@ -120,7 +125,10 @@ fn on_body<M: Machine>(
     match *packet.body() {
         Body::Call { action } => {
             let call = RightAction::new(action);
-            Ok(on_call::<M>(alloc, program, me, records, running, call)?)
+            let applied = applied_of(alloc, records)?;
+            let replayed = replay::<M>(alloc, program, applied.as_slice())?;
+            let kept = replayed.kept.as_slice();
+            Ok(on_call(alloc, me, kept, replayed.answers.as_slice(), running, call)?)
         }
         _ => Ok(notes(alloc, copied_running(alloc, running)?)),
     }
@@ -173,14 +181,15 @@ fn between_nodes<M: Machine>(
         }
         Body::Decided { position, action } => {
             let action = RightAction::new(action);
-            Ok(on_decided::<M>(alloc, program, me, records, running, position, action)?)
+            Ok(on_decided::<M>(alloc, program, me, records, running, from, position, action)?)
         }
         Body::Nack {
             position,
             ballot,
             bound,
         } => Ok(on_nack(alloc, running, position, ballot, bound)?),
-        Body::Call { .. } | Body::Reply { .. } => {
+        Body::Ask { position } => Ok(on_ask(alloc, me, records, running, from, position)?),
+        Body::Call { .. } | Body::Reply { .. } | Body::Report { .. } => {
             Ok(notes(alloc, copied_running(alloc, running)?))
         }
     }

@@ -2,8 +2,7 @@
 
 ghost use Rattle.std.specs.Prelude.{◌≡◌, ◌+◌, ◌&&◌, filter_map, nat_eq, nat_lt, IfOk};
 ghost use Rattle.std.specs.List.{list_any, list_all};
-ghost use Rattle.rp_machine.specs.Replay.{number_for, occurrence_for, is_for, kept_of, replay_state, replay_answers};
-ghost use Rattle.rp_model.specs.Counting.{is_next_number, all_answered, counts_with};
+ghost use Rattle.rp_machine.specs.Replay.{number_for, occurrence_for, is_for, is_next_number, all_answered, counts, kept_of, replay_state, replay_answers};
 
 use crate::right::RightAction;
 use rp_base::{Action, Answer, TaskId};
@@ -102,7 +101,7 @@ fn is_new_occurrence(kept: &[Action], source: u8, occurrence: u32) -> bool
 
 /// Whether the action counts behind those that counted, which gave these answers.
 fn counts(kept: &[Action], given: &[Answer], action: Action) -> bool
-    ensures { result ≡ counts_with kept.now given.now action }
+    ensures { result ≡ counts kept.now given.now action }
 {
     match action {
         Action::Noop => false,

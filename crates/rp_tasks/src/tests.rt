@@ -140,6 +140,6 @@ fn a_call_comes_out_of_the_line_as_it_went_in(rt: HostRuntime) -> Result<(), Fai
     let mut line = empty_line(rt.alloc())?;
     line.accept_by(rt.alloc(), 5, encode(rt.alloc(), &packet)?.as_slice())?;
     let text = line.release_by(0).ok_or("one packet")?;
-    assert!(rt; decode(text.as_slice()) == Ok(packet));
+    assert!(rt; decode(rt.alloc(), text.as_slice())? == Ok(packet));
     Ok(())
 }

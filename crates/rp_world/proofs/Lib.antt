@@ -1,1 +1,2 @@
-pub mod OneEventMore
+pub mod Answering
+pub mod PuttingBack

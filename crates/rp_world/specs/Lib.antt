@@ -1,4 +1,4 @@
+pub mod Steps
 pub mod Runs
 pub mod Shape
-pub mod Steps
 pub use Rattle.rp_model.specs.World

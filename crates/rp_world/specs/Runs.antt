@@ -1,32 +1,34 @@
--- Events one after another (this project's own).
-use Rattle.std.specs.Prelude.{◌≡◌, ℕ, ◌<◌, Result, Ok, Err, Option, Some, None, List, [], ◌∷◌, length, take, slice_get, IfSome}
+-- Events of a cluster one after another (this project's own).
+use Rattle.std.specs.Prelude.{◌≡◌, ℕ, Result, Ok, Err, Some, List, map, take, slice_get}
 use Rattle.rp_base.specs.declared.action.Action.{Action}
-use Rattle.rp_base.specs.declared.config.Config.{Config}
 use Rattle.rp_base.specs.declared.fault.Fault.{Fault}
 use Rattle.rp_base.specs.declared.reply.Answer.{Answer}
 use Rattle.rp_model.specs.declared.event.Event.{Event}
-use Rattle.rp_model.specs.World.{World, Happening, event_effect}
-use Rattle.rp_world.specs.Steps.{IsRefusal}
+use Rattle.rp_model.specs.Events.{event_of}
+use Rattle.rp_model.specs.World.{World}
+use Rattle.rp_model.specs.Answers.{Happen, IsFaulted}
+use Rattle.rp_world.specs.Steps.{Setup, IsSameSetup, setting_of}
+use Rattle.rp_world.specs.declared.effect.Refused.{Refused}
 
--- the world after what happened, unless it was refused
-abbrev pub world_if : Result Happening Fault → Option World
-world_if (Ok happening) = Some happening.world
-world_if (Err fault) = None
+module _ {S P : Type 0} (next : S → Action → S) (answers : S → Action → List Answer) (start : P → S) where
+  -- the events happen, and lead to this world
+  abbrev pub LeadsTo : Setup P → List Event → World → Type 0
+  LeadsTo old events world = Happen (setting_of next answers start old) old.world (map event_of events) world
 
-module _ {S : Type 0} (next : S → Action → S) (answers : S → Action → List Answer) (begin : S) where
-  -- the world after the events, if none of them is refused where it comes
-  abbrev pub happen_from : Config → Option World → List Event → Option World
-  happen_from config None events = None
-  happen_from config (Some w) [] = Some w
-  happen_from config (Some w) (event ∷ rest) = happen_from config (world_if (event_effect next answers begin config w event)) rest
+  -- The events before a place happen, and the event there is answered by a fault.
+  pub record StopsAt (old : Setup P) (events : List Event) (left : World) (place : ℕ) (fault : Fault) : Type 0 where
+    pub stopped : World
+    pub event : Event
+    pub before : LeadsTo old (take place events) stopped
+    pub here : slice_get events place ≡ Some event
+    pub faulted : IsFaulted (setting_of next answers start old) stopped (event_of event) left fault
 
-  -- the same from a world
-  abbrev pub happen : Config → World → List Event → Option World
-  happen config w events = happen_from config (Some w) events
+  -- where a run comes to, by what it answers
+  abbrev pub ComesTo : Setup P → List Event → World → Result Unit Refused → Type 0
+  ComesTo old events new (Ok all) = LeadsTo old events new
+  ComesTo old events new (Err refused) = StopsAt old events new refused.place refused.fault
 
-  -- The events before this place happen and lead to the world; there the event of the place is refused.
-  abbrev pub StopsAt : Config → World → List Event → World → ℕ → Fault → Type 0
-  StopsAt config w events stopped place fault =
-      (place < length events)
-      × (happen config w (take place events) ≡ Some stopped)
-      × IfSome (slice_get events place) (λ event. IsRefusal (event_effect next answers begin config stopped event) fault)
+  -- a run of a cluster: its world goes by the events, and all else stays
+  pub record IsRun (old : Setup P) (events : List Event) (new : Setup P) (answer : Result Unit Refused) : Type 0 where
+    pub world : ComesTo old events new.world answer
+    pub setup : IsSameSetup old new

@@ -1,38 +1,50 @@
--- A cluster as its configuration, its program and its world, and what a step of it tells.
-use Rattle.std.specs.Prelude.{◌≡◌, ℕ, ◌+◌, ◌-◌, ◌^◌, min, Result, Ok, Err, Option, Some, None, List, length, IsOkAnd, ◌⊎◌}
+-- A cluster as one value, and what a step of it answers.
+use Rattle.std.specs.Prelude.{◌≡◌, ◌⊎◌, Result, Ok, Err, Option, Some, None, List, length, IsOkAnd}
+use Rattle.rp_base.specs.declared.action.Action.{Action}
 use Rattle.rp_base.specs.declared.config.Config.{Config}
 use Rattle.rp_base.specs.declared.fault.Fault.{Fault}
 use Rattle.rp_base.specs.declared.fault.Fault.TheVariants.{OutOfMemory, NotRunning, BadConfig}
 use Rattle.rp_base.specs.declared.record.Rec.{Rec}
-use Rattle.rp_model.specs.declared.part.Running.{Running}
+use Rattle.rp_base.specs.declared.reply.Answer.{Answer}
+use Rattle.rp_model.specs.declared.effect.Effect.{Effect}
+use Rattle.rp_model.specs.declared.event.Event.{Event}
 use Rattle.rp_model.specs.declared.part.NodePart.{NodePart}
-use Rattle.rp_model.specs.World.{World, Happening}
-use Rattle.rp_world.specs.declared.effect.Effect.{Effect}
+use Rattle.rp_model.specs.declared.part.Running.{Running}
+use Rattle.rp_model.specs.Effect.{Setting}
+use Rattle.rp_model.specs.Events.{event_of}
+use Rattle.rp_model.specs.World.{World, Happening, event_effect}
+use Rattle.rp_model.specs.Answers.{Tells, Steps}
 
+-- a cluster: its configuration, the program that its nodes run, and its world
 pub record Setup (P : Type 0) : Type 0 where
   pub config : Config
   pub program : P
   pub world : World
 
--- the effect tells what happened: the number of the first message, how many there were (the greatest
--- number of 32 bits stands for all above it), what was dropped, and the reply that a task took
-pub record Tells (sent : ℕ) (happening : Happening) (effect : Effect) : Type 0 where
-  pub first : effect.first ≡ sent + 1
-  pub count : effect.sent ≡ min (length happening.sends) (2 ^ 32 - 1)
-  pub dropped : effect.dropped ≡ happening.dropped
-  pub taken : effect.taken ≡ happening.taken
+-- the two have one configuration and one program
+pub record IsSameSetup {P : Type 0} (old new : Setup P) : Type 0 where
+  pub config : new.config ≡ old.config
+  pub program : new.program ≡ old.program
 
--- An event's step was answered: it came to what its effect is, and was told so; or it was refused as its
--- effect is, or for memory, and nothing changed.
-abbrev pub Steps : World → World → Result Happening Fault → Result Effect Fault → Type 0
-Steps old new (Ok happening) (Ok effect) = (new ≡ happening.world) × Tells (length old.sent) happening effect
-Steps old new (Ok happening) (Err fault) = (new ≡ old) × (fault ≡ OutOfMemory)
-Steps old new (Err refusal) (Ok effect) = ⊥
-Steps old new (Err refusal) (Err fault) = (new ≡ old) × ((fault ≡ OutOfMemory) ⊎ (fault ≡ refusal))
+-- A step was answered by what the event comes to: so it happened, and was told; or it was refused so, or
+-- memory was wanting for it, and nothing changed.
+abbrev pub AnswersBy : World → World → Result Happening Fault → Result Effect Fault → Type 0
+AnswersBy old new (Ok happening) (Ok effect) = (new ≡ happening.world) × Tells (length old.sent) happening effect
+AnswersBy old new (Ok happening) (Err fault) = (new ≡ old) × (fault ≡ OutOfMemory)
+AnswersBy old new (Err refusal) (Ok effect) = ⊥
+AnswersBy old new (Err refusal) (Err fault) = (new ≡ old) × (fault ≡ refusal)
 
--- The fault is the refusal that the event's effect is, unless memory ran out.
-abbrev pub IsRefusal : Result Happening Fault → Fault → Type 0
-IsRefusal wanted fault = (fault ≡ OutOfMemory) ⊎ (wanted ≡ Err fault)
+module _ {S P : Type 0} (next : S → Action → S) (answers : S → Action → List Answer) (start : P → S) where
+  -- what the nodes of a cluster share
+  abbrev pub setting_of : Setup P → Setting S
+  setting_of c = record { config = c.config; next = next; answers = answers; begin = start c.program }
+
+  -- A step of a cluster: its world goes by the event, and all else stays. Plain nodes have no device that
+  -- may fail, so nothing but want of memory comes beside what the event comes to.
+  pub record IsStep (old : Setup P) (event : Event) (new : Setup P) (answer : Result Effect Fault) : Type 0 where
+    pub world : Steps (setting_of old) old.world (event_of event) new.world answer
+    pub plain : AnswersBy old.world new.world (event_effect (setting_of old) old.world (event_of event)) answer
+    pub setup : IsSameSetup old new
 
 -- the same of a part that runs or is stopped
 abbrev pub IsToldOfRunning : {A : Type 0} → Result A Fault → (A → List Rec → Type 0) → List Rec → Option Running → Type 0

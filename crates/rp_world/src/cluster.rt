@@ -5,16 +5,20 @@ ghost use Rattle.rp_base.specs.Config.{IsRightConfig};
 ghost use Rattle.rp_base.specs.Records.{applied_of};
 ghost use Rattle.rp_codec.specs.Text.{text_of};
 ghost use Rattle.rp_machine.specs.Replay.{replay_state};
-ghost use Rattle.rp_model.specs.World.{opening_world, event_effect, delivers, node_leads, part_at};
-ghost use Rattle.rp_world.specs.Steps.{Steps, IsToldOf, IsToldUnlessMemory};
-ghost use Rattle.rp_world.specs.Runs.{happen, StopsAt};
+ghost use Rattle.rp_model.specs.Effect as nodes;
+ghost use Rattle.rp_model.specs.Events.{event_of};
+ghost use Rattle.rp_model.specs.World.{opening_world, delivers, node_takes, event_effect, part_at};
+ghost use Rattle.rp_world.specs.Steps.{AnswersBy, IsSameSetup, IsStep, setting_of, IsToldOf, IsToldUnlessMemory};
+ghost use Rattle.rp_world.specs.Runs.{IsRun};
 
-use crate::effect::{Effect, Refused};
+use crate::effect::{Refused, nothing};
 use crate::world::World;
 use rp_base::{Answer, Config, Fault, NodeId, Position, TaskId};
 use rp_codec::{Body, Party, encode};
 use rp_machine::Machine;
-use rp_model::{Event, RightRecord, Step, applied_count, applied_of, on_lead, receives, replay};
+use rp_model::{
+    Effect, Event, RightRecord, Step, applied_count, applied_of, on_lead, receives, replay,
+};
 use std::alloc::Global;
 use std::marker::Model;
 
@@ -62,8 +66,16 @@ impl<M: Machine> Cluster<M> {
     /// last number, `BadConfig` for a node above the last or a call that is not right, and
     /// `OutOfMemory`.
     pub fn step(&mut self, alloc: Global, event: &Event) -> Result<Effect, Fault>
-        ensures effect { Steps self.old.world self.new.world (event_effect M.next M.answers (M.begin self.old.program) self.old.config self.old.world event.now) result }
-        ensures setup { (self.new.config ≡ self.old.config) × (self.new.program ≡ self.old.program) }
+        ensures step { IsStep M.next M.answers M.begin self.old event.now self.new result }
+    {
+        self.answer(alloc, event)
+    }
+
+    /// The same, by what the event comes to.
+    fn answer(&mut self, alloc: Global, event: &Event) -> Result<Effect, Fault>
+        ensures effect { AnswersBy self.old.world self.new.world
+            (event_effect (setting_of M.next M.answers M.begin self.old) self.old.world (event_of event.now)) result }
+        ensures setup { IsSameSetup self.old self.new }
     {
         match *event {
             Event::Submit {
@@ -82,9 +94,7 @@ impl<M: Machine> Cluster<M> {
 
     /// The steps of these events one after another, up to the first that is refused.
     pub fn run(&mut self, alloc: Global, events: &[Event]) -> Result<(), Refused>
-        ensures ran { OnOk result (happen M.next M.answers (M.begin self.old.program) self.old.config self.old.world events.now ≡ Some self.new.world) }
-        ensures stopped { IfErr result (λ refused. StopsAt M.next M.answers (M.begin self.old.program) self.old.config self.old.world events.now self.new.world refused.place refused.fault) }
-        ensures setup { (self.new.config ≡ self.old.config) × (self.new.program ≡ self.old.program) }
+        ensures run { IsRun M.next M.answers M.begin self.old events.now self.new result }
     {
         for (place, event) in events.iter().enumerate() {
             if let Err(fault) = self.step(alloc, event) {
@@ -96,8 +106,9 @@ impl<M: Machine> Cluster<M> {
 
     /// A message is taken by whom it is for.
     fn deliver(&mut self, alloc: Global, number: u64) -> Result<Effect, Fault>
-        ensures effect { Steps self.old.world self.new.world (delivers M.next M.answers (M.begin self.old.program) self.old.config self.old.world (part_at self.old.world.sent number)) result }
-        ensures setup { (self.new.config ≡ self.old.config) × (self.new.program ≡ self.old.program) }
+        ensures effect { AnswersBy self.old.world self.new.world
+            (delivers (setting_of M.next M.answers M.begin self.old) self.old.world (part_at self.old.world.sent number)) result }
+        ensures setup { IsSameSetup self.old self.new }
     {
         let first = self.world.next_number();
         let Some(packet) = self.world.message(number) else {
@@ -106,10 +117,10 @@ impl<M: Machine> Cluster<M> {
         match packet.to() {
             Party::Node(node) => {
                 let Some(part) = self.world.node(node) else {
-                    return Ok(Effect::nothing(first));
+                    return Ok(nothing(first));
                 };
                 let Some(running) = &part.running else {
-                    return Ok(Effect::nothing(first));
+                    return Ok(nothing(first));
                 };
                 let records = part.records.as_slice();
                 let turn = receives::<M>(
@@ -125,11 +136,11 @@ impl<M: Machine> Cluster<M> {
             }
             Party::Task(task) => {
                 let Body::Reply { number, reply } = *packet.body() else {
-                    return Ok(Effect::nothing(first));
+                    return Ok(nothing(first));
                 };
                 self.world.takes(task, number, reply)
             }
-            Party::Audit => Ok(Effect::nothing(first)),
+            Party::Audit => Ok(nothing(first)),
         }
     }
 
@@ -140,8 +151,10 @@ impl<M: Machine> Cluster<M> {
         node: NodeId,
         position: Option<Position>,
     ) -> Result<Effect, Fault>
-        ensures effect { Steps self.old.world self.new.world (node_leads M.next M.answers (M.begin self.old.program) self.old.config self.old.world node position (part_at self.old.world.nodes node)) result }
-        ensures setup { (self.new.config ≡ self.old.config) × (self.new.program ≡ self.old.program) }
+        ensures effect { AnswersBy self.old.world self.new.world
+            (node_takes (setting_of M.next M.answers M.begin self.old) self.old.world node (nodes.Lead position)
+            (part_at self.old.world.nodes node)) result }
+        ensures setup { IsSameSetup self.old self.new }
     {
         let Some(part) = self.world.node(node) else {
             return Err(Fault::BadConfig);

@@ -7,8 +7,8 @@ mod parts;
 mod world;
 
 pub use cluster::Cluster;
-pub use effect::{Effect, Refused};
-pub use rp_model::{Dropped, Event, Step};
+pub use effect::Refused;
+pub use rp_model::{Dropped, Effect, Event, Step};
 
 #[cfg(test)]
 mod tests;

@@ -5,7 +5,8 @@ ghost use Rattle.rp_base.specs.Action.{IsRight, is_right};
 ghost use Rattle.rp_codec.specs.Message.{IsCallBy};
 ghost use Rattle.rp_codec.specs.declared.packet.Party.TheVariants.{Node, Task};
 ghost use Rattle.rp_codec.specs.declared.packet.Body.TheVariants.{Call};
-ghost use Rattle.rp_model.specs.World.{with_record, fresh_node, fresh_task, outstanding_number, takes, next_call, may_call};
+ghost use Rattle.rp_model.specs.Parts.{with_record, fresh_node, fresh_task};
+ghost use Rattle.rp_model.specs.Tasks.{asks, outstanding_number, takes, next_call, may_call};
 
 use rp_base::{Action, Answer, Config, Fault, NodeId, Operation, Reply, TaskId};
 use rp_codec::{Body, Packet, Party};
@@ -163,7 +164,7 @@ fn outstanding_number(outstanding: &Option<RightAction>) -> u32
 /// A task's call, as a packet to a node.
 pub(crate) fn asks(task: TaskId, node: NodeId, call: RightAction) -> Packet
     requires { IsCallBy task call }
-    ensures { result ≡ record { from = Task task; to = Node node; body = Call call } }
+    ensures { result ≡ asks task node call }
 {
     Packet::new(
         Party::Task(task),

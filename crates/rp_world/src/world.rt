@@ -1,15 +1,17 @@
 //! A world as it lies in memory: the parts of the nodes and the tasks, and the messages.
 
-ghost use Rattle.std.specs.Prelude.{◌≡◌, ◌+◌, ◌<◌, ◌^◌, length, option_copied, Ok, Some, IfOk, IfSome};
+ghost use Rattle.std.specs.Prelude.{◌≡◌, ◌+◌, ◌<◌, ◌^◌, length, option_copied, Ok, Some, IfOk, IfSome, IsSomeAnd};
 ghost use Rattle.rp_codec.specs.Message.{IsCallBy};
-ghost use Rattle.rp_model.specs.World.{opening_world, part_at, node_turns, submits, calls_if, task_takes};
-ghost use Rattle.rp_world.specs.Steps.{Steps};
+ghost use Rattle.rp_model.specs.Effect.{turned};
+ghost use Rattle.rp_model.specs.Tasks.{Submit, calls_if, takes_reply};
+ghost use Rattle.rp_model.specs.World.{opening_world, part_at, node_done, task_done, task_done_if, task_takes};
+ghost use Rattle.rp_world.specs.Steps.{AnswersBy};
 
-use crate::effect::Effect;
+use crate::effect::{nothing, of_turn, one_message, one_reply};
 use crate::parts::{answer_if, asks, fresh_nodes, fresh_tasks, next_call, take_effect};
 use rp_base::{Config, Fault, NodeId, Operation, Reply, TaskId};
 use rp_codec::Packet;
-use rp_model::{NodePart, RightAction, TaskPart, Turn};
+use rp_model::{Effect, NodePart, RightAction, TaskPart, Turn};
 use std::alloc::{AllocError, Global};
 use std::marker::Model;
 
@@ -85,12 +87,13 @@ impl World {
 
     /// A node's turn takes effect. Refused for memory, nothing changes.
     pub(crate) fn turns(&mut self, node: NodeId, turn: Turn) -> Result<Effect, Fault>
-        ensures { IfSome (part_at self.old.nodes node) (λ part. Steps self.old self.new (Ok (node_turns self.old node part turn)) result) }
+        ensures { IfSome (part_at self.old.nodes node) (λ part.
+            AnswersBy self.old self.new (Ok (node_done self.old node (turned part turn))) result) }
     {
         let first = self.next_number();
-        let effect = Effect::of_turn(first, &turn);
+        let effect = of_turn(first, &turn);
         let Some(part) = self.nodes.get_mut(usize::from(node.get()) - 1) else {
-            return Ok(Effect::nothing(first));
+            return Ok(nothing(first));
         };
         take_effect(part, &mut self.sent, turn)?;
         Ok(effect)
@@ -107,7 +110,8 @@ impl World {
         operation: Operation,
         arg: i64,
     ) -> Result<Effect, Fault>
-        ensures { Steps self.old self.new (submits config self.old task node object operation arg (part_at self.old.tasks task)) result }
+        ensures { AnswersBy self.old self.new
+            (task_takes config self.old task (Submit node object operation arg) (part_at self.old.tasks task)) result }
     {
         match next_call(config, self.task(task), task, node, object, operation, arg) {
             Ok(call) => self.asks(task, node, call),
@@ -118,23 +122,25 @@ impl World {
     /// A task makes this call and asks a node. Refused for memory, nothing changes.
     fn asks(&mut self, task: TaskId, node: NodeId, call: RightAction) -> Result<Effect, Fault>
         requires { IsCallBy task call }
-        ensures { IfSome (part_at self.old.tasks task) (λ part. Steps self.old self.new (calls_if self.old task node part (Ok call)) result) }
+        ensures { IfSome (part_at self.old.tasks task) (λ part.
+            AnswersBy self.old self.new (task_done_if self.old task (calls_if task node part (Ok call))) result) }
     {
         let first = self.next_number();
         self.sent.push(asks(task, node, call))?;
         self.tasks[usize::from(task.get()) - 1].outstanding = Some(call);
-        Ok(Effect::one_message(first))
+        Ok(one_message(first))
     }
 
     /// A reply comes to a task. Refused for memory, nothing changes.
     pub(crate) fn takes(&mut self, task: TaskId, number: u32, reply: Reply) -> Result<Effect, Fault>
-        ensures { Steps self.old self.new (Ok (task_takes self.old task number reply (part_at self.old.tasks task))) result }
+        ensures { IsSomeAnd (part_at self.old.tasks task) (λ part.
+            AnswersBy self.old self.new (Ok (task_done self.old task (takes_reply task part number reply))) result) }
     {
         let first = self.next_number();
         let Some(answer) = answer_if(self.task(task), task, number, reply) else {
-            return Ok(Effect::nothing(first));
+            return Ok(nothing(first));
         };
-        let effect = Effect::one_reply(first, &answer);
+        let effect = one_reply(first, &answer);
         let part = &mut self.tasks[usize::from(task.get()) - 1];
         part.replies.push(answer)?;
         part.outstanding = None;

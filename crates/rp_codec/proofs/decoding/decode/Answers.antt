@@ -1,26 +1,22 @@
-use Rattle.std.proofs.Common.{sym, ap, subst, ◌∙◌, arith}
-use Rattle.rp_codec.specs.Reading.{all_of}
+use Rattle.std.proofs.Common.{sym, arith}
+use Rattle.rp_codec.specs.Found.{with_body}
 use Rattle.rp_codec.proofs.Steps.{IsBytes}
-use Rattle.rp_codec.proofs.Decoded.{Whole, whole, whole_again, long_again, version_again, kind_again, whole_found}
+use Rattle.rp_codec.proofs.Decoded.{decoded, decoded_packet, decoded_rules}
 use Rattle.rp_codec.proofs.decoding.decode.Goals as goal
 
-pub returns-clause-found : goal.returns-clause-found
-returns-clause-found c = whole_found c.args.bytes.now _ (λ i. omega (arith, c.type_inv.bytes i)) c.read_all.ensures
-
-pub returns-clause-only : goal.returns-clause-only
-returns-clause-only c = λ p packet e. c.read_all.ensures ∙ ap all_of e ∙ whole_again p packet
-
-pub returns-clause-long : goal.returns-clause-long
-returns-clause-long c =
+pub listed-requires : goal.listed-requires
+listed-requires c =
+    let (body, after, stands, read) = c.in-Ok.ensures in
     let bytes : IsBytes c.args.bytes.now = λ i. omega (arith, c.type_inv.bytes i) in
-    (λ e. subst (Whole c.args.bytes.now) (sym c.read_all.ensures ∙ e) (whole c.args.bytes.now bytes), λ h. c.read_all.ensures ∙ long_again c.args.bytes.now h)
+    (body, after, stands, decoded_rules c.args.bytes.now (with_body c.in-Ok.found body) bytes read)
 
-pub returns-clause-version : goal.returns-clause-version
-returns-clause-version c =
+pub returns-in_ok-packet-in-Ok : goal.returns-in_ok-packet-in-Ok
+returns-in_ok-packet-in-Ok c =
+    let (body, after, stands, read) = c.in-Ok.ensures in
     let bytes : IsBytes c.args.bytes.now = λ i. omega (arith, c.type_inv.bytes i) in
-    (λ e. subst (Whole c.args.bytes.now) (sym c.read_all.ensures ∙ e) (whole c.args.bytes.now bytes), λ h. c.read_all.ensures ∙ version_again c.args.bytes.now h)
+    decoded_packet c.args.bytes.now c.in_ok-packet-in-Ok.packet (with_body c.in-Ok.found body) bytes (c.in_ok-packet-in-Ok.ensures body after stands) read
 
-pub returns-clause-kind : goal.returns-clause-kind
-returns-clause-kind c =
+pub returns-in-Err : goal.returns-in-Err
+returns-in-Err c =
     let bytes : IsBytes c.args.bytes.now = λ i. omega (arith, c.type_inv.bytes i) in
-    (λ e. subst (Whole c.args.bytes.now) (sym c.read_all.ensures ∙ e) (whole c.args.bytes.now bytes), λ h. c.read_all.ensures ∙ kind_again c.args.bytes.now h)
+    decoded c.args.bytes.now _ bytes (sym c.in-Err.ensures)

@@ -1,5 +1,5 @@
 use Rattle.std.proofs.Common.{◌≡◌, drop}
-use Rattle.rp_model.specs.Parts.{proposal_at}
+use Rattle.rp_base.specs.Proposals.{proposal_at}
 use Rattle.rp_model.proofs.copying.proposal_at.Given as goal
 
 -- nothing was found so far, so what the rest has is what all have

@@ -6,6 +6,4 @@ use Rattle.rp_model.proofs.WorldGrowing.{GrowsIf, event_grows}
 use Rattle.rp_model.proofs.laws.worlds_grow.Goals as goal
 
 pub returns : goal.returns
-returns g c =
-    let m = g.M.Machine in
-    λ program config before event happening is. subst (λ (r : Result Happening Fault). GrowsIf before r) is (event_grows m.next m.answers (m.begin program) config before event)
+returns g c = λ setting before event happening is. subst (λ (r : Result Happening Fault). GrowsIf before r) is (event_grows setting before event)

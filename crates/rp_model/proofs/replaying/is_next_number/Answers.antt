@@ -1,6 +1,6 @@
 -- Each call of the task has the next number, or it decides.
 use Rattle.std.proofs.Common.{◌≡◌, true, false, sym, ◌∙◌, rules}
-use Rattle.rp_model.specs.Counting.{is_next_number}
+use Rattle.rp_machine.specs.Replay.{is_next_number}
 use Rattle.rp_model.proofs.Numbering.{follows, passes, takes, refuses, comes_last}
 use Rattle.rp_model.proofs.replaying.is_next_number.Goals.{in-Some+else-not-follows, in_default}
 use Rattle.rp_model.proofs.replaying.is_next_number.Goals as goal

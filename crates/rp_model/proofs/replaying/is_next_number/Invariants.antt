@@ -1,8 +1,7 @@
 use Rattle.std.proofs.Common.{◌≡◌, ◌++◌, ◌∷◌, [], ◌≤◌, drop}
 use Rattle.std.specs.Prelude.{nat_eq, filter_map}
 use Rattle.std.specs.Cmp.Lexicographic.{pointwise}
-use Rattle.rp_machine.specs.Replay.{number_for, one_to}
-use Rattle.rp_model.specs.Counting.{is_next_number}
+use Rattle.rp_machine.specs.Replay.{number_for, one_to, is_next_number}
 use Rattle.rp_model.proofs.replaying.is_next_number.Given as goal
 
 -- the numbers so far are 1 to the last one, so what follows decides

@@ -1,5 +1,5 @@
 use Rattle.std.proofs.Common.{◌≡◌, replicate}
-use Rattle.rp_model.specs.World.{fresh_node}
+use Rattle.rp_model.specs.Parts.{fresh_node}
 use Rattle.rp_world.proofs.parts.fresh_nodes.Given as goal
 
 abbrev pub invariant-loop-place : goal.invariant-loop-place

@@ -10,13 +10,13 @@ pub returns-in_err-settle_by-in-Ok-clause-run : goal.returns-in_err-settle_by-in
 returns-in_err-settle_by-in-Ok-clause-run g c =
     let after : Run = record { cluster = c.step.new.self; settled = c.settle_by.new.self } in
     stays_of c.args.deck.now c.args.self.now after c.args.event.now c.requires.right c.requires.run c.requires.event
-    (Ok c.in-Ok.effect) c.in-Ok.ensures.setup.0 c.in-Ok.ensures.setup.1 c.in-Ok.ensures.effect
+    (Ok c.in-Ok.effect) c.in-Ok.ensures.step.setup.config c.in-Ok.ensures.step.setup.program c.in-Ok.ensures.step.plain
 
 pub returns-in_ok-settle_by-in-Ok-clause-run : goal.returns-in_ok-settle_by-in-Ok-clause-run
 returns-in_ok-settle_by-in-Ok-clause-run g c =
     let after : Run = record { cluster = c.step.new.self; settled = c.settle_by.new.self } in
     stays_of c.args.deck.now c.args.self.now after c.args.event.now c.requires.right c.requires.run c.requires.event
-    (Ok c.in-Ok.effect) c.in-Ok.ensures.setup.0 c.in-Ok.ensures.setup.1 c.in-Ok.ensures.effect
+    (Ok c.in-Ok.effect) c.in-Ok.ensures.step.setup.config c.in-Ok.ensures.step.setup.program c.in-Ok.ensures.step.plain
 
 pub returns-in_ok-settle_by-in-Ok-clause-said : goal.returns-in_ok-settle_by-in-Ok-clause-said
 returns-in_ok-settle_by-in-Ok-clause-said g c =
@@ -24,13 +24,13 @@ returns-in_ok-settle_by-in-Ok-clause-said g c =
     on_ok_weaker c.tell_effect.result (λ written play follows.
     event_happened c.args.deck.now c.args.line play c.args.event.now c.args.self.now after
     (g.W.Write.contents c.args.writer.now) (g.W.Write.contents c.tell_effect.new.writer) c.requires.run follows
-    c.in-Ok.effect c.in-Ok.ensures.effect c.in_ok-settle_by-in-Ok.ensures written) c.tell_effect.ensures.told
+    c.in-Ok.effect c.in-Ok.ensures.step.plain c.in_ok-settle_by-in-Ok.ensures written) c.tell_effect.ensures.told
 
 pub returns-in-Err-clause-run : goal.returns-in-Err-clause-run
 returns-in-Err-clause-run g c =
     let after : Run = record { cluster = c.step.new.self; settled = c.args.self.now.settled } in
     stays_of c.args.deck.now c.args.self.now after c.args.event.now c.requires.right c.requires.run c.requires.event
-    (Err c.in-Err.fault) c.in-Err.ensures.setup.0 c.in-Err.ensures.setup.1 c.in-Err.ensures.effect
+    (Err c.in-Err.fault) c.in-Err.ensures.step.setup.config c.in-Err.ensures.step.setup.program c.in-Err.ensures.step.plain
 
 pub returns-in-Err-clause-said : goal.returns-in-Err-clause-said
 returns-in-Err-clause-said g c =
@@ -39,11 +39,11 @@ returns-in-Err-clause-said g c =
     on_ok_weaker c.print.result (λ written play follows.
     event_was_refused c.args.deck.now c.args.line play c.args.event.now c.args.self.now after
     (g.W.Write.contents c.args.writer.now) (g.W.Write.contents c.print.new.writer) c.requires.run follows
-    c.in-Err.fault c.in-Err.ensures.effect refl numbered written) c.print.ensures.printed
+    c.in-Err.fault c.in-Err.ensures.step.plain refl numbered written) c.print.ensures.printed
 
 pub returns-in-Err-2-clause-fault : goal.returns-in-Err-2-clause-fault
 returns-in-Err-2-clause-fault g c =
     let after : Run = record { cluster = c.step.new.self; settled = c.args.self.now.settled } in
     ends_with c.args.deck.now c.args.self.now after c.args.event.now c.requires.right c.requires.run c.requires.event
-    c.in-Err.fault c.in-Err.ensures.effect
+    c.in-Err.fault c.in-Err.ensures.step.plain
     (λ numbered. let is : c.is_refusal.result ≡ true = c.is_refusal.ensures.1 numbered in absurd (cc (is, c.if-is_refusal.false)))

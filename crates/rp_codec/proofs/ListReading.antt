@@ -1,0 +1,102 @@
+-- A list of actions that is read one after another.
+use Rattle.std.proofs.Common.{◌≡◌, ℕ, zero, suc, ◌+◌, ◌-◌, ◌<◌, ◌≤◌, List, [], ◌∷◌, ◌++◌, length, get_or, take, Ok, Err, refl, sym, ap, ◌∙◌, append_assoc, arith}
+use Rattle.std.specs.Prelude.{IsOk, flat_map}
+use Rattle.std.specs.Int.{w16}
+use Rattle.std.proofs.lemmas.Bool.{eq-eqb}
+use Rattle.std.proofs.lemmas.List.{append-nil, flat_map_more, take_more, take_all}
+use Rattle.rp_base.specs.declared.fault.PacketReason.{PacketReason}
+use Rattle.rp_base.specs.declared.action.Action.{Action}
+use Rattle.rp_codec.specs.Text.{action_text}
+use Rattle.rp_codec.specs.Message.{report_len}
+use Rattle.rp_codec.specs.declared.packet.Body.TheVariants.{Report}
+use Rattle.rp_codec.specs.Reading.{◌>>=◌, Read, byte_at, number_at, position_at, action_at, actions_at, report_at}
+
+-- what is read behind a list that was read
+abbrev prefixed : List Action → Read (List Action) → Read (List Action)
+prefixed front (Ok x) = Ok (front ++ x.0, x.1)
+prefixed front (Err e) = Err e
+
+-- so many were read, and the others stand where the rest begins
+pub record HasRead (count : ℕ) (bytes : List ℕ) (done : ℕ) (front : List Action) (rest : List ℕ) : Type 0 where
+  pub read : actions_at count bytes ≡ prefixed front (actions_at (count - done) rest)
+
+prefixed_nil : (read : Read (List Action)) → read ≡ prefixed [] read
+prefixed_nil (Ok x) = refl
+prefixed_nil (Err e) = refl
+
+pub none_read : (count : ℕ) (bytes : List ℕ) → HasRead count bytes 0 [] bytes
+none_read count bytes =
+    let counted : count ≡ count - 0 = omega arith in
+    record { read = prefixed_nil (actions_at count bytes) ∙ ap (λ (k : ℕ). prefixed [] (actions_at k bytes)) counted }
+
+joined : (front : List Action) (action : Action) (others : Read (List Action))
+    → prefixed front (others >>= λ x. Ok (action ∷ x.0, x.1)) ≡ prefixed (front ++ action ∷ []) others
+joined front action (Ok x) = ap (λ (l : List Action). Ok (l, x.1)) (sym (append_assoc front (action ∷ []) x.0))
+joined front action (Err e) = refl
+
+read_step : (front : List Action) (left : ℕ) (rest : List ℕ) (action : Action) (after : List ℕ) → action_at rest ≡ Ok (action, after)
+    → prefixed front (actions_at (suc left) rest) ≡ prefixed (front ++ action ∷ []) (actions_at left after)
+unfolding actions_at
+read_step front left rest action after e = rw e (joined front action (actions_at left after))
+
+pub one_more_read : (count : ℕ) (bytes : List ℕ) (done : ℕ) (front : List Action) (rest : List ℕ) (action : Action) (after : List ℕ)
+    → HasRead count bytes done front rest → done < count → action_at rest ≡ Ok (action, after) → HasRead count bytes (done + 1) (front ++ action ∷ []) after
+one_more_read count bytes done front rest action after h more e =
+    let left : ℕ = count - (done + 1) in
+    let counted : count - done ≡ suc left = omega arith in
+    record { read = h.read ∙ ap (λ (k : ℕ). prefixed front (actions_at k rest)) counted ∙ read_step front left rest action after e }
+
+fault_step : (front : List Action) (left : ℕ) (rest : List ℕ) (reason : PacketReason) → action_at rest ≡ Err reason
+    → prefixed front (actions_at (suc left) rest) ≡ Err reason
+unfolding actions_at
+fault_step front left rest reason e = rw e refl
+
+pub fault_read : (count : ℕ) (bytes : List ℕ) (done : ℕ) (front : List Action) (rest : List ℕ) (reason : PacketReason)
+    → HasRead count bytes done front rest → done < count → action_at rest ≡ Err reason → actions_at count bytes ≡ Err reason
+fault_read count bytes done front rest reason h more e =
+    let left : ℕ = count - (done + 1) in
+    let counted : count - done ≡ suc left = omega arith in
+    h.read ∙ ap (λ (k : ℕ). prefixed front (actions_at k rest)) counted ∙ fault_step front left rest reason e
+
+last_step : (front : List Action) (rest : List ℕ) → prefixed front (actions_at 0 rest) ≡ Ok (front, rest)
+unfolding actions_at
+last_step front rest = ap (λ (l : List Action). Ok (l, rest)) (append-nil front)
+
+pub all_read : (count : ℕ) (bytes : List ℕ) (done : ℕ) (front : List Action) (rest : List ℕ)
+    → HasRead count bytes done front rest → count ≤ done → actions_at count bytes ≡ Ok (front, rest)
+all_read count bytes done front rest h whole =
+    let counted : count - done ≡ 0 = omega arith in
+    h.read ∙ ap (λ (k : ℕ). prefixed front (actions_at k rest)) counted ∙ last_step front rest
+
+-- ---- what follows from a list that was read whole
+
+pub no_fault : (read : Read (List Action)) (reason : PacketReason) → read ≡ Err reason → IsOk read → ⊥
+no_fault (Ok x) reason e ok = absurd cc
+no_fault (Err other) reason e ok = absurd cc
+
+pub same_list : (read : Read (List Action)) (list : List Action) (rest : List ℕ) → read ≡ Ok (list, rest) → (actions : List Action) (after : List ℕ) → read ≡ Ok (actions, after) → list ≡ actions
+same_list read list rest e actions after f =
+    let same : (list, rest) ≡ (actions, after) = cc in
+    ap (λ (p : List Action × List ℕ). p.0) same
+
+-- a report, field by field
+pub report_found : (bytes after_first after_applied text told after : List ℕ) (first applied count : ℕ) (actions : List Action)
+    → position_at bytes ≡ Ok (first, after_first) → number_at w16 after_first ≡ Ok (applied, after_applied) → byte_at after_applied ≡ Ok (count, text)
+    → count ≡ report_len first applied → told ≡ text → actions_at count text ≡ Ok (actions, after)
+    → (actions_at count told ≡ Ok (actions, after)) × (report_at bytes ≡ Ok (Report first applied actions, after))
+unfolding report_at
+report_found bytes after_first after_applied text told after first applied count actions e1 e2 e3 counted same e4 =
+    (ap (actions_at count) same ∙ e4, rw (e1, e2, e3, eq-eqb _ _ counted, e4) refl)
+
+-- ---- and written
+
+pub one_more_written : (front : List ℕ) (actions : List Action) (i : ℕ) (action : Action) → i < length actions → action ≡ get_or actions i action
+    → (front ++ flat_map action_text (take i actions)) ++ action_text action ≡ front ++ flat_map action_text (take (i + 1) actions)
+one_more_written front actions i action within item =
+    flat_map_more action_text front (take i actions) action
+    ∙ ap (λ (l : List Action). front ++ flat_map action_text l) (ap (λ (a : Action). take i actions ++ a ∷ []) item ∙ sym (take_more actions i action within))
+
+pub all_written : (front : List ℕ) (actions : List Action) (i : ℕ) → length actions ≤ i
+    → (front ++ length actions ∷ []) ++ flat_map action_text (take i actions) ≡ front ++ (length actions ∷ flat_map action_text actions)
+all_written front actions i whole =
+    ap (λ (l : List Action). (front ++ length actions ∷ []) ++ flat_map action_text l) (take_all i actions whole) ∙ append_assoc front (length actions ∷ []) (flat_map action_text actions)

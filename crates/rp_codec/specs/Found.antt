@@ -1,0 +1,53 @@
+-- What was read of a packet, before memory is taken for a report's actions.
+use Rattle.std.specs.Prelude.{◌≡◌, ℕ, List, Result, Ok, Err}
+use Rattle.rp_base.specs.declared.fault.PacketReason.{PacketReason}
+use Rattle.rp_base.specs.declared.action.Action.{Action}
+use Rattle.rp_codec.specs.declared.packet.Body.{Body}
+use Rattle.rp_codec.specs.declared.packet.Body.TheVariants.{Report}
+use Rattle.rp_codec.specs.declared.content.Content.{Content}
+use Rattle.rp_codec.specs.declared.content.Content.TheVariants.{Whole, Listed}
+use Rattle.rp_codec.specs.declared.content.Found.{Found}
+use Rattle.rp_codec.specs.Message.{Message, KeepsRules}
+use Rattle.rp_codec.specs.Reading.{Read, actions_at}
+
+-- a list was read, and not kept
+abbrev pub Skips : {A : Type 0} → Result (Unit {0}) PacketReason → List ℕ → Read A → Type 0
+Skips {A} (Ok _) after read = (x : A) × (read ≡ Ok (x, after))
+Skips (Err e) after read = read ≡ Err e
+
+-- a content that ends where these bytes begin stands for this body
+abbrev pub StandsFor : Content → List ℕ → Body → Type 0
+StandsFor (Whole whole) after body = body ≡ whole
+StandsFor (Listed first applied count text) after body =
+    (actions : List Action) × (actions_at count text ≡ Ok (actions, after)) × (body ≡ Report first applied actions)
+
+-- what a function returned, and the bytes that it left, stand for what reading gives
+abbrev pub Finds : Result Content PacketReason → List ℕ → Read Body → Type 0
+Finds (Ok content) after read = (body : Body) × StandsFor content after body × (read ≡ Ok (body, after))
+Finds (Err e) after read = read ≡ Err e
+
+-- the packet of this body
+abbrev pub with_body : Found → Body → Message
+with_body found body = record { from = found.from; to = found.to; body = body }
+
+abbrev pub FindsPacket : Result Found PacketReason → List ℕ → Read Message → Type 0
+FindsPacket (Ok found) after read =
+    (body : Body) × StandsFor found.content after body × (read ≡ Ok (with_body found body, after))
+FindsPacket (Err e) after read = read ≡ Err e
+
+-- all of the bytes
+abbrev pub FindsWhole : Result Found PacketReason → Result Message PacketReason → Type 0
+FindsWhole (Ok found) read = (body : Body) × (after : List ℕ) × StandsFor found.content after body × (read ≡ Ok (with_body found body))
+FindsWhole (Err e) read = read ≡ Err e
+
+-- its packet keeps the rules
+abbrev pub KeepsRulesAt : Found → Type 0
+KeepsRulesAt found = (body : Body) × (after : List ℕ) × StandsFor found.content after body × KeepsRules (with_body found body)
+
+-- the list is that of the first so many actions
+abbrev pub AreFirst : List Action → ℕ → List ℕ → Type 0
+AreFirst list count text = (actions : List Action) (after : List ℕ) → actions_at count text ≡ Ok (actions, after) → list ≡ actions
+
+-- the packet is the one that was found
+abbrev pub IsListed : Message → Found → Type 0
+IsListed packet found = (body : Body) (after : List ℕ) → StandsFor found.content after body → packet ≡ with_body found body

@@ -1,0 +1,26 @@
+//! What was read of a packet, before memory is taken for a report's actions.
+
+use crate::packet::{Body, Party};
+use crate::reader::Reader;
+use rp_base::Position;
+
+/// What a packet says.
+#[derive(Drop)]
+pub(crate) enum Content<'a> {
+    Whole(Body),
+    /// A report, whose actions are the first `count` of what stands at `actions`.
+    Listed {
+        first: Position,
+        applied: u16,
+        count: u8,
+        actions: Reader<'a>,
+    },
+}
+
+/// A packet's parties and what it says.
+#[derive(Drop)]
+pub(crate) struct Found<'a> {
+    pub(crate) from: Party,
+    pub(crate) to: Party,
+    pub(crate) content: Content<'a>,
+}

@@ -1,0 +1,34 @@
+-- What a node does as an acceptor. Lamport, "Paxos Made Simple", section 2.2.
+use Rattle.std.specs.Prelude.{ℕ, List, [], ◌∷◌}
+use Rattle.rp_base.specs.declared.action.Action.{Action}
+use Rattle.rp_base.specs.declared.record.Rec.{Rec}
+use Rattle.rp_base.specs.declared.voting.PrepareAnswer.{PrepareAnswer}
+use Rattle.rp_base.specs.declared.voting.PrepareAnswer.TheVariants as prepares
+use Rattle.rp_base.specs.declared.voting.AcceptAnswer.{AcceptAnswer}
+use Rattle.rp_base.specs.declared.voting.AcceptAnswer.TheVariants as accepts
+use Rattle.rp_base.specs.Voting.{prepare_answer, accept_answer}
+use Rattle.rp_codec.specs.declared.packet.Body.TheVariants as bodies
+use Rattle.rp_model.specs.declared.part.Running.{Running}
+use Rattle.rp_model.specs.declared.part.Turn.{Turn}
+use Rattle.rp_model.specs.Says.{says, sends, notes, writes}
+
+-- the answer to a Prepare is told: a promise once it is written, a refusal, or nothing
+abbrev pub tells_promise : ℕ → Running → ℕ → ℕ → ℕ → PrepareAnswer → Turn
+tells_promise me running from i b (prepares.Promise last rec) = writes rec running (says me (bodies.Promise i b last) from ∷ [])
+tells_promise me running from i b (prepares.Nack bound) = sends running (says me (bodies.Nack i b bound) from ∷ [])
+tells_promise me running from i b prepares.Silent = notes running
+
+-- Prepare: a node asks for a promise at a position in a ballot
+abbrev pub on_prepare : ℕ → List Rec → Running → ℕ → ℕ → ℕ → Turn
+on_prepare me records running from i b = tells_promise me running from i b (prepare_answer records i b)
+
+-- the answer to an Accept is told: a vote once it is written, a vote again, a refusal, or nothing
+abbrev pub tells_vote : ℕ → Running → ℕ → ℕ → ℕ → Action → AcceptAnswer → Turn
+tells_vote me running from i b v (accepts.Vote rec) = writes rec running (says me (bodies.Accepted i b v) from ∷ [])
+tells_vote me running from i b v accepts.Again = sends running (says me (bodies.Accepted i b v) from ∷ [])
+tells_vote me running from i b v (accepts.Nack bound) = sends running (says me (bodies.Nack i b bound) from ∷ [])
+tells_vote me running from i b v accepts.Silent = notes running
+
+-- Accept: a node asks for a vote for an action at a position in a ballot
+abbrev pub on_accept : ℕ → List Rec → Running → ℕ → ℕ → ℕ → Action → Turn
+on_accept me records running from i b v = tells_vote me running from i b v (accept_answer records i b v)

@@ -1,0 +1,83 @@
+-- What a step of a world answers, and events one after another (this project's own).
+use Rattle.std.specs.Prelude.{◌≡◌, ◌⊎◌, ℕ, ◌+◌, ◌-◌, ◌^◌, min, Option, Some, None, Result, Ok, Err, List, [], ◌∷◌, length}
+use Rattle.rp_base.specs.declared.fault.Fault.{Fault}
+use Rattle.rp_base.specs.declared.fault.Fault.TheVariants.{OutOfMemory, Device}
+use Rattle.rp_model.specs.declared.effect.Effect.{Effect}
+use Rattle.rp_model.specs.declared.part.NodePart.{NodePart}
+use Rattle.rp_model.specs.Effect.{Setting, untorn_part}
+use Rattle.rp_model.specs.Events.{Event, Submit, Again, Makes, Cut, Stop, Restart}
+use Rattle.rp_model.specs.World.{World, Happening, part_at, with_part, event_effect}
+
+-- The effect tells what happened, behind so many messages: the number of the first one that was sent, how
+-- many there were (the greatest number of 32 bits stands for all above it), and the rest as it is.
+pub record Tells (sent : ℕ) (happening : Happening) (effect : Effect) : Type 0 where
+  pub first : effect.first ≡ sent + 1
+  pub count : effect.sent ≡ min (length happening.sends) (2 ^ 32 - 1)
+  pub dropped : effect.dropped ≡ happening.dropped
+  pub taken : effect.taken ≡ happening.taken
+  pub opened : effect.opened ≡ happening.opened
+
+-- the torn bytes of a node are gone, where there is a node of this number
+abbrev pub untorn : World → ℕ → Option NodePart → World
+untorn w me None = w
+untorn w me (Some part) = record w { nodes = with_part w.nodes me (untorn_part part) }
+
+-- What a failing event leaves: the world as it was, but that the torn bytes of a node may be gone that was
+-- to start again.
+abbrev pub IsLeft : World → Event → World → Type 0
+IsLeft w (Submit task node object operation arg) left = left ≡ w
+IsLeft w (Again task node) left = left ≡ w
+IsLeft w (Makes step) left = left ≡ w
+IsLeft w (Cut step kept) left = left ≡ w
+IsLeft w (Stop me) left = left ≡ w
+IsLeft w (Restart me) left = (left ≡ w) ⊎ (left ≡ untorn w me (part_at w.nodes me))
+
+-- Where memory is wanting, the event would not have been refused, and nothing happens.
+pub record IsOutOfMemory {S : Type 0} (s : Setting S) (w : World) (event : Event) (left : World) : Type 0 where
+  pub wanted : Happening
+  pub effect : event_effect s w event ≡ Ok wanted
+  pub left_so : IsLeft w event left
+
+-- The event comes to this world.
+pub record ComesTo {S : Type 0} (s : Setting S) (w : World) (event : Event) (after : World) : Type 0 where
+  pub happening : Happening
+  pub effect : event_effect s w event ≡ Ok happening
+  pub world : after ≡ happening.world
+
+-- Where a device fails: a node's step, and a cut of one, is cut where some number of bytes is kept; a node
+-- does not start again; and no other event has a device.
+abbrev pub FailsBy : {S : Type 0} → Setting S → World → Event → World → Type 0
+FailsBy s w (Submit task node object operation arg) left = ⊥
+FailsBy s w (Again task node) left = ⊥
+FailsBy s w (Makes step) left = (kept : ℕ) × ComesTo s w (Cut step kept) left
+FailsBy s w (Cut step kept) left = (less : ℕ) × ComesTo s w (Cut step less) left
+FailsBy s w (Stop me) left = ⊥
+FailsBy s w (Restart me) left = IsLeft w (Restart me) left
+
+-- A refusal changes nothing.
+pub record IsRefused {S : Type 0} (s : Setting S) (w : World) (event : Event) (left : World) (fault : Fault) : Type 0 where
+  pub refusal : event_effect s w event ≡ Err fault
+  pub unchanged : left ≡ w
+
+-- the fault that an event was answered with, and the world that it leaves
+abbrev pub IsFaulted : {S : Type 0} → Setting S → World → Event → World → Fault → Type 0
+IsFaulted s w event left fault =
+    IsRefused s w event left fault
+    ⊎ (((fault ≡ OutOfMemory) × IsOutOfMemory s w event left) ⊎ ((fault ≡ Device) × FailsBy s w event left))
+
+-- An event happened: this is what it came to, and it was told so.
+pub record IsDone {S : Type 0} (s : Setting S) (w : World) (event : Event) (after : World) (effect : Effect) : Type 0 where
+  pub happening : Happening
+  pub came : event_effect s w event ≡ Ok happening
+  pub world : after ≡ happening.world
+  pub tells : Tells (length w.sent) happening effect
+
+-- What a step answers: the effect, or a fault.
+abbrev pub Steps : {S : Type 0} → Setting S → World → Event → World → Result Effect Fault → Type 0
+Steps s w event after (Ok effect) = IsDone s w event after effect
+Steps s w event left (Err fault) = IsFaulted s w event left fault
+
+-- Events happen one after another, each from the world that the one before led to.
+abbrev pub Happen : {S : Type 0} → Setting S → World → List Event → World → Type 0
+Happen s w [] after = after ≡ w
+Happen s w (event ∷ rest) after = (happening : Happening) × (event_effect s w event ≡ Ok happening) × Happen s happening.world rest after

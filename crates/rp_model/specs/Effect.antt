@@ -1,0 +1,140 @@
+-- What an input comes to for one node, and what a stop, a cut and a restart leave of it (this project's
+-- own). Nothing here looks at another actor.
+use Rattle.std.specs.Prelude.{ℕ, ◌-◌, nat_le, Option, Some, None, Result, Ok, Err, List, [], ◌∷◌, ◌++◌, length, take, drop, if◌then◌else◌}
+use Rattle.rp_base.specs.declared.action.Action.{Action}
+use Rattle.rp_base.specs.declared.config.Config.{Config}
+use Rattle.rp_base.specs.declared.fault.Fault.{Fault}
+use Rattle.rp_base.specs.declared.fault.Fault.TheVariants.{NotRunning}
+use Rattle.rp_base.specs.declared.record.Rec.{Rec}
+use Rattle.rp_base.specs.declared.reply.Answer.{Answer}
+use Rattle.rp_base.specs.Records.{applied_of}
+use Rattle.rp_codec.specs.Message.{Message, report_len}
+use Rattle.rp_codec.specs.declared.packet.Party.TheVariants.{Node, Audit}
+use Rattle.rp_codec.specs.declared.packet.Body.TheVariants as bodies
+use Rattle.rp_machine.specs.Replay.{kept_of}
+use Rattle.rp_model.specs.declared.part.Running.{Running}
+use Rattle.rp_model.specs.declared.part.NodePart.{NodePart}
+use Rattle.rp_model.specs.declared.part.Turn.{Turn}
+use Rattle.rp_model.specs.declared.part.Dropped.{Dropped}
+use Rattle.rp_model.specs.declared.part.Dropped.TheVariants.{No}
+use Rattle.rp_model.specs.Parts.{fresh_running, with_record}
+use Rattle.rp_model.specs.Says.{sends}
+use Rattle.rp_model.specs.Texts.{written_for}
+use Rattle.rp_model.specs.Pending.{on_interrupt, on_tick}
+use Rattle.rp_model.specs.Leader.{on_lead}
+use Rattle.rp_model.specs.Receiving.{receives}
+
+-- what all nodes share: the configuration, and the machine with its start
+pub record Setting (S : Type 0) : Type 0 where
+  pub config : Config
+  pub next : S → Action → S
+  pub answers : S → Action → List Answer
+  pub begin : S
+
+-- What an input comes to for one actor: its part after, the record that it writes first, the packets
+-- that it sends in order, what it dropped, the reply that it took, and how many records and torn bytes
+-- it opened with.
+pub record Done (P : Type 0) : Type 0 where
+  pub part : P
+  pub written : Option Rec
+  pub sends : List Message
+  pub dropped : Dropped
+  pub taken : Option Answer
+  pub opened : Option (ℕ × ℕ)
+
+-- the part goes on so, and nothing else comes of it
+abbrev pub goes_on_as : {P : Type 0} → P → Done P
+goes_on_as part = record { part = part; written = None; sends = []; dropped = No; taken = None; opened = None }
+
+-- what a node may be given: a packet, the word to lead at a position or the least free one, an interrupt of
+-- a source, a tick, or the wish to report
+pub data NodeInput : Type 0 where
+  Receive : Message → NodeInput
+  Lead : Option ℕ → NodeInput
+  Interrupt : ℕ → ℕ → NodeInput
+  Tick : ℕ → NodeInput
+  Report : ℕ → NodeInput
+
+-- a report to the audit of these applied actions, from a position on
+abbrev pub report_of : ℕ → ℕ → List Action → Message
+report_of me first applied =
+    let told = take (report_len first (length applied)) (drop (first - 1) applied) in
+    record { from = Node me; to = Audit; body = bodies.Report first (length applied) told }
+
+-- the turn of a node that runs
+abbrev pub running_effect : {S : Type 0} → Setting S → ℕ → List Rec → Running → NodeInput → Result Turn Fault
+running_effect s me records running (Receive message) = Ok (receives s.next s.answers s.begin s.config me records running message)
+running_effect s me records running (Lead choice) = on_lead s.next s.answers s.begin s.config me records running choice
+running_effect s me records running (Interrupt source occurrence) =
+    Ok (on_interrupt (kept_of s.next s.answers s.begin (applied_of records)) running source occurrence)
+running_effect s me records running (Tick now) = Ok (on_tick running now)
+running_effect s me records running (Report first) = Ok (sends running (report_of me first (applied_of records) ∷ []))
+
+-- a turn takes effect: its record is written, then its packets are sent, and the node knows what it knows
+abbrev pub turned : NodePart → Turn → Done NodePart
+turned part turn = record {
+  part = record part { records = with_record part.records turn.written; running = Some turn.running };
+  written = turn.written;
+  sends = turn.sent;
+  dropped = turn.dropped;
+  taken = None;
+  opened = None;
+}
+
+abbrev pub turned_if : NodePart → Result Turn Fault → Result (Done NodePart) Fault
+turned_if part (Ok turn) = Ok (turned part turn)
+turned_if part (Err fault) = Err fault
+
+abbrev pub effect_while : {S : Type 0} → Setting S → ℕ → NodePart → NodeInput → Option Running → Result (Done NodePart) Fault
+effect_while s me part input None = Err NotRunning
+effect_while s me part input (Some running) = turned_if part (running_effect s me part.records running input)
+
+-- What an input comes to for a node, or its refusal, after which the node is as it was.
+abbrev pub node_effect : {S : Type 0} → Setting S → ℕ → NodePart → NodeInput → Result (Done NodePart) Fault
+node_effect s me part input = effect_while s me part input part.running
+
+-- ---- stops
+
+-- a stop: what was not written is lost
+abbrev pub stop_part : NodePart → NodePart
+stop_part part = record part { running = None }
+
+-- A stop within a step that writes this record, or none: the record stands exactly if so many bytes are
+-- kept as it has, else these bytes of it are torn; and nothing is sent.
+abbrev pub cut_part : ℕ → NodePart → Option Rec → NodePart
+cut_part kept part None = stop_part part
+cut_part kept part (Some rec) =
+    if nat_le (length (written_for rec)) kept
+    then stop_part (record part { records = part.records ++ rec ∷ [] })
+    else stop_part (record part { torn = kept })
+
+-- the torn bytes are gone
+abbrev pub untorn_part : NodePart → NodePart
+untorn_part part = record part { torn = 0 }
+
+-- a stop of a node that runs
+abbrev pub stops_while : NodePart → Option Running → Result (Done NodePart) Fault
+stops_while part None = Err NotRunning
+stops_while part (Some running) = Ok (goes_on_as (stop_part part))
+
+abbrev pub stop_effect : NodePart → Result (Done NodePart) Fault
+stop_effect part = stops_while part part.running
+
+-- a cut of a step, by what the whole step comes to
+abbrev pub cut_if : ℕ → NodePart → Result (Done NodePart) Fault → Result (Done NodePart) Fault
+cut_if kept part (Ok done) = Ok (goes_on_as (cut_part kept part done.written))
+cut_if kept part (Err fault) = Err fault
+
+-- the node stops within a step, where so many bytes of its record are kept
+abbrev pub cut_effect : {S : Type 0} → Setting S → ℕ → NodePart → NodeInput → ℕ → Result (Done NodePart) Fault
+cut_effect s me part input kept = cut_if kept part (node_effect s me part input)
+
+-- A restart: a stopped node runs again by its records alone, its torn bytes are cut, and it tells the
+-- numbers of both. One that runs goes on.
+abbrev pub restart_while : NodePart → Option Running → Done NodePart
+restart_while part None =
+    record (goes_on_as (record part { torn = 0; running = Some fresh_running })) { opened = Some (length part.records, part.torn) }
+restart_while part (Some running) = goes_on_as part
+
+abbrev pub restart_part : NodePart → Done NodePart
+restart_part part = restart_while part part.running

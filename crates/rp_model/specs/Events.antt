@@ -1,0 +1,67 @@
+-- What may happen in a world: a step of one actor, or a stop or a restart of one (this project's own).
+use Rattle.std.specs.Prelude.{ℕ, ◌<◌, ◌≤◌, ◌^◌, ℤ, FitsSigned, Option, IfSome}
+use Rattle.std.specs.Int.{w64}
+use Rattle.rp_base.specs.Number.{IsNode, IsTask, IsPosition}
+use Rattle.rp_base.specs.Action.{IsIndex, IsCount}
+use Rattle.rp_base.specs.declared.action.Operation.{Operation}
+use Rattle.rp_base.specs.declared.action.Operation.TheVariants.{Function, Procedure, Entry, SetTimer, CancelTimer}
+use Rattle.rp_model.specs.declared.event.Step.{Step as PlainStep}
+use Rattle.rp_model.specs.declared.event.Step.TheVariants as plain_steps
+use Rattle.rp_model.specs.declared.event.Event.{Event as PlainEvent}
+use Rattle.rp_model.specs.declared.event.Event.TheVariants as plain_events
+
+-- A node's step: a packet that was sent, by its number from 1, is delivered to whom it is for; or the node
+-- of a number leads, at a position or the least free one, notes an interrupt of a source, notes a
+-- tick, or reports from a position on.
+pub data Step : Type 0 where
+  Deliver : ℕ → Step
+  Lead : ℕ → Option ℕ → Step
+  Interrupt : ℕ → ℕ → ℕ → Step
+  Tick : ℕ → ℕ → Step
+  Report : ℕ → ℕ → Step
+
+-- A task makes its next call and asks a node; it asks a node again; a node makes a step; it stops within
+-- the step, of whose record so many bytes are kept; it stops; it starts again.
+pub data Event : Type 0 where
+  Submit : ℕ → ℕ → ℕ → Operation → ℤ → Event
+  Again : ℕ → ℕ → Event
+  Makes : Step → Event
+  Cut : Step → ℕ → Event
+  Stop : ℕ → Event
+  Restart : ℕ → Event
+
+-- ---- the ranges that the types of numbers keep
+
+abbrev pub IsOperation : Operation → Type 0
+IsOperation (Function index) = index < 2 ^ 8
+IsOperation (Procedure index) = index < 2 ^ 8
+IsOperation (Entry index) = index < 2 ^ 8
+IsOperation (SetTimer index) = index < 2 ^ 8
+IsOperation (CancelTimer index) = index < 2 ^ 8
+
+abbrev pub IsStep : Step → Type 0
+IsStep (Deliver number) = number < 2 ^ 64
+IsStep (Lead node position) = IsNode node × IfSome position IsPosition
+IsStep (Interrupt node source occurrence) = IsNode node × IsIndex source × IsCount occurrence
+IsStep (Tick node now) = IsNode node × (now < 2 ^ 32)
+IsStep (Report node first) = IsNode node × IsPosition first
+
+-- an event that the types of its numbers allow
+abbrev pub IsEvent : Event → Type 0
+IsEvent (Submit task node object operation arg) =
+    IsTask task × IsNode node × (object < 2 ^ 8) × IsOperation operation × FitsSigned w64 arg
+IsEvent (Again task node) = IsTask task × IsNode node
+IsEvent (Makes step) = IsStep step
+IsEvent (Cut step kept) = IsStep step × (kept < 2 ^ 64)
+IsEvent (Stop node) = IsNode node
+IsEvent (Restart node) = IsNode node
+
+-- ---- the events that a cluster of plain nodes takes: calls, deliveries and leading
+
+abbrev pub step_of : PlainStep → Step
+step_of (plain_steps.Deliver number) = Deliver number
+step_of (plain_steps.Lead node position) = Lead node position
+
+abbrev pub event_of : PlainEvent → Event
+event_of (plain_events.Submit task node object operation arg) = Submit task node object operation arg
+event_of (plain_events.Node step) = Makes (step_of step)

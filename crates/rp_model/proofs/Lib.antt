@@ -8,3 +8,4 @@ pub mod Runs
 pub mod AppliedGrowing
 pub mod WorldGrowing
 pub mod Replacing
+pub mod Deciding

@@ -1,12 +1,13 @@
 //! What every event keeps, at any machine.
 
-ghost use Rattle.std.specs.Prelude.{◌≡◌, ℕ, Some, Ok, List, ◌++◌, length};
+ghost use Rattle.std.specs.Prelude.{◌≡◌, ℕ, Some, Ok, List, [], ◌++◌, length};
 ghost use Rattle.rp_base.specs.Records.{applied_of};
 ghost use Rattle.rp_base.specs.declared.action.Action.{Action};
 ghost use Rattle.rp_base.specs.declared.record.Rec.{Rec};
 ghost use Rattle.rp_model.specs.Effect.{Setting};
 ghost use Rattle.rp_model.specs.Events.{Event};
 ghost use Rattle.rp_model.specs.World.{World, Happening, event_effect};
+ghost use Rattle.rp_model.specs.Facts.{IsOrder};
 ghost use Rattle.rp_model.specs.Growing.{Grows};
 
 use rp_machine::Machine;
@@ -22,4 +23,9 @@ pub fn worlds_grow<M: Machine>()
     ensures { (setting : Setting M) (before : World) (event : Event) (happening : Happening)
         → event_effect setting before event ≡ Ok happening
         → Grows before happening }
+{}
+
+/// The order of a world in which nothing was sent is empty.
+pub fn nothing_is_decided_at_first()
+    ensures { (nodes : ℕ) (order : List Action) → IsOrder nodes [] order → order ≡ [] }
 {}

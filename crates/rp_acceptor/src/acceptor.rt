@@ -67,7 +67,8 @@ impl Acceptor {
     /// Makes room for the record and notes it.
     fn reserve_and_note(&mut self, rec: &Rec) -> Result<(), Fault>
         ensures records { OnOk result (self.new.records ≡ self.old.records ++ rec.now ∷ []) }
-        ensures reserved { OnOk result (self.new.reserved ≡ self.old.reserved ++ places_in rec.now) }
+        ensures reserved { OnOk result (self.new.reserved
+            ≡ self.old.reserved ++ places_in rec.now) }
         ensures full { OnErr result (¬ (places_in rec.now ≡ [])) }
         ensures only { IsOkUnless result Fault.OutOfMemory }
     {

@@ -112,7 +112,8 @@ pub fn make(pages: &mut Vec<Page>, alloc: Global, index: usize) -> Result<(), Al
 /// Notes a record in the slot of its position, if it counts at one. The slot is there.
 pub fn note(pages: &mut Vec<Page>, rec: &Rec)
     requires { (index : ℕ) → Has (index + 1) (places_in rec.now) → HasSlot pages.old.items index }
-    ensures len { (n : ℕ) → length (page_at pages.new.items n) ≡ length (page_at pages.old.items n) }
+    ensures len { (n : ℕ) → length (page_at pages.new.items n)
+        ≡ length (page_at pages.old.items n) }
     ensures right { (records : List Rec) → AreSlots (slot_at pages.old.items) records
         → AreSlots (slot_at pages.new.items) (records ++ rec.now ∷ []) }
 {

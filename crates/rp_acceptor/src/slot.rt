@@ -45,8 +45,10 @@ pub fn index_of(position: Position) -> usize
 /// The slot of a position at which a record counts, once the record is noted.
 pub fn with_record(slot: Slot, position: Position, rec: &Rec) -> Slot
     requires { option_to_list (Some position) ≡ places_in rec.now }
-    ensures bound { number_of result.bound ≡ max (number_of slot.bound) (bound_in position rec.now) }
-    ensures last { result.last ≡ highest (option_to_list slot.last ++ option_to_list (vote_in position rec.now)) }
+    ensures bound { number_of result.bound
+        ≡ max (number_of slot.bound) (bound_in position rec.now) }
+    ensures last { result.last
+        ≡ highest (option_to_list slot.last ++ option_to_list (vote_in position rec.now)) }
 {
     match rec {
         Rec::Promised(_, ballot) => Slot {

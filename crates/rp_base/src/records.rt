@@ -23,8 +23,10 @@ pub fn one_more_record()
 /// The vote that a promise reports lies below the promised ballot, and is right where the records
 /// are (Lamport, "Paxos Made Simple", section 2.2).
 pub fn last_votes_lie_below()
-    ensures below { (records : List Rec) (i b : ℕ) (vote : Vote) → last_vote_at records i ≡ Some vote
+    ensures below { (records : List Rec) (i b : ℕ) (vote : Vote)
+        → last_vote_at records i ≡ Some vote
         → bound_at records i < b → vote.ballot < b }
-    ensures right { (records : List Rec) (i : ℕ) (vote : Vote) → AllByRecursion IsRightRecord records
+    ensures right { (records : List Rec) (i : ℕ) (vote : Vote)
+        → AllByRecursion IsRightRecord records
         → last_vote_at records i ≡ Some vote → IsRightVote vote }
 {}

@@ -34,7 +34,8 @@ pub fn run_script<R: Read, W: Write>(
 ) -> Result<(), Fault>
     ensures output { OnOk result ((deck : Deck) × IsRightDeck deck
         × Appends (W.contents writer.old) (W.contents writer.new) (output_of DRAIN_LIMIT deck)) }
-    ensures bad { IfErr result (λ fault. IsBadDeck fault → W.contents writer.new ≡ W.contents writer.old) }
+    ensures bad { IfErr result (λ fault. IsBadDeck fault
+        → W.contents writer.new ≡ W.contents writer.old) }
     ensures fault { IfErr result IsScriptFault }
 {
     let text = read_whole(alloc, reader)?;
@@ -46,7 +47,8 @@ pub fn run_script<R: Read, W: Write>(
 /// `OutOfMemory`, or `Io` where the writer fails. What was written before it stands.
 pub fn run_deck<W: Write>(alloc: Global, deck: &Deck, writer: &mut W) -> Result<(), Fault>
     requires { IsRightDeck deck.now }
-    ensures output { OnOk result (Appends (W.contents writer.old) (W.contents writer.new) (output_of DRAIN_LIMIT deck.now)) }
+    ensures output { OnOk result (Appends (W.contents writer.old) (W.contents writer.new)
+        (output_of DRAIN_LIMIT deck.now)) }
     ensures fault { IfErr result IsRunFault }
 {
     run_within(alloc, deck, DRAIN_LIMIT, writer)
@@ -60,7 +62,8 @@ pub fn run_within<W: Write>(
     writer: &mut W,
 ) -> Result<(), Fault>
     requires { IsRightDeck deck.now }
-    ensures output { OnOk result (Appends (W.contents writer.old) (W.contents writer.new) (output_of most deck.now)) }
+    ensures output { OnOk result (Appends (W.contents writer.old) (W.contents writer.new)
+        (output_of most deck.now)) }
     ensures fault { IfErr result IsRunFault }
 {
     let mut run = Run {
@@ -95,7 +98,8 @@ impl Run {
         requires line { FitsIn deck.now.config.nodes (index_map_len deck.now.tasks)
             (index_map_len deck.now.objects) line.now.command }
         ensures run { IsRunOf deck.now self.new }
-        ensures said { OnOk result ((play : Play) → Follows self.old play → Came self.new (W.contents writer.old) (W.contents writer.new)
+        ensures said { OnOk result ((play : Play) → Follows self.old play
+            → Came self.new (W.contents writer.old) (W.contents writer.new)
             (command_said (setting_of deck.now) most line.now.number play line.now.command)) }
         ensures fault { IfErr result IsRunFault }
     {
@@ -143,7 +147,8 @@ impl Run {
         requires run { IsRunOf deck.now self.old }
         requires event { IsEventOf deck.now event.now }
         ensures run { IsRunOf deck.now self.new }
-        ensures said { OnOk result ((play : Play) → Follows self.old play → Came self.new (W.contents writer.old) (W.contents writer.new)
+        ensures said { OnOk result ((play : Play) → Follows self.old play
+            → Came self.new (W.contents writer.old) (W.contents writer.new)
             (event_said (setting_of deck.now) line play event.now)) }
         ensures fault { IfErr result IsRunFault }
     {
@@ -169,7 +174,8 @@ impl Run {
         requires right { IsRightDeck deck.now }
         requires run { IsRunOf deck.now self.old }
         ensures run { IsRunOf deck.now self.new }
-        ensures said { OnOk result ((play : Play) → Follows self.old play → Came self.new (W.contents writer.old) (W.contents writer.new)
+        ensures said { OnOk result ((play : Play) → Follows self.old play
+            → Came self.new (W.contents writer.old) (W.contents writer.new)
             (drained (setting_of deck.now) line most play)) }
         ensures fault { IfErr result IsRunFault }
     {

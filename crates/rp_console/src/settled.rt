@@ -47,7 +47,8 @@ impl Settled {
     pub fn settle(&mut self, message: u64) -> Result<(), AllocError>
         requires from_one { 1 ≤ message }
         requires not_last { message + 1 < 2 ^ 64 }
-        ensures ok { OnOk result ((m : ℕ) → is_settled self.new m ≡ (m == message || is_settled self.old m)) }
+        ensures ok { OnOk result ((m : ℕ)
+            → is_settled self.new m ≡ (m == message || is_settled self.old m)) }
         ensures err { OnErr result ((m : ℕ) → is_settled self.new m ≡ is_settled self.old m) }
     {
         if message > self.least {
@@ -61,7 +62,9 @@ impl Settled {
     /// The messages that an event settles are settled from now on.
     pub fn settle_by(&mut self, event: &Event) -> Result<(), AllocError>
         requires { All (λ m. (1 ≤ m) × (m < 2 ^ 63)) (settled_by event.now) }
-        ensures { OnOk result ((m : ℕ) → is_settled self.new m ≡ (is_among (settled_by event.now) m || is_settled self.old m)) }
+        ensures { OnOk result ((m : ℕ)
+            → is_settled self.new m
+            ≡ (is_among (settled_by event.now) m || is_settled self.old m)) }
     {
         match *event {
             Event::Node(Step::Deliver(message)) => self.settle(message),
@@ -72,7 +75,8 @@ impl Settled {
     /// Settles the least number, and passes those that are settled behind it.
     fn pass(&mut self)
         requires { least_of self.old + 1 < 2 ^ 64 }
-        ensures { (m : ℕ) → is_settled self.new m ≡ (m == least_of self.old || is_settled self.old m) }
+        ensures { (m : ℕ) → is_settled self.new m
+            ≡ (m == least_of self.old || is_settled self.old m) }
     {
         let mut least = self.least + 1;
         while self.above.remove(&least) {

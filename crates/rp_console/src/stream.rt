@@ -21,7 +21,8 @@ const CHUNK: usize = 4096;
 /// Reads all that the reader gives. `Io` where a read fails, where there are more than 1,048,576
 /// bytes, and where the end does not come within 2,097,152 reads.
 pub fn read_whole<R: Read>(alloc: Global, reader: &mut R) -> Result<Vec<u8>, Fault>
-    ensures whole { IfOk result (λ bytes. IfSome (R.remaining reader.old) (λ all. bytes.items ≡ all)) }
+    ensures whole { IfOk result (λ bytes. IfSome (R.remaining reader.old) (λ all. bytes.items
+        ≡ all)) }
     ensures size { IfOk result (λ bytes. length bytes.items ≤ MOST_BYTES) }
     ensures fault { IfErr result IsReadFault }
 {
@@ -44,7 +45,8 @@ pub fn read_whole<R: Read>(alloc: Global, reader: &mut R) -> Result<Vec<u8>, Fau
 
 /// Writes all bytes. `Io` where a write fails or takes nothing.
 pub fn write_whole<W: Write>(writer: &mut W, bytes: &[u8]) -> Result<(), Fault>
-    ensures written { OnOk result (Appends (W.contents writer.old) (W.contents writer.new) bytes.now) }
+    ensures written { OnOk result (Appends (W.contents writer.old)
+        (W.contents writer.new) bytes.now) }
     ensures fault { IfErr result IsWriteFault }
 {
     let mut written = 0;

@@ -111,7 +111,8 @@ impl<'a> Words<'a> {
 
     /// The next word, a number from `low` to `high`.
     pub fn take_number(&mut self, low: u64, high: u64) -> Result<u64, DeckReason>
-        ensures value { IfOk result (λ number. number_of (first_word (unread self.old)) ≡ pos number) }
+        ensures value { IfOk result (λ number. number_of (first_word (unread self.old))
+            ≡ pos number) }
         ensures in_range { IfOk result (λ number. (low ≤ number) × (number ≤ high)) }
         ensures rest { OnOk result (unread self.new ≡ after_word (unread self.old)) }
     {

@@ -111,10 +111,12 @@ impl Learner {
     ) -> Result<(), Fault>
         requires sender { from ≤ self.old.nodes }
         requires position { position ≤ self.old.max_positions }
-        ensures noted { OnOk result (NotesVote self.old from position (vote_for ballot action.now) self.new) }
+        ensures noted { OnOk result (NotesVote self.old from position
+            (vote_for ballot action.now) self.new) }
         ensures sizes { SameSizes self.new self.old }
         ensures unchanged { OnErr result (self.new ≡ self.old) }
-        ensures full { OnErr result (IsOneMore self.old from position (vote_for ballot action.now)) }
+        ensures full { OnErr result (IsOneMore self.old from position
+            (vote_for ballot action.now)) }
         ensures only { IsOkUnless result Fault.OutOfMemory }
     {
         match self.vote(from, position, ballot, action) {
@@ -157,7 +159,8 @@ impl Learner {
 pub fn same_learners_answer_alike()
     ensures vote { (l m : Learning) (from i : ℕ) (vote : Vote) → SameLearning l m
         → standing_with l from i vote ≡ standing_with m from i vote }
-    ensures decided { (l m : Learning) (i : ℕ) → SameLearning l m → decision_at l i ≡ decision_at m i }
+    ensures decided { (l m : Learning) (i : ℕ) → SameLearning l m
+        → decision_at l i ≡ decision_at m i }
     ensures note_vote { (l m : Learning) (from i : ℕ) (vote : Vote) → SameLearning l m
         → SameLearning (with_vote l from i vote) (with_vote m from i vote) }
     ensures settled { (l m : Learning) (i : ℕ) → SameLearning l m

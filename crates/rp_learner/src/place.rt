@@ -44,7 +44,8 @@ pub fn count_with(
     vote: &Vote,
 ) -> usize
     requires { nodes ≤ 7 }
-    ensures { result ≡ length (nodes_among nodes (voters_with (votes_at places.now position) from vote.now)) }
+    ensures { result ≡ length (nodes_among nodes (voters_with
+        (votes_at places.now position) from vote.now)) }
 {
     match place_at(places, position) {
         Some(Place::Heard(tallies)) => tallies.count_with(nodes, from, vote),
@@ -55,9 +56,11 @@ pub fn count_with(
 /// Adds a vote unless it was heard before, or the position is settled. Refused for memory, the
 /// place stays.
 pub fn hear(alloc: Global, place: &mut Place, from: NodeId, vote: &Vote) -> Result<(), AllocError>
-    ensures ok { OnOk result (IsWithCast place.old (record { from = from; vote = vote.now }) place.new) }
+    ensures ok { OnOk result (IsWithCast place.old
+        (record { from = from; vote = vote.now }) place.new) }
     ensures err { OnErr result (SamePlace place.old place.new) }
-    ensures full { OnErr result (¬ Has (record { from = from; vote = vote.now }) (votes_in place.old)) }
+    ensures full { OnErr result (¬ Has (record { from = from; vote = vote.now })
+        (votes_in place.old)) }
 {
     match place {
         Place::Unheard => *place = Place::Heard(Tallies::new(alloc, from, *vote)),

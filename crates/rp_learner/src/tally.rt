@@ -83,7 +83,8 @@ impl Tallies {
     /// Adds a vote, unless it was heard before. `AllocError` comes only where it was not, and leaves
     /// the tallies as they were.
     pub fn hear(&mut self, from: NodeId, vote: &Vote) -> Result<(), AllocError>
-        ensures ok { OnOk result (SameMembers self.new (with_member same_cast self.old (record { from = from; vote = vote.now }))) }
+        ensures ok { OnOk result (SameMembers self.new (with_member same_cast self.old
+            (record { from = from; vote = vote.now }))) }
         ensures err { OnErr result (self.new ≡ self.old) }
         ensures full { OnErr result (¬ Has (record { from = from; vote = vote.now }) self.old) }
     {

@@ -27,9 +27,9 @@ learned_again log p v there =
     let kept : Option Action = Some (unwrap_or (action_at log p) v) in
     let stays : kept ≡ action_at log p = still (action_at log p) v there in
     let alike : log.places ≡ insert log.places p kept = inserted log.places log.places p kept (λ i. ⊎_elim
-        (λ (e : i ≡ p). ap (get log.places) e ∙ place ∙ ap (λ (x : Option Action). Some x) (sym stays) ∙ sym (ap (λ b. cond b (Some kept) (get log.places i)) (same_is i p e)))
-        (λ (apart : i ≢ p). sym (ap (λ b. cond b (Some kept) (get log.places i)) (same_apart i p apart)))
-        (cases_eq i p)) in
+    (λ (e : i ≡ p). ap (get log.places) e ∙ place ∙ ap (λ (x : Option Action). Some x) (sym stays) ∙ sym (ap (λ b. cond b (Some kept) (get log.places i)) (same_is i p e)))
+    (λ (apart : i ≢ p). sym (ap (λ b. cond b (Some kept) (get log.places i)) (same_apart i p apart)))
+    (cases_eq i p)) in
     ap (λ (m : Places). record log { places = m }) alike
 
 -- the log is the same but for one position

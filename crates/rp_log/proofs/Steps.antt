@@ -93,11 +93,11 @@ pub fits_next : (front : List Action) (ahead : Ahead) (capacity room taken top :
     → place_ahead ahead (length front + 1) ≡ None → length front < 65535 → length front + (length ahead + 2) ≤ room → Fits front true ahead room taken top
 fits_next front ahead capacity room taken top fits none below enough =
     let alike : (i : ℕ) → learned_of (place_of front true ahead i) ≡ learned_of (place_of front false ahead i) = λ i. ap learned_of (next_reserved front ahead i) ∙ ⊎_elim
-        (λ (e : i ≡ length front + 1).
-        let there : place_of front false ahead i ≡ None = ap₂ option_or (front_past front i (omega arith)) (ap (place_ahead ahead) e ∙ none) in
-        ap (λ b. learned_of (cond b (Some None) (place_of front false ahead i))) (same_is i (length front + 1) e) ∙ sym (ap learned_of there))
-        (λ (apart : i ≢ length front + 1). ap (λ b. learned_of (cond b (Some None) (place_of front false ahead i))) (same_apart i (length front + 1) apart))
-        (cases_eq i (length front + 1)) in
+    (λ (e : i ≡ length front + 1).
+    let there : place_of front false ahead i ≡ None = ap₂ option_or (front_past front i (omega arith)) (ap (place_ahead ahead) e ∙ none) in
+    ap (λ b. learned_of (cond b (Some None) (place_of front false ahead i))) (same_is i (length front + 1) e) ∙ sym (ap learned_of there))
+    (λ (apart : i ≢ length front + 1). ap (λ b. learned_of (cond b (Some None) (place_of front false ahead i))) (same_apart i (length front + 1) apart))
+    (cases_eq i (length front + 1)) in
     record {
       bound = fits.bound;
       behind = fits.behind;
@@ -133,12 +133,12 @@ pub fits_ahead : (front : List Action) (reserved : Bool) (old new : Ahead) (capa
 fits_ahead front reserved old new capacity room taken top p fits far bound none written longer enough =
     let stays = stays_next (length front) old new p None far written in
     let alike : (i : ℕ) → learned_of (place_of front reserved new i) ≡ learned_of (place_of front reserved old i) = λ i. ap learned_of (ahead_written front reserved old new p None far written i) ∙ ⊎_elim
-        (λ (e : i ≡ p).
-        let there : place_of front reserved old i ≡ None =
-        ap₂ option_or (front_past front i (omega arith)) (ap₂ option_or (next_none front reserved old taken i (λ f. omega arith)) (ap (place_ahead old) e ∙ none)) in
-        ap (λ b. learned_of (cond b (Some None) (place_of front reserved old i))) (same_is i p e) ∙ sym (ap learned_of there))
-        (λ (apart : i ≢ p). ap (λ b. learned_of (cond b (Some None) (place_of front reserved old i))) (same_apart i p apart))
-        (cases_eq i p) in
+    (λ (e : i ≡ p).
+    let there : place_of front reserved old i ≡ None =
+    ap₂ option_or (front_past front i (omega arith)) (ap₂ option_or (next_none front reserved old taken i (λ f. omega arith)) (ap (place_ahead old) e ∙ none)) in
+    ap (λ b. learned_of (cond b (Some None) (place_of front reserved old i))) (same_is i p e) ∙ sym (ap learned_of there))
+    (λ (apart : i ≢ p). ap (λ b. learned_of (cond b (Some None) (place_of front reserved old i))) (same_apart i p apart))
+    (cases_eq i p) in
     let few : reserved_count reserved new ≤ length old + 2 = elim reserved as (λ b. reserved_count b new ≤ length old + 2) [ true ↦ omega (arith, longer) | false ↦ omega (arith, longer) ] in
     record {
       bound = fits.bound;

@@ -11,7 +11,6 @@ use Rattle.rp_log.proofs.Views.{seen, learned_of, action_is, not_zero}
 
 module _ {front : List Action} {reserved : Bool} {ahead : Ahead} {capacity taken top : ℕ}
     (fits : Fits front reserved ahead capacity taken top) (log : Contents) (view : seen front reserved ahead taken ≡ log) where
-
   -- what is learned is at most the greatest
   pub top_bound : (i : ℕ) → IsLearned log i → i ≤ top
   top_bound i there =

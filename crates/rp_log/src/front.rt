@@ -27,7 +27,8 @@ pub(crate) fn learned_at(ahead: &BTreeMap<u32, Option<Action>>, position: u32) -
 pub(crate) fn learn_ahead(ahead: &mut BTreeMap<u32, Option<Action>>, position: u32, action: Action)
     requires { IsSome (place_ahead ahead.old.entries position) }
     ensures written { (i : ℕ) → place_ahead ahead.new.entries i
-        ≡ (if is_at (nat_cmp position) i then Some (Some action) else place_ahead ahead.old.entries i) }
+        ≡ (if is_at (nat_cmp position) i then Some
+        (Some action) else place_ahead ahead.old.entries i) }
     ensures length { length ahead.new.entries ≡ length ahead.old.entries }
 {
     if let Some(place) = ahead.get_mut(&position) {

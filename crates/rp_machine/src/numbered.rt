@@ -82,8 +82,10 @@ impl<M: Machine> Numbered<M> {
     /// where the action counts, else none. It takes no memory.
     pub fn apply(&mut self, action: &Action) -> Answers
         requires { IsRight action.now }
-        ensures applied { self.new ≡ record self.old { actions = self.old.actions ++ action.now ∷ [] } }
-        ensures answers { result ≡ answers_behind M.next M.answers (outcome M.next M.answers self.old) action.now }
+        ensures applied { self.new
+            ≡ record self.old { actions = self.old.actions ++ action.now ∷ [] } }
+        ensures answers { result ≡ answers_behind M.next M.answers
+            (outcome M.next M.answers self.old) action.now }
     {
         replay_may_go_on::<M>();
         if !self.counts(action) {
@@ -100,7 +102,8 @@ impl<M: Machine> Numbered<M> {
     /// The reply to a call of this task, where the call is the last of the task that counted and has
     /// its answer.
     pub fn kept(&self, task: TaskId, number: u32) -> Option<Reply>
-        ensures { let r = outcome M.next M.answers self.now in result ≡ kept_reply task number r.kept r.given }
+        ensures { let r = outcome M.next M.answers self.now in result
+            ≡ kept_reply task number r.kept r.given }
     {
         let caller = self.caller(task);
         if caller.last == number {
@@ -142,7 +145,8 @@ impl<M: Machine> Numbered<M> {
     /// What is kept of the task's calls.
     fn caller(&self, task: TaskId) -> Caller
         ensures last { result.last ≡ last_number task (outcome M.next M.answers self.now).kept }
-        ensures reply { let r = outcome M.next M.answers self.now in result.reply ≡ kept_reply task result.last r.kept r.given }
+        ensures reply { let r = outcome M.next M.answers self.now in result.reply
+            ≡ kept_reply task result.last r.kept r.given }
     {
         self.callers[usize::from(task.get()) - 1]
     }
@@ -150,7 +154,8 @@ impl<M: Machine> Numbered<M> {
     /// Whether the action counts behind those that were applied.
     fn counts(&self, action: &Action) -> bool
         requires { IsRight action.now }
-        ensures { let r = outcome M.next M.answers self.now in result ≡ counts r.kept r.given action.now }
+        ensures { let r = outcome M.next M.answers self.now in result
+            ≡ counts r.kept r.given action.now }
     {
         match *action {
             Action::Noop => false,
@@ -163,7 +168,8 @@ impl<M: Machine> Numbered<M> {
     /// Whether the call is the task's next and the task does not wait.
     fn is_next(&self, task: TaskId, number: u32) -> bool
         requires { 1 ≤ number }
-        ensures { let r = outcome M.next M.answers self.now in result ≡ (nat_eq number (last_number task r.kept + 1) && not (waits task r.kept r.given)) }
+        ensures { let r = outcome M.next M.answers self.now in result
+            ≡ (nat_eq number (last_number task r.kept + 1) && not (waits task r.kept r.given)) }
     {
         number - 1 == self.last(task) && !self.waits(task)
     }

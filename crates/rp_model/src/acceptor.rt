@@ -93,7 +93,8 @@ pub(crate) fn on_prepare(
     position: Position,
     ballot: Ballot,
 ) -> Result<Turn, AllocError>
-    ensures { IfOk result (λ turn. turn ≡ on_prepare me records.now running.now from position ballot) }
+    ensures { IfOk result (λ turn. turn
+        ≡ on_prepare me records.now running.now from position ballot) }
 {
     let at = usize::from(position.get());
     match bound_at(records, at) {
@@ -120,7 +121,8 @@ pub(crate) fn on_prepare(
 
 /// The bound at a position, where a ballot lies below it.
 fn refusing_bound(records: &[RightRecord], position: usize, ballot: Ballot) -> Option<Ballot>
-    ensures below { IfSome result (λ bound. (bound ≡ bound_at records.now position) × (ballot < bound)) }
+    ensures below { IfSome result (λ bound. (bound
+        ≡ bound_at records.now position) × (ballot < bound)) }
     ensures not_below { IfNone result (bound_at records.now position ≤ ballot) }
 {
     match bound_at(records, position) {
@@ -139,7 +141,9 @@ fn on_ballot(
     vote: RightVote,
     last: Option<RightVote>,
 ) -> Result<Turn, AllocError>
-    ensures { IfOk result (λ turn. turn ≡ tells_vote me running.now from position vote.ballot vote.action (vote_answer position vote.ballot vote.action last)) }
+    ensures { IfOk result (λ turn. turn
+        ≡ tells_vote me running.now from position vote.ballot vote.action
+        (vote_answer position vote.ballot vote.action last)) }
 {
     let Vote { ballot, action } = vote.get();
     let told = says(
@@ -176,7 +180,8 @@ pub(crate) fn on_accept(
     position: Position,
     vote: RightVote,
 ) -> Result<Turn, AllocError>
-    ensures { IfOk result (λ turn. turn ≡ on_accept me records.now running.now from position vote.ballot vote.action) }
+    ensures { IfOk result (λ turn. turn
+        ≡ on_accept me records.now running.now from position vote.ballot vote.action) }
 {
     let at = usize::from(position.get());
     let ballot = vote.get().ballot;

@@ -14,7 +14,8 @@ use rp_machine::Machine;
 
 /// What a node has applied stays, in its place, whatever it writes afterwards.
 pub fn applied_grows()
-    ensures { (records more : List Rec) → (further : List Action) × (applied_of (records ++ more) ≡ applied_of records ++ further) }
+    ensures { (records more : List Rec)
+        → (further : List Action) × (applied_of (records ++ more) ≡ applied_of records ++ further) }
 {}
 
 /// An event's effect adds packets at the end of those that were sent, and each node's records and

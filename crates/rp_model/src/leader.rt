@@ -78,7 +78,8 @@ fn own_at<M: Machine>(
     running: &Running,
     position: Position,
 ) -> Result<RightAction, AllocError>
-    ensures { IfOk result (λ own. own ≡ own_action (kept_of M.next M.answers (M.begin program.now) (applied_of records.now))
+    ensures { IfOk result (λ own. own
+        ≡ own_action (kept_of M.next M.answers (M.begin program.now) (applied_of records.now))
         (without_proposal running.now.proposals position) running.now.pending) }
 {
     let others = without_proposal(alloc, running.proposals.as_slice(), position)?;
@@ -103,7 +104,9 @@ fn begins<M: Machine>(
     ballot: Ballot,
 ) -> Result<Turn, AllocError>
     requires { nodes ≤ 7 }
-    ensures { IfOk result (λ turn. turn ≡ begins M.next M.answers (M.begin program.now) nodes me records.now running.now position ballot) }
+    ensures { IfOk result (λ turn. turn
+        ≡ begins M.next M.answers
+        (M.begin program.now) nodes me records.now running.now position ballot) }
 {
     let own = own_at::<M>(alloc, program, records, running, position)?;
     let proposal = Proposal::new(alloc, position, ballot, own);
@@ -156,7 +159,8 @@ pub fn on_lead<M: Machine>(
     choice: Option<Position>,
 ) -> Result<Turn, Fault>
     requires { config.nodes ≤ 7 }
-    ensures { IsOutcome result (on_lead M.next M.answers (M.begin program.now) config me records.now running.now choice) }
+    ensures { IsOutcome result (on_lead M.next M.answers
+        (M.begin program.now) config me records.now running.now choice) }
 {
     let place = chosen_position(records, running, choice);
     if learned_at(records, place).is_some() {
@@ -189,7 +193,8 @@ fn counts_promise(
     promise: CountedPromise,
 ) -> Result<Turn, AllocError>
     requires { nodes ≤ 7 }
-    ensures { IfOk result (λ turn. turn ≡ counts_promise nodes me running.now proposal.now promise) }
+    ensures { IfOk result (λ turn. turn
+        ≡ counts_promise nodes me running.now proposal.now promise) }
 {
     let promises = with_promise(alloc, proposal.promises(), promise)?;
     let senders = promisers_of(alloc, promises.as_slice())?;
@@ -212,8 +217,12 @@ fn offers(
 ) -> Result<Turn, AllocError>
     requires { nodes ≤ 7 }
     ensures { IfOk result (λ turn. turn ≡ sends
-        (record running.now { proposals = with_proposal running.now.proposals (record after { phase = Offering }) })
-        (says_to_all nodes me (Accept after.position after.ballot (offer_of after.own after.promises)))) }
+        (record running.now {
+          proposals = with_proposal running.now.proposals
+              (record after { phase = Offering });
+        })
+        (says_to_all nodes me (Accept after.position after.ballot
+        (offer_of after.own after.promises)))) }
 {
     let offered = offer_of(after.own(), after.promises());
     let (position, ballot) = (after.position(), after.ballot());
@@ -225,7 +234,8 @@ fn offers(
 
 /// A proposal goes on in its phase.
 fn goes_on(alloc: Global, running: &Running, after: Proposal) -> Result<Turn, AllocError>
-    ensures { IfOk result (λ turn. turn ≡ notes (record running.now { proposals = with_proposal running.now.proposals after })) }
+    ensures { IfOk result (λ turn. turn
+        ≡ notes (record running.now { proposals = with_proposal running.now.proposals after })) }
 {
     let mut known = copied_running(alloc, running)?;
     known.proposals = with_proposal(alloc, running.proposals.as_slice(), after)?;
@@ -243,7 +253,8 @@ pub(crate) fn on_promise(
     promise: CountedPromise,
 ) -> Result<Turn, AllocError>
     requires { nodes ≤ 7 }
-    ensures { IfOk result (λ turn. turn ≡ on_promise nodes me running.now promise.0 position ballot promise.1) }
+    ensures { IfOk result (λ turn. turn
+        ≡ on_promise nodes me running.now promise.0 position ballot promise.1) }
 {
     match proposal_at(running.proposals.as_slice(), position) {
         Some(proposal) if proposal.ballot() == ballot && proposal.is_preparing() => {

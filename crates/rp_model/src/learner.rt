@@ -124,7 +124,9 @@ pub(crate) fn learns<M: Machine>(
     packets: Sequence<Packet>,
     behind: Sequence<Packet>,
 ) -> Result<Turn, AllocError>
-    ensures { IfOk result (λ turn. turn ≡ learns M.next M.answers (M.begin program.now) me records.now running.now position action packets behind) }
+    ensures { IfOk result (λ turn. turn
+        ≡ learns M.next M.answers
+        (M.begin program.now) me records.now running.now position action packets behind) }
 {
     let content = RightRecord::new(Rec::Learned(position, action.get()));
     let all = with_record(alloc, records, content)?;
@@ -178,7 +180,9 @@ fn tells<M: Machine>(
     vote: RightVote,
 ) -> Result<Turn, AllocError>
     requires { nodes ≤ 7 }
-    ensures { IfOk result (λ turn. turn ≡ learns M.next M.answers (M.begin program.now) me records.now running.now position vote.action
+    ensures { IfOk result (λ turn. turn
+        ≡ learns M.next M.answers
+        (M.begin program.now) me records.now running.now position vote.action
         (says_to_others nodes me (Decided position vote.action)) []) }
 {
     let action = RightAction::new(vote.get().action);
@@ -210,7 +214,9 @@ fn on_new_vote<M: Machine>(
     vote: RightVote,
 ) -> Result<Turn, AllocError>
     requires { nodes ≤ 7 }
-    ensures { IfOk result (λ turn. turn ≡ on_vote M.next M.answers (M.begin program.now) nodes me records.now running.now from position vote None) }
+    ensures { IfOk result (λ turn. turn
+        ≡ on_vote M.next M.answers
+        (M.begin program.now) nodes me records.now running.now from position vote None) }
 {
     let heard = with_vote(alloc, running.heard.as_slice(), (from, position, vote))?;
     if is_chosen(alloc, nodes, position, vote, heard.as_slice())? {
@@ -234,7 +240,9 @@ pub(crate) fn on_accepted<M: Machine>(
     vote: RightVote,
 ) -> Result<Turn, AllocError>
     requires { nodes ≤ 7 }
-    ensures { IfOk result (λ turn. turn ≡ on_accepted M.next M.answers (M.begin program.now) nodes me records.now running.now from position vote) }
+    ensures { IfOk result (λ turn. turn
+        ≡ on_accepted M.next M.answers
+        (M.begin program.now) nodes me records.now running.now from position vote) }
 {
     match learned_at(records, usize::from(position.get())) {
         Some(_) => Ok(notes(alloc, copied_running(alloc, running)?)),
@@ -309,7 +317,8 @@ fn asks_behind(
     position: Position,
     action: RightAction,
 ) -> Result<Sequence<Packet>, AllocError>
-    ensures { IfOk result (λ packets. packets ≡ asks_for me from (missing_position (records.now ++ Learned position action ∷ []))) }
+    ensures { IfOk result (λ packets. packets
+        ≡ asks_for me from (missing_position (records.now ++ Learned position action ∷ []))) }
 {
     let content = RightRecord::new(Rec::Learned(position, action.get()));
     let all = with_record(alloc, records, content)?;
@@ -327,7 +336,9 @@ pub(crate) fn on_decided<M: Machine>(
     position: Position,
     action: RightAction,
 ) -> Result<Turn, AllocError>
-    ensures { IfOk result (λ turn. turn ≡ on_decided M.next M.answers (M.begin program.now) me records.now running.now from position action) }
+    ensures { IfOk result (λ turn. turn
+        ≡ on_decided M.next M.answers
+        (M.begin program.now) me records.now running.now from position action) }
 {
     match learned_at(records, usize::from(position.get())) {
         Some(_) => Ok(notes(alloc, copied_running(alloc, running)?)),

@@ -130,7 +130,8 @@ pub(crate) fn staying(
     given: &[Answer],
     applied: &[RightAction],
 ) -> Result<Sequence<RightAction>, AllocError>
-    ensures { IfOk result (λ items. items ≡ filter (stays kept.now given.now applied.now) pending.now) }
+    ensures { IfOk result (λ items. items
+        ≡ filter (stays kept.now given.now applied.now) pending.now) }
 {
     let mut items = Sequence::new(alloc);
     for item in pending {
@@ -263,7 +264,8 @@ fn on_numbered(
     reply: Option<Reply>,
 ) -> Result<Turn, AllocError>
     requires { IsCount number }
-    ensures { IfOk result (λ turn. turn ≡ on_numbered me kept.now running.now task number call reply) }
+    ensures { IfOk result (λ turn. turn
+        ≡ on_numbered me kept.now running.now task number call reply) }
 {
     match reply {
         Some(reply) => {

@@ -93,7 +93,9 @@ pub fn receives<M: Machine>(
     packet: &Packet,
 ) -> Result<Turn, AllocError>
     requires { config.nodes ≤ 7 }
-    ensures { IfOk result (λ turn. turn ≡ receives M.next M.answers (M.begin program.now) config me records.now running.now packet.now) }
+    ensures { IfOk result (λ turn. turn
+        ≡ receives M.next M.answers
+        (M.begin program.now) config me records.now running.now packet.now) }
 {
     if !is_for_node(config, me, packet) {
         return Ok(Turn {
@@ -117,7 +119,9 @@ fn on_body<M: Machine>(
     packet: &Packet,
 ) -> Result<Turn, AllocError>
     requires { nodes ≤ 7 }
-    ensures { IfOk result (λ turn. turn ≡ on_body M.next M.answers (M.begin program.now) nodes me records.now running.now (party_number packet.now.from) packet.now.body) }
+    ensures { IfOk result (λ turn. turn
+        ≡ on_body M.next M.answers (M.begin program.now) nodes me records.now running.now
+        (party_number packet.now.from) packet.now.body) }
 {
     if let Party::Node(from) = packet.from() {
         return Ok(between_nodes::<M>(alloc, program, nodes, me, records, running, from, packet)?);
@@ -147,7 +151,9 @@ fn between_nodes<M: Machine>(
 ) -> Result<Turn, AllocError>
     requires few { nodes ≤ 7 }
     requires sender { packet.now.from ≡ Node from }
-    ensures { IfOk result (λ turn. turn ≡ on_body M.next M.answers (M.begin program.now) nodes me records.now running.now from packet.now.body) }
+    ensures { IfOk result (λ turn. turn
+        ≡ on_body M.next M.answers
+        (M.begin program.now) nodes me records.now running.now from packet.now.body) }
 {
     match *packet.body() {
         Body::Prepare { position, ballot } => {

@@ -92,7 +92,8 @@ fn all_answered(kept: &[Action], given: &[Answer], task: TaskId) -> bool
 
 /// Whether the occurrences of the source are all below this one.
 fn is_new_occurrence(kept: &[Action], source: u8, occurrence: u32) -> bool
-    ensures { result ≡ list_all (λ earlier. nat_lt earlier occurrence) (filter_map (occurrence_for source) kept.now) }
+    ensures { result ≡ list_all (λ earlier. nat_lt earlier occurrence) (filter_map
+        (occurrence_for source) kept.now) }
 {
     kept.iter()
         .filter_map(|earlier| occurrence_for(source, *earlier))
@@ -119,9 +120,12 @@ pub fn replay<M: Machine>(
     program: &M::Program,
     actions: &[RightAction],
 ) -> Result<Replayed<M>, AllocError>
-    ensures state { IfOk result (λ r. r.machine ≡ replay_state M.next M.answers (M.begin program.now) actions.now) }
-    ensures kept { IfOk result (λ r. r.kept.items ≡ kept_of M.next M.answers (M.begin program.now) actions.now) }
-    ensures answers { IfOk result (λ r. r.answers.items ≡ replay_answers M.next M.answers (M.begin program.now) actions.now) }
+    ensures state { IfOk result (λ r. r.machine
+        ≡ replay_state M.next M.answers (M.begin program.now) actions.now) }
+    ensures kept { IfOk result (λ r. r.kept.items
+        ≡ kept_of M.next M.answers (M.begin program.now) actions.now) }
+    ensures answers { IfOk result (λ r. r.answers.items
+        ≡ replay_answers M.next M.answers (M.begin program.now) actions.now) }
 {
     replay_may_go_on::<M>();
     let mut machine = M::start(alloc, program)?;

@@ -71,8 +71,10 @@ impl Proposer {
     pub fn ballot(&self) -> Result<Ballot, Fault>
         ensures next { IfOk result (IsNext self.now.node (counted_by self.now)) }
         ensures value { IfOk result (λ b. b ≡ next_ballot self.now.node (counted_by self.now)) }
-        ensures spent { IsErrOf result Fault.BallotsSpent ↔ ((b : ℕ) → ¬ IsAbove self.now.node (counted_by self.now) b) }
-        ensures full { IsErrOf result Fault.BallotsSpent ↔ (2 ^ 32 ≤ round_of (next_ballot self.now.node (counted_by self.now))) }
+        ensures spent { IsErrOf result Fault.BallotsSpent ↔ ((b : ℕ)
+            → ¬ IsAbove self.now.node (counted_by self.now) b) }
+        ensures full { IsErrOf result Fault.BallotsSpent
+            ↔ (2 ^ 32 ≤ round_of (next_ballot self.now.node (counted_by self.now))) }
         ensures only { IsOkUnless result Fault.BallotsSpent }
     {
         Ballot::next_for(self.node, Ballot::greater(self.started, self.refused))
@@ -124,7 +126,8 @@ impl Proposer {
         last: Option<Vote>,
     ) -> Progress
         requires sender { from ≤ self.now.nodes }
-        ensures { result ≡ progress_in self.now.nodes ballot (from, last) (proposal_at self.now.proposals position) }
+        ensures { result ≡ progress_in self.now.nodes ballot (from, last)
+            (proposal_at self.now.proposals position) }
     {
         match proposal_at(&self.proposals, position) {
             Some(proposal) if proposal.ballot() == ballot => {
@@ -144,7 +147,8 @@ impl Proposer {
         last: Option<Vote>,
     )
         requires sender { from ≤ self.old.nodes }
-        ensures noted { self.new ≡ notes_promise self.old ballot (from, last) (proposal_at self.old.proposals position) }
+        ensures noted { self.new ≡ notes_promise self.old ballot (from, last)
+            (proposal_at self.old.proposals position) }
         ensures nodes { self.new.nodes ≡ self.old.nodes }
     {
         if let Some(index) = index_of(&self.proposals, position) {
@@ -244,7 +248,8 @@ fn index_of(proposals: &[Proposal], position: Position) -> Option<usize>
 fn put(proposals: &mut Vec<Proposal>, proposal: Proposal)
     requires { length (without_proposal proposals.old.items proposal.position) < vec_capacity proposals.old }
     ensures items { proposals.new.items ≡ with_proposal proposals.old.items proposal }
-    ensures length { length proposals.new.items ≤ max (length proposals.old.items) (length (without_proposal proposals.old.items proposal.position) + 1) }
+    ensures length { length proposals.new.items ≤ max (length proposals.old.items) (length
+        (without_proposal proposals.old.items proposal.position) + 1) }
     ensures capacity { vec_capacity proposals.new ≡ vec_capacity proposals.old }
 {
     match index_of(proposals, proposal.position()) {

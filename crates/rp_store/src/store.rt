@@ -55,7 +55,8 @@ fn trim<D: Device>(device: &mut D, whole: usize, torn: usize) -> Result<(), Faul
     ensures ok { OnOk result (IsTrimmed whole torn (D.disk device.old) (D.disk device.new)) }
     ensures refused { IsErrOf result Fault.OutOfMemory → D.disk device.new ≡ D.disk device.old }
     ensures kept { OnErr result (KeepsFront whole (D.disk device.old) (D.disk device.new)) }
-    ensures faults { IfErr result (λ fault. (fault ≡ faults.OutOfMemory) ⊎ (fault ≡ faults.Device)) }
+    ensures faults { IfErr result (λ fault. (fault ≡ faults.OutOfMemory) ⊎ (fault
+        ≡ faults.Device)) }
     ensures cause { IsErrOf result Fault.Device
         → (D.disk device.old).failures < (D.disk device.new).failures }
 {
@@ -85,7 +86,8 @@ fn write<D: Device>(device: &mut D, text: &[u8]) -> Result<(), Fault>
     ensures refused { IsErrOf result Fault.OutOfMemory → D.disk device.new ≡ D.disk device.old }
     ensures failed { IsErrOf result Fault.Device
         → AppendFailed text.now (D.disk device.old) (D.disk device.new) }
-    ensures faults { IfErr result (λ fault. (fault ≡ faults.OutOfMemory) ⊎ (fault ≡ faults.Device)) }
+    ensures faults { IfErr result (λ fault. (fault ≡ faults.OutOfMemory) ⊎ (fault
+        ≡ faults.Device)) }
 {
     device.append(text)?;
     device.sync()

@@ -46,9 +46,12 @@ impl<M: Machine> Cluster<M> {
     /// The opening world: all nodes run, and nothing was called or sent. `BadConfig` where a number
     /// is outside its limits; for now the log has one position.
     pub fn new(alloc: Global, config: Config, program: M::Program) -> Result<Self, Fault>
-        ensures opened { IfOk result (λ c. c ≡ record { config = config; program = program; world = opening_world config.nodes }) }
-        ensures refused { IsErrOf result Fault.BadConfig ↔ (¬ (IsRightConfig config × (config.max_positions ≡ 1))) }
-        ensures only { IfErr result (λ fault. (fault ≡ Fault.BadConfig) ⊎ (fault ≡ Fault.OutOfMemory)) }
+        ensures opened { IfOk result (λ c. c
+            ≡ record { config = config; program = program; world = opening_world config.nodes }) }
+        ensures refused { IsErrOf result Fault.BadConfig
+            ↔ (¬ (IsRightConfig config × (config.max_positions ≡ 1))) }
+        ensures only { IfErr result (λ fault. (fault ≡ Fault.BadConfig) ⊎ (fault
+            ≡ Fault.OutOfMemory)) }
     {
         if !config.is_right() || config.max_positions != 1 {
             return Err(Fault::BadConfig);
@@ -74,7 +77,8 @@ impl<M: Machine> Cluster<M> {
     /// The same, by what the event comes to.
     fn answer(&mut self, alloc: Global, event: &Event) -> Result<Effect, Fault>
         ensures effect { AnswersBy self.old.world self.new.world
-            (event_effect (setting_of M.next M.answers M.begin self.old) self.old.world (event_of event.now)) result }
+            (event_effect (setting_of M.next M.answers M.begin self.old) self.old.world
+            (event_of event.now)) result }
         ensures setup { IsSameSetup self.old self.new }
     {
         match *event {
@@ -107,7 +111,8 @@ impl<M: Machine> Cluster<M> {
     /// A message is taken by whom it is for.
     fn deliver(&mut self, alloc: Global, number: u64) -> Result<Effect, Fault>
         ensures effect { AnswersBy self.old.world self.new.world
-            (delivers (setting_of M.next M.answers M.begin self.old) self.old.world (part_at self.old.world.sent number)) result }
+            (delivers (setting_of M.next M.answers M.begin self.old) self.old.world
+            (part_at self.old.world.sent number)) result }
         ensures setup { IsSameSetup self.old self.new }
     {
         let first = self.world.next_number();
@@ -152,7 +157,8 @@ impl<M: Machine> Cluster<M> {
         position: Option<Position>,
     ) -> Result<Effect, Fault>
         ensures effect { AnswersBy self.old.world self.new.world
-            (node_takes (setting_of M.next M.answers M.begin self.old) self.old.world node (nodes.Lead position)
+            (node_takes (setting_of M.next M.answers M.begin self.old) self.old.world node
+            (nodes.Lead position)
             (part_at self.old.world.nodes node)) result }
         ensures setup { IsSameSetup self.old self.new }
     {
@@ -188,9 +194,12 @@ impl<M: Machine> Cluster<M> {
 
     /// The text of the message of this number, from 1. `NoSuchMessage` where there is none.
     pub fn message(&self, alloc: Global, number: u64) -> Result<Vec<u8>, Fault>
-        ensures text { IfOk result (λ text. IfSome (part_at self.now.world.sent number) (λ m. text.items ≡ text_of m)) }
-        ensures none { IsErrOf result Fault.NoSuchMessage ↔ (part_at self.now.world.sent number ≡ None) }
-        ensures only { IfErr result (λ fault. (fault ≡ Fault.NoSuchMessage) ⊎ (fault ≡ Fault.OutOfMemory)) }
+        ensures text { IfOk result (λ text. IfSome (part_at self.now.world.sent number)
+            (λ m. text.items ≡ text_of m)) }
+        ensures none { IsErrOf result Fault.NoSuchMessage
+            ↔ (part_at self.now.world.sent number ≡ None) }
+        ensures only { IfErr result (λ fault. (fault ≡ Fault.NoSuchMessage) ⊎ (fault
+            ≡ Fault.OutOfMemory)) }
     {
         let Some(packet) = self.world.message(number) else {
             return Err(Fault::NoSuchMessage);
@@ -208,7 +217,8 @@ impl<M: Machine> Cluster<M> {
     /// How many actions a node has applied. `NotRunning` where it is stopped, `BadConfig` above the
     /// last node.
     pub fn applied(&self, node: NodeId) -> Result<u16, Fault>
-        ensures { IsToldOf result (λ count records. count ≡ min (length (applied_of records)) (2 ^ 16 - 1)) (part_at self.now.world.nodes node) }
+        ensures { IsToldOf result (λ count records. count
+            ≡ min (length (applied_of records)) (2 ^ 16 - 1)) (part_at self.now.world.nodes node) }
     {
         let count = applied_count(self.records(node)?);
         Ok(u16::try_from(count).unwrap_or(u16::MAX))
@@ -218,7 +228,8 @@ impl<M: Machine> Cluster<M> {
     /// is stopped, `BadConfig` above the last node.
     pub fn image(&self, alloc: Global, node: NodeId) -> Result<Vec<u8>, Fault>
         ensures { IsToldUnlessMemory result (λ text records.
-            text.items ≡ M.image (replay_state M.next M.answers (M.begin self.now.program) (applied_of records))) (part_at self.now.world.nodes node) }
+            text.items ≡ M.image (replay_state M.next M.answers (M.begin self.now.program)
+            (applied_of records))) (part_at self.now.world.nodes node) }
     {
         let applied = applied_of(alloc, self.records(node)?)?;
         let replayed = replay::<M>(alloc, &self.program, applied.as_slice())?;
@@ -227,7 +238,8 @@ impl<M: Machine> Cluster<M> {
 
     /// The records of a node that runs.
     fn records(&self, node: NodeId) -> Result<&[RightRecord], Fault>
-        ensures { IsToldOf result (λ records all. records.now ≡ all) (part_at self.now.world.nodes node) }
+        ensures { IsToldOf result (λ records all. records.now
+            ≡ all) (part_at self.now.world.nodes node) }
     {
         let Some(part) = self.world.node(node) else {
             return Err(Fault::BadConfig);

@@ -20,7 +20,8 @@ pub(crate) fn take_effect(
     sent: &mut Vec<Packet>,
     turn: Turn,
 ) -> Result<(), AllocError>
-    ensures part { OnOk result (part.new ≡ record part.old { records = with_record part.old.records turn.written; running = Some turn.running }) }
+    ensures part { OnOk result (part.new
+        ≡ record part.old { records = with_record part.old.records turn.written; running = Some turn.running }) }
     ensures sent { OnOk result (sent.new.items ≡ sent.old.items ++ turn.sent) }
     ensures err { OnErr result (part.new ≡ part.old) }
     ensures err_sent { OnErr result (sent.new.items ≡ sent.old.items) }
@@ -92,7 +93,8 @@ pub(crate) fn fresh_tasks(alloc: Global) -> Result<Vec<TaskPart>, AllocError>
 /// The answer that a reply to a task is: it is taken where the task's outstanding call has this
 /// number.
 pub(crate) fn answer_if(part: &TaskPart, task: TaskId, number: u32, reply: Reply) -> Option<Answer>
-    ensures taken { IfSome result (λ answer. (takes part.now number ≡ true) × (answer ≡ record { task = task; number = number; reply = reply })) }
+    ensures taken { IfSome result (λ answer. (takes part.now number ≡ true) × (answer
+        ≡ record { task = task; number = number; reply = reply })) }
     ensures ignored { IfNone result (takes part.now number ≡ false) }
 {
     if number == 0 || number != outstanding_number(&part.outstanding) {
@@ -116,9 +118,11 @@ pub(crate) fn next_call(
     arg: i64,
 ) -> Result<RightAction, Fault>
     ensures call { IfOk result (λ call. call ≡ next_call task part.now object operation arg) }
-    ensures may { IfOk result (λ call. may_call config node part.now call part.now.outstanding ≡ Ok call) }
+    ensures may { IfOk result (λ call. may_call config node part.now call part.now.outstanding
+        ≡ Ok call) }
     ensures of_task { IfOk result (IsCallBy task) }
-    ensures refused { IfErr result (λ fault. may_call config node part.now (next_call task part.now object operation arg) part.now.outstanding ≡ Err fault) }
+    ensures refused { IfErr result (λ fault. may_call config node part.now
+        (next_call task part.now object operation arg) part.now.outstanding ≡ Err fault) }
 {
     if part.outstanding.is_some() {
         return Err(Fault::TaskBusy);

@@ -111,7 +111,8 @@ impl World {
         arg: i64,
     ) -> Result<Effect, Fault>
         ensures { AnswersBy self.old self.new
-            (task_takes config self.old task (Submit node object operation arg) (part_at self.old.tasks task)) result }
+            (task_takes config self.old task (Submit node object operation arg)
+            (part_at self.old.tasks task)) result }
     {
         match next_call(config, self.task(task), task, node, object, operation, arg) {
             Ok(call) => self.asks(task, node, call),
@@ -123,7 +124,8 @@ impl World {
     fn asks(&mut self, task: TaskId, node: NodeId, call: RightAction) -> Result<Effect, Fault>
         requires { IsCallBy task call }
         ensures { IfSome (part_at self.old.tasks task) (λ part.
-            AnswersBy self.old self.new (task_done_if self.old task (calls_if task node part (Ok call))) result) }
+            AnswersBy self.old self.new (task_done_if self.old task (calls_if task node part
+            (Ok call))) result) }
     {
         let first = self.next_number();
         self.sent.push(asks(task, node, call))?;
@@ -134,7 +136,8 @@ impl World {
     /// A reply comes to a task. Refused for memory, nothing changes.
     pub(crate) fn takes(&mut self, task: TaskId, number: u32, reply: Reply) -> Result<Effect, Fault>
         ensures { IsSomeAnd (part_at self.old.tasks task) (λ part.
-            AnswersBy self.old self.new (Ok (task_done self.old task (takes_reply task part number reply))) result) }
+            AnswersBy self.old self.new (Ok (task_done self.old task
+            (takes_reply task part number reply))) result) }
     {
         let first = self.next_number();
         let Some(answer) = answer_if(self.task(task), task, number, reply) else {

@@ -32,9 +32,9 @@ returns-clause-right c = λ records are.
     records c.args.rec.now index place
     (λ j other. other_slot c.args.pages.now.items index c.index_mut-page.result.now c.with_record-slot.result j has page other)
     (ap (λ (s : Slot). number_of s.bound) is ∙ c.with_record-slot.ensures.bound
-        ∙ ap (λ (s : Slot). max (number_of s.bound) (bound_in c.in-Some.position c.args.rec.now)) was
-        ∙ ap (λ (n : ℕ). max (number_of (slot_at c.args.pages.now.items index).bound) (bound_in n c.args.rec.now)) (sym c.index_of-index.ensures))
+    ∙ ap (λ (s : Slot). max (number_of s.bound) (bound_in c.in-Some.position c.args.rec.now)) was
+    ∙ ap (λ (n : ℕ). max (number_of (slot_at c.args.pages.now.items index).bound) (bound_in n c.args.rec.now)) (sym c.index_of-index.ensures))
     (ap (λ (s : Slot). s.last) is ∙ c.with_record-slot.ensures.last
-        ∙ ap (λ (s : Slot). highest (option_to_list s.last ++ option_to_list (vote_in c.in-Some.position c.args.rec.now))) was
-        ∙ ap (λ (n : ℕ). highest (option_to_list (slot_at c.args.pages.now.items index).last ++ option_to_list (vote_in n c.args.rec.now))) (sym c.index_of-index.ensures))
+    ∙ ap (λ (s : Slot). highest (option_to_list s.last ++ option_to_list (vote_in c.in-Some.position c.args.rec.now))) was
+    ∙ ap (λ (n : ℕ). highest (option_to_list (slot_at c.args.pages.now.items index).last ++ option_to_list (vote_in n c.args.rec.now))) (sym c.index_of-index.ensures))
     are)

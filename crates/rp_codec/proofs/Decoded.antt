@@ -5,11 +5,10 @@ use Rattle.std.proofs.lemmas.Bool.{eqb-true, eqb-false, ne_eqb}
 use Rattle.std.proofs.lemmas.List.{append-nil, nil_from_length}
 use Rattle.rp_base.specs.declared.fault.PacketReason.{PacketReason}
 use Rattle.rp_base.specs.declared.fault.PacketReason.TheVariants.{Short, Long, Version, Kind as UnknownKind, Field}
-use Rattle.rp_codec.specs.declared.packet.Party.{Party}
 use Rattle.rp_codec.specs.declared.packet.Body.{Body}
 use Rattle.rp_codec.specs.declared.kind.Kind.{Kind}
 use Rattle.rp_codec.specs.declared.kind.Kind.TheVariants.{Call, Prepare, Promise, Accept, Accepted, Decided, Ask, Nack, Reply as Answer, Report}
-use Rattle.rp_codec.specs.Kind.{kind_of, IsKind}
+use Rattle.rp_codec.specs.Kind.{kind_of}
 use Rattle.rp_codec.specs.Message.{Message, KeepsRules, IsPacket}
 use Rattle.rp_codec.specs.Text.{text_of}
 use Rattle.rp_codec.specs.Decoding.{HasOtherVersion, HasNoKind, IsTooLong, IsDecoded, BeginsWithPacket, IsReportBody, IsReportText}
@@ -17,7 +16,7 @@ use Rattle.rp_codec.specs.declared.content.Content.{Content}
 use Rattle.rp_codec.specs.declared.content.Content.TheVariants.{Whole as WholeBody, Listed}
 use Rattle.rp_codec.specs.declared.content.Found.{Found}
 use Rattle.rp_codec.specs.Found.{StandsFor, IsList, with_body}
-use Rattle.rp_codec.specs.Reading.{◌>>=◌, Read, from_at, to_at, body_at, said_at, known, version_at, kind_at, packet_at, all_of}
+use Rattle.rp_codec.specs.Reading.{◌>>=◌, Read, said_at, known, kind_at, packet_at, all_of}
 use Rattle.rp_codec.proofs.Steps.{IsBytes, Yields}
 use Rattle.rp_codec.proofs.BodyLaws.{number_of}
 use Rattle.rp_codec.proofs.PacketLaws.{TookSaid, said_took, packet_again}

@@ -1,4 +1,4 @@
-use Rattle.std.proofs.Common.{◌≡◌, ℕ, ◌+◌, ◌-◌, length, refl, sym, ap, ◌∙◌, arith}
+use Rattle.std.proofs.Common.{◌≡◌, ◌-◌, length, refl, sym, ap, ◌∙◌, arith}
 use Rattle.rp_codec.specs.Message.{Message}
 use Rattle.rp_codec.specs.Text.{text_of}
 use Rattle.rp_codec.specs.Reading.{packet_at}

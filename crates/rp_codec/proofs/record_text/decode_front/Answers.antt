@@ -1,6 +1,6 @@
-use Rattle.std.proofs.Common.{◌≡◌, ℕ, ◌+◌, ◌-◌, List, ◌++◌, length, Some, Ok, Err, refl, sym, ap, ◌∙◌, arith}
+use Rattle.std.proofs.Common.{◌≡◌, ◌-◌, length, refl, sym, ap, ◌∙◌, arith}
 use Rattle.rp_base.specs.declared.record.Rec.{Rec}
-use Rattle.rp_codec.specs.Record.{record_text, IsRecord}
+use Rattle.rp_codec.specs.Record.{record_text}
 use Rattle.rp_codec.specs.RecordReading.{record_at}
 use Rattle.rp_codec.proofs.Steps.{IsBytes}
 use Rattle.rp_codec.proofs.RecordLaws.{front_found, front_length, front_only, front_none}

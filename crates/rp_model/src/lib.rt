@@ -52,5 +52,3 @@ pub use right::{RightAction, RightRecord, RightVote};
 pub use rp_base::Phase;
 pub use sequence::Sequence;
 
-#[cfg(test)]
-mod tests;

@@ -35,9 +35,9 @@ placed store name old value there within =
     let new : Ranged = record old { value = value } in
     let found : (q : ℕ) → get (insert store.ints name new) q ≡ cond (eq_by_cmp nat_cmp q name) (Some new) (get store.ints q) = λ q. get-insert nat_cmp_total store.ints name new q in
     let here : (q : ℕ) → q ≡ name → get (insert store.ints name new) q ≡ Some new = λ q e.
-        found q ∙ ap (λ b. cond b (Some new) (get store.ints q)) (unsigned_tied q name ∙ eq-eqb q name e) in
+    found q ∙ ap (λ b. cond b (Some new) (get store.ints q)) (unsigned_tied q name ∙ eq-eqb q name e) in
     let apart : (q : ℕ) → q ≢ name → get (insert store.ints name new) q ≡ get store.ints q = λ q other.
-        found q ∙ ap (λ b. cond b (Some new) (get store.ints q)) (unsigned_tied q name ∙ ne_eqb q name other) in
+    found q ∙ ap (λ b. cond b (Some new) (get store.ints q)) (unsigned_tied q name ∙ ne_eqb q name other) in
     record {
       ranges = λ q. ⊎_elim
           (λ (e : q ≡ name). ap (option_map range_of) (here q e) ∙ sym (ap (option_map range_of) (ap (get store.ints) e ∙ there)))

@@ -99,8 +99,9 @@ is_acted operations before (calls_entry call) = is_call operations before call o
 is_acted operations before (event index) = is_event operations before index (of_index operations.procedures.items index) refl
 
 pub acts_acted : (operations : Operations) (before : State) (request : Request) (result : Acted) → IsActed operations before request result ↔ (acted operations before request ≡ result)
-acts_acted operations before request result =
-    ((λ acts.
+acts_acted operations before request result = (
+  (λ acts.
       let same = acts_one_end (is_acted operations before request) acts in
       λ i. record { caller = same.0 i; told = same.1 i; after = same.2 i }),
-    (λ is. subst (λ (r : Acted). IsActed operations before request r) is (is_acted operations before request)))
+  (λ is. subst (λ (r : Acted). IsActed operations before request r) is (is_acted operations before request)),
+)

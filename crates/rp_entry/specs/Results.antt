@@ -35,8 +35,8 @@ serviced_from None (call ∷ rest) store = ([], record { store = store; queue = 
 serviced_from (Some entry) (call ∷ rest) store =
     if bool_value store entry.barrier
     then (let ran = body_effect entry.body.items call.arg store in
-        let later = serviced_from (Some entry) rest ran.0 in
-        (record { task = call.task; number = call.number; reply = reply_of ran.1 } ∷ later.0, later.1))
+    let later = serviced_from (Some entry) rest ran.0 in
+    (record { task = call.task; number = call.number; reply = reply_of ran.1 } ∷ later.0, later.1))
     else ([], record { store = store; queue = call ∷ rest })
 
 -- a body runs for a caller, if there is one, and the queue is serviced

@@ -73,7 +73,7 @@ impl Object {
     pub fn function(&self, index: u8, arg: i64) -> Reply
         ensures action { let now = self.now.state in
             Acts self.now.operations now (calls_function index arg)
-                (Some (CallOutcome.Reply result)) [] now }
+            (Some (CallOutcome.Reply result)) [] now }
         ensures serviced { IsServiced self.now.operations self.now.state }
     {
         match of_index(&self.operations.functions, index) {

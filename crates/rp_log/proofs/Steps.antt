@@ -1,17 +1,16 @@
 -- What a step leaves of how a log is kept.
-use Rattle.std.proofs.Common.{◌≡◌, ◌≢◌, ◌⊎◌, inl, inr, ℕ, zero, suc, ◌+◌, ◌<◌, ◌≤◌, Bool, true, false, cond, Option, Some, None, List, [], ◌∷◌, ◌++◌, take, length, IsSome, refl, sym, ap, ap₂, subst, ◌∙◌, unwrap_or, arith, append_assoc, length-append}
-use Rattle.std.specs.Prelude.{option_and_then, is_some, max, if◌then◌else◌}
-use Rattle.std.specs.Option.{option_map, option_or}
+use Rattle.std.proofs.Common.{◌≡◌, ◌≢◌, ℕ, ◌+◌, ◌<◌, ◌≤◌, Bool, true, false, cond, Option, Some, None, List, [], take, length, IsSome, refl, sym, ap, ap₂, subst, ◌∙◌, arith}
+use Rattle.std.specs.Prelude.{is_some, if◌then◌else◌}
+use Rattle.std.specs.Option.{option_or}
 use Rattle.std.specs.FinMap.{get, insert, get-insert}
 use Rattle.std.proofs.lemmas.Cmp.{nat_cmp_total}
 use Rattle.std.proofs.lemmas.Bool.{cases_eq, cases_lt}
-use Rattle.std.proofs.lemmas.List.{take-append-le}
 use Rattle.std.proofs.Math.Logic.{⊎_elim}
 use Rattle.rp_base.specs.declared.action.Action.{Action}
-use Rattle.rp_log.specs.Contents.{Contents, Places, action_at, HasRoom, with_room, with_action}
-use Rattle.rp_log.specs.Holding.{Ahead, place_ahead, action_ahead, next_place, places_of, front_place, place_of, IsAhead, reserved_count, Fits}
-use Rattle.rp_log.proofs.Places.{same, same_is, same_apart, same_turned, shown, inserted, unchanged, front_past, next_reserved, ahead_written, push_place}
-use Rattle.rp_log.proofs.Views.{seen, learned_of, action_is, next_none, room_front, room_ahead, front_room}
+use Rattle.rp_log.specs.Contents.{Contents, Places, HasRoom, with_room}
+use Rattle.rp_log.specs.Holding.{Ahead, place_ahead, next_place, places_of, front_place, place_of, IsAhead, reserved_count, Fits}
+use Rattle.rp_log.proofs.Places.{same, same_is, same_apart, shown, inserted, front_past, next_reserved, ahead_written}
+use Rattle.rp_log.proofs.Views.{seen, learned_of, next_none, room_front}
 
 -- ---- room
 
@@ -93,11 +92,11 @@ pub fits_next : (front : List Action) (ahead : Ahead) (capacity room taken top :
     → place_ahead ahead (length front + 1) ≡ None → length front < 65535 → length front + (length ahead + 2) ≤ room → Fits front true ahead room taken top
 fits_next front ahead capacity room taken top fits none below enough =
     let alike : (i : ℕ) → learned_of (place_of front true ahead i) ≡ learned_of (place_of front false ahead i) = λ i. ap learned_of (next_reserved front ahead i) ∙ ⊎_elim
-        (λ (e : i ≡ length front + 1).
-        let there : place_of front false ahead i ≡ None = ap₂ option_or (front_past front i (omega arith)) (ap (place_ahead ahead) e ∙ none) in
-        ap (λ b. learned_of (cond b (Some None) (place_of front false ahead i))) (same_is i (length front + 1) e) ∙ sym (ap learned_of there))
-        (λ (apart : i ≢ length front + 1). ap (λ b. learned_of (cond b (Some None) (place_of front false ahead i))) (same_apart i (length front + 1) apart))
-        (cases_eq i (length front + 1)) in
+    (λ (e : i ≡ length front + 1).
+    let there : place_of front false ahead i ≡ None = ap₂ option_or (front_past front i (omega arith)) (ap (place_ahead ahead) e ∙ none) in
+    ap (λ b. learned_of (cond b (Some None) (place_of front false ahead i))) (same_is i (length front + 1) e) ∙ sym (ap learned_of there))
+    (λ (apart : i ≢ length front + 1). ap (λ b. learned_of (cond b (Some None) (place_of front false ahead i))) (same_apart i (length front + 1) apart))
+    (cases_eq i (length front + 1)) in
     record {
       bound = fits.bound;
       behind = fits.behind;
@@ -133,12 +132,12 @@ pub fits_ahead : (front : List Action) (reserved : Bool) (old new : Ahead) (capa
 fits_ahead front reserved old new capacity room taken top p fits far bound none written longer enough =
     let stays = stays_next (length front) old new p None far written in
     let alike : (i : ℕ) → learned_of (place_of front reserved new i) ≡ learned_of (place_of front reserved old i) = λ i. ap learned_of (ahead_written front reserved old new p None far written i) ∙ ⊎_elim
-        (λ (e : i ≡ p).
-        let there : place_of front reserved old i ≡ None =
-        ap₂ option_or (front_past front i (omega arith)) (ap₂ option_or (next_none front reserved old taken i (λ f. omega arith)) (ap (place_ahead old) e ∙ none)) in
-        ap (λ b. learned_of (cond b (Some None) (place_of front reserved old i))) (same_is i p e) ∙ sym (ap learned_of there))
-        (λ (apart : i ≢ p). ap (λ b. learned_of (cond b (Some None) (place_of front reserved old i))) (same_apart i p apart))
-        (cases_eq i p) in
+    (λ (e : i ≡ p).
+    let there : place_of front reserved old i ≡ None =
+    ap₂ option_or (front_past front i (omega arith)) (ap₂ option_or (next_none front reserved old taken i (λ f. omega arith)) (ap (place_ahead old) e ∙ none)) in
+    ap (λ b. learned_of (cond b (Some None) (place_of front reserved old i))) (same_is i p e) ∙ sym (ap learned_of there))
+    (λ (apart : i ≢ p). ap (λ b. learned_of (cond b (Some None) (place_of front reserved old i))) (same_apart i p apart))
+    (cases_eq i p) in
     let few : reserved_count reserved new ≤ length old + 2 = elim reserved as (λ b. reserved_count b new ≤ length old + 2) [ true ↦ omega (arith, longer) | false ↦ omega (arith, longer) ] in
     record {
       bound = fits.bound;

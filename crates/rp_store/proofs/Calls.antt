@@ -41,8 +41,8 @@ cut_refused len old new (Err e) long (inr is) refused failed =
 pub keeps_all : (old new : Disk) → new.contents ≡ old.contents → old.stable ≤ new.stable → new.appends ≡ old.appends → KeepsRecords old new
 keeps_all old new same stable appends = record {
   records = λ records torn are.
-    let all : AreRecordsOf old.contents records (take (length torn) torn) = subst (AreRecordsOf old.contents records) (sym (take_all (length torn) torn (omega arith))) are in
-    (length torn, subst (λ (l : List ℕ). AreRecordsOf l records (take (length torn) torn)) (sym same) all);
+      let all : AreRecordsOf old.contents records (take (length torn) torn) = subst (AreRecordsOf old.contents records) (sym (take_all (length torn) torn (omega arith))) are in
+      (length torn, subst (λ (l : List ℕ). AreRecordsOf l records (take (length torn) torn)) (sym same) all);
   stable = λ records torn are. omega arith;
   appends = appends;
 }

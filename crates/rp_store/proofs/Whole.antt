@@ -135,17 +135,17 @@ after_stop contents torn rest front more others kept are long left =
 pub keeps_records : (old new : Disk) (records : List Rec) (torn : List ℕ) → AreRecordsOf old.contents records torn → KeepsFront (length (records_text records)) old new → KeepsRecords old new
 keeps_records old new records torn are front = record {
   records = λ others rest also.
-    let same = same_reading old.contents torn rest records others are also in
-    let kept = front.contents.0 - length (records_text records) in
-    let whole : new.contents ≡ records_text records ++ take kept torn =
-    front.contents.2 ∙ ap (λ (l : List ℕ). take front.contents.0 l) are.whole ∙ take_past (records_text records) torn front.contents.0 front.contents.1 in
-    let left : AreRecordsOf new.contents records (take kept torn) =
-    are_records new.contents records (take kept torn) whole are.each (none_in_front _ torn (none_torn old.contents records torn are)) in
-    subst (λ (l : List ℕ). (n : ℕ) × AreRecordsOf new.contents others (take n l)) same.1
-    (subst (λ (rs : List Rec). (n : ℕ) × AreRecordsOf new.contents rs (take n torn)) same.0 (kept, left));
+      let same = same_reading old.contents torn rest records others are also in
+      let kept = front.contents.0 - length (records_text records) in
+      let whole : new.contents ≡ records_text records ++ take kept torn =
+      front.contents.2 ∙ ap (λ (l : List ℕ). take front.contents.0 l) are.whole ∙ take_past (records_text records) torn front.contents.0 front.contents.1 in
+      let left : AreRecordsOf new.contents records (take kept torn) =
+      are_records new.contents records (take kept torn) whole are.each (none_in_front _ torn (none_torn old.contents records torn are)) in
+      subst (λ (l : List ℕ). (n : ℕ) × AreRecordsOf new.contents others (take n l)) same.1
+      (subst (λ (rs : List Rec). (n : ℕ) × AreRecordsOf new.contents rs (take n torn)) same.0 (kept, left));
   stable = λ others rest also.
-    let same = same_reading old.contents torn rest records others are also in
-    subst (λ (rs : List Rec). min old.stable (length (records_text rs)) ≤ new.stable) same.0 front.stable;
+      let same = same_reading old.contents torn rest records others are also in
+      subst (λ (rs : List Rec). min old.stable (length (records_text rs)) ≤ new.stable) same.0 front.stable;
   appends = front.appends;
 }
 

@@ -16,7 +16,13 @@ pub record Disk : Type 0 where
 -- a device that was never used
 abbrev pub empty_disk : Disk
 empty_disk = record {
-  contents = []; stable = 0; failures = 0; appends = 0; syncs = 0; reads = 0; cuts = 0
+  contents = [];
+  stable = 0;
+  failures = 0;
+  appends = 0;
+  syncs = 0;
+  reads = 0;
+  cuts = 0;
 }
 
 -- after an append: the bytes stand at the end, and none of them is stable

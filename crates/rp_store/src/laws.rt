@@ -19,7 +19,7 @@ pub fn stop_inside_put()
     ensures before { (records : List Rec) (r : Rec) (kept : ℕ)
         → AllByRecursion IsRecord records → IsRecord r → kept < length (record_text r)
         → AreRecordsOf (records_text records ++ take kept (record_text r))
-            records (take kept (record_text r)) }
+        records (take kept (record_text r)) }
     ensures after { (records : List Rec) (r : Rec) (kept : ℕ)
         → AllByRecursion IsRecord records → IsRecord r → length (record_text r) ≤ kept
         → AreRecordsOf (records_text records ++ take kept (record_text r)) (records ++ r ∷ []) [] }

@@ -1,16 +1,16 @@
 -- What learning an action leaves of how a log is kept.
-use Rattle.std.proofs.Common.{◌≡◌, ◌≢◌, ◌⊎◌, inl, inr, ℕ, zero, suc, ◌+◌, ◌<◌, ◌≤◌, Bool, true, false, cond, Option, Some, None, List, [], ◌∷◌, ◌++◌, take, length, IsSome, refl, sym, ap, ap₂, subst, ◌∙◌, unwrap_or, arith, append_assoc, length-append}
-use Rattle.std.specs.Prelude.{option_and_then, is_some, max, if◌then◌else◌}
-use Rattle.std.specs.Option.{option_map, option_or}
+use Rattle.std.proofs.Common.{◌≡◌, ◌≢◌, ◌⊎◌, inl, inr, ℕ, ◌+◌, ◌<◌, ◌≤◌, Bool, true, false, cond, Option, Some, None, List, ◌++◌, take, length, IsSome, refl, sym, ap, ap₂, subst, ◌∙◌, unwrap_or, arith}
+use Rattle.std.specs.Prelude.{is_some, max, if◌then◌else◌}
+use Rattle.std.specs.Option.{option_or}
 use Rattle.std.specs.FinMap.{get, insert}
 use Rattle.std.proofs.lemmas.Bool.{cases_eq, cases_lt}
 use Rattle.std.proofs.lemmas.List.{take-append-le}
 use Rattle.std.proofs.Math.Logic.{⊎_elim}
 use Rattle.rp_base.specs.declared.action.Action.{Action}
-use Rattle.rp_log.specs.Contents.{Contents, Places, action_at, HasRoom, with_action}
-use Rattle.rp_log.specs.Holding.{Ahead, place_ahead, action_ahead, next_place, places_of, front_place, place_of, IsAhead, reserved_count, Fits}
-use Rattle.rp_log.proofs.Places.{same, same_is, same_apart, shown, inserted, front_past, ahead_written, counted}
-use Rattle.rp_log.proofs.Views.{seen, learned_of, action_is, next_none, learned_below}
+use Rattle.rp_log.specs.Contents.{Contents, Places, action_at, with_action}
+use Rattle.rp_log.specs.Holding.{Ahead, place_ahead, action_ahead, next_place, places_of, place_of, IsAhead, reserved_count, Fits}
+use Rattle.rp_log.proofs.Places.{same, same_is, same_apart, shown, inserted, front_past, ahead_written}
+use Rattle.rp_log.proofs.Views.{seen, learned_of, next_none, learned_below}
 
 there_is : (place : Option (Option Action)) → IsSome (learned_of place) → place ≡ Some (learned_of place)
 there_is None there = absurd cc

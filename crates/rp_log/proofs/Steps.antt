@@ -1,17 +1,16 @@
 -- What a step leaves of how a log is kept.
-use Rattle.std.proofs.Common.{◌≡◌, ◌≢◌, ◌⊎◌, inl, inr, ℕ, zero, suc, ◌+◌, ◌<◌, ◌≤◌, Bool, true, false, cond, Option, Some, None, List, [], ◌∷◌, ◌++◌, take, length, IsSome, refl, sym, ap, ap₂, subst, ◌∙◌, unwrap_or, arith, append_assoc, length-append}
-use Rattle.std.specs.Prelude.{option_and_then, is_some, max, if◌then◌else◌}
-use Rattle.std.specs.Option.{option_map, option_or}
+use Rattle.std.proofs.Common.{◌≡◌, ◌≢◌, ℕ, ◌+◌, ◌<◌, ◌≤◌, Bool, true, false, cond, Option, Some, None, List, [], take, length, IsSome, refl, sym, ap, ap₂, subst, ◌∙◌, arith}
+use Rattle.std.specs.Prelude.{is_some, if◌then◌else◌}
+use Rattle.std.specs.Option.{option_or}
 use Rattle.std.specs.FinMap.{get, insert, get-insert}
 use Rattle.std.proofs.lemmas.Cmp.{nat_cmp_total}
 use Rattle.std.proofs.lemmas.Bool.{cases_eq, cases_lt}
-use Rattle.std.proofs.lemmas.List.{take-append-le}
 use Rattle.std.proofs.Math.Logic.{⊎_elim}
 use Rattle.rp_base.specs.declared.action.Action.{Action}
-use Rattle.rp_log.specs.Contents.{Contents, Places, action_at, HasRoom, with_room, with_action}
-use Rattle.rp_log.specs.Holding.{Ahead, place_ahead, action_ahead, next_place, places_of, front_place, place_of, IsAhead, reserved_count, Fits}
-use Rattle.rp_log.proofs.Places.{same, same_is, same_apart, same_turned, shown, inserted, unchanged, front_past, next_reserved, ahead_written, push_place}
-use Rattle.rp_log.proofs.Views.{seen, learned_of, action_is, next_none, room_front, room_ahead, front_room}
+use Rattle.rp_log.specs.Contents.{Contents, Places, HasRoom, with_room}
+use Rattle.rp_log.specs.Holding.{Ahead, place_ahead, next_place, places_of, front_place, place_of, IsAhead, reserved_count, Fits}
+use Rattle.rp_log.proofs.Places.{same, same_is, same_apart, shown, inserted, front_past, next_reserved, ahead_written}
+use Rattle.rp_log.proofs.Views.{seen, learned_of, next_none, room_front}
 
 -- ---- room
 

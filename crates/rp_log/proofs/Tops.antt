@@ -1,5 +1,5 @@
 -- The greatest position learned.
-use Rattle.std.proofs.Common.{◌≡◌, ◌<◌, ◌≤◌, ℕ, zero, suc, Bool, Option, Some, None, List, IsSome, refl, subst, sym, ap, ◌∙◌, arith}
+use Rattle.std.proofs.Common.{◌≡◌, ◌<◌, ◌≤◌, ℕ, Bool, Option, Some, None, List, IsSome, refl, subst, sym, arith}
 use Rattle.std.proofs.Math.Logic.{⊎_elim}
 use Rattle.std.proofs.lemmas.Bool.{cases_lt}
 use Rattle.std.specs.Prelude.{IfSome, IfNone, ◌↔◌}
@@ -7,7 +7,7 @@ use Rattle.rp_base.specs.declared.action.Action.{Action}
 use Rattle.rp_base.specs.Number.{IsPosition}
 use Rattle.rp_log.specs.Contents.{Contents, IsLearned}
 use Rattle.rp_log.specs.Holding.{Ahead, Fits}
-use Rattle.rp_log.proofs.Views.{seen, learned_of, action_is, not_zero}
+use Rattle.rp_log.proofs.Views.{seen, action_is, not_zero}
 
 module _ {front : List Action} {reserved : Bool} {ahead : Ahead} {capacity taken top : ℕ}
     (fits : Fits front reserved ahead capacity taken top) (log : Contents) (view : seen front reserved ahead taken ≡ log) where

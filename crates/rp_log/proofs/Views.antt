@@ -1,17 +1,15 @@
 -- A log as it is seen, against how it is kept.
-use Rattle.std.proofs.Common.{◌≡◌, ◌≢◌, ◌⊎◌, inl, inr, ℕ, zero, suc, ◌+◌, ◌<◌, ◌≤◌, Bool, true, false, cond, Option, Some, None, List, [], ◌∷◌, ◌++◌, take, length, IsSome, refl, sym, ap, ap₂, subst, ◌∙◌, arith}
-use Rattle.std.specs.Prelude.{option_and_then, is_some, if◌then◌else◌}
+use Rattle.std.proofs.Common.{◌≡◌, ◌≢◌, ℕ, zero, suc, ◌+◌, ◌<◌, ◌≤◌, Bool, true, false, cond, Option, Some, None, List, [], ◌∷◌, ◌++◌, take, length, IsSome, refl, sym, ap, ap₂, subst, ◌∙◌, arith}
+use Rattle.std.specs.Prelude.{option_and_then}
 use Rattle.std.specs.List.{slice_get}
 use Rattle.std.specs.Option.{option_map, option_or}
 use Rattle.std.specs.FinMap.{get, insert}
 use Rattle.std.proofs.lemmas.Bool.{cases_eq, cases_lt}
-use Rattle.std.proofs.lemmas.List.{take-append-le}
-use Rattle.std.proofs.lemmas.Option.{slice_get_past}
 use Rattle.std.proofs.Math.Logic.{⊎_elim}
 use Rattle.rp_base.specs.declared.action.Action.{Action}
-use Rattle.rp_log.specs.Contents.{Contents, Places, action_at, IsLearned, HasRoom, with_room, with_action, ready_of, next_to_take, IsTakenInOrder}
-use Rattle.rp_log.specs.Holding.{Ahead, place_ahead, action_ahead, next_place, places_of, front_place, place_of, IsAhead, Fits}
-use Rattle.rp_log.proofs.Places.{same, same_is, same_apart, shown, inserted, front_past, front_within, next_reserved, ahead_written}
+use Rattle.rp_log.specs.Contents.{Contents, Places, action_at, IsLearned, with_room, ready_of, next_to_take, IsTakenInOrder}
+use Rattle.rp_log.specs.Holding.{Ahead, place_ahead, action_ahead, next_place, places_of, front_place, place_of, IsAhead}
+use Rattle.rp_log.proofs.Places.{same_is, same_apart, shown, front_past, front_within}
 
 -- the log of these parts
 abbrev pub seen : List Action → Bool → Ahead → ℕ → Contents

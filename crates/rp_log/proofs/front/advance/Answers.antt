@@ -1,6 +1,5 @@
-use Rattle.std.proofs.Common.{◌≡◌, ℕ, ◌+◌, ◌<◌, ◌≤◌, List, [], ◌∷◌, ◌++◌, Some, None, false, cond, length, refl, ap, subst, sym, ◌∙◌, append_assoc, length-append, arith}
+use Rattle.std.proofs.Common.{◌≡◌, ℕ, ◌+◌, ◌<◌, ◌≤◌, [], ◌∷◌, ◌++◌, Some, None, false, cond, length, refl, ap, subst, sym, ◌∙◌, append_assoc, length-append, arith}
 use Rattle.std.specs.Prelude.{option_and_then}
-use Rattle.rp_base.specs.declared.action.Action.{Action}
 use Rattle.rp_log.specs.Holding.{place_of, place_ahead}
 use Rattle.rp_log.proofs.Places.{same, action_some, removed_ahead, one_fewer, next_advanced}
 use Rattle.rp_log.proofs.front.advance.Goals as goal

@@ -1,12 +1,10 @@
-use Rattle.std.proofs.Common.{◌≡◌, ◌+◌, ◌<◌, ◌≤◌, ℕ, true, false, cond, Some, None, IsSome, List, [], ◌∷◌, ◌++◌, take, length, refl, ap, subst, sym, ◌∙◌, append_assoc, length-append, arith}
+use Rattle.std.proofs.Common.{◌≡◌, ◌+◌, ◌<◌, ◌≤◌, ℕ, false, cond, Some, None, IsSome, List, [], ◌∷◌, ◌++◌, take, length, refl, ap, subst, sym, ◌∙◌, append_assoc, length-append, arith}
 use Rattle.std.specs.Prelude.{is_some, max, vec_capacity, if◌then◌else◌}
-use Rattle.std.specs.FinMap.{get}
 use Rattle.std.proofs.lemmas.Grind.{common_steps}
 use Rattle.rp_base.specs.declared.action.Action.{Action}
-use Rattle.rp_log.specs.Contents.{Contents, action_at, with_action}
-use Rattle.rp_log.specs.Holding.{place_ahead, place_of, IsAhead, Fits}
+use Rattle.rp_log.specs.Contents.{action_at}
+use Rattle.rp_log.specs.Holding.{place_ahead, place_of}
 use Rattle.rp_log.proofs.Places.{same, ahead_written, next_put, removed_ahead}
-use Rattle.rp_log.proofs.Views.{seen}
 use Rattle.rp_log.proofs.Learning.{learned_again, learned_one, fits_learned_ahead, room_to_put, ahead_there, place_there, unlearned_past, fits_put, taken_same}
 use Rattle.rp_log.proofs.log.Log.learn.Goals as goal
 

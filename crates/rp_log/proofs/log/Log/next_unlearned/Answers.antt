@@ -1,4 +1,4 @@
-use Rattle.std.proofs.Common.{◌≡◌, ◌+◌, ℕ, None, length, ap, subst, sym, ◌∙◌, arith}
+use Rattle.std.proofs.Common.{◌≡◌, ◌+◌, ℕ, length, ap, subst, sym, ◌∙◌, arith}
 use Rattle.rp_log.specs.Contents.{Contents, IsLearned, ready_of, next_to_take}
 use Rattle.rp_log.proofs.Views.{seen, learned_below, not_next, all_taken}
 use Rattle.rp_log.proofs.log.Log.next_unlearned.Goals as goal

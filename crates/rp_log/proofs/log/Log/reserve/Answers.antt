@@ -3,7 +3,6 @@ use Rattle.std.specs.Prelude.{is_some, vec_capacity}
 use Rattle.std.specs.FinMap.{get}
 use Rattle.std.proofs.lemmas.Grind.{common_steps}
 use Rattle.rp_base.specs.declared.action.Action.{Action}
-use Rattle.rp_log.specs.Contents.{Contents, with_room}
 use Rattle.rp_log.specs.Holding.{place_ahead, place_of, Fits}
 use Rattle.rp_log.proofs.Places.{same, next_reserved, ahead_written}
 use Rattle.rp_log.proofs.Views.{seen}

@@ -51,4 +51,3 @@ pub use replaying::{Replayed, replay};
 pub use right::{RightAction, RightRecord, RightVote};
 pub use rp_base::Phase;
 pub use sequence::Sequence;
-

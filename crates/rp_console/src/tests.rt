@@ -1,6 +1,6 @@
 use crate::printed::{AppliedLine, DrainLimitLine, RefusedLine, ReplyLine, StoppedLine};
 use crate::reading::read_deck;
-use crate::run::{run_deck, run_within};
+use crate::run::run_deck;
 use crate::settled::Settled;
 use crate::status::{reason_text, status, tell};
 use crate::stream::{print, read_whole};
@@ -8,7 +8,6 @@ use rp_base::{DeckReason, Fault, NodeId, Reply};
 use std::alloc::Global;
 use std::io;
 use std::io::{Read, Write};
-use std::process::Abort;
 use std::test::Fail;
 
 #[test]
@@ -150,29 +149,6 @@ fn the_least_message_is_found_behind_settled_ones(rt: HostRuntime) -> Result<(),
     settled.settle(4)?;
     assert_eq!(rt; settled.least(), 6);
     Ok(())
-}
-
-/// What a deck of three nodes and the task a prints, where a drain delivers two messages at most.
-fn output_within_two(rt: &impl Abort, alloc: Global, script: &str) -> Vec<u8> {
-    let head = "nodes 3\ntally 1\ntask a 5\nscript\n";
-    let text = format!(in alloc; "{head}{script}").expect(rt, "memory");
-    let deck = read_deck(alloc, text.as_bytes()).expect(rt, "a right deck");
-    let mut written = Vec::new(alloc);
-    run_within(alloc, &deck, 2, &mut written).expect(rt, "no fault");
-    written
-}
-
-#[test]
-fn a_drain_ends_at_its_limit(rt: HostRuntime) {
-    let cases = [
-        ("lead 1\ndrain\n", "line 6: drain limit\n"),
-        ("lead 1\ndeliver 1\ndrain\n", "line 7: drain limit\n"),
-        ("call a 1 o1.add\ndrain\n", ""),
-    ];
-    for (script, output) in cases {
-        let written = output_within_two(&rt, rt.alloc(), script);
-        assert_eq!(rt; written.as_slice(), output.as_bytes(), "{script:?}");
-    }
 }
 
 /// Takes at most seven bytes at a time, and fails once so many writes were made.

@@ -13,6 +13,3 @@ mod slot;
 
 pub use acceptor::Acceptor;
 pub use rp_base::{AcceptAnswer, PrepareAnswer};
-
-#[cfg(test)]
-mod tests;

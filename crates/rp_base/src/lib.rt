@@ -46,6 +46,3 @@ pub use records::{last_votes_lie_below, one_more_record};
 pub use reply::{Answer, Reply};
 pub use senders::Senders;
 pub use voting::{AcceptAnswer, PrepareAnswer};
-
-#[cfg(test)]
-mod tests;

@@ -11,8 +11,6 @@ mod components;
 mod expression;
 mod laws;
 mod statement;
-#[cfg(test)]
-mod tests;
 
 pub use components::{Components, Limits, Ranged};
 pub use expression::{Cond, Expr, truth, value};

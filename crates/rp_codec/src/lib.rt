@@ -42,6 +42,3 @@ pub use packet::{Body, Packet, Party};
 pub use record_text::{decode_front, encode_rec, one_record_text, text_of_record};
 pub use rules::report_len;
 pub use short_text::ShortText;
-
-#[cfg(test)]
-mod tests;

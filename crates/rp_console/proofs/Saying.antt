@@ -14,7 +14,7 @@ use Rattle.rp_model.specs.declared.event.Step.TheVariants.{Deliver}
 use Rattle.rp_model.specs.World.{Happening}
 use Rattle.rp_world.specs.Steps.{AnswersBy}
 use Rattle.rp_model.specs.declared.effect.Effect.{Effect}
-use Rattle.rp_console.specs.Output.{Setting, Play, Said, nothing_said, and_then, is_among, least_unsettled, settled_by, taken_text, effect_of, effect_said, event_said, drain_from, drained, command_said, script_said}
+use Rattle.rp_console.specs.Output.{RunSetting, Play, Said, nothing_said, and_then, is_among, least_unsettled, settled_by, taken_text, effect_of, effect_said, event_said, drain_from, drained, command_said, script_said}
 use Rattle.rp_console.specs.Printed.{refused_line_of, limit_line_of}
 use Rattle.rp_console.specs.Runs.{Follows, Came}
 use Rattle.rp_console.specs.Settled.{is_settled}
@@ -72,7 +72,7 @@ ends run old new whole rest so_far last =
 -- ---- a step
 
 -- a step that happened
-pub happened : (s : Setting) (line : ℕ) (play : Play) (settles : List ℕ) (wanted : Result Happening Fault) (run after : Run) (effect : Effect) (old new : Option (List ℕ))
+pub happened : (s : RunSetting) (line : ℕ) (play : Play) (settles : List ℕ) (wanted : Result Happening Fault) (run after : Run) (effect : Effect) (old new : Option (List ℕ))
     → Follows run play → AnswersBy run.cluster.world after.cluster.world wanted (Ok effect)
     → ((m : ℕ) → is_settled after.settled m ≡ (is_among settles m || is_settled run.settled m))
     → Appends old new (taken_text s.names effect.taken)
@@ -89,7 +89,7 @@ happened s line play settles (Ok happening) run after effect old new follows ste
 happened s line play settles (Err refusal) run after effect old new follows steps settled written = absurd steps
 
 -- a step that was refused by one of the numbers 5 to 10
-pub was_refused : (s : Setting) (line : ℕ) (play : Play) (settles : List ℕ) (wanted : Result Happening Fault) (run after : Run) (fault : Fault) (old new : Option (List ℕ))
+pub was_refused : (s : RunSetting) (line : ℕ) (play : Play) (settles : List ℕ) (wanted : Result Happening Fault) (run after : Run) (fault : Fault) (old new : Option (List ℕ))
     → Follows run play → AnswersBy run.cluster.world after.cluster.world wanted (Err fault) → after.settled ≡ run.settled → 5 ≤ code_of fault
     → Appends old new (with_line_feed (refused_line_of line fault))
     → Came after old new (effect_said s line play settles wanted)
@@ -108,20 +108,20 @@ was_refused s line play settles (Err refusal) run after fault old new follows st
 
 -- ---- the definitions, one step on
 
-pub event_is : (s : Setting) (line : ℕ) (play : Play) (event : Event) → event_said s line play event ≡ effect_said s line play (settled_by event) (effect_of s play.world event)
+pub event_is : (s : RunSetting) (line : ℕ) (play : Play) (event : Event) → event_said s line play event ≡ effect_said s line play (settled_by event) (effect_of s play.world event)
 unfolding event_said
 event_is s line play event = refl
 
-pub script_ends : (s : Setting) (most : ℕ) (play : Play) → script_said s most play [] ≡ nothing_said play
+pub script_ends : (s : RunSetting) (most : ℕ) (play : Play) → script_said s most play [] ≡ nothing_said play
 unfolding script_said
 script_ends s most play = refl
 
-pub script_more : (s : Setting) (most : ℕ) (play : Play) (line : Line) (rest : List Line)
+pub script_more : (s : RunSetting) (most : ℕ) (play : Play) (line : Line) (rest : List Line)
     → script_said s most play (line ∷ rest) ≡ and_then (command_said s most line.number play line.command) (λ after. script_said s most after rest)
 unfolding script_said
 script_more s most play line rest = refl
 
-module _ (s : Setting) (line : ℕ) (play : Play) where
+module _ (s : RunSetting) (line : ℕ) (play : Play) where
   drain_ends : (most : ℕ) → drain_from s line play None most ≡ nothing_said play
   unfolding drain_from
   drain_ends most = refl

@@ -25,7 +25,7 @@ use Rattle.rp_console.specs.declared.deck.Deck.{Deck}
 use Rattle.rp_console.specs.declared.deck.Line.{Line}
 
 -- what stays through a run: the configuration, how many objects the program has, and the tasks' names in order
-pub record Setting : Type 0 where
+pub record RunSetting : Type 0 where
   pub config : Config
   pub program : ℕ
   pub names : List (List ℕ)
@@ -53,7 +53,7 @@ abbrev pub names_of : {Y X S : Type 0} → IndexMap (String Y) X S → List (Lis
 names_of table = map string_bytes (keys table)
 
 -- what stays through the run of a deck
-abbrev pub setting_of : Deck → Setting
+abbrev pub setting_of : Deck → RunSetting
 setting_of deck = record { config = deck.config; program = deck.program; names = names_of deck.tasks }
 
 -- the number is one of these
@@ -80,7 +80,7 @@ abbrev pub taken_text : List (List ℕ) → Option Answer → List ℕ
 taken_text names None = []
 taken_text names (Some answer) = answer_text answer (part_at names answer.task)
 
-module _ (s : Setting) where
+module _ (s : RunSetting) where
   -- the state of the machine before any call: each sum is 0
   abbrev pub start_state : List ℤ
   start_state = replicate s.program (pos 0)

@@ -5,12 +5,12 @@ use Rattle.std.specs.BTreeSet.{BTreeSet, contains}
 use Rattle.rp_console.specs.declared.settled.Settled.{Settled}
 
 -- a number from 1 to the one before `least`, or one of those above
-abbrev pub is_within : ℕ → BTreeSet ℕ → ℕ → Bool
-is_within least above m = (nat_le 1 m && nat_lt m least) || contains nat_cmp above m
+abbrev pub is_settled_by : ℕ → BTreeSet ℕ → ℕ → Bool
+is_settled_by least above m = (nat_le 1 m && nat_lt m least) || contains nat_cmp above m
 
 -- the message of this number is settled
 abbrev pub is_settled : Settled → ℕ → Bool
-is_settled s m = is_within s.least s.above m
+is_settled s m = is_settled_by s.least s.above m
 
 abbrev pub least_of : Settled → ℕ
 least_of s = s.least

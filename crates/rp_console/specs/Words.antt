@@ -22,14 +22,14 @@ pub record IsName (word : List ℕ) : Type 0 where
   pub rest : All (λ byte. IsTrue (is_of_name byte)) word
 
 -- what it stands for
-abbrev pub number_of : List ℕ → ℤ
-number_of word = signed_digits_value 10 word
+abbrev pub number_read : List ℕ → ℤ
+number_read word = signed_digits_value 10 word
 
 -- an optional `-` and decimal digits, within 64 signed bits
 pub record IsNumber (word : List ℕ) : Type 0 where
   pub no_plus : slice_get word 0 ≢ Some 43
   pub digits : IsNumeral 10 (without_leading_sign word)
-  pub fits : FitsSigned w64 (number_of word)
+  pub fits : FitsSigned w64 (number_read word)
 
 -- the bytes from the first word on
 abbrev pub without_blanks : List ℕ → List ℕ

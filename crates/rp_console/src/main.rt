@@ -74,6 +74,3 @@ fn fail(rt: &HostRuntime, fault: Fault) -> u8 {
     let _ = tell(&fault, &mut rt.stderr());
     status(&fault)
 }
-
-#[cfg(test)]
-mod tests;

@@ -4,7 +4,7 @@ ghost use Rattle.std.specs.Prelude.{◌≡◌, ◌↔◌, ◌<◌, ◌≤◌, �
 ghost use Rattle.std.specs.Option.{SomeIff};
 ghost use Rattle.std.specs.Prelude.{not};
 ghost use Rattle.std.specs.List.{prefix_len};
-ghost use Rattle.rp_console.specs.Words.{is_blank, IsName, IsNumber, number_of, without_blanks, first_word, after_word};
+ghost use Rattle.rp_console.specs.Words.{is_blank, IsName, IsNumber, number_read, without_blanks, first_word, after_word};
 
 use rp_base::DeckReason;
 use std::str;
@@ -60,7 +60,7 @@ pub fn read_name(word: &[u8]) -> Result<&str, DeckReason>
 
 /// The number that the word is: an optional `-` and decimal digits, within 64 signed bits.
 pub fn read_number(word: &[u8]) -> Option<i64>
-    ensures { SomeIff result (IsNumber word.now) (number_of word.now) }
+    ensures { SomeIff result (IsNumber word.now) (number_read word.now) }
 {
     if word.first() == Some(&b'+') {
         return None;
@@ -111,7 +111,7 @@ impl<'a> Words<'a> {
 
     /// The next word, a number from `low` to `high`.
     pub fn take_number(&mut self, low: u64, high: u64) -> Result<u64, DeckReason>
-        ensures value { IfOk result (λ number. number_of (first_word (unread self.old))
+        ensures value { IfOk result (λ number. number_read (first_word (unread self.old))
             ≡ pos number) }
         ensures in_range { IfOk result (λ number. (low ≤ number) × (number ≤ high)) }
         ensures rest { OnOk result (unread self.new ≡ after_word (unread self.old)) }

@@ -11,8 +11,6 @@ mod laws;
 mod object;
 mod operations;
 mod state;
-#[cfg(test)]
-mod tests;
 
 pub use laws::{
     actions_account_for_callers, actions_are_their_results, actions_have_one_end,

@@ -11,6 +11,3 @@ mod place;
 mod tally;
 
 pub use learner::{Decision, Learner, Standing, same_learners_answer_alike};
-
-#[cfg(test)]
-mod tests;

@@ -9,8 +9,6 @@
 mod front;
 mod log;
 mod recorded;
-#[cfg(test)]
-mod tests;
 
 pub use log::Log;
 pub use recorded::taken_as_recorded;

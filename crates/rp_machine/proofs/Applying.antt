@@ -1,14 +1,14 @@
 -- Replay applies each action that counts where no call of its task waits, and accounts for each call.
 use Rattle.std.proofs.Common.{◌≡◌, ℕ, Bool, true, false, ◌↔◌, ◌⊎◌, List, [], ◌∷◌, ◌++◌, map, if◌then◌else◌, refl, sym, ap, subst, ◌∙◌, inl, inr, append-nil}
 use Rattle.std.proofs.lemmas.List.{map-append}
-use Rattle.rp_base.specs.Sets.{Has}
+use Rattle.rp_base.specs.Sets.{Has, IsSet}
 use Rattle.rp_base.specs.Action.{IsRight}
 use Rattle.rp_base.specs.declared.action.Action.{Action}
 use Rattle.rp_base.specs.declared.action.Action.TheVariants.{Noop, Call, Interrupt, Tick}
 use Rattle.rp_base.specs.declared.reply.Answer.{Answer}
 use Rattle.rp_machine.specs.Calls.{CallName, calls_of, calls_made, call_of, MayApply, AccountsFor}
 use Rattle.rp_machine.specs.Replay.{numbers_of, is_answered, all_answered, is_next_number, counts, Replayed, unmoved, replay_step, replay_from, replay_of}
-use Rattle.rp_machine.proofs.Calling.{has_left, has_right, has_either, both_true, all_true, answered, calls_made-append, made_number, number_is_new}
+use Rattle.rp_machine.proofs.Calling.{has_left, has_right, has_either, both_true, all_true, answered, calls_made-append, made_number, is_new, set_append}
 
 -- the calls that are answered
 abbrev pub replied : List Answer → List CallName
@@ -24,11 +24,13 @@ module _ {S P : Type 0} (next : S → Action → S) (answers : S → Action → 
     (keeps : (program : P) (s : S) (action : Action) → runs program s → IsRight action → MayApply (waiting s) action → runs program (next s action))
     (accounts : (program : P) (s : S) (action : Action) → runs program s → IsRight action → MayApply (waiting s) action → AccountsFor (waiting s) action (answers s action) (waiting (next s action)))
   where
-    -- the state is the program's, only calls that were made are answered, and exactly the others of these wait
+    -- the state is the program's, only calls that were made are answered, each once, and exactly the others of
+    -- these wait
     pub record IsAccounted (program : P) (r : Replayed S) : Type 0 where
       pub inside : runs program r.state
       pub waits : (call : CallName) → Has call (waiting r.state) ↔ (Has call (calls_made r.kept) × (¬ Has call (replied r.given)))
       pub known : (call : CallName) → Has call (replied r.given) → Has call (calls_made r.kept)
+      pub once : IsSet (replied r.given)
 
     -- where an action counts, no call of its task waits
     pub may_apply : (program : P) (r : Replayed S) (action : Action) → IsAccounted program r → counts r.kept r.given action ≡ true → MayApply (waiting r.state) action
@@ -45,16 +47,6 @@ module _ {S P : Type 0} (next : S → Action → S) (answers : S → Action → 
     may_apply program r (Interrupt source occurrence) fine e own other h w same = h
     may_apply program r (Tick now) fine e own other h w same = h
 
-    -- a call that counts was not made before
-    pub is_new : (r : Replayed S) (action : Action) → counts r.kept r.given action ≡ true → (call : CallName) → Has call (calls_of action) → ¬ Has call (calls_made r.kept)
-    is_new r Noop e call h m = h
-    is_new r (Call task number object operation arg) e call h m =
-        let both = both_true (is_next_number r.kept task number) (all_answered r.kept r.given task) e in
-        let this : call ≡ record { task = task; number = number } = elim h [ inl is ↦ is | inr none ↦ absurd none ] in
-        number_is_new number (numbers_of task r.kept) both.0 (subst (λ (c : CallName). Has c.number (numbers_of c.task r.kept)) this (made_number call r.kept m))
-    is_new r (Interrupt source occurrence) e call h m = h
-    is_new r (Tick now) e call h m = h
-
     -- the replay with an action that counts
     abbrev taken : Replayed S → Action → Replayed S
     taken r action = record { state = next r.state action; kept = r.kept ++ action ∷ []; given = r.given ++ answers r.state action }
@@ -65,6 +57,7 @@ module _ {S P : Type 0} (next : S → Action → S) (answers : S → Action → 
       inside = starts program;
       waits = λ call. (λ w. absurd (subst (λ (calls : List CallName). Has call calls) (none_waits program) w), λ h. absurd h.0);
       known = λ call h. absurd h;
+      once = tt;
     }
 
     -- calls made and answered, one action more
@@ -128,6 +121,13 @@ module _ {S P : Type 0} (next : S → Action → S) (answers : S → Action → 
               | inr before ↦ made_before r action call ((fine.waits call).0 before).0
             ]
           ];
+          once =
+              let apart : (call : CallName) → Has call (replied (answers r.state action)) → ¬ Has call (replied r.given) = λ call now old.
+              elim (has_either call (calls_of action) (waiting r.state) (account.known call now)) [
+                | inl own ↦ is_new r action e call own (fine.known call old)
+                | inr before ↦ ((fine.waits call).0 before).1 old
+              ] in
+              subst (λ (calls : List CallName). IsSet calls) (sym (replied_more r action)) (set_append (replied r.given) (replied (answers r.state action)) fine.once account.distinct apart);
         }
 
     accounted_if : (program : P) (r : Replayed S) (action : Action) (b : Bool) → counts r.kept r.given action ≡ b → IsAccounted program r → IsRight action → IsAccounted program (if b then taken r action else r)

@@ -3,12 +3,12 @@ use Rattle.std.proofs.Common.{◌≡◌, ℕ, zero, suc, ◌≤◌, Bool, true, 
 use Rattle.std.proofs.lemmas.List.{same_from_push}
 use Rattle.std.specs.List.{list_any, list_all, cons_option}
 use Rattle.std.specs.Cmp.Lexicographic.{pointwise, bytes_decides}
-use Rattle.rp_base.specs.Sets.{Has}
+use Rattle.rp_base.specs.Sets.{Has, IsSet}
 use Rattle.rp_base.specs.declared.action.Action.{Action}
 use Rattle.rp_base.specs.declared.action.Action.TheVariants.{Noop, Call, Interrupt, Tick}
 use Rattle.rp_base.specs.declared.reply.Answer.{Answer}
 use Rattle.rp_machine.specs.Calls.{CallName, calls_of, calls_made, call_of}
-use Rattle.rp_machine.specs.Replay.{number_for, one_to, is_for}
+use Rattle.rp_machine.specs.Replay.{number_for, numbers_of, one_to, is_for, all_answered, is_next_number, counts, Replayed}
 
 -- ---- members of lists
 
@@ -100,3 +100,21 @@ number_is_new (suc m) before e h =
     let earlier = (same_from_push (one_to m) before (suc m) (suc m) same).0 in
     let le = one_to_bound m (suc m) (subst (λ (xs : List ℕ). Has (suc m) xs) (sym earlier) h) in
     omega arith
+
+-- a call that counts was not made before
+pub is_new : {S : Type 0} (r : Replayed S) (action : Action) → counts r.kept r.given action ≡ true → (call : CallName) → Has call (calls_of action) → ¬ Has call (calls_made r.kept)
+is_new r Noop e call h m = h
+is_new r (Call task number object operation arg) e call h m =
+    let both = both_true (is_next_number r.kept task number) (all_answered r.kept r.given task) e in
+    let this : call ≡ record { task = task; number = number } = elim h [ inl is ↦ is | inr none ↦ absurd none ] in
+    number_is_new number (numbers_of task r.kept) both.0 (subst (λ (c : CallName). Has c.number (numbers_of c.task r.kept)) this (made_number call r.kept m))
+is_new r (Interrupt source occurrence) e call h m = h
+is_new r (Tick now) e call h m = h
+
+-- two sets that share nothing are one
+pub set_append : (xs ys : List CallName) → IsSet xs → IsSet ys → ((x : CallName) → Has x ys → ¬ Has x xs) → IsSet (xs ++ ys)
+set_append [] ys set other apart = other
+set_append (x ∷ xs) ys set other apart = (
+  λ h. elim (has_either x xs ys h) [ inl before ↦ set.0 before | inr now ↦ apart x now (inl refl) ],
+  set_append xs ys set.1 other (λ y h m. apart y h (inr m)),
+)

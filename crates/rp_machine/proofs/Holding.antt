@@ -19,11 +19,11 @@ use Rattle.rp_machine.specs.Calls.{CallName, calls_of, calls_made, call_of, MayA
 use Rattle.rp_machine.specs.Replay.{numbers_of, occurrence_for, occurrences_of, one_to, is_for, is_answered, all_answered, is_next_number, counts, Replayed, unmoved, replay_from, replay_of}
 use Rattle.rp_machine.specs.Asked.{greatest, last_number, last_occurrence, answer_to, kept_reply}
 use Rattle.rp_machine.specs.Numbered.{Applied, outcome, caller_of, AreCallers, AreOccurrences, IsHeld, waiting_caller, with_action, with_occurrence, with_answer, with_answers}
-use Rattle.rp_machine.proofs.Calling.{has_left, has_right, has_either, both_true, answered, calls_made-append, made_number, one_to_bound}
+use Rattle.rp_machine.proofs.Calling.{has_left, has_right, has_either, both_true, answered, calls_made-append, made_number, one_to_bound, is_new}
 use Rattle.rp_machine.proofs.Numbering.{IsCounted, counted, counted_action, numbers_other, numbers_own, next_numbers, greatest-push, greatest-one_to}
 use Rattle.rp_machine.proofs.Replaying.{replay_from-append}
 use Rattle.rp_machine.proofs.Asking.{interrupt_counts}
-use Rattle.rp_machine.proofs.Applying.{AllRight, IsAccounted, accounted, may_apply, is_new}
+use Rattle.rp_machine.proofs.Applying.{AllRight, IsAccounted, accounted, may_apply}
 
 with_answers-push : (callers : List Caller) (xs : List Answer) (x : Answer) → with_answers callers (xs ++ x ∷ []) ≡ with_answer (with_answers callers xs) x
 with_answers-push callers [] x = refl
@@ -327,7 +327,7 @@ module _ {S P : Type 0} (next : S → Action → S) (answers : S → Action → 
         elim (has_either call (calls_of action) (waiting r.state) (account.known call h)) [
           | inl own ↦ (
             subst (λ (list : List CallName). Has call list) (sym all_made) (has_right call (calls_made r.kept) (calls_of action) own),
-            λ old. is_new next answers waiting begin runs none_waits starts keeps accounts r action e call own (fine.known call old),
+            λ old. is_new r action e call own (fine.known call old),
           )
           | inr before ↦
               let old = (fine.waits call).0 before in
@@ -349,7 +349,7 @@ module _ {S P : Type 0} (next : S → Action → S) (answers : S → Action → 
     held_more program actions after action machine machine' callers callers' occurrences occurrences' held right wide e same moved told noted =
         let r = replay_of next answers (begin program) actions in
         let fine : IsAccounted next answers waiting begin runs none_waits starts keeps accounts program r = accounted next answers waiting begin runs none_waits starts keeps accounts program actions held.right in
-        let new = λ (call : CallName) (h : Has call (calls_of action)) (old : Has call (map call_of r.given)). is_new next answers waiting begin runs none_waits starts keeps accounts r action e call h (fine.known call old) in
+        let new = λ (call : CallName) (h : Has call (calls_of action)) (old : Has call (map call_of r.given)). is_new r action e call h (fine.known call old) in
         let counting = with_counted callers r.kept r.given action held.room held.calls right e new in
         let calls = all_answers (with_action callers action) (r.kept ++ action ∷ []) r.given (answers r.state action) (with_long callers action held.room) counting (replies_of program actions action held.right right e) in
         let callers_are : callers' ≡ with_answers (with_action callers action) (answers r.state action) = told ∙ ap (λ (s : S). with_answers (with_action callers action) (answers s action)) held.state in

@@ -6,3 +6,4 @@ pub mod Applying
 pub mod Numbering
 pub mod Asking
 pub mod Holding
+pub mod Placing

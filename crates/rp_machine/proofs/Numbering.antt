@@ -14,7 +14,7 @@ use Rattle.rp_base.specs.declared.reply.Answer.{Answer}
 use Rattle.rp_machine.specs.Calls.{CallName, calls_of, calls_made}
 use Rattle.rp_machine.specs.Replay.{number_for, numbers_of, one_to, is_for, is_answered, all_answered, is_next_number, counts, Replayed, unmoved, replay_step, replay_from, replay_of}
 use Rattle.rp_machine.specs.Asked.{greatest, last_number}
-use Rattle.rp_machine.proofs.Calling.{has_either, both_true, all_true, calls_made-append, made_number, number_is_new}
+use Rattle.rp_machine.proofs.Calling.{has_either, both_true, all_true, calls_made-append, is_new, set_append}
 
 -- ---- the numbers 1 to n
 
@@ -134,13 +134,6 @@ counted_start = record { numbered = λ t. refl; earlier = λ t m h l. absurd h }
 
 -- ---- each call counts once
 
-set_append : (xs ys : List CallName) → IsSet xs → IsSet ys → ((x : CallName) → Has x ys → ¬ Has x xs) → IsSet (xs ++ ys)
-set_append [] ys set other apart = other
-set_append (x ∷ xs) ys set other apart = (
-  λ h. elim (has_either x xs ys h) [ inl before ↦ set.0 before | inr now ↦ apart x now (inl refl) ],
-  set_append xs ys set.1 other (λ y h m. apart y h (inr m)),
-)
-
 calls_set : (action : Action) → IsSet (calls_of action)
 calls_set Noop = tt
 calls_set (Call task number object operation arg) = (λ h. h, tt)
@@ -163,15 +156,6 @@ module _ {S : Type 0} (next : S → Action → S) (answers : S → Action → Li
   -- so it holds behind any log
   pub counted : (begin : S) (actions : List Action) → (let r = replay_of next answers begin actions in IsCounted r.kept r.given)
   counted begin actions = counted_from (unmoved begin) actions counted_start
-
-  is_new : (r : Replayed S) (action : Action) → counts r.kept r.given action ≡ true → (call : CallName) → Has call (calls_of action) → ¬ Has call (calls_made r.kept)
-  is_new r Noop e call h m = h
-  is_new r (Call task number object operation arg) e call h m =
-      let both = both_true (is_next_number r.kept task number) (all_answered r.kept r.given task) e in
-      let this : call ≡ record { task = task; number = number } = elim h [ inl is ↦ is | inr none ↦ absurd none ] in
-      number_is_new number (numbers_of task r.kept) both.0 (subst (λ (c : CallName). Has c.number (numbers_of c.task r.kept)) this (made_number call r.kept m))
-  is_new r (Interrupt source occurrence) e call h m = h
-  is_new r (Tick now) e call h m = h
 
   once_if : (r : Replayed S) (action : Action) (b : Bool) → counts r.kept r.given action ≡ b → IsSet (calls_made r.kept)
       → (let after = (if b then taken r action else r) in IsSet (calls_made after.kept))

@@ -3,4 +3,5 @@ pub mod Replay
 pub mod TallyRule
 pub mod TallyLaws
 pub mod Asked
+pub mod Places
 pub mod Numbered

@@ -3,18 +3,19 @@
 //! In reading order:
 //! - `machine`: what a machine owes to the log that drives it
 //! - `replay`: what a log of actions leads to, at any machine
+//! - `places`: where a call stands in a log, and what it was answered
 //! - `numbered`: a machine behind a log: each call counts once
 //! - `tally`: the least machine: a sum for each object
 #![tactic(auto)]
 
 mod machine;
 mod numbered;
+mod places;
 mod replay;
 mod tally;
-#[cfg(test)]
-mod tests;
 
 pub use machine::Machine;
 pub use numbered::{Numbered, calls_count_once};
+pub use places::{a_call_has_one_answer, a_call_has_one_place};
 pub use replay::{replay_goes_on, replay_may_go_on};
 pub use tally::{Tally, TallyProgram};

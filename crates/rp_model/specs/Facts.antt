@@ -1,20 +1,31 @@
 -- What the packets of a world tell, and what it has decided. Lamport, "Paxos Made Simple", section 2.2:
 -- a value is chosen when a majority of acceptors have accepted it in one proposal.
-use Rattle.std.specs.Prelude.{◌≡◌, ℕ, suc, ◌≤◌, ◌-◌, Option, Some, List, [], ◌∷◌, length, take, slice_get, true}
+use Rattle.std.specs.Prelude.{◌≡◌, ℕ, suc, ◌≤◌, Option, Some, List, length, slice_get}
 use Rattle.rp_base.specs.declared.action.Action.{Action}
-use Rattle.rp_base.specs.declared.reply.Answer.{Answer}
 use Rattle.rp_base.specs.declared.record.Vote.{Vote}
 use Rattle.rp_base.specs.Sets.{Has}
 use Rattle.rp_base.specs.Majority.{majority_of, AreNodes}
 use Rattle.rp_codec.specs.Message.{Message}
 use Rattle.rp_codec.specs.declared.packet.Party.TheVariants.{Node}
+use Rattle.rp_codec.specs.declared.packet.Body.{Body}
 use Rattle.rp_codec.specs.declared.packet.Body.TheVariants as bodies
-use Rattle.rp_machine.specs.Calls.{CallName, calls_of, call_of}
-use Rattle.rp_machine.specs.Replay.{counts, replay_of, replay_answers}
 
--- a node said to some node that it promises, with this last vote
+-- the body promises the ballot at the position, with this last vote
+abbrev pub IsPromise : Body → ℕ → ℕ → Option Vote → Type 0
+IsPromise (bodies.Call action) i b last = ⊥
+IsPromise (bodies.Prepare position ballot) i b last = ⊥
+IsPromise (bodies.Promise position ballot told) i b last = (position ≡ i) × (ballot ≡ b) × (told ≡ last)
+IsPromise (bodies.Accept position ballot action) i b last = ⊥
+IsPromise (bodies.Accepted position ballot action) i b last = ⊥
+IsPromise (bodies.Decided position action) i b last = ⊥
+IsPromise (bodies.Ask position) i b last = ⊥
+IsPromise (bodies.Nack position ballot bound) i b last = ⊥
+IsPromise (bodies.Reply number reply) i b last = ⊥
+IsPromise (bodies.Report first applied actions) i b last = ⊥
+
+-- a node said that it promises, with this last vote
 abbrev pub HasPromised : List Message → ℕ → ℕ → ℕ → Option Vote → Type 0
-HasPromised sent a i b last = (to : ℕ) × Has (record { from = Node a; to = Node to; body = bodies.Promise i b last }) sent
+HasPromised sent a i b last = (m : Message) × Has m sent × (m.from ≡ Node a) × IsPromise m.body i b last
 
 -- a node said to some node that it voted
 abbrev pub HasVoted : List Message → ℕ → ℕ → ℕ → Action → Type 0
@@ -36,16 +47,3 @@ pub record IsDecided (nodes : ℕ) (sent : List Message) (i : ℕ) (v : Action) 
 pub record IsOrder (nodes : ℕ) (sent : List Message) (order : List Action) : Type 0 where
   pub decided : (i : ℕ) (v : Action) → slice_get order i ≡ Some v → IsDecided nodes sent (suc i) v
   pub longest : (v : Action) → ¬ IsDecided nodes sent (suc (length order)) v
-
-module _ {S : Type 0} (next : S → Action → S) (answers : S → Action → List Answer) (begin : S) where
-  -- the place of a call in a list of actions: the position, from 1, where it counts
-  pub record IsPlace (actions : List Action) (call : CallName) (position : ℕ) : Type 0 where
-    pub action : Action
-    pub stands : slice_get actions (position - 1) ≡ Some action
-    pub first : 1 ≤ position
-    pub is_call : calls_of action ≡ call ∷ []
-    pub takes_effect : (let before = replay_of next answers begin (take (position - 1) actions) in counts before.kept before.given action) ≡ true
-
-  -- the answer of a call in a list of actions: the one that its replay gives
-  abbrev pub IsAnswerOf : List Action → CallName → Answer → Type 0
-  IsAnswerOf actions call answer = (call_of answer ≡ call) × Has answer (replay_answers next answers begin actions)

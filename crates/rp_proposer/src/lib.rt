@@ -13,6 +13,3 @@ mod proposer;
 pub use proposal::{Progress, one_offer_at_most};
 pub use proposer::{Proposer, a_window_has_room};
 pub use rp_base::Phase;
-
-#[cfg(test)]
-mod tests;

@@ -22,6 +22,3 @@ pub use device::{CutDevice, Device};
 pub use laws::{one_reading, stop_inside_open, stop_inside_put};
 pub use memory::MemDevice;
 pub use store::{NotTorn, Opened, Store};
-
-#[cfg(test)]
-mod tests;

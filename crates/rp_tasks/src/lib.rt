@@ -10,6 +10,3 @@ mod stub;
 
 pub use line::{FaultLine, gives_what_it_took};
 pub use stub::Stub;
-
-#[cfg(test)]
-mod tests;

@@ -147,15 +147,3 @@ impl Stub {
         taken
     }
 }
-
-#[cfg(test)]
-impl Stub {
-    /// A task that has made this many calls, none of them outstanding.
-    pub fn after(task: TaskId, made: u32) -> Self {
-        Stub {
-            task,
-            made,
-            outstanding: None,
-        }
-    }
-}

@@ -15,6 +15,3 @@ mod world;
 pub use cluster::Cluster;
 pub use effect::Refused;
 pub use rp_model::{Dropped, Effect, Event, Step};
-
-#[cfg(test)]
-mod tests;

@@ -1,6 +1,0 @@
-use Rattle.std.proofs.Common.{◌≡◌, ◌≤◌}
-use Rattle.rp_learner.proofs.tests.note_all.Given as goal
-
--- the learner's sizes stay
-abbrev pub invariant-loop-from : goal.invariant-loop-from
-invariant-loop-from g l = (l.learner.nodes ≡ l.nodes) × (1 ≤ l.learner.max_positions)

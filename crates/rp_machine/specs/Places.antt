@@ -1,0 +1,26 @@
+-- The place of a call in a list of actions, and its answer (this project's own).
+use Rattle.std.specs.Prelude.{◌≡◌, ℕ, suc, Bool, true, List, [], ◌∷◌, ◌++◌, length}
+use Rattle.rp_base.specs.Sets.{Has}
+use Rattle.rp_base.specs.declared.action.Action.{Action}
+use Rattle.rp_base.specs.declared.reply.Answer.{Answer}
+use Rattle.rp_machine.specs.Calls.{CallName, calls_of, call_of}
+use Rattle.rp_machine.specs.Replay.{counts, replay_of, replay_answers}
+
+module _ {S : Type 0} (next : S → Action → S) (answers : S → Action → List Answer) (begin : S) where
+  -- the action counts behind these
+  abbrev pub counts_behind : List Action → Action → Bool
+  counts_behind before action = counts (replay_of next answers begin before).kept (replay_of next answers begin before).given action
+
+  -- the place of a call in a list of actions: the position, from 1, where it counts
+  pub record IsPlace (actions : List Action) (call : CallName) (position : ℕ) : Type 0 where
+    pub before : List Action
+    pub action : Action
+    pub behind : List Action
+    pub stands : actions ≡ before ++ action ∷ behind
+    pub here : position ≡ suc (length before)
+    pub is_call : calls_of action ≡ call ∷ []
+    pub takes_effect : counts_behind before action ≡ true
+
+  -- the answer of a call in a list of actions: the one that its replay gives
+  abbrev pub IsAnswerOf : List Action → CallName → Answer → Type 0
+  IsAnswerOf actions call answer = (call_of answer ≡ call) × Has answer (replay_answers next answers begin actions)

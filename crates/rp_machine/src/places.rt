@@ -1,0 +1,28 @@
+//! Where a call stands in a log, and what it was answered.
+
+ghost use Rattle.std.specs.Prelude.{◌≡◌, ℕ, List};
+ghost use Rattle.rp_base.specs.Action.{IsRight};
+ghost use Rattle.rp_base.specs.Sets.{Has};
+ghost use Rattle.rp_base.specs.declared.action.Action.{Action};
+ghost use Rattle.rp_base.specs.declared.reply.Answer.{Answer};
+ghost use Rattle.rp_machine.specs.Calls.{CallName};
+ghost use Rattle.rp_machine.specs.Places.{IsPlace, IsAnswerOf};
+
+use crate::machine::Machine;
+
+/// A call has one place in a list of actions at most, however often it stands there.
+pub fn a_call_has_one_place<M: Machine>()
+    ensures { (begin : M) (actions : List Action) (call : CallName) (one other : ℕ)
+        → IsPlace M.next M.answers begin actions call one
+        → IsPlace M.next M.answers begin actions call other
+        → one ≡ other }
+{}
+
+/// A call has one answer in a list of right actions at most.
+pub fn a_call_has_one_answer<M: Machine>()
+    ensures { (program : M.Program) (actions : List Action) (call : CallName) (one other : Answer)
+        → ((action : Action) → Has action actions → IsRight action)
+        → IsAnswerOf M.next M.answers (M.begin program) actions call one
+        → IsAnswerOf M.next M.answers (M.begin program) actions call other
+        → one ≡ other }
+{}

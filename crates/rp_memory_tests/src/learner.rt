@@ -1,0 +1,127 @@
+ghost use Rattle.std.specs.Prelude.{◌≡◌, ◌≤◌, IfOk};
+ghost use Rattle.rp_learner.specs.Standings.{fresh};
+
+use rp_learner::*;
+use rp_base::{Action, Ballot, NodeId, Position};
+use std::alloc::Global;
+use std::process::Abort;
+use std::test::Fail;
+
+/// Notes the votes in turn, each of a node in a ballot for Noop at position 1, and compares what
+/// holds once each is counted. A note that is refused for memory leaves that, and succeeds again.
+fn note_all(
+    rt: &impl Abort,
+    learner: &mut Learner,
+    alloc: Global,
+    nodes: u8,
+    votes: &[(u8, u64, Standing)],
+) -> Result<(), Fail>
+    requires { (learner.old.nodes ≡ nodes) × (1 ≤ learner.old.max_positions) }
+{
+    let position = Position::first();
+    for (from, ballot, standing) in votes.iter().copied() {
+        let from = NodeId::new(from).ok_or("a node")?;
+        if from.get() > nodes {
+            return Err("a node of the learner".into());
+        }
+        let ballot = Ballot::new(ballot).ok_or("a ballot")?;
+        let found = learner.vote(from, position, ballot, &Action::Noop);
+        assert_eq!(rt; found, standing);
+        if learner
+            .note_vote(alloc, from, position, ballot, &Action::Noop)
+            .is_err()
+        {
+            let found = learner.vote(from, position, ballot, &Action::Noop);
+            assert_eq!(rt; found, standing, "nothing changed");
+            learner.note_vote(alloc, from, position, ballot, &Action::Noop)?;
+        }
+    }
+    Ok(())
+}
+
+/// A learner, made again where memory was refused once.
+fn new_learner(alloc: Global, nodes: u8, max_positions: u16) -> Result<Learner, Fail>
+    requires { (3 ≤ nodes) × (nodes ≤ 7) }
+    ensures { IfOk result (λ l. l ≡ fresh nodes max_positions) }
+{
+    if let Ok(learner) = Learner::new(alloc, nodes, max_positions) {
+        return Ok(learner);
+    }
+    Ok(Learner::new(alloc, nodes, max_positions)?)
+}
+
+#[test]
+fn a_majority_is_of_one_ballot_and_of_different_nodes(rt: HostRuntime) -> Result<(), Fail> {
+    let four = [
+        (1, 9, Standing::Counting),
+        (2, 9, Standing::Counting),
+        (2, 9, Standing::Counting),
+        (3, 18, Standing::Counting),
+        (3, 9, Standing::Learned),
+        (4, 9, Standing::Known),
+    ];
+    let mut learner = new_learner(rt.alloc(), 4, 1)?;
+    note_all(&rt, &mut learner, rt.alloc(), 4, &four)?;
+    let seven = [
+        (1, 9, Standing::Counting),
+        (2, 9, Standing::Counting),
+        (2, 9, Standing::Counting),
+        (3, 18, Standing::Counting),
+        (3, 9, Standing::Counting),
+        (4, 9, Standing::Learned),
+        (5, 9, Standing::Known),
+    ];
+    let mut learner = new_learner(rt.alloc(), 7, 65_535)?;
+    note_all(&rt, &mut learner, rt.alloc(), 7, &seven)
+}
+
+#[test]
+fn a_majority_is_for_one_action(rt: HostRuntime) -> Result<(), Fail> {
+    let mut learner = new_learner(rt.alloc(), 3, 2)?;
+    let position = Position::new(2).ok_or("position 2")?;
+    let ballot = Ballot::new(9).ok_or("ballot 9")?;
+    let one = NodeId::new(1).ok_or("node 1")?;
+    let two = NodeId::new(2).ok_or("node 2")?;
+    let tick = Action::Tick { now: 5 };
+    assert!(rt; one.get() <= 3 && two.get() <= 3);
+    learner.note_vote(rt.alloc(), one, position, ballot, &tick)?;
+    let other = learner.note_vote(rt.alloc(), two, position, ballot, &Action::Noop);
+    if other.is_err() {
+        learner.note_vote(rt.alloc(), two, position, ballot, &Action::Noop)?;
+    }
+    let noop = learner.vote(two, position, ballot, &Action::Noop);
+    assert_eq!(rt; noop, Standing::Counting);
+    assert_eq!(rt;
+        learner.vote(two, Position::first(), ballot, &tick),
+        Standing::Counting
+    );
+    assert_eq!(rt;
+        learner.vote(two, position, ballot, &tick),
+        Standing::Learned
+    );
+    Ok(())
+}
+
+#[test]
+fn a_settled_position_is_known_and_no_other(rt: HostRuntime) -> Result<(), Fail> {
+    same_learners_answer_alike();
+    let mut learner = new_learner(rt.alloc(), 3, 2)?;
+    let ballot = Ballot::new(9).ok_or("ballot 9")?;
+    let node = NodeId::new(1).ok_or("node 1")?;
+    assert!(rt; node.get() <= 3);
+    learner.settled(Position::first());
+    learner.settled(Position::first());
+    for (number, decision, standing) in [
+        (1, Decision::Known, Standing::Known),
+        (2, Decision::Learned, Standing::Counting),
+        (3, Decision::Learned, Standing::Counting),
+    ] {
+        let position = Position::new(number).ok_or("a position")?;
+        assert_eq!(rt; learner.decided(position), decision);
+        assert_eq!(rt;
+            learner.vote(node, position, ballot, &Action::Noop),
+            standing
+        );
+    }
+    Ok(())
+}

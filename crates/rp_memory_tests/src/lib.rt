@@ -1,0 +1,10 @@
+//! Tests that go on where memory is refused, and see that a call which was refused changed nothing. The
+//! gate runs them also with each one of their allocations refused (tools/refusals).
+#![tactic(auto)]
+
+#[cfg(test)]
+mod learner;
+#[cfg(test)]
+mod store;
+#[cfg(test)]
+mod world;

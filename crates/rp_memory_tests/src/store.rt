@@ -1,0 +1,270 @@
+ghost use Rattle.std.specs.Prelude.{IfOk};
+ghost use Rattle.rp_base.specs.Right.{IsRightRecord};
+
+use rp_store::*;
+use rp_base::{Action, Ballot, Fault, Operation, Position, Rec, TaskId};
+use std::alloc::Global;
+use std::process::Abort;
+use std::test::*;
+
+const STARTED: [u8; 10] = [1, 1, 0, 0, 0, 0, 0, 0, 0, 9];
+
+const VOTED: [u8; 29] = [
+    1, 3, 0, 1, 0, 0, 0, 0, 0, 0, 0, 9, 1, 1, 0, 0, 0, 1, 1, 2, 1, 0, 0, 0, 0, 0, 0, 0, 5,
+];
+
+/// A `Started` and the first 11 bytes of a `Promised`.
+const TORN: [u8; 21] = [
+    1, 1, 0, 0, 0, 0, 0, 0, 0, 9, 1, 2, 0, 1, 0, 0, 0, 0, 0, 0, 0,
+];
+
+/// A `Started` and a `Promised` with ballot 0.
+const WRONG: [u8; 22] = [
+    1, 1, 0, 0, 0, 0, 0, 0, 0, 9, 1, 2, 0, 1, 0, 0, 0, 0, 0, 0, 0, 0,
+];
+
+fn started() -> Result<Rec, Fail>
+    ensures { IfOk result IsRightRecord }
+{
+    Ok(Rec::Started(Ballot::new(9).ok_or("a ballot")?))
+}
+
+/// A vote for the first call of task 1, of procedure 1 of object 1 with 5.
+fn voted() -> Result<Rec, Fail>
+    ensures { IfOk result IsRightRecord }
+{
+    let call = Action::Call {
+        task: TaskId::first(),
+        number: 1,
+        object: 1,
+        operation: Operation::Procedure(1),
+        arg: 5,
+    };
+    let ballot = Ballot::new(9).ok_or("a ballot")?;
+    Ok(Rec::Voted(Position::first(), ballot, call))
+}
+
+/// Appends the bytes, once more where memory was refused.
+fn appends<D: Device>(device: &mut D, bytes: &[u8]) -> Result<(), Fail> {
+    match device.append(bytes) {
+        Err(Fault::OutOfMemory) => Ok(device.append(bytes)?),
+        result => Ok(result?),
+    }
+}
+
+/// Reads the device, once more where memory was refused.
+fn read<D: Device>(alloc: Global, device: &mut D) -> Result<Vec<u8>, Fail> {
+    match device.read(alloc) {
+        Ok(bytes) => Ok(bytes),
+        Err(_) => Ok(device.read(alloc)?),
+    }
+}
+
+/// Opens the device, once more where memory was refused.
+fn opened<D: Device>(rt: &impl Abort, alloc: Global, device: D) -> Result<Opened<D>, Fail> {
+    match Store::open(alloc, device) {
+        Ok(opened) => Ok(opened),
+        Err((fault, device)) => {
+            assert_eq!(rt; fault, Fault::OutOfMemory);
+            Ok(Store::open(alloc, device).ok().ok_or("it opens")?)
+        }
+    }
+}
+
+/// Opens the device and then again, which cuts nothing.
+fn opens<D: Device>(
+    rt: &impl Abort,
+    alloc: Global,
+    device: D,
+    records: &[Rec],
+    cut_bytes: u64,
+) -> Result<(), Fail> {
+    let first = opened(rt, alloc, device)?;
+    assert_eq!(rt; first.records.as_slice(), records);
+    assert_eq!(rt; first.cut_bytes, cut_bytes);
+    let again = opened(rt, alloc, first.store.close())?;
+    assert_eq!(rt; again.records.as_slice(), records);
+    assert_eq!(rt; again.cut_bytes, 0);
+    Ok(())
+}
+
+/// Puts the record, once more where memory was refused.
+fn puts<D: Device>(rt: &impl Abort, store: &mut Store<D>, rec: &Rec) -> Result<(), Fail>
+    requires { IsRightRecord rec.now }
+{
+    if let Err(fault) = store.put(rec) {
+        assert_eq!(rt; fault, Fault::OutOfMemory);
+        store.put(rec)?;
+    }
+    Ok(())
+}
+
+/// What a stop inside the put of the record leaves, tried once more where memory was refused.
+fn torn<D: CutDevice>(store: Store<D>, rec: &Rec, kept: u64) -> Result<D, Fail>
+    requires { IsRightRecord rec.now }
+{
+    match store.tear(rec, kept) {
+        Err(NotTorn::Refused(Fault::OutOfMemory, store)) => {
+            Ok(store.tear(rec, kept).ok().ok_or("it is torn")?)
+        }
+        result => Ok(result.ok().ok_or("it is torn")?),
+    }
+}
+
+#[test]
+fn whole_records_are_told_and_the_rest_is_cut(rt: HostRuntime) -> Result<(), Fail> {
+    let started = [started()?];
+    let cases: [(&[u8], &[Rec], u64); 4] = [
+        (&[], &[], 0),
+        (&STARTED, &started, 0),
+        (&TORN, &started, 11),
+        (&WRONG, &started, 12),
+    ];
+    for (bytes, records, cut_bytes) in &cases {
+        let mut device = MemDevice::new(rt.alloc());
+        appends(&mut device, bytes)?;
+        opens(&rt, rt.alloc(), device, records, *cut_bytes)?;
+    }
+    Ok(())
+}
+
+#[test]
+fn a_stop_keeps_what_was_put_and_a_whole_record_behind_it(rt: HostRuntime) -> Result<(), Fail> {
+    let (started, voted) = (started()?, voted()?);
+    let cases: [(u64, &[Rec], u64); 4] = [
+        (0, &[started], 0),
+        (28, &[started], 28),
+        (29, &[started, voted], 0),
+        (1000, &[started, voted], 0),
+    ];
+    for (kept, records, cut_bytes) in &cases {
+        let mut store = opened(&rt, rt.alloc(), MemDevice::new(rt.alloc()))?.store;
+        puts(&rt, &mut store, &started)?;
+        let device = torn(store, &voted, *kept)?;
+        opens(&rt, rt.alloc(), device, records, *cut_bytes)?;
+    }
+    Ok(())
+}
+
+#[test]
+fn what_an_opening_read_stays_through_a_stop(rt: HostRuntime) -> Result<(), Fail> {
+    let mut device = MemDevice::new(rt.alloc());
+    appends(&mut device, &TORN)?;
+    let mut device = opened(&rt, rt.alloc(), device)?.store.close();
+    device.stop(0);
+    assert_eq!(rt; device.len(), 10);
+    opens(&rt, rt.alloc(), device, &[started()?], 0)
+}
+
+#[test]
+fn a_put_refused_for_memory_writes_nothing(rt: HostRuntime) -> Result<(), Fail> {
+    let (started, voted) = (started()?, voted()?);
+    let mut store = opened(&rt, rt.alloc(), MemDevice::new(rt.alloc()))?.store;
+    puts(&rt, &mut store, &started)?;
+    puts(&rt, &mut store, &voted)?;
+    assert_eq!(rt; store.stored(), 39);
+    let mut device = store.close();
+    device.stop(0);
+    let bytes = read(rt.alloc(), &mut device)?;
+    assert_eq!(rt; bytes.len(), 39);
+    assert!(rt; bytes.as_slice().starts_with(STARTED.as_slice()));
+    assert!(rt; bytes.as_slice().ends_with(VOTED.as_slice()));
+    let again = opened(&rt, rt.alloc(), device)?;
+    assert_eq!(rt; again.records.as_slice(), [started, voted].as_slice());
+    Ok(())
+}
+
+/// A device in memory whose next sync fails once no more are granted. It counts those that did not.
+#[derive(Drop)]
+struct LimitedDevice {
+    inner: MemDevice,
+    granted: u32,
+    syncs: u32,
+    failures: Count,
+}
+
+impl Device for LimitedDevice {
+    ghost use Rattle.std.specs.Prelude.{◌+◌};
+
+    ghost disk = { λ d. record d.inner { failures = d.inner.failures + d.failures } };
+
+    fn append(&mut self, bytes: &[u8]) -> Result<(), Fault> {
+        self.inner.append(bytes)
+    }
+
+    fn sync(&mut self) -> Result<(), Fault> {
+        if self.granted == 0 {
+            self.failures.raise();
+            return Err(Fault::Device);
+        }
+        self.granted -= 1;
+        self.syncs = self.syncs.saturating_add(1);
+        self.inner.sync()
+    }
+
+    fn read(&mut self, alloc: Global) -> Result<Vec<u8>, Fault> {
+        self.inner.read(alloc)
+    }
+
+    fn len(&self) -> u64 {
+        self.inner.len()
+    }
+
+    fn cut(&mut self, len: u64) -> Result<(), Fault> {
+        self.inner.cut(len)
+    }
+}
+
+impl LimitedDevice {
+    /// It holds these bytes, none of them stable.
+    fn holding(alloc: Global, bytes: &[u8], granted: u32) -> Result<Self, Fail> {
+        let mut inner = MemDevice::new(alloc);
+        appends(&mut inner, bytes)?;
+        Ok(LimitedDevice {
+            inner,
+            granted,
+            syncs: 0,
+            failures: Count::new(),
+        })
+    }
+}
+
+#[test]
+fn an_opening_syncs_once_whatever_the_device_holds(rt: HostRuntime) -> Result<(), Fail> {
+    let cases: [&[u8]; 4] = [&[], &STARTED, &TORN, &WRONG];
+    for bytes in &cases {
+        let device = LimitedDevice::holding(rt.alloc(), bytes, 9)?;
+        let opened = opened(&rt, rt.alloc(), device)?;
+        assert_eq!(rt; opened.store.close().syncs, 1);
+    }
+    Ok(())
+}
+
+/// Why a put of the vote is refused, if it is. It is tried once more where memory was refused.
+fn vote_fault<D: Device>(store: &mut Store<D>) -> Result<Option<Fault>, Fail> {
+    let voted = voted()?;
+    match store.put(&voted) {
+        Err(Fault::OutOfMemory) => Ok(store.put(&voted).err()),
+        result => Ok(result.err()),
+    }
+}
+
+/// The device, where opening it fails.
+fn not_opened<D: Device>(alloc: Global, device: D) -> Result<D, Fail> {
+    match Store::open(alloc, device) {
+        Ok(_) => Err("it opens")?,
+        Err((_, device)) => Ok(device),
+    }
+}
+
+#[test]
+fn a_failed_sync_is_told_and_the_store_writes_no_more(rt: HostRuntime) -> Result<(), Fail> {
+    let device = LimitedDevice::holding(rt.alloc(), &STARTED, 1)?;
+    let mut store = opened(&rt, rt.alloc(), device)?.store;
+    assert_eq!(rt; vote_fault(&mut store)?, Some(Fault::Device));
+    assert_eq!(rt; vote_fault(&mut store)?, Some(Fault::Failed));
+    assert!(rt; store.has_failed());
+    let device = not_opened(rt.alloc(), store.close())?;
+    assert_eq!(rt; device.len(), 39);
+    opens(&rt, rt.alloc(), device.inner, &[started()?, voted()?], 0)
+}

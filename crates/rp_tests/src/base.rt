@@ -1,0 +1,154 @@
+use rp_base::*;
+use std::test::Fail;
+
+#[test]
+fn the_next_ballot_is_the_least_above(rt: HostRuntime) -> Result<(), Fail> {
+    let cases = [
+        (2, 0, 10),
+        (2, 9, 10),
+        (1, 9, 17),
+        (2, 10, 18),
+        (1, 10, 17),
+        (7, 15, 23),
+    ];
+    for (node, above, next) in cases {
+        let node = NodeId::new(node).ok_or("a node")?;
+        assert_eq!(rt; Ballot::next_for(node, Ballot::new(above))?.get(), next);
+    }
+    let node = NodeId::new(1).ok_or("node 1")?;
+    assert_eq!(rt; Ballot::of(1, node).get(), 9);
+    let last = Ballot::new(34_359_738_367).ok_or("the greatest ballot")?;
+    assert_eq!(rt;
+        Ballot::next_for(node, Some(last)),
+        Err(Fault::BallotsSpent)
+    );
+    assert_eq!(rt; last.round(), u32::MAX);
+    assert_eq!(rt; last.owner().get(), 7);
+    for number in [0, 8, 16, 34_359_738_368, 34_359_738_369] {
+        assert_eq!(rt; Ballot::new(number), None);
+    }
+    Ok(())
+}
+
+#[test]
+fn a_majority_is_more_than_half(rt: HostRuntime) {
+    for (nodes, most) in [(3, 2), (4, 3), (5, 3), (6, 4), (7, 4)] {
+        assert_eq!(rt; majority(nodes), most);
+    }
+}
+
+#[test]
+fn numbers_are_refused_outside_their_ranges(rt: HostRuntime) {
+    for (number, node, task) in [
+        (0, false, false),
+        (1, true, true),
+        (7, true, true),
+        (8, false, true),
+        (9, false, false),
+    ] {
+        assert_eq!(rt; NodeId::new(number).is_some(), node);
+        assert_eq!(rt; TaskId::new(number).is_some(), task);
+    }
+    assert_eq!(rt; Position::new(0), None);
+    assert_eq!(rt; Position::new(1), Some(Position::first()));
+    let sizes = [
+        (2, 1, false),
+        (3, 1, true),
+        (7, 65535, true),
+        (8, 1, false),
+        (3, 0, false),
+    ];
+    for (nodes, max_positions, right) in sizes {
+        let config = Config {
+            nodes,
+            max_positions,
+        };
+        assert_eq!(rt; config.is_right(), right);
+    }
+}
+
+#[test]
+fn an_action_is_right_within_its_ranges(rt: HostRuntime) {
+    let task = TaskId::first();
+    let cases = [
+        (1, 1, Operation::Procedure(8), true),
+        (0, 1, Operation::Procedure(8), false),
+        (1, 9, Operation::Procedure(8), false),
+        (1, 1, Operation::Procedure(9), false),
+        (1, 1, Operation::Entry(1), true),
+        (1, 1, Operation::Entry(2), false),
+    ];
+    for (number, object, operation, right) in cases {
+        let call = Action::Call {
+            task,
+            number,
+            object,
+            operation,
+            arg: 0,
+        };
+        assert_eq!(rt; call.is_right(), right);
+    }
+    assert!(rt;
+        !Action::Interrupt {
+            source: 9,
+            occurrence: 1
+        }
+        .is_right()
+    );
+    assert!(rt; Action::Tick { now: 0 }.is_right());
+    assert!(rt; Action::Noop.is_right());
+}
+
+#[test]
+fn answers_keep_their_order(rt: HostRuntime) -> Result<(), Fail> {
+    let mut answers = Answers::new();
+    assert!(rt; answers.is_empty());
+    for number in 1..=8 {
+        let answer = Answer {
+            task: TaskId::first(),
+            number,
+            reply: Reply::Value(0),
+        };
+        if !answers.is_full() {
+            answers.push(answer);
+        }
+    }
+    assert!(rt; answers.is_full());
+    assert_eq!(rt; answers.len(), 8);
+    let first = answers.as_slice().first().ok_or("eight answers")?;
+    assert_eq!(rt; first.number, 1);
+    Ok(())
+}
+
+#[test]
+fn a_fault_has_its_number_and_name(rt: HostRuntime) {
+    let cases = [
+        (Fault::OutOfMemory, 1, "OutOfMemory"),
+        (Fault::BadPacket(PacketReason::Long), 4, "BadPacket"),
+        (Fault::LogFull, 7, "LogFull"),
+        (Fault::Io, 13, "Io"),
+    ];
+    for (fault, code, name) in cases {
+        assert_eq!(rt; fault.code(), code);
+        assert_eq!(rt; fault.name(), name);
+    }
+}
+
+#[test]
+fn a_node_that_comes_twice_counts_once(rt: HostRuntime) {
+    let cases: [(&[u8], usize); 4] = [
+        (&[], 0),
+        (&[4], 1),
+        (&[1, 2, 1, 2], 2),
+        (&[7, 6, 5, 4, 3, 2, 1, 7], 7),
+    ];
+    for (nodes, count) in &cases {
+        let mut senders = Senders::new();
+        for node in *nodes {
+            if let Some(node) = NodeId::new(*node) {
+                senders.insert(node);
+            }
+        }
+        assert_eq!(rt; senders.len(), *count);
+    }
+}

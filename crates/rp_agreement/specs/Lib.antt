@@ -1,0 +1,5 @@
+pub mod Told
+pub mod Founded
+pub mod Sound
+pub mod Steps
+pub mod Worlds

@@ -1,0 +1,3 @@
+pub mod Highest
+pub mod Following
+pub mod Ordering

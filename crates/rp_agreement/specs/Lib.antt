@@ -3,3 +3,5 @@ pub mod Founded
 pub mod Sound
 pub mod Steps
 pub mod Worlds
+pub mod Decided
+pub mod Order

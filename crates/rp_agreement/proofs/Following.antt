@@ -1,0 +1,115 @@
+-- Above a decided ballot its action alone is offered. Lamport, "Paxos Made Simple", section 2.2: P2c keeps
+-- P2b, by induction on the ballot.
+use Rattle.std.proofs.Common.{◌≡◌, ℕ, zero, suc, ◌+◌, ◌<◌, ◌≤◌, ◌/◌, ◌⊎◌, Option, Some, None, List, [], ◌∷◌, length, inl, inr, refl, sym, ap, ◌∙◌, subst, arith}
+use Rattle.std.proofs.lemmas.Bool.{cases_eq, cases_order}
+use Rattle.rp_base.specs.declared.action.Action.{Action}
+use Rattle.rp_base.specs.declared.record.Vote.{Vote}
+use Rattle.rp_base.specs.declared.record.Rec.{Rec}
+use Rattle.rp_base.specs.declared.record.Rec.TheVariants.{Voted, Learned}
+use Rattle.rp_base.specs.Sets.{Has}
+use Rattle.rp_base.specs.Majority.{majority_of, AreNodes}
+use Rattle.rp_base.specs.Promises.{Promise}
+use Rattle.rp_base.specs.Records.{applied_of}
+use Rattle.rp_base.proofs.SetsMeet.{sets_meet}
+use Rattle.rp_codec.specs.Message.{Message}
+use Rattle.rp_codec.specs.declared.packet.Party.{Party}
+use Rattle.rp_codec.specs.declared.packet.Party.TheVariants.{Node}
+use Rattle.rp_codec.specs.declared.packet.Body.{Body}
+use Rattle.rp_codec.specs.declared.packet.Body.TheVariants.{Call, Prepare, Promise as Promises, Accept, Accepted, Decided, Ask, Nack, Reply, Report}
+use Rattle.rp_model.specs.Facts.{HasVoted, IsOffered, IsDecided}
+use Rattle.rp_model.specs.declared.part.NodePart.{NodePart}
+use Rattle.rp_agreement.specs.Told.{IsPromise, HasPromised, IsAsked}
+use Rattle.rp_agreement.specs.Founded.{Reports, IsFounded}
+use Rattle.rp_agreement.specs.Sound.{IsMember, IsSo, SaysSo, IsSound}
+use Rattle.rp_agreement.specs.Decided.{IsCast}
+use Rattle.rp_agreement.proofs.Highest.{highest_reported}
+
+-- two majorities of the same nodes share one
+majorities_share : (nodes : ℕ) (xs ys : List ℕ) → AreNodes nodes xs → AreNodes nodes ys → majority_of nodes ≤ length xs → majority_of nodes ≤ length ys → (a : ℕ) × Has a xs × Has a ys
+majorities_share nodes xs ys left right some more = sets_meet nodes xs ys left.distinct right.distinct left.members right.members (omega (arith, some, more))
+
+-- what a promise says
+promise_so : (nodes : ℕ) (sent : List Message) (records : List Rec) (body : Body) (i b : ℕ) (last : Option Vote) → IsSo nodes sent records body → IsPromise body i b last → Reports records i b last
+promise_so nodes sent records (Call action) i b last so is = absurd is
+promise_so nodes sent records (Prepare position ballot) i b last so is = absurd is
+promise_so nodes sent records (Promises position ballot vote) i b last so is =
+    subst (λ (p : ℕ × ℕ × Option Vote). Reports records p.0 p.1 p.2) (λ k. (is.0 k, is.1 k, is.2 k)) so
+promise_so nodes sent records (Accept position ballot action) i b last so is = absurd is
+promise_so nodes sent records (Accepted position ballot action) i b last so is = absurd is
+promise_so nodes sent records (Decided position action) i b last so is = absurd is
+promise_so nodes sent records (Ask position) i b last so is = absurd is
+promise_so nodes sent records (Nack position ballot bound) i b last so is = absurd is
+promise_so nodes sent records (Reply number reply) i b last so is = absurd is
+promise_so nodes sent records (Report first applied actions) i b last so is = absurd is
+
+module _ {nodes : ℕ} {node : ℕ → NodePart} {sent : List Message} (sound : IsSound nodes node sent) where
+  -- what a node promised stands in its records
+  pub promise_kept : (a i b : ℕ) (last : Option Vote) → HasPromised sent a i b last → Reports (node a).records i b last
+  promise_kept a i b last promised =
+      let says : SaysSo nodes node sent (Node a) promised.0.body = subst (λ (from : Party). SaysSo nodes node sent from promised.0.body) promised.2 (sound.says promised.0 promised.1) in
+      promise_so nodes sent (node a).records promised.0.body i b last says.1 promised.3
+
+  -- a vote that was told stands in its node's records
+  pub vote_kept : (a i b : ℕ) (v : Action) → HasVoted sent a i b v → Has (Voted i b v) (node a).records
+  vote_kept a i b v told = (sound.says _ told.1).1
+
+  -- what is offered is founded and was asked for
+  pub offer_founded : (i b : ℕ) (v : Action) → IsOffered sent i b v → IsFounded nodes sent i b v
+  offer_founded i b v offered = (sound.says _ offered.2).1.1
+
+  pub offer_asked : (i b : ℕ) (v : Action) → IsOffered sent i b v → IsAsked sent v
+  offer_asked i b v offered = (sound.says _ offered.2).1.2
+
+  -- what is decided is cast, in its ballot
+  pub decided_cast : (i : ℕ) (v : Action) (decided : IsDecided nodes sent i v) → IsCast nodes node i decided.ballot v
+  decided_cast i v decided =
+      record {
+        voters = decided.voters;
+        members = decided.members;
+        majority = decided.majority;
+        voted = λ a voter. vote_kept a i decided.ballot v (decided.voted a voter);
+      }
+
+  -- what is cast is offered, in its ballot
+  pub cast_offered : (i b : ℕ) (v : Action) → IsCast nodes node i b v → IsOffered sent i b v
+  cast_offered i b v cast =
+      let one = majorities_share nodes cast.voters cast.voters cast.members cast.members cast.majority cast.majority in
+      sound.voted one.0 i b v (cast.voted one.0 one.1)
+
+  -- by induction on a bound of the higher ballot
+  follows_below : (i b : ℕ) (v : Action) → IsCast nodes node i b v → (most c : ℕ) (w : Action) → c < most → b < c → IsOffered sent i c w → w ≡ v
+  follows_below i b v cast zero c w below above offered = absurd (omega arith)
+  follows_below i b v cast (suc most) c w below above offered =
+      let founded = offer_founded i c w offered in
+      let meet = majorities_share nodes founded.promisers cast.voters founded.members cast.members founded.majority cast.majority in
+      let promise = founded.promised meet.0 meet.1 in
+      let reports = promise_kept meet.0 i c promise.0 (founded.told meet.0 promise.0 promise.1) in
+      let last = reports.covers b v (cast.voted meet.0 meet.2) above in
+      let highest = highest_reported meet.0 last.0 founded.promises (subst (λ (o : Option Vote). Has (let p : Promise = (meet.0, o) in p) founded.promises) last.1 promise.1) in
+      let vote = highest.0 in
+      let reported = (promise_kept highest.3 i c (Some vote) (founded.told highest.3 (Some vote) highest.4)).cast vote refl in
+      let offer = sound.voted highest.3 i vote.ballot vote.action reported.0 in
+      let action : w ≡ vote.action = founded.highest vote highest.1 in
+      elim (cases_eq b vote.ballot) [
+        | inl same ↦ action ∙ sound.one_offer i vote.ballot vote.action v offer (subst (λ (d : ℕ). IsOffered sent i d v) same (cast_offered i b v cast))
+        | inr other ↦ action ∙ follows_below i b v cast most vote.ballot vote.action (omega (arith, below, reported.1)) (omega (arith, other, last.2, highest.2)) offer
+      ]
+
+  -- above the ballot in which an action is cast it alone is offered
+  pub follows : (i b : ℕ) (v : Action) → IsCast nodes node i b v → (c : ℕ) (w : Action) → b < c → IsOffered sent i c w → w ≡ v
+  follows i b v cast c w above offered = follows_below i b v cast (suc c) c w (omega arith) above offered
+
+  -- two actions that are cast at a position are one
+  pub one_cast : (i b c : ℕ) (v w : Action) → IsCast nodes node i b v → IsCast nodes node i c w → v ≡ w
+  one_cast i b c v w left right =
+      elim (cases_order b c) [
+        | inl same ↦ sound.one_offer i c v w (subst (λ (d : ℕ). IsOffered sent i d v) same (cast_offered i b v left)) (cast_offered i c w right)
+        | inr other ↦ elim other [
+          | inl below ↦ sym (follows i b v left c w below (cast_offered i c w right))
+          | inr above ↦ follows i c w right b v above (cast_offered i b v left)
+        ]
+      ]
+
+  -- two decided actions are one
+  pub one_decided : (i : ℕ) (v w : Action) → IsDecided nodes sent i v → IsDecided nodes sent i w → v ≡ w
+  one_decided i v w left right = one_cast i left.ballot right.ballot v w (decided_cast i v left) (decided_cast i w right)

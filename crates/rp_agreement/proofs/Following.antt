@@ -1,15 +1,14 @@
 -- Above a decided ballot its action alone is offered. Lamport, "Paxos Made Simple", section 2.2: P2c keeps
 -- P2b, by induction on the ballot.
-use Rattle.std.proofs.Common.{◌≡◌, ℕ, zero, suc, ◌+◌, ◌<◌, ◌≤◌, ◌/◌, ◌⊎◌, Option, Some, None, List, [], ◌∷◌, length, inl, inr, refl, sym, ap, ◌∙◌, subst, arith}
+use Rattle.std.proofs.Common.{◌≡◌, ℕ, zero, suc, ◌<◌, ◌≤◌, Option, Some, List, length, inl, inr, refl, sym, ◌∙◌, subst, arith}
 use Rattle.std.proofs.lemmas.Bool.{cases_eq, cases_order}
 use Rattle.rp_base.specs.declared.action.Action.{Action}
 use Rattle.rp_base.specs.declared.record.Vote.{Vote}
 use Rattle.rp_base.specs.declared.record.Rec.{Rec}
-use Rattle.rp_base.specs.declared.record.Rec.TheVariants.{Voted, Learned}
+use Rattle.rp_base.specs.declared.record.Rec.TheVariants.{Voted}
 use Rattle.rp_base.specs.Sets.{Has}
 use Rattle.rp_base.specs.Majority.{majority_of, AreNodes}
 use Rattle.rp_base.specs.Promises.{Promise}
-use Rattle.rp_base.specs.Records.{applied_of}
 use Rattle.rp_base.proofs.SetsMeet.{sets_meet}
 use Rattle.rp_codec.specs.Message.{Message}
 use Rattle.rp_codec.specs.declared.packet.Party.{Party}
@@ -20,7 +19,7 @@ use Rattle.rp_model.specs.Facts.{HasVoted, IsOffered, IsDecided}
 use Rattle.rp_model.specs.declared.part.NodePart.{NodePart}
 use Rattle.rp_agreement.specs.Told.{IsPromise, HasPromised, IsAsked}
 use Rattle.rp_agreement.specs.Founded.{Reports, IsFounded}
-use Rattle.rp_agreement.specs.Sound.{IsMember, IsSo, SaysSo, IsSound}
+use Rattle.rp_agreement.specs.Sound.{IsSo, SaysSo, IsSound}
 use Rattle.rp_agreement.specs.Decided.{IsCast}
 use Rattle.rp_agreement.proofs.Highest.{highest_reported}
 
@@ -113,3 +112,7 @@ module _ {nodes : ℕ} {node : ℕ → NodePart} {sent : List Message} (sound : 
   -- two decided actions are one
   pub one_decided : (i : ℕ) (v w : Action) → IsDecided nodes sent i v → IsDecided nodes sent i w → v ≡ w
   one_decided i v w left right = one_cast i left.ballot right.ballot v w (decided_cast i v left) (decided_cast i w right)
+
+  -- what is decided was asked for
+  pub decided_asked : (i : ℕ) (v : Action) → IsDecided nodes sent i v → IsAsked sent v
+  decided_asked i v decided = offer_asked i decided.ballot v (cast_offered i decided.ballot v (decided_cast i v decided))

@@ -1,6 +1,9 @@
 -- Lists of decided actions begin one order.
-use Rattle.std.proofs.Common.{◌≡◌, ℕ, zero, suc, ◌+◌, ◌<◌, ◌≤◌, ◌⊎◌, cond, Option, Some, None, List, [], ◌∷◌, ◌++◌, length, inl, inr, refl, sym, ap, ◌∙◌, subst, arith, append-nil}
-use Rattle.std.specs.Prelude.{nat_eq, slice_get}
+use Rattle.std.proofs.Common.{◌≡◌, ℕ, zero, suc, ◌+◌, ◌<◌, Option, Some, None, List, [], ◌∷◌, ◌++◌, length, inl, inr, refl, sym, ap, ◌∙◌, subst, arith, append-nil, length-append}
+use Rattle.std.specs.Prelude.{◌-◌, nat_eq, slice_get, take, drop}
+use Rattle.std.proofs.lemmas.List.{take-append-le}
+use Rattle.std.proofs.lemmas.Option.{slice_get_within}
+use Rattle.rp_codec.specs.Message.{report_len}
 use Rattle.std.proofs.lemmas.Bool.{cases_Bool, cond-true, cond-false, eqb-true}
 use Rattle.rp_base.specs.declared.action.Action.{Action}
 use Rattle.rp_base.specs.declared.record.Rec.{Rec}
@@ -10,7 +13,7 @@ use Rattle.rp_base.specs.Records.{learned_in, or_else, learned_at, learned_run, 
 use Rattle.rp_codec.specs.Message.{Message}
 use Rattle.rp_model.specs.Facts.{IsDecided, IsOrder}
 use Rattle.rp_model.specs.declared.part.NodePart.{NodePart}
-use Rattle.rp_agreement.specs.Sound.{IsSound}
+use Rattle.rp_agreement.specs.Sound.{IsReported, IsSound}
 use Rattle.rp_agreement.specs.Order.{Begins, AreAlike, AreDecided, AllSent}
 use Rattle.rp_agreement.proofs.Highest.{some_is}
 use Rattle.rp_agreement.proofs.Following.{one_decided}
@@ -111,3 +114,29 @@ decided_stays nodes sent later i v all decided =
       majority = decided.majority;
       voted = λ a voter. let told = decided.voted a voter in (told.0, all _ told.1);
     }
+
+pub all_decided_stays : (nodes : ℕ) (sent later : List Message) (xs : List Action) → AllSent sent later → AreDecided nodes sent xs → AreDecided nodes later xs
+all_decided_stays nodes sent later xs all decided k v e = decided_stays nodes sent later (suc k) v all (decided k v e)
+
+-- what two nodes applied, the second one seen at a later moment
+pub applied_alike : (nodes : ℕ) (node after : ℕ → NodePart) (sent later : List Message) → IsSound nodes node sent → IsSound nodes after later → AllSent sent later
+    → (x y : ℕ) → AreAlike (applied_of (node x).records) (applied_of (after y).records)
+applied_alike nodes node after sent later before now all x y =
+    let xs = applied_of (node x).records in
+    decided_alike now xs (applied_of (after y).records) (all_decided_stays nodes sent later xs all (applied_decided before x)) (applied_decided now y)
+
+-- equally long lists of which one begins the other are equal
+begins_equal : (xs ys : List Action) → Begins xs ys → length xs ≡ length ys → ys ≡ xs
+begins_equal xs ys begins long = no_more xs ys begins (λ v e. let within : length xs < length ys = slice_get_within ys (length xs) v e in omega (arith, within, long))
+
+pub alike_equal : (xs ys : List Action) → AreAlike xs ys → length xs ≡ length ys → xs ≡ ys
+alike_equal xs ys same long = elim same [ inl begins ↦ sym (begins_equal xs ys begins long) | inr begins ↦ begins_equal ys xs begins (sym long) ]
+
+-- ---- what a report tells
+
+-- it tells the same of a longer list
+pub reported_more : (xs ys : List Action) → Begins xs ys → (first applied : ℕ) (actions : List Action) → IsReported xs first applied actions → IsReported ys first applied actions
+reported_more xs ys begins first applied actions told =
+    let long : length ys ≡ length xs + length begins.0 = ap length begins.1 ∙ length-append xs begins.0 in
+    let same : take applied ys ≡ take applied xs = ap (take applied) begins.1 ∙ take-append-le applied xs begins.0 told.0 in
+    (omega (arith, long, told.0), told.1 ∙ ap (λ (list : List Action). take (report_len first applied) (drop (first - 1) list)) (sym same))

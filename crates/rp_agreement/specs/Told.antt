@@ -5,6 +5,7 @@ use Rattle.rp_base.specs.Sets.{Has}
 use Rattle.rp_base.specs.declared.action.Action.{Action}
 use Rattle.rp_base.specs.declared.record.Vote.{Vote}
 use Rattle.rp_codec.specs.Message.{Message}
+use Rattle.rp_codec.specs.declared.packet.Party.{Party}
 use Rattle.rp_codec.specs.declared.packet.Party.TheVariants.{Node}
 use Rattle.rp_codec.specs.declared.packet.Body.{Body}
 use Rattle.rp_codec.specs.declared.packet.Body.TheVariants.{Call, Prepare, Promise, Accept, Accepted, Decided, Ask, Nack, Reply, Report}
@@ -36,3 +37,7 @@ Asks sent task action = (node : ℕ) × Has (asks task node action) sent
 pub record IsAsked (sent : List Message) (action : Action) : Type 0 where
   pub right : IsRight action
   pub asked : (call : CallName) → Has call (calls_of action) → Asks sent call.task action
+
+-- the node said this to someone
+abbrev pub Says : List Message → ℕ → Body → Type 0
+Says sent a body = (to : Party) × Has (record { from = Node a; to = to; body = body }) sent

@@ -8,7 +8,6 @@ use Rattle.rp_base.specs.declared.record.Rec.{Rec}
 use Rattle.rp_base.specs.declared.record.Rec.TheVariants.{Voted}
 use Rattle.rp_base.specs.Sets.{Has}
 use Rattle.rp_base.specs.Majority.{majority_of, AreNodes}
-use Rattle.rp_base.specs.Promises.{Promise}
 use Rattle.rp_base.proofs.SetsMeet.{sets_meet}
 use Rattle.rp_codec.specs.Message.{Message}
 use Rattle.rp_codec.specs.declared.packet.Party.{Party}
@@ -75,23 +74,41 @@ module _ {nodes : ℕ} {node : ℕ → NodePart} {sent : List Message} (sound : 
       let one = majorities_share nodes cast.voters cast.voters cast.members cast.members cast.majority cast.majority in
       sound.voted one.0 i b v (cast.voted one.0 one.1)
 
+  -- a vote that a promise reports was cast for what is offered in its ballot, which is lower
+  vote_reported : (a i c : ℕ) (vote : Vote) → HasPromised sent a i c (Some vote) → IsOffered sent i vote.ballot vote.action × (vote.ballot < c)
+  vote_reported a i c vote promised =
+      let reported = (promise_kept a i c (Some vote) promised).cast vote refl in
+      (sound.voted a i vote.ballot vote.action reported.0, reported.1)
+
+  -- in the ballot in which an action is cast it alone is offered
+  same_ballot : (i b c : ℕ) (v w : Action) → IsCast nodes node i b v → b ≡ c → IsOffered sent i c w → w ≡ v
+  same_ballot i b c v w cast same offered = sound.one_offer i c w v offered (subst (λ (d : ℕ). IsOffered sent i d v) same (cast_offered i b v cast))
+
+  -- What is offered above the ballot in which an action is cast is the action of a vote from there up to
+  -- below the offer: the two majorities share a node, whose promise reports such a vote.
+  takes_from : (i b c : ℕ) (v w : Action) → IsCast nodes node i b v → b < c → IsOffered sent i c w
+      → (vote : Vote) × (w ≡ vote.action) × IsOffered sent i vote.ballot vote.action × (b ≤ vote.ballot) × (vote.ballot < c)
+  takes_from i b c v w cast above offered =
+      let founded = offer_founded i c w offered in
+      let shared = majorities_share nodes founded.promisers cast.voters founded.members cast.members founded.majority cast.majority in
+      let promise = founded.promised shared.0 shared.1 in
+      let reports = promise_kept shared.0 i c promise.0 (founded.told shared.0 promise.0 promise.1) in
+      let last = reports.covers b v (cast.voted shared.0 shared.2) above in
+      let highest = highest_reported shared.0 promise.0 last.0 founded.promises promise.1 last.1 in
+      let vote = highest.0 in
+      let reported = vote_reported highest.3 i c vote (founded.told highest.3 (Some vote) highest.4) in
+      (vote, founded.highest vote highest.1, reported.0, omega (arith, last.2, highest.2), reported.1)
+
   -- by induction on a bound of the higher ballot
   follows_below : (i b : ℕ) (v : Action) → IsCast nodes node i b v → (most c : ℕ) (w : Action) → c < most → b < c → IsOffered sent i c w → w ≡ v
   follows_below i b v cast zero c w below above offered = absurd (omega arith)
   follows_below i b v cast (suc most) c w below above offered =
-      let founded = offer_founded i c w offered in
-      let meet = majorities_share nodes founded.promisers cast.voters founded.members cast.members founded.majority cast.majority in
-      let promise = founded.promised meet.0 meet.1 in
-      let reports = promise_kept meet.0 i c promise.0 (founded.told meet.0 promise.0 promise.1) in
-      let last = reports.covers b v (cast.voted meet.0 meet.2) above in
-      let highest = highest_reported meet.0 last.0 founded.promises (subst (λ (o : Option Vote). Has (let p : Promise = (meet.0, o) in p) founded.promises) last.1 promise.1) in
-      let vote = highest.0 in
-      let reported = (promise_kept highest.3 i c (Some vote) (founded.told highest.3 (Some vote) highest.4)).cast vote refl in
-      let offer = sound.voted highest.3 i vote.ballot vote.action reported.0 in
-      let action : w ≡ vote.action = founded.highest vote highest.1 in
-      elim (cases_eq b vote.ballot) [
-        | inl same ↦ action ∙ sound.one_offer i vote.ballot vote.action v offer (subst (λ (d : ℕ). IsOffered sent i d v) same (cast_offered i b v cast))
-        | inr other ↦ action ∙ follows_below i b v cast most vote.ballot vote.action (omega (arith, below, reported.1)) (omega (arith, other, last.2, highest.2)) offer
+      let taken = takes_from i b c v w cast above offered in
+      let vote = taken.0 in
+      taken.1
+      ∙ elim (cases_eq b vote.ballot) [
+        | inl same ↦ same_ballot i b vote.ballot v vote.action cast same taken.2
+        | inr other ↦ follows_below i b v cast most vote.ballot vote.action (omega (arith, below, taken.4)) (omega (arith, other, taken.3)) taken.2
       ]
 
   -- above the ballot in which an action is cast it alone is offered
@@ -102,7 +119,7 @@ module _ {nodes : ℕ} {node : ℕ → NodePart} {sent : List Message} (sound : 
   pub one_cast : (i b c : ℕ) (v w : Action) → IsCast nodes node i b v → IsCast nodes node i c w → v ≡ w
   one_cast i b c v w left right =
       elim (cases_order b c) [
-        | inl same ↦ sound.one_offer i c v w (subst (λ (d : ℕ). IsOffered sent i d v) same (cast_offered i b v left)) (cast_offered i c w right)
+        | inl same ↦ sym (same_ballot i b c v w left same (cast_offered i c w right))
         | inr other ↦ elim other [
           | inl below ↦ sym (follows i b v left c w below (cast_offered i c w right))
           | inr above ↦ follows i c w right b v above (cast_offered i b v left)

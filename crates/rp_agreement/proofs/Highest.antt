@@ -86,10 +86,9 @@ highest_covers (v ∷ rest) vote h =
     )
 
 -- Where a promise reports a vote, some promise reports the highest one.
-pub highest_reported : (a : ℕ) (w : Vote) (promises : List Promise) → Has (a, Some w) promises
+pub highest_reported : (a : ℕ) (last : Option Vote) (w : Vote) (promises : List Promise) → Has (a, last) promises → last ≡ Some w
     → (h : Vote) × (highest_vote promises ≡ Some h) × (w.ballot ≤ h.ballot) × (other : ℕ) × Has (other, Some h) promises
-highest_reported a w promises here =
-    let promise : Promise = (a, Some w) in
-    let covered = highest_covers (filter_map (λ p. p.1) promises) w (is_picked (λ (p : Promise). p.1) promise w promises here refl) in
+highest_reported a last w promises here reports =
+    let covered = highest_covers (filter_map (λ p. p.1) promises) w (is_picked (λ (p : Promise). p.1) (let promise : Promise = (a, last) in promise) w promises here reports) in
     let picked = was_picked (λ (p : Promise). p.1) covered.0 promises (highest_has (filter_map (λ p. p.1) promises) covered.0 covered.1) in
     (covered.0, covered.1, covered.2, picked.0.0, subst (λ (o : Option Vote). Has (let p : Promise = (picked.0.0, o) in p) promises) picked.2 picked.1)

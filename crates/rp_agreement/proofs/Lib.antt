@@ -1,3 +1,15 @@
 pub mod Highest
 pub mod Following
 pub mod Ordering
+pub mod Lists
+pub mod RecordGrowth
+pub mod Sending
+pub mod Keeps
+pub mod Turns
+pub mod Acceptors
+pub mod Proposing
+pub mod Offering
+pub mod Leaders
+pub mod Learners
+pub mod Pendings
+pub mod Receives

@@ -75,8 +75,7 @@ highest_has (vote ∷ rest) h e =
 pub highest_covers : (votes : List Vote) (vote : Vote) → Has vote votes → (h : Vote) × (highest votes ≡ Some h) × (vote.ballot ≤ h.ballot)
 highest_covers [] vote h = absurd h
 highest_covers (v ∷ rest) vote h =
-    let higher = higher_is v (highest rest) in
-    (
+    let higher = higher_is v (highest rest) in (
       higher_vote v (highest rest),
       refl,
       elim h [

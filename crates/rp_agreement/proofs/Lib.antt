@@ -1,6 +1,3 @@
-pub mod Highest
-pub mod Following
-pub mod Ordering
 pub mod Lists
 pub mod RecordGrowth
 pub mod Sending
@@ -13,3 +10,8 @@ pub mod Leaders
 pub mod Learners
 pub mod Pendings
 pub mod Receives
+pub mod Highest
+pub mod Following
+pub mod Ordering
+pub mod Counting
+pub mod Computing

@@ -5,3 +5,4 @@ pub mod Steps
 pub mod Worlds
 pub mod Decided
 pub mod Order
+pub mod Computed

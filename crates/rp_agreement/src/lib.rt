@@ -18,8 +18,14 @@ mod opening;
 mod order;
 mod packets;
 
-pub use decisions::{decisions_are_one, decisions_stay, only_asked_actions_are_decided, only_decided_actions_are_learned};
+pub use decisions::{
+    decisions_are_one, decisions_stay, only_asked_actions_are_decided,
+    only_decided_actions_are_learned,
+};
 pub use offers::{offers_are_one, offers_follow_decisions};
 pub use opening::the_opening_is_sound;
-pub use order::{applied_lists_are_alike, applied_lists_begin_the_order, reports_tell_the_order, states_are_alike, the_order_grows, the_order_is_one};
+pub use order::{
+    applied_lists_are_alike, applied_lists_begin_the_order, reports_tell_the_order,
+    states_are_alike, the_order_exists, the_order_grows, the_order_is_one,
+};
 pub use packets::packets_say_so;

@@ -8,11 +8,17 @@ ghost use Rattle.rp_codec.specs.declared.packet.Body.TheVariants.{Report};
 ghost use Rattle.rp_machine.specs.Replay.{replay_of};
 ghost use Rattle.rp_model.specs.Facts.{IsOrder};
 ghost use Rattle.rp_model.specs.declared.part.NodePart.{NodePart};
+ghost use Rattle.rp_agreement.specs.Computed.{order_of};
 ghost use Rattle.rp_agreement.specs.Order.{Begins, AreAlike, AllSent};
 ghost use Rattle.rp_agreement.specs.Sound.{IsReported, IsSound};
 ghost use Rattle.rp_agreement.specs.Told.{Says};
 
 use rp_machine::Machine;
+
+/// There is an order: it can be read off the packets.
+pub fn the_order_exists()
+    ensures { (nodes : ℕ) (sent : List Message) → IsOrder nodes sent (order_of nodes sent) }
+{}
 
 /// There is one order at most.
 pub fn the_order_is_one()

@@ -7,12 +7,13 @@ ghost use Rattle.rp_base.specs.Sets.{Has};
 ghost use Rattle.rp_base.specs.declared.action.Action.{Action};
 ghost use Rattle.rp_base.specs.declared.record.Rec.TheVariants.{Learned};
 ghost use Rattle.rp_codec.specs.Message.{Message};
+ghost use Rattle.rp_codec.specs.declared.packet.Body.TheVariants.{Decided};
 ghost use Rattle.rp_model.specs.Facts.{IsDecided};
 ghost use Rattle.rp_model.specs.declared.part.NodePart.{NodePart};
 ghost use Rattle.rp_agreement.specs.Decided.{IsCast};
 ghost use Rattle.rp_agreement.specs.Order.{AllSent};
 ghost use Rattle.rp_agreement.specs.Sound.{IsSound};
-ghost use Rattle.rp_agreement.specs.Told.{IsAsked};
+ghost use Rattle.rp_agreement.specs.Told.{IsAsked, Says};
 
 /// At a position one action at most is decided, whether votes are counted in the packets or in what
 /// the nodes wrote; and what the packets tell decided the nodes wrote.
@@ -34,11 +35,20 @@ pub fn only_asked_actions_are_decided()
         → (i : ℕ) (v : Action) → IsDecided nodes sent i v → IsAsked sent v }
 {}
 
-/// What a node learns is decided.
+/// What a node learns, or says that it has learned, is decided; so what nodes learn at a position is
+/// one action.
 pub fn only_decided_actions_are_learned()
-    ensures { (nodes : ℕ) (node : ℕ → NodePart) (sent : List Message) → IsSound nodes node sent
+    ensures learned { (nodes : ℕ) (node : ℕ → NodePart) (sent : List Message)
+        → IsSound nodes node sent
         → (x i : ℕ) (v : Action)
         → Has (Learned i v) (node x).records → IsDecided nodes sent i v }
+    ensures told { (nodes : ℕ) (node : ℕ → NodePart) (sent : List Message)
+        → IsSound nodes node sent
+        → (x i : ℕ) (v : Action) → Says sent x (Decided i v) → IsDecided nodes sent i v }
+    ensures one { (nodes : ℕ) (node : ℕ → NodePart) (sent : List Message)
+        → IsSound nodes node sent
+        → (x y i : ℕ) (v w : Action)
+        → Has (Learned i v) (node x).records → Has (Learned i w) (node y).records → v ≡ w }
 {}
 
 /// What is decided stays decided, whatever is sent later.

@@ -1,5 +1,5 @@
 -- A node's steps as an acceptor are sound.
-use Rattle.std.proofs.Common.{◌≡◌, ℕ, ◌<◌, ◌≤◌, Bool, true, false, cond, Option, Some, None, List, [], ◌∷◌, ◌++◌, ◌⊎◌, inl, inr, refl, sym, ap, subst, ◌∙◌, arith}
+use Rattle.std.proofs.Common.{◌≡◌, ℕ, ◌<◌, ◌≤◌, cond, Option, Some, None, List, [], ◌∷◌, ◌++◌, inl, inr, refl, sym, subst}
 use Rattle.std.specs.Prelude.{nat_lt, nat_eq}
 use Rattle.std.proofs.lemmas.Bool.{cases_Bool, cond-true, cond-false, eqb-true, ltb-true, ltb-false}
 use Rattle.rp_base.specs.declared.action.Action.{Action}
@@ -17,19 +17,15 @@ use Rattle.rp_base.specs.Voting.{prepare_answer, vote_answer, accept_answer}
 use Rattle.rp_base.proofs.Sameness.{action_decides}
 use Rattle.rp_base.proofs.Members.{has_right}
 use Rattle.rp_codec.specs.Message.{Message}
-use Rattle.rp_codec.specs.declared.packet.Party.TheVariants.{Node}
 use Rattle.rp_codec.specs.declared.packet.Body.{Body}
 use Rattle.rp_codec.specs.declared.packet.Body.TheVariants as bodies
 use Rattle.rp_model.specs.declared.part.Running.{Running}
-use Rattle.rp_model.specs.declared.part.Turn.{Turn}
-use Rattle.rp_model.specs.Parts.{with_record}
-use Rattle.rp_model.specs.Says.{says, sends, notes, writes}
+use Rattle.rp_model.specs.Says.{says, writes}
 use Rattle.rp_model.specs.Acceptor.{tells_promise, on_prepare, tells_vote, on_accept}
 use Rattle.rp_model.specs.Facts.{IsOffered}
 use Rattle.rp_agreement.specs.Sound.{IsSo, IsRunning}
-use Rattle.rp_agreement.specs.Steps.{MayWrite, IsSoundStep}
 use Rattle.rp_agreement.proofs.RecordGrowth.{reports, last_cast}
-use Rattle.rp_agreement.proofs.Turns.{IsSoundTurn, IsOffer, IsPlain, none_plain, one_plain, plain, quiet, sending, either, runs_written}
+use Rattle.rp_agreement.proofs.Turns.{IsSoundTurn, IsOffer, IsPlain, one_plain, plain, quiet, sending, runs_written}
 
 -- one packet to one node
 one_said : (nodes x : ℕ) (sent : List Message) (records : List Rec) (body : Body) (to : ℕ) → IsSo nodes sent records body → (¬ IsOffer body)

@@ -23,7 +23,7 @@ use Rattle.rp_codec.specs.declared.packet.Body.TheVariants.{Call, Prepare, Promi
 use Rattle.rp_machine.specs.Replay.{one_to}
 use Rattle.rp_model.specs.Facts.{HasVoted, IsDecided, IsOrder}
 use Rattle.rp_agreement.specs.Computed.{vote_in, vote_between, votes_told, decided_at, decided_run, order_of}
-use Rattle.rp_agreement.proofs.Highest.{some_is, was_picked, is_picked}
+use Rattle.rp_agreement.proofs.Lists.{some_same, has_picked, picked_has, found_has}
 use Rattle.rp_agreement.proofs.Counting.{majority_decides, decided_counts, decided_voter}
 
 -- ---- the votes that were told
@@ -38,7 +38,7 @@ vote_is a (Promise position ballot last) h e = absurd (cc)
 vote_is a (Accept position ballot action) h e = absurd (cc)
 vote_is a (Accepted position ballot action) h e =
     let told : HeardVote = (a, position, record { ballot = ballot; action = action }) in
-    let same : told ≡ h = some_is told h e in
+    let same : told ≡ h = some_same e in
     (λ k. (sym same k).0, λ k. Accepted (same k).1 (same k).2.ballot (same k).2.action)
 vote_is a (Decided position action) h e = absurd (cc)
 vote_is a (Ask position) h e = absurd (cc)
@@ -60,25 +60,13 @@ abbrev vote_of : Message → Option HeardVote
 vote_of m = vote_between m.from m.to m.body
 
 was_told : (sent : List Message) (h : HeardVote) → Has h (votes_told sent) → HasVoted sent h.0 h.1 h.2.ballot h.2.action
-was_told sent h told = let from = was_picked vote_of h sent told in between_is sent from.0.from from.0.to from.0.body h from.1 from.2
+was_told sent h told = let from = has_picked vote_of h sent told in between_is sent from.0.from from.0.to from.0.body h from.1 from.2
 
 is_told : (sent : List Message) (a i : ℕ) (w : Vote) → HasVoted sent a i w.ballot w.action → Has (a, i, w) (votes_told sent)
 is_told sent a i w voted =
-    is_picked vote_of (record { from = Node a; to = Node voted.0; body = Accepted i w.ballot w.action }) (let h : HeardVote = (a, i, w) in h) sent voted.1 refl
+    picked_has vote_of (record { from = Node a; to = Node voted.0; body = Accepted i w.ballot w.action }) (let h : HeardVote = (a, i, w) in h) sent voted.1 refl
 
 -- ---- what a search finds
-
-found_is : {A : Type 0} (test : A → Bool) (x : A) (xs : List A) → find test xs ≡ Some x → Has x xs × (test x ≡ true)
-found_is test x [] e = absurd (cc)
-found_is {A} test x (y ∷ xs) e =
-    elim (cases_Bool (test y)) [
-      | inl hit ↦
-          let same : y ≡ x = some_is y x (sym (cond-true (test y) (Some y) (find test xs) hit) ∙ e) in
-          (inl (sym same), subst (λ (z : A). test z ≡ true) same hit)
-      | inr miss ↦
-          let rest = found_is test x xs (sym (cond-false (test y) (Some y) (find test xs) miss) ∙ e) in
-          (inr rest.0, rest.1)
-    ]
 
 none_passes : {A : Type 0} (test : A → Bool) (x : A) (xs : List A) → find test xs ≡ None → Has x xs → ¬ (test x ≡ true)
 none_passes test x [] e h passing = h
@@ -125,8 +113,8 @@ module _ (nodes : ℕ) (sent : List Message) where
       by : (o : Option HeardVote) → find (wins i) (votes_told sent) ≡ o → option_map (λ h. h.2.action) o ≡ Some v → IsDecided nodes sent i v
       by None found e = absurd (cc)
       by (Some h) found e =
-          let is = found_is (wins i) h (votes_told sent) found in
-          let same : h.2.action ≡ v = some_is h.2.action v e in
+          let is = found_has (wins i) h (votes_told sent) found in
+          let same : h.2.action ≡ v = some_same e in
           subst (IsDecided nodes sent i) same (majority_decides nodes sent i h.2 (votes_told sent) (λ a told. was_told sent (let k : HeardVote = (a, i, h.2) in k) told) (and_parts _ _ is.1).1)
 
   decided_is_found : (i : ℕ) (v : Action) → IsDecided nodes sent i v → ¬ (decided_at nodes sent i ≡ None)

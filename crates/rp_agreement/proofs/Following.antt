@@ -1,62 +1,35 @@
 -- Above a decided ballot its action alone is offered. Lamport, "Paxos Made Simple", section 2.2: P2c keeps
 -- P2b, by induction on the ballot.
-use Rattle.std.proofs.Common.{◌≡◌, ℕ, zero, suc, ◌<◌, ◌≤◌, Option, Some, List, length, inl, inr, refl, sym, ◌∙◌, subst, arith}
+use Rattle.std.proofs.Common.{◌≡◌, ℕ, zero, suc, ◌<◌, ◌≤◌, Some, List, length, inl, inr, refl, sym, ◌∙◌, subst, arith}
 use Rattle.std.proofs.lemmas.Bool.{cases_eq, cases_order}
 use Rattle.rp_base.specs.declared.action.Action.{Action}
 use Rattle.rp_base.specs.declared.record.Vote.{Vote}
-use Rattle.rp_base.specs.declared.record.Rec.{Rec}
 use Rattle.rp_base.specs.declared.record.Rec.TheVariants.{Voted}
 use Rattle.rp_base.specs.Sets.{Has}
 use Rattle.rp_base.specs.Majority.{majority_of, AreNodes}
 use Rattle.rp_base.proofs.SetsMeet.{sets_meet}
 use Rattle.rp_codec.specs.Message.{Message}
-use Rattle.rp_codec.specs.declared.packet.Party.{Party}
-use Rattle.rp_codec.specs.declared.packet.Party.TheVariants.{Node}
-use Rattle.rp_codec.specs.declared.packet.Body.{Body}
-use Rattle.rp_codec.specs.declared.packet.Body.TheVariants.{Call, Prepare, Promise as Promises, Accept, Accepted, Decided, Ask, Nack, Reply, Report}
 use Rattle.rp_model.specs.Facts.{HasVoted, IsOffered, IsDecided}
 use Rattle.rp_model.specs.declared.part.NodePart.{NodePart}
-use Rattle.rp_agreement.specs.Told.{IsPromise, HasPromised, IsAsked}
-use Rattle.rp_agreement.specs.Founded.{Reports, IsFounded}
-use Rattle.rp_agreement.specs.Sound.{IsSo, SaysSo, IsSound}
+use Rattle.rp_agreement.specs.Told.{HasPromised, IsAsked}
+use Rattle.rp_agreement.specs.Founded.{IsFounded}
+use Rattle.rp_agreement.specs.Sound.{IsSound}
 use Rattle.rp_agreement.specs.Decided.{IsCast}
+use Rattle.rp_agreement.proofs.Offering.{promise_kept, offer_asked}
 use Rattle.rp_agreement.proofs.Highest.{highest_reported}
 
 -- two majorities of the same nodes share one
 majorities_share : (nodes : ℕ) (xs ys : List ℕ) → AreNodes nodes xs → AreNodes nodes ys → majority_of nodes ≤ length xs → majority_of nodes ≤ length ys → (a : ℕ) × Has a xs × Has a ys
 majorities_share nodes xs ys left right some more = sets_meet nodes xs ys left.distinct right.distinct left.members right.members (omega (arith, some, more))
 
--- what a promise says
-promise_so : (nodes : ℕ) (sent : List Message) (records : List Rec) (body : Body) (i b : ℕ) (last : Option Vote) → IsSo nodes sent records body → IsPromise body i b last → Reports records i b last
-promise_so nodes sent records (Call action) i b last so is = absurd is
-promise_so nodes sent records (Prepare position ballot) i b last so is = absurd is
-promise_so nodes sent records (Promises position ballot vote) i b last so is =
-    subst (λ (p : ℕ × ℕ × Option Vote). Reports records p.0 p.1 p.2) (λ k. (is.0 k, is.1 k, is.2 k)) so
-promise_so nodes sent records (Accept position ballot action) i b last so is = absurd is
-promise_so nodes sent records (Accepted position ballot action) i b last so is = absurd is
-promise_so nodes sent records (Decided position action) i b last so is = absurd is
-promise_so nodes sent records (Ask position) i b last so is = absurd is
-promise_so nodes sent records (Nack position ballot bound) i b last so is = absurd is
-promise_so nodes sent records (Reply number reply) i b last so is = absurd is
-promise_so nodes sent records (Report first applied actions) i b last so is = absurd is
-
 module _ {nodes : ℕ} {node : ℕ → NodePart} {sent : List Message} (sound : IsSound nodes node sent) where
-  -- what a node promised stands in its records
-  pub promise_kept : (a i b : ℕ) (last : Option Vote) → HasPromised sent a i b last → Reports (node a).records i b last
-  promise_kept a i b last promised =
-      let says : SaysSo nodes node sent (Node a) promised.0.body = subst (λ (from : Party). SaysSo nodes node sent from promised.0.body) promised.2 (sound.says promised.0 promised.1) in
-      promise_so nodes sent (node a).records promised.0.body i b last says.1 promised.3
-
   -- a vote that was told stands in its node's records
   pub vote_kept : (a i b : ℕ) (v : Action) → HasVoted sent a i b v → Has (Voted i b v) (node a).records
   vote_kept a i b v told = (sound.says _ told.1).1
 
-  -- what is offered is founded and was asked for
+  -- what is offered is founded
   pub offer_founded : (i b : ℕ) (v : Action) → IsOffered sent i b v → IsFounded nodes sent i b v
   offer_founded i b v offered = (sound.says _ offered.2).1.1
-
-  pub offer_asked : (i b : ℕ) (v : Action) → IsOffered sent i b v → IsAsked sent v
-  offer_asked i b v offered = (sound.says _ offered.2).1.2
 
   -- what is decided is cast, in its ballot
   pub decided_cast : (i : ℕ) (v : Action) (decided : IsDecided nodes sent i v) → IsCast nodes node i decided.ballot v
@@ -77,7 +50,7 @@ module _ {nodes : ℕ} {node : ℕ → NodePart} {sent : List Message} (sound : 
   -- a vote that a promise reports was cast for what is offered in its ballot, which is lower
   vote_reported : (a i c : ℕ) (vote : Vote) → HasPromised sent a i c (Some vote) → IsOffered sent i vote.ballot vote.action × (vote.ballot < c)
   vote_reported a i c vote promised =
-      let reported = (promise_kept a i c (Some vote) promised).cast vote refl in
+      let reported = (promise_kept nodes node sent sound a i c (Some vote) promised).1.cast vote refl in
       (sound.voted a i vote.ballot vote.action reported.0, reported.1)
 
   -- in the ballot in which an action is cast it alone is offered
@@ -92,7 +65,7 @@ module _ {nodes : ℕ} {node : ℕ → NodePart} {sent : List Message} (sound : 
       let founded = offer_founded i c w offered in
       let shared = majorities_share nodes founded.promisers cast.voters founded.members cast.members founded.majority cast.majority in
       let promise = founded.promised shared.0 shared.1 in
-      let reports = promise_kept shared.0 i c promise.0 (founded.told shared.0 promise.0 promise.1) in
+      let reports = (promise_kept nodes node sent sound shared.0 i c promise.0 (founded.told shared.0 promise.0 promise.1)).1 in
       let last = reports.covers b v (cast.voted shared.0 shared.2) above in
       let highest = highest_reported shared.0 promise.0 last.0 founded.promises promise.1 last.1 in
       let vote = highest.0 in
@@ -132,4 +105,4 @@ module _ {nodes : ℕ} {node : ℕ → NodePart} {sent : List Message} (sound : 
 
   -- what is decided was asked for
   pub decided_asked : (i : ℕ) (v : Action) → IsDecided nodes sent i v → IsAsked sent v
-  decided_asked i v decided = offer_asked i decided.ballot v (cast_offered i decided.ballot v (decided_cast i v decided))
+  decided_asked i v decided = offer_asked nodes node sent sound i decided.ballot v (cast_offered i decided.ballot v (decided_cast i v decided))

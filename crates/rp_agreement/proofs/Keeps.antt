@@ -1,11 +1,10 @@
 -- A sound step of one node keeps the invariant of the world.
-use Rattle.std.proofs.Common.{◌≡◌, ◌≢◌, ℕ, Option, Some, None, List, [], ◌∷◌, ◌⊎◌, inl, inr, refl, sym, ap, subst, ◌∙◌}
+use Rattle.std.proofs.Common.{◌≡◌, ◌≢◌, ℕ, Option, Some, List, ◌⊎◌, inl, inr, refl, sym, ap, subst, ◌∙◌}
 use Rattle.std.proofs.lemmas.Bool.{cases_eq}
 use Rattle.rp_base.specs.declared.action.Action.{Action}
-use Rattle.rp_base.specs.declared.record.Vote.{Vote}
 use Rattle.rp_base.specs.declared.record.Rec.{Rec}
-use Rattle.rp_base.specs.declared.record.Rec.TheVariants.{Started, Promised, Voted, Learned}
-use Rattle.rp_base.specs.declared.proposal.Phase.TheVariants.{Preparing, Offering}
+use Rattle.rp_base.specs.declared.record.Rec.TheVariants.{Started, Voted, Learned}
+use Rattle.rp_base.specs.declared.proposal.Phase.TheVariants.{Preparing}
 use Rattle.rp_base.specs.Ballot.{owner_of}
 use Rattle.rp_base.specs.Sets.{Has}
 use Rattle.rp_base.specs.Proposals.{Proposal}
@@ -13,14 +12,13 @@ use Rattle.rp_codec.specs.Message.{Message}
 use Rattle.rp_codec.specs.declared.packet.Party.{Party}
 use Rattle.rp_codec.specs.declared.packet.Party.TheVariants.{Node, Task, Audit}
 use Rattle.rp_codec.specs.declared.packet.Body.{Body}
-use Rattle.rp_codec.specs.declared.packet.Body.TheVariants as bodies
 use Rattle.rp_model.specs.declared.part.Running.{Running}
 use Rattle.rp_model.specs.declared.part.NodePart.{NodePart}
 use Rattle.rp_model.specs.Parts.{with_record}
-use Rattle.rp_model.specs.Facts.{HasVoted, IsOffered, IsDecided}
-use Rattle.rp_agreement.specs.Sound.{IsMember, IsSo, SaysSo, IsCall, IsProposal, IsRunning, IsSound}
+use Rattle.rp_model.specs.Facts.{IsOffered, IsDecided}
+use Rattle.rp_agreement.specs.Sound.{IsMember, IsSo, SaysSo, IsRunning, IsSound}
 use Rattle.rp_agreement.specs.Steps.{Happens, MayWrite, IsSoundStep}
-use Rattle.rp_agreement.proofs.RecordGrowth.{record_stays, record_or_new}
+use Rattle.rp_agreement.proofs.RecordGrowth.{record_or_new}
 use Rattle.rp_agreement.proofs.Sending.{Within, promised_more, voted_more, offered_more, decided_more, asked_more, own_asked_more, so_sent, so_written}
 
 -- an offer after the step stood before it or is one of the packets

@@ -1,6 +1,6 @@
 -- A node's steps as a leader are sound.
-use Rattle.std.proofs.Common.{◌≡◌, ◌≢◌, ℕ, ◌+◌, ◌-◌, ◌*◌, ◌/◌, ◌%◌, ◌<◌, ◌≤◌, max, Bool, true, false, cond, if◌then◌else◌, Result, Ok, Err, Option, Some, None, List, [], ◌∷◌, ◌++◌, map, ◌⊎◌, inl, inr, refl, sym, ap, subst, ◌∙◌, arith}
-use Rattle.std.specs.Prelude.{nat_eq, nat_lt, nat_le, is_some, ◌^◌, IfSome, find, unwrap_or}
+use Rattle.std.proofs.Common.{◌≡◌, ℕ, ◌+◌, ◌-◌, ◌/◌, ◌<◌, ◌≤◌, max, Bool, true, false, if◌then◌else◌, Result, Ok, Err, Option, Some, None, List, [], ◌∷◌, ◌++◌, map, inl, inr, refl, sym, ap, subst, ◌∙◌, arith}
+use Rattle.std.specs.Prelude.{nat_eq, nat_le, is_some, ◌^◌, IfSome, find, unwrap_or}
 use Rattle.std.proofs.lemmas.Bool.{cases_Bool, cond-true, cond-false, eqb-true, and_parts, false≢true}
 use Rattle.std.proofs.Math.Nat.{mul-add-mod_self_left, mod-eq_of_lt}
 use Rattle.rp_base.specs.declared.action.Action.{Action}
@@ -8,39 +8,32 @@ use Rattle.rp_base.specs.declared.action.Action.TheVariants.{Noop}
 use Rattle.rp_base.specs.declared.reply.Answer.{Answer}
 use Rattle.rp_base.specs.declared.config.Config.{Config}
 use Rattle.rp_base.specs.declared.fault.Fault.{Fault}
-use Rattle.rp_base.specs.declared.fault.Fault.TheVariants.{BallotsSpent, LogFull}
 use Rattle.rp_base.specs.declared.proposal.Phase.{Phase}
 use Rattle.rp_base.specs.declared.proposal.Phase.TheVariants.{Preparing, Offering}
 use Rattle.rp_base.specs.declared.record.Vote.{Vote}
 use Rattle.rp_base.specs.declared.record.Rec.{Rec}
 use Rattle.rp_base.specs.declared.record.Rec.TheVariants.{Started}
-use Rattle.rp_base.specs.Ballot.{owner_of, ballot_of, next_ballot, round_of, number_of, greatest_with}
-use Rattle.rp_base.specs.Sets.{Has, IsSet}
+use Rattle.rp_base.specs.Ballot.{owner_of, next_ballot, round_of, greatest_with}
+use Rattle.rp_base.specs.Sets.{Has}
 use Rattle.rp_base.specs.Records.{started_of, learned_at, applied_of}
 use Rattle.rp_base.specs.Promises.{Promise, same_promise, offer_of}
-use Rattle.rp_base.specs.Proposals.{Proposal, new_proposal, proposal_at, with_proposal, without_proposal, is_in, is_preparing, takes_promise, with_promise, is_promised, after_promise}
+use Rattle.rp_base.specs.Proposals.{Proposal, new_proposal, proposal_at, with_proposal, without_proposal, is_in, is_preparing, takes_promise, with_promise, is_promised}
 use Rattle.rp_base.proofs.Members.{has_right, mapped_has}
 use Rattle.rp_codec.specs.Message.{Message}
-use Rattle.rp_codec.specs.declared.packet.Party.{Party}
-use Rattle.rp_codec.specs.declared.packet.Party.TheVariants.{Node}
-use Rattle.rp_codec.specs.declared.packet.Body.{Body}
 use Rattle.rp_codec.specs.declared.packet.Body.TheVariants as bodies
 use Rattle.rp_machine.specs.Replay.{kept_of, one_to}
 use Rattle.rp_model.specs.declared.part.Running.{Running}
 use Rattle.rp_model.specs.declared.part.NodePart.{NodePart}
 use Rattle.rp_model.specs.declared.part.Turn.{Turn}
-use Rattle.rp_model.specs.Parts.{with_record}
-use Rattle.rp_model.specs.Says.{says, says_to_all, sends, notes, writes}
+use Rattle.rp_model.specs.Says.{says, says_to_all, sends, notes}
 use Rattle.rp_model.specs.Pending.{is_free_item, own_action}
 use Rattle.rp_model.specs.Leader.{chosen_position, is_out_of_reach, starts_above, begins, on_lead, counts_promise, on_promise_to, on_promise, on_nack}
 use Rattle.rp_model.specs.Facts.{IsOffered}
 use Rattle.rp_agreement.specs.Told.{HasPromised, IsAsked}
-use Rattle.rp_agreement.specs.Founded.{IsFounded}
-use Rattle.rp_agreement.specs.Sound.{IsMember, IsSo, IsProposal, IsRunning, IsSound}
-use Rattle.rp_agreement.specs.Steps.{MayWrite, IsSoundStep}
+use Rattle.rp_agreement.specs.Sound.{IsSo, IsProposal, IsRunning, IsSound}
 use Rattle.rp_agreement.proofs.Lists.{some_same, found_has}
 use Rattle.rp_agreement.proofs.RecordGrowth.{started_below}
-use Rattle.rp_agreement.proofs.Turns.{IsSoundTurn, IsOffer, ArePlain, said_plain, plain, quiet, either, runs_written}
+use Rattle.rp_agreement.proofs.Turns.{IsSoundTurn, said_plain, plain, quiet, either, runs_written}
 use Rattle.rp_agreement.proofs.Proposing.{member_or_new, proposal_or_new, with_apart, without_apart, stays_there}
 use Rattle.rp_agreement.proofs.Offering.{noop_asked, offer_is_asked, founds}
 

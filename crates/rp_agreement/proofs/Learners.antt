@@ -1,5 +1,5 @@
 -- A node's steps as a learner are sound.
-use Rattle.std.proofs.Common.{◌≡◌, ℕ, ◌≤◌, Bool, true, false, cond, if◌then◌else◌, Option, Some, None, List, [], ◌∷◌, ◌++◌, length, drop, map, ◌⊎◌, inl, inr, refl, sym, ap, subst, ◌∙◌}
+use Rattle.std.proofs.Common.{◌≡◌, ℕ, Bool, true, Option, Some, None, List, [], ◌∷◌, ◌++◌, length, drop, map, inl, inr, refl, sym, ap, subst}
 use Rattle.std.specs.Prelude.{nat_eq, not, filter, ◌&&◌}
 use Rattle.std.specs.List.{list_any}
 use Rattle.std.proofs.lemmas.Bool.{leb-true, and_parts, eqb-true}
@@ -10,28 +10,24 @@ use Rattle.rp_base.specs.declared.record.Vote.{Vote}
 use Rattle.rp_base.specs.declared.record.Rec.{Rec}
 use Rattle.rp_base.specs.declared.record.Rec.TheVariants.{Learned}
 use Rattle.rp_base.specs.Number.{in_range}
-use Rattle.rp_base.specs.Sets.{Has, with_member, with_members}
+use Rattle.rp_base.specs.Sets.{Has, with_member}
 use Rattle.rp_base.specs.Majority.{majority_of, nodes_among}
 use Rattle.rp_base.specs.Records.{learned_at, applied_of}
 use Rattle.rp_base.specs.Promises.{HeardVote, same_vote, same_heard, voters_of, makes_majority, heard_elsewhere}
-use Rattle.rp_base.specs.Proposals.{Proposal, without_proposal}
+use Rattle.rp_base.specs.Proposals.{without_proposal}
 use Rattle.rp_base.proofs.Members.{has_right, has_passing, has_members, mapped_has, set_members, set_passing}
 use Rattle.rp_base.proofs.Sameness.{vote_decides}
 use Rattle.rp_codec.specs.Message.{Message}
-use Rattle.rp_codec.specs.declared.packet.Party.TheVariants.{Node}
 use Rattle.rp_codec.specs.declared.packet.Body.TheVariants as bodies
 use Rattle.rp_machine.specs.Replay.{kept_of, replay_answers, one_to}
 use Rattle.rp_model.specs.declared.part.Running.{Running}
-use Rattle.rp_model.specs.declared.part.Turn.{Turn}
-use Rattle.rp_model.specs.Parts.{with_record}
-use Rattle.rp_model.specs.Says.{says, says_to_others, says_to_task, sends, notes, writes}
+use Rattle.rp_model.specs.Says.{says, says_to_others, says_to_task, notes}
 use Rattle.rp_model.specs.Pending.{is_answered_by, replies_to, stays}
 use Rattle.rp_model.specs.Learner.{missing_position, asks_for, tells_learned, on_ask, learns, on_vote, on_accepted, on_decision, on_decided}
 use Rattle.rp_model.specs.Facts.{HasVoted, IsDecided}
-use Rattle.rp_agreement.specs.Sound.{IsSo, IsRunning}
-use Rattle.rp_agreement.specs.Steps.{MayWrite, IsSoundStep}
+use Rattle.rp_agreement.specs.Sound.{IsRunning}
 use Rattle.rp_agreement.proofs.RecordGrowth.{learned_has}
-use Rattle.rp_agreement.proofs.Turns.{IsSoundTurn, IsOffer, IsPlain, ArePlain, none_plain, one_plain, both_plain, mapped_plain, said_plain, plain, quiet, sending, either, runs_written}
+use Rattle.rp_agreement.proofs.Turns.{IsSoundTurn, ArePlain, none_plain, one_plain, both_plain, mapped_plain, said_plain, plain, quiet, sending, either, runs_written}
 use Rattle.rp_agreement.proofs.Proposing.{member_or_new, without_apart, stays_there}
 
 -- each vote of the list was told

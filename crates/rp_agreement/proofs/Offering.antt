@@ -1,6 +1,6 @@
 -- A majority of promises founds an offer.
-use Rattle.std.proofs.Common.{◌≡◌, ℕ, ◌≤◌, Bool, true, false, Option, Some, None, List, [], ◌∷◌, length, map, ◌⊎◌, inl, inr, refl, sym, ap, subst, ◌∙◌}
-use Rattle.std.specs.Prelude.{nat_eq, nat_le, IfSome, unwrap_or, filter, filter_map}
+use Rattle.std.proofs.Common.{◌≡◌, ℕ, true, Option, Some, None, List, [], length, map, inl, inr, refl, sym, ap, subst}
+use Rattle.std.specs.Prelude.{nat_eq, IfSome, unwrap_or}
 use Rattle.std.proofs.lemmas.Bool.{leb-true, and_parts}
 use Rattle.std.proofs.lemmas.Bool.Decides.{Decides-eqb}
 use Rattle.rp_base.specs.declared.action.Action.{Action}
@@ -8,13 +8,12 @@ use Rattle.rp_base.specs.declared.action.Action.TheVariants.{Noop}
 use Rattle.rp_base.specs.declared.record.Vote.{Vote}
 use Rattle.rp_base.specs.declared.record.Rec.{Rec}
 use Rattle.rp_base.specs.Number.{in_range}
-use Rattle.rp_base.specs.Sets.{Has, with_members}
-use Rattle.rp_base.specs.Majority.{majority_of, AreNodes, nodes_among, is_majority}
+use Rattle.rp_base.specs.Sets.{Has}
+use Rattle.rp_base.specs.Majority.{majority_of, nodes_among, is_majority}
 use Rattle.rp_base.specs.Promises.{Promise, promisers_of, highest_vote, action_or, offer_of}
 use Rattle.rp_base.proofs.Members.{has_passing, has_members, mapped_has, set_members, set_passing}
 use Rattle.rp_codec.specs.Message.{Message}
 use Rattle.rp_codec.specs.declared.packet.Party.{Party}
-use Rattle.rp_codec.specs.declared.packet.Party.TheVariants.{Node, Task, Audit}
 use Rattle.rp_codec.specs.declared.packet.Body.{Body}
 use Rattle.rp_codec.specs.declared.packet.Body.TheVariants as bodies
 use Rattle.rp_model.specs.declared.part.NodePart.{NodePart}

@@ -1,45 +1,20 @@
 -- Lists of decided actions begin one order.
-use Rattle.std.proofs.Common.{◌≡◌, ℕ, zero, suc, ◌+◌, ◌<◌, Option, Some, None, List, [], ◌∷◌, ◌++◌, length, inl, inr, refl, sym, ap, ◌∙◌, subst, arith, append-nil, length-append}
-use Rattle.std.specs.Prelude.{◌-◌, nat_eq, slice_get, take, drop}
-use Rattle.std.proofs.lemmas.List.{take-append-le}
+use Rattle.std.proofs.Common.{◌≡◌, ℕ, zero, suc, ◌+◌, ◌<◌, Option, Some, None, List, [], ◌∷◌, ◌++◌, length, inl, inr, refl, sym, ap, ◌∙◌, subst, arith, append-nil}
+use Rattle.std.specs.Prelude.{slice_get}
 use Rattle.std.proofs.lemmas.Option.{slice_get_within}
-use Rattle.rp_codec.specs.Message.{report_len}
-use Rattle.std.proofs.lemmas.Bool.{cases_Bool, cond-true, cond-false, eqb-true}
 use Rattle.rp_base.specs.declared.action.Action.{Action}
 use Rattle.rp_base.specs.declared.record.Rec.{Rec}
-use Rattle.rp_base.specs.declared.record.Rec.TheVariants.{Started, Promised, Voted, Learned}
-use Rattle.rp_base.specs.Sets.{Has}
-use Rattle.rp_base.specs.Records.{learned_in, or_else, learned_at, learned_run, unless_missing, applied_of}
+use Rattle.rp_base.specs.Records.{learned_at, learned_run, unless_missing, applied_of}
 use Rattle.rp_codec.specs.Message.{Message}
 use Rattle.rp_model.specs.Facts.{IsDecided, IsOrder}
 use Rattle.rp_model.specs.declared.part.NodePart.{NodePart}
-use Rattle.rp_agreement.specs.Sound.{IsReported, IsSound}
+use Rattle.rp_agreement.specs.Sound.{IsSound}
 use Rattle.rp_agreement.specs.Order.{Begins, AreAlike, AreDecided, AllSent}
-use Rattle.rp_agreement.proofs.Highest.{some_is}
+use Rattle.rp_agreement.proofs.RecordGrowth.{learned_has}
+use Rattle.rp_agreement.proofs.Sending.{decided_more}
 use Rattle.rp_agreement.proofs.Following.{one_decided}
 
--- ---- what is learned stands in the records
-
-learned_in_is : (i : ℕ) (rec : Rec) (v : Action) → learned_in i rec ≡ Some v → rec ≡ Learned i v
-learned_in_is i (Started ballot) v e = absurd (cc)
-learned_in_is i (Promised position ballot) v e = absurd (cc)
-learned_in_is i (Voted position ballot action) v e = absurd (cc)
-learned_in_is i (Learned position action) v e =
-    elim (cases_Bool (nat_eq position i)) [
-      | inl here ↦
-          let place : position ≡ i = eqb-true position i here in
-          let what : action ≡ v = some_is action v (sym (cond-true (nat_eq position i) (Some action) None here) ∙ e) in
-          cc
-      | inr elsewhere ↦ let none : None ≡ Some v = sym (cond-false (nat_eq position i) (Some action) None elsewhere) ∙ e in absurd (cc)
-    ]
-
-pub learned_has : (records : List Rec) (i : ℕ) (v : Action) → learned_at records i ≡ Some v → Has (Learned i v) records
-learned_has [] i v e = absurd (cc)
-learned_has (rec ∷ rest) i v e = by (learned_in i rec) refl e (learned_has rest i v)
-  where
-    by : (o : Option Action) → learned_in i rec ≡ o → or_else o (learned_at rest i) ≡ Some v → (learned_at rest i ≡ Some v → Has (Learned i v) rest) → Has (Learned i v) (rec ∷ rest)
-    by None is e later = inr (later e)
-    by (Some found) is e later = inl (sym (learned_in_is i rec v (is ∙ e)))
+-- ---- what is applied is learned
 
 run_learned : (records : List Rec) (most i k : ℕ) (v : Action) → slice_get (learned_run records most i) k ≡ Some v → learned_at records (k + i) ≡ Some v
 run_learned records zero i k v e = absurd (cc)
@@ -105,18 +80,8 @@ module _ {nodes : ℕ} {node : ℕ → NodePart} {sent : List Message} (sound : 
 
 -- ---- at a later moment
 
-pub decided_stays : (nodes : ℕ) (sent later : List Message) (i : ℕ) (v : Action) → AllSent sent later → IsDecided nodes sent i v → IsDecided nodes later i v
-decided_stays nodes sent later i v all decided =
-    record {
-      ballot = decided.ballot;
-      voters = decided.voters;
-      members = decided.members;
-      majority = decided.majority;
-      voted = λ a voter. let told = decided.voted a voter in (told.0, all _ told.1);
-    }
-
 pub all_decided_stays : (nodes : ℕ) (sent later : List Message) (xs : List Action) → AllSent sent later → AreDecided nodes sent xs → AreDecided nodes later xs
-all_decided_stays nodes sent later xs all decided k v e = decided_stays nodes sent later (suc k) v all (decided k v e)
+all_decided_stays nodes sent later xs all decided k v e = decided_more nodes sent later all (suc k) v (decided k v e)
 
 -- what two nodes applied, the second one seen at a later moment
 pub applied_alike : (nodes : ℕ) (node after : ℕ → NodePart) (sent later : List Message) → IsSound nodes node sent → IsSound nodes after later → AllSent sent later
@@ -131,12 +96,3 @@ begins_equal xs ys begins long = no_more xs ys begins (λ v e. let within : leng
 
 pub alike_equal : (xs ys : List Action) → AreAlike xs ys → length xs ≡ length ys → xs ≡ ys
 alike_equal xs ys same long = elim same [ inl begins ↦ sym (begins_equal xs ys begins long) | inr begins ↦ begins_equal ys xs begins (sym long) ]
-
--- ---- what a report tells
-
--- it tells the same of a longer list
-pub reported_more : (xs ys : List Action) → Begins xs ys → (first applied : ℕ) (actions : List Action) → IsReported xs first applied actions → IsReported ys first applied actions
-reported_more xs ys begins first applied actions told =
-    let long : length ys ≡ length xs + length begins.0 = ap length begins.1 ∙ length-append xs begins.0 in
-    let same : take applied ys ≡ take applied xs = ap (take applied) begins.1 ∙ take-append-le applied xs begins.0 told.0 in
-    (omega (arith, long, told.0), told.1 ∙ ap (λ (list : List Action). take (report_len first applied) (drop (first - 1) list)) (sym same))

@@ -1,12 +1,11 @@
 -- A node's steps with calls, interrupts and ticks are sound.
-use Rattle.std.proofs.Common.{◌≡◌, ℕ, ◌<◌, Bool, true, false, cond, if◌then◌else◌, Option, Some, None, List, [], ◌∷◌, ◌++◌, length, ◌⊎◌, inl, inr, refl, sym, ap, subst, ◌∙◌}
+use Rattle.std.proofs.Common.{◌≡◌, ℕ, ◌<◌, if◌then◌else◌, Option, Some, None, List, [], ◌∷◌, ◌++◌, length, inl, inr, refl, sym, ap, subst, ◌∙◌}
 use Rattle.std.specs.Prelude.{nat_lt, ◌^◌}
 use Rattle.std.specs.List.{list_any}
 use Rattle.rp_base.specs.declared.action.Action.{Action}
 use Rattle.rp_base.specs.declared.action.Action.TheVariants.{Noop, Call, Interrupt, Tick}
 use Rattle.rp_base.specs.declared.reply.Answer.{Answer}
 use Rattle.rp_base.specs.declared.reply.Reply.{Reply}
-use Rattle.rp_base.specs.declared.record.Vote.{Vote}
 use Rattle.rp_base.specs.declared.record.Rec.{Rec}
 use Rattle.rp_base.specs.Action.{IsRight, IsIndex, IsCount, equal_items}
 use Rattle.rp_base.specs.Sets.{Has}
@@ -14,16 +13,14 @@ use Rattle.rp_base.proofs.Members.{has_split}
 use Rattle.rp_codec.specs.Message.{Message, IsCallBy}
 use Rattle.rp_codec.specs.declared.packet.Party.TheVariants.{Node, Task}
 use Rattle.rp_codec.specs.declared.packet.Body.TheVariants as bodies
-use Rattle.rp_machine.specs.Calls.{CallName, calls_of}
+use Rattle.rp_machine.specs.Calls.{CallName}
 use Rattle.rp_machine.specs.Asked.{last_number, last_occurrence, kept_reply}
 use Rattle.rp_model.specs.declared.part.Running.{Running}
-use Rattle.rp_model.specs.declared.part.Turn.{Turn}
-use Rattle.rp_model.specs.Says.{says_to_task, sends, notes, drops_full}
+use Rattle.rp_model.specs.Says.{says_to_task, notes, drops_full}
 use Rattle.rp_model.specs.Pending.{most_pending, adds_pending, on_numbered, on_call, on_interrupt, on_tick}
 use Rattle.rp_agreement.specs.Told.{Asks, IsAsked}
 use Rattle.rp_agreement.specs.Sound.{IsRunning}
-use Rattle.rp_agreement.specs.Steps.{IsSoundStep}
-use Rattle.rp_agreement.proofs.Turns.{IsSoundTurn, IsOffer, IsPlain, one_plain, quiet, full, sending, either}
+use Rattle.rp_agreement.proofs.Turns.{IsSoundTurn, one_plain, quiet, full, sending, either}
 
 -- a node where one more asked item is pending knows what it knew
 runs_pending : (sent : List Message) (records : List Rec) (running : Running) (item : Action) → IsRunning sent records running → IsAsked sent item

@@ -1,10 +1,8 @@
 -- A node that takes a packet makes a sound step.
-use Rattle.std.proofs.Common.{◌≡◌, ℕ, Bool, true, false, cond, if◌then◌else◌, Option, Some, None, List, [], ◌∷◌, refl, sym, ap, subst, ◌∙◌}
+use Rattle.std.proofs.Common.{ℕ, List, refl}
 use Rattle.rp_base.specs.declared.action.Action.{Action}
 use Rattle.rp_base.specs.declared.reply.Answer.{Answer}
 use Rattle.rp_base.specs.declared.config.Config.{Config}
-use Rattle.rp_base.specs.declared.record.Vote.{Vote}
-use Rattle.rp_base.specs.declared.record.Rec.{Rec}
 use Rattle.rp_base.specs.Sets.{Has}
 use Rattle.rp_base.specs.Records.{applied_of}
 use Rattle.rp_codec.specs.Message.{Message}
@@ -15,11 +13,9 @@ use Rattle.rp_codec.specs.declared.packet.Body.TheVariants as bodies
 use Rattle.rp_machine.specs.Replay.{kept_of, replay_answers}
 use Rattle.rp_model.specs.declared.part.Running.{Running}
 use Rattle.rp_model.specs.declared.part.NodePart.{NodePart}
-use Rattle.rp_model.specs.declared.part.Turn.{Turn}
-use Rattle.rp_model.specs.Says.{notes, drops_foreign}
+use Rattle.rp_model.specs.Says.{drops_foreign}
 use Rattle.rp_model.specs.Receiving.{is_for_node, party_number, on_body, receives}
 use Rattle.rp_agreement.specs.Sound.{SaysSo, IsRunning, IsSound}
-use Rattle.rp_agreement.specs.Steps.{IsSoundStep}
 use Rattle.rp_agreement.proofs.Turns.{IsSoundTurn, quiet, foreign, either}
 use Rattle.rp_agreement.proofs.Acceptors.{prepare_sound, accept_sound}
 use Rattle.rp_agreement.proofs.Leaders.{promise_sound, nack_sound}

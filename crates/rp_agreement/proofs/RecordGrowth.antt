@@ -1,15 +1,15 @@
 -- What a node's records say stays as they grow: votes, bounds, and what a promise reports.
-use Rattle.std.proofs.Common.{◌≡◌, ◌≢◌, ℕ, ◌<◌, ◌≤◌, max, Bool, true, false, cond, ◌⊎◌, inl, inr, Option, Some, None, List, [], ◌∷◌, ◌++◌, refl, sym, ap, subst, ◌∙◌, arith}
+use Rattle.std.proofs.Common.{◌≡◌, ℕ, ◌<◌, ◌≤◌, max, cond, ◌⊎◌, inl, inr, Option, Some, None, List, [], ◌∷◌, ◌++◌, refl, sym, ap, subst, ◌∙◌, arith}
 use Rattle.std.specs.Prelude.{nat_eq}
-use Rattle.std.proofs.lemmas.Bool.{cases_Bool, cases_eq, cond-true, cond-false, eqb-true, eq-eqb}
+use Rattle.std.proofs.lemmas.Bool.{cases_Bool, cond-true, cond-false, eqb-true, eq-eqb}
 use Rattle.rp_base.specs.declared.action.Action.{Action}
 use Rattle.rp_base.specs.declared.record.Vote.{Vote}
 use Rattle.rp_base.specs.declared.record.Rec.{Rec}
 use Rattle.rp_base.specs.declared.record.Rec.TheVariants.{Started, Promised, Voted, Learned}
 use Rattle.rp_base.specs.Sets.{Has}
-use Rattle.rp_base.specs.Records.{started_in, started_of, bound_in, bound_at, vote_in, last_vote_at, learned_in, learned_at, or_else}
+use Rattle.rp_base.specs.Records.{started_in, started_of, bound_at, vote_in, last_vote_at, learned_in, learned_at, or_else}
 use Rattle.rp_base.proofs.MoreRecords.{bound_push, last_below}
-use Rattle.rp_base.proofs.Members.{has_split, has_left, has_right}
+use Rattle.rp_base.proofs.Members.{has_split, has_left}
 use Rattle.rp_codec.specs.Message.{Message}
 use Rattle.rp_model.specs.Parts.{with_record}
 use Rattle.rp_agreement.specs.Founded.{Reports}

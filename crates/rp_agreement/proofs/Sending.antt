@@ -1,16 +1,14 @@
 -- What packets tell stays as more are sent.
-use Rattle.std.proofs.Common.{◌≡◌, ℕ, ◌+◌, ◌-◌, Option, Some, None, List, [], ◌∷◌, ◌++◌, length, take, drop, refl, sym, ap, subst, ◌∙◌, arith, length-append}
+use Rattle.std.proofs.Common.{◌≡◌, ℕ, ◌+◌, ◌-◌, Option, Some, None, List, [], ◌∷◌, ◌++◌, length, take, drop, sym, ap, subst, ◌∙◌, arith, length-append}
 use Rattle.std.specs.Prelude.{IfSome}
 use Rattle.std.proofs.lemmas.List.{take-append-le}
 use Rattle.rp_base.specs.declared.action.Action.{Action}
 use Rattle.rp_base.specs.declared.record.Vote.{Vote}
 use Rattle.rp_base.specs.declared.record.Rec.{Rec}
-use Rattle.rp_base.specs.declared.record.Rec.TheVariants.{Started, Promised, Voted, Learned}
+use Rattle.rp_base.specs.declared.record.Rec.TheVariants.{Started, Voted, Learned}
 use Rattle.rp_base.specs.Sets.{Has}
 use Rattle.rp_base.specs.Records.{applied_of}
 use Rattle.rp_codec.specs.Message.{Message, report_len}
-use Rattle.rp_codec.specs.declared.packet.Party.{Party}
-use Rattle.rp_codec.specs.declared.packet.Party.TheVariants.{Node, Task, Audit}
 use Rattle.rp_codec.specs.declared.packet.Body.{Body}
 use Rattle.rp_codec.specs.declared.packet.Body.TheVariants as bodies
 use Rattle.rp_model.specs.Parts.{with_record}

@@ -15,3 +15,4 @@ pub mod Following
 pub mod Ordering
 pub mod Counting
 pub mod Computing
+pub mod Happening

@@ -6,3 +6,4 @@ pub mod Worlds
 pub mod Decided
 pub mod Order
 pub mod Computed
+pub mod History

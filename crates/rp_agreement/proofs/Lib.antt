@@ -16,3 +16,6 @@ pub mod Ordering
 pub mod Counting
 pub mod Computing
 pub mod Happening
+pub mod NodeEffects
+pub mod TaskEffects
+pub mod WorldKeeping

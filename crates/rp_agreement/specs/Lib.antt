@@ -2,6 +2,7 @@ pub mod Told
 pub mod Founded
 pub mod Sound
 pub mod Steps
+pub mod Inputs
 pub mod Worlds
 pub mod Decided
 pub mod Order

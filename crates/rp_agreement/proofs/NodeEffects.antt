@@ -183,3 +183,16 @@ untorn_sound nodes x node sent sound = record {
   records = refl;
   step = silent_step nodes x (node x).records sent None (node x).running tt (λ after e. sound.runs x after e);
 }
+
+-- ---- for who asks
+
+pub below_eight : (config : Config) (x : ℕ) → IsRightConfig config → IsMember config.nodes x → x < 8
+below_eight config x right member =
+    let most : config.nodes ≤ 7 = right.nodes.1 in
+    let least : x ≤ config.nodes = member.1 in
+    omega (arith, most, least)
+
+-- what was not refused
+pub if_done : (nodes x : ℕ) (part : NodePart) (sent : List Message) (result : Result (Done NodePart) Fault) (done : Done NodePart) → IsSoundDoneIf nodes x part sent result
+    → result ≡ Ok done → IsSoundDone nodes x part sent done
+if_done nodes x part sent result done sound came = subst (IsSoundDoneIf nodes x part sent) came sound

@@ -191,3 +191,7 @@ task_sound config t part (Submit node object operation arg) waits fits =
 task_sound config t part (Again node) waits fits =
     done_if t (nat_lt config.nodes node) BadConfig (asks_again t node part part.outstanding) (again_done t node part part.outstanding waits refl)
 task_sound config t part (Take message) waits fits = hears_done t part message.body waits
+
+-- what was not refused
+pub if_task_done : (t : ℕ) (result : Result (Done TaskPart) Fault) (done : Done TaskPart) → IsTaskDoneIf t result → result ≡ Ok done → IsTaskDone t done
+if_task_done t result done is came = subst (IsTaskDoneIf t) came is

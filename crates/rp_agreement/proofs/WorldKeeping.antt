@@ -2,6 +2,7 @@
 use Rattle.std.proofs.Common.{◌≡◌, ◌≢◌, ℕ, zero, suc, ◌<◌, ◌≤◌, Bool, Result, Ok, Err, Option, Some, None, List, [], ◌∷◌, ◌++◌, length, ◌⊎◌, inl, inr, refl, sym, ap, subst, ◌∙◌, arith}
 use Rattle.std.specs.Prelude.{slice_get, slice_set, unwrap_or}
 use Rattle.std.proofs.lemmas.Bool.{cases_eq}
+use Rattle.std.proofs.lemmas.List.{append-nil}
 use Rattle.rp_base.specs.declared.action.Action.{Action}
 use Rattle.rp_base.specs.declared.fault.Fault.{Fault}
 use Rattle.rp_base.specs.Config.{IsRightConfig}
@@ -15,7 +16,9 @@ use Rattle.rp_model.specs.declared.part.NodePart.{NodePart}
 use Rattle.rp_model.specs.declared.part.TaskPart.{TaskPart}
 use Rattle.rp_model.specs.Parts.{fresh_node}
 use Rattle.rp_model.specs.Effect as nodes
-use Rattle.rp_model.specs.Effect.{Setting, Done, NodeInput, node_effect, cut_effect, stop_effect, restart_part}
+use Rattle.rp_model.specs.Effect.{Setting, Done, goes_on_as, NodeInput, node_effect, cut_effect, stop_effect, restart_part, untorn_part}
+use Rattle.rp_model.specs.declared.effect.Effect.{Effect}
+use Rattle.rp_model.specs.Answers.{untorn, IsLeft, FailsBy, Steps, Happen}
 use Rattle.rp_model.specs.Tasks as tasks
 use Rattle.rp_model.specs.Tasks.{TaskInput, task_effect}
 use Rattle.rp_model.specs.Events.{Step, Deliver, Lead, Interrupt, Tick, Report, IsStep, Event, Submit, Again, Makes, Cut, Stop, Restart, IsEvent}
@@ -24,7 +27,7 @@ use Rattle.rp_agreement.specs.Sound.{IsMember, IsSound}
 use Rattle.rp_agreement.specs.Steps.{SentToo, TaskHappens}
 use Rattle.rp_agreement.specs.Inputs.{IsInput, IsTaskInput, NodeMoves, WaitsForOwn}
 use Rattle.rp_agreement.specs.Worlds.{node_in, IsSoundWorld}
-use Rattle.rp_agreement.proofs.NodeEffects.{IsSoundDone, IsSoundDoneIf, done_keeps, input_sound, cut_sound, stop_sound, restart_sound}
+use Rattle.rp_agreement.proofs.NodeEffects.{IsSoundDone, IsSoundDoneIf, done_keeps, input_sound, cut_sound, stop_sound, restart_sound, untorn_sound}
 use Rattle.rp_agreement.proofs.TaskEffects.{IsTaskDone, IsTaskDoneIf, task_keeps, task_sound}
 
 -- ---- parts by their numbers
@@ -270,3 +273,67 @@ module _ {S : Type 0} (s : Setting S) (right : IsRightConfig s.config) where
   event_keeps w (Cut step kept) sound is = cut_step_keeps w step kept sound is.0
   event_keeps w (Stop me) sound is = stops_keep w me (part_at w.nodes me) sound refl
   event_keeps w (Restart me) sound is = restarts_keep w me (part_at w.nodes me) sound refl
+
+  -- ---- whatever a step answers
+
+  -- a restart that fails may have cut the torn bytes
+  untorn_keeps : (w : World) (me : ℕ) (part : Option NodePart) → IsSoundWorld s.config.nodes w → part_at w.nodes me ≡ part → IsSoundWorld s.config.nodes (untorn w me part)
+  untorn_keeps w me None sound here = sound
+  untorn_keeps w me (Some part) sound here =
+      let kept : IsSoundWorld s.config.nodes (node_done w me (goes_on_as (untorn_part part))).world =
+      node_done_keeps s.config.nodes w me part (goes_on_as (untorn_part part)) sound here
+      (at_part (λ p. IsSoundDone s.config.nodes me (node_in w.nodes me) w.sent (goes_on_as (untorn_part p))) w me part here
+      (untorn_sound s.config.nodes me (node_in w.nodes) w.sent sound.sound)) in
+      subst (λ (sent : List Message). IsSoundWorld s.config.nodes (record { nodes = with_part w.nodes me (untorn_part part); tasks = w.tasks; sent = sent })) (append-nil w.sent) kept
+
+  same_keeps : (w left : World) → IsSoundWorld s.config.nodes w → left ≡ w → IsSoundWorld s.config.nodes left
+  same_keeps w left sound same = subst (IsSoundWorld s.config.nodes) (sym same) sound
+
+  left_keeps : (w : World) (event : Event) (left : World) → IsSoundWorld s.config.nodes w → IsLeft w event left → IsSoundWorld s.config.nodes left
+  left_keeps w (Submit t node object operation arg) left sound is = same_keeps w left sound is
+  left_keeps w (Again t node) left sound is = same_keeps w left sound is
+  left_keeps w (Makes step) left sound is = same_keeps w left sound is
+  left_keeps w (Cut step kept) left sound is = same_keeps w left sound is
+  left_keeps w (Stop me) left sound is = same_keeps w left sound is
+  left_keeps w (Restart me) left sound is =
+      elim is [
+        | inl same ↦ same_keeps w left sound same
+        | inr cut ↦ subst (IsSoundWorld s.config.nodes) (sym cut) (untorn_keeps w me (part_at w.nodes me) sound refl)
+      ]
+
+  -- what an effect leads to
+  pub comes_keeps : (result : Result Happening Fault) (happening : Happening) (after : World) → IsSoundAfter s.config.nodes result → result ≡ Ok happening → after ≡ happening.world
+      → IsSoundWorld s.config.nodes after
+  comes_keeps result happening after sound is world =
+      subst (IsSoundWorld s.config.nodes) (sym world) (subst (IsSoundAfter s.config.nodes) is sound)
+
+  fails_keeps : (w : World) (event : Event) (left : World) → IsSoundWorld s.config.nodes w → IsEvent event → FailsBy s w event left → IsSoundWorld s.config.nodes left
+  fails_keeps w (Submit t node object operation arg) left sound is fails = absurd fails
+  fails_keeps w (Again t node) left sound is fails = absurd fails
+  fails_keeps w (Makes step) left sound is fails =
+      comes_keeps (cut_step s w step fails.0) fails.1.happening left (cut_step_keeps w step fails.0 sound is) fails.1.effect fails.1.world
+  fails_keeps w (Cut step kept) left sound is fails =
+      comes_keeps (cut_step s w step fails.0) fails.1.happening left (cut_step_keeps w step fails.0 sound is.0) fails.1.effect fails.1.world
+  fails_keeps w (Stop me) left sound is fails = absurd fails
+  fails_keeps w (Restart me) left sound is fails = left_keeps w (Restart me) left sound fails
+
+  pub answer_keeps : (w : World) (event : Event) (after : World) (answer : Result Effect Fault) → IsSoundWorld s.config.nodes w → IsEvent event → Steps s w event after answer
+      → IsSoundWorld s.config.nodes after
+  answer_keeps w event after (Ok effect) sound is steps = comes_keeps (event_effect s w event) steps.happening after (event_keeps w event sound is) steps.came steps.world
+  answer_keeps w event left (Err fault) sound is steps =
+      elim steps [
+        | inl refused ↦ same_keeps w left sound refused.unchanged
+        | inr failed ↦ elim failed [
+          | inl memory ↦ left_keeps w event left sound memory.1.left_so
+          | inr device ↦ fails_keeps w event left sound is device.1
+        ]
+      ]
+
+  -- events one after another
+  pub history_keeps : (w : World) (events : List Event) (after : World) → IsSoundWorld s.config.nodes w → ((event : Event) → Has event events → IsEvent event)
+      → Happen s w events after → IsSoundWorld s.config.nodes after
+  history_keeps w [] after sound right_events happen = same_keeps w after sound happen
+  history_keeps w (event ∷ rest) after sound right_events happen =
+      history_keeps happen.0.world rest after
+      (comes_keeps (event_effect s w event) happen.0 happen.0.world (event_keeps w event sound (right_events event (inl refl))) happen.1 refl)
+      (λ other h. right_events other (inr h)) happen.2

@@ -10,9 +10,11 @@
 //! - `decisions`: what is decided, and what is learned
 //! - `order`: what is applied, and where that leads a machine
 //! - `opening`: the invariant holds where nothing has happened
+//! - `keeping`: each event keeps it
 #![tactic(auto)]
 
 mod decisions;
+mod keeping;
 mod offers;
 mod opening;
 mod order;
@@ -22,6 +24,7 @@ pub use decisions::{
     decisions_are_one, decisions_stay, only_asked_actions_are_decided,
     only_decided_actions_are_learned,
 };
+pub use keeping::{events_keep, histories_keep, node_events_keep, task_events_keep};
 pub use offers::{offers_are_one, offers_follow_decisions};
 pub use opening::the_opening_is_sound;
 pub use order::{

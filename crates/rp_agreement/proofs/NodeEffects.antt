@@ -1,17 +1,14 @@
 -- What a node's input comes to, whole or cut, and what a stop or a restart leaves, keeps the invariant.
-use Rattle.std.proofs.Common.{◌≡◌, ◌≢◌, ℕ, ◌<◌, ◌≤◌, Bool, true, false, cond, if◌then◌else◌, Result, Ok, Err, Option, Some, None, List, [], ◌∷◌, ◌++◌, length, take, drop, ◌-◌, ◌⊎◌, inl, inr, refl, sym, ap, subst, ◌∙◌, arith}
+use Rattle.std.proofs.Common.{◌≡◌, ℕ, ◌<◌, ◌≤◌, true, false, if◌then◌else◌, Result, Ok, Err, Option, Some, None, List, [], ◌∷◌, ◌++◌, length, take, drop, ◌-◌, refl, sym, ap, subst, ◌∙◌, arith}
 use Rattle.std.specs.Prelude.{nat_le}
 use Rattle.std.proofs.lemmas.List.{take_all}
 use Rattle.rp_base.specs.declared.action.Action.{Action}
-use Rattle.rp_base.specs.declared.reply.Answer.{Answer}
 use Rattle.rp_base.specs.declared.config.Config.{Config}
 use Rattle.rp_base.specs.declared.fault.Fault.{Fault}
 use Rattle.rp_base.specs.declared.record.Rec.{Rec}
 use Rattle.rp_base.specs.Config.{IsRightConfig}
-use Rattle.rp_base.specs.Sets.{Has, IsSet}
 use Rattle.rp_base.specs.Records.{applied_of}
 use Rattle.rp_codec.specs.Message.{Message, report_len}
-use Rattle.rp_codec.specs.declared.packet.Party.TheVariants.{Node}
 use Rattle.rp_machine.specs.Replay.{kept_of}
 use Rattle.rp_model.specs.declared.part.Running.{Running}
 use Rattle.rp_model.specs.declared.part.NodePart.{NodePart}
@@ -19,13 +16,13 @@ use Rattle.rp_model.specs.declared.part.Turn.{Turn}
 use Rattle.rp_model.specs.Parts.{fresh_running, with_record}
 use Rattle.rp_model.specs.Says.{sends}
 use Rattle.rp_model.specs.Texts.{written_for}
-use Rattle.rp_model.specs.Effect.{Setting, Done, goes_on_as, NodeInput, Receive, Lead, Interrupt, Tick, Report, report_of, running_effect, turned, turned_if, effect_while, node_effect, stop_part, cut_part, untorn_part, stops_while, stop_effect, cut_if, cut_effect, restart_while, restart_part}
+use Rattle.rp_model.specs.Effect.{Setting, Done, goes_on_as, NodeInput, Receive, Lead, Interrupt, Tick, Report, report_of, running_effect, turned_if, effect_while, node_effect, stop_part, cut_part, untorn_part, stops_while, stop_effect, cut_if, cut_effect, restart_while, restart_part}
 use Rattle.rp_agreement.specs.Sound.{IsMember, IsReported, IsRunning, IsSound}
-use Rattle.rp_agreement.specs.Steps.{Happens, MayWrite, IsSoundStep}
+use Rattle.rp_agreement.specs.Steps.{MayWrite, IsSoundStep}
 use Rattle.rp_agreement.specs.Inputs.{IsInput, NodeMoves}
 use Rattle.rp_agreement.proofs.Lists.{some_same}
 use Rattle.rp_agreement.proofs.Keeps.{keeps}
-use Rattle.rp_agreement.proofs.Turns.{IsSoundTurn, IsPlain, one_plain, sending}
+use Rattle.rp_agreement.proofs.Turns.{IsSoundTurn, one_plain, sending}
 use Rattle.rp_agreement.proofs.Leaders.{IsSoundIf, lead_sound}
 use Rattle.rp_agreement.proofs.Pendings.{interrupt_sound, tick_sound}
 use Rattle.rp_agreement.proofs.Receives.{receive_sound}

@@ -1,8 +1,8 @@
 -- What a task's input comes to keeps the invariant: it sends nothing but right calls of its own.
-use Rattle.std.proofs.Common.{◌≡◌, ◌≢◌, ℕ, suc, ◌+◌, ◌-◌, ◌<◌, ◌≤◌, Bool, true, false, cond, if◌then◌else◌, Result, Ok, Err, Option, Some, None, List, [], ◌∷◌, ◌++◌, length, ◌⊎◌, inl, inr, refl, sym, ap, subst, ◌∙◌, arith}
-use Rattle.std.specs.Prelude.{ℤ, nat_le, nat_lt, nat_eq, not, ◌&&◌, ◌||◌, ◌^◌, FitsSigned}
+use Rattle.std.proofs.Common.{◌≡◌, ℕ, suc, ◌-◌, ◌<◌, Bool, true, false, if◌then◌else◌, Result, Ok, Err, Option, Some, None, List, [], ◌∷◌, length, inl, inr, refl, sym, subst, arith}
+use Rattle.std.specs.Prelude.{ℤ, nat_le, nat_lt, not, ◌||◌, ◌^◌, FitsSigned}
 use Rattle.std.specs.Int.{w64}
-use Rattle.std.proofs.lemmas.Bool.{cases_Bool, cond-true, cond-false, and_parts, or_cases, leb-true, eqb-true, both_ways}
+use Rattle.std.proofs.lemmas.Bool.{cases_Bool, cond-true, cond-false, and_parts, leb-true, eqb-true, both_ways}
 use Rattle.std.proofs.lemmas.Bool.Decides.{leb_tells}
 use Rattle.rp_base.specs.declared.action.Action.{Action}
 use Rattle.rp_base.specs.declared.action.Action.TheVariants as actions
@@ -11,9 +11,7 @@ use Rattle.rp_base.specs.declared.action.Operation.TheVariants.{Function, Proced
 use Rattle.rp_base.specs.declared.reply.Reply.{Reply}
 use Rattle.rp_base.specs.declared.config.Config.{Config}
 use Rattle.rp_base.specs.declared.fault.Fault.{Fault}
-use Rattle.rp_base.specs.declared.fault.Fault.TheVariants.{TaskBusy, NumbersSpent, BadConfig}
-use Rattle.rp_base.specs.declared.record.Vote.{Vote}
-use Rattle.rp_base.specs.declared.record.Rec.{Rec}
+use Rattle.rp_base.specs.declared.fault.Fault.TheVariants.{NumbersSpent, BadConfig}
 use Rattle.rp_base.specs.declared.record.Rec.TheVariants.{Started, Voted, Learned}
 use Rattle.rp_base.specs.Action.{IsRight, IsRightOperation, is_right_operation, is_right}
 use Rattle.rp_base.specs.Ballot.{owner_of}
@@ -29,8 +27,8 @@ use Rattle.rp_model.specs.declared.part.TaskPart.{TaskPart}
 use Rattle.rp_model.specs.Facts.{IsOffered, IsDecided}
 use Rattle.rp_model.specs.Effect.{Done, goes_on_as}
 use Rattle.rp_model.specs.Tasks.{TaskInput, Submit, Again, Take, asks, next_call, may_call, calls_if, asks_again, takes, takes_reply, task_hears, task_effect}
-use Rattle.rp_agreement.specs.Sound.{IsMember, IsSo, SaysSo, IsCall, IsRunning, IsSound}
-use Rattle.rp_agreement.specs.Steps.{SentToo, TaskHappens}
+use Rattle.rp_agreement.specs.Sound.{IsSo, SaysSo, IsCall, IsRunning, IsSound}
+use Rattle.rp_agreement.specs.Steps.{TaskHappens}
 use Rattle.rp_agreement.specs.Inputs.{IsTaskInput, WaitsForOwn}
 use Rattle.rp_agreement.proofs.Lists.{some_same}
 use Rattle.rp_agreement.proofs.Sending.{Within, offered_more, decided_more, so_sent}

@@ -1,9 +1,8 @@
 -- Each event of a world keeps the invariant.
-use Rattle.std.proofs.Common.{◌≡◌, ◌≢◌, ℕ, zero, suc, ◌<◌, ◌≤◌, Bool, Result, Ok, Err, Option, Some, None, List, [], ◌∷◌, ◌++◌, length, ◌⊎◌, inl, inr, refl, sym, ap, subst, ◌∙◌, arith}
+use Rattle.std.proofs.Common.{◌≡◌, ◌≢◌, ℕ, zero, suc, ◌<◌, ◌≤◌, Result, Ok, Err, Option, Some, None, List, [], ◌∷◌, ◌++◌, length, inl, inr, refl, sym, ap, subst, ◌∙◌, arith}
 use Rattle.std.specs.Prelude.{slice_get, slice_set, unwrap_or}
 use Rattle.std.proofs.lemmas.Bool.{cases_eq}
 use Rattle.std.proofs.lemmas.List.{append-nil}
-use Rattle.rp_base.specs.declared.action.Action.{Action}
 use Rattle.rp_base.specs.declared.fault.Fault.{Fault}
 use Rattle.rp_base.specs.Config.{IsRightConfig}
 use Rattle.rp_base.specs.Sets.{Has}
@@ -22,10 +21,10 @@ use Rattle.rp_model.specs.Answers.{untorn, IsLeft, FailsBy, Steps, Happen}
 use Rattle.rp_model.specs.Tasks as tasks
 use Rattle.rp_model.specs.Tasks.{TaskInput, task_effect}
 use Rattle.rp_model.specs.Events.{Step, Deliver, Lead, Interrupt, Tick, Report, IsStep, Event, Submit, Again, Makes, Cut, Stop, Restart, IsEvent}
-use Rattle.rp_model.specs.World.{World, Happening, part_at, with_part, nothing_happens, node_done, task_done, node_done_if, task_done_if, task_takes, task_is_told, node_takes, node_hears, node_is_told, arrives, delivers, step_effect, node_is_cut, hearing_is_cut, arrival_is_cut, delivery_is_cut, cut_step, stops, restarts, event_effect}
-use Rattle.rp_agreement.specs.Sound.{IsMember, IsSound}
-use Rattle.rp_agreement.specs.Steps.{SentToo, TaskHappens}
-use Rattle.rp_agreement.specs.Inputs.{IsInput, IsTaskInput, NodeMoves, WaitsForOwn}
+use Rattle.rp_model.specs.World.{World, Happening, part_at, with_part, node_done, task_done, node_done_if, task_done_if, task_takes, task_is_told, node_takes, node_hears, node_is_told, arrives, delivers, step_effect, node_is_cut, hearing_is_cut, arrival_is_cut, delivery_is_cut, cut_step, stops, restarts, event_effect}
+use Rattle.rp_agreement.specs.Sound.{IsMember}
+use Rattle.rp_agreement.specs.Steps.{SentToo}
+use Rattle.rp_agreement.specs.Inputs.{IsInput, IsTaskInput, WaitsForOwn}
 use Rattle.rp_agreement.specs.Worlds.{node_in, IsSoundWorld}
 use Rattle.rp_agreement.proofs.NodeEffects.{IsSoundDone, IsSoundDoneIf, done_keeps, input_sound, cut_sound, stop_sound, restart_sound, untorn_sound}
 use Rattle.rp_agreement.proofs.TaskEffects.{IsTaskDone, IsTaskDoneIf, task_keeps, task_sound}

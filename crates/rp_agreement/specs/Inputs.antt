@@ -5,7 +5,6 @@ use Rattle.rp_base.specs.Action.{IsIndex, IsCount}
 use Rattle.rp_base.specs.Sets.{Has}
 use Rattle.rp_base.specs.declared.action.Action.{Action}
 use Rattle.rp_codec.specs.Message.{Message}
-use Rattle.rp_codec.specs.declared.packet.Party.TheVariants.{Task}
 use Rattle.rp_codec.specs.declared.packet.Body.TheVariants.{Call}
 use Rattle.rp_model.specs.Effect.{Done, NodeInput, Receive, Lead, Interrupt, Tick, Report}
 use Rattle.rp_model.specs.Tasks.{TaskInput, Submit, Again, Take}

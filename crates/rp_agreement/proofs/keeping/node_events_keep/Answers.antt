@@ -1,9 +1,5 @@
 -- Each is a sound step.
-use Rattle.std.proofs.Common.{ℕ, ◌≤◌, ◌<◌, Result, subst, arith}
-use Rattle.rp_base.specs.declared.fault.Fault.{Fault}
-use Rattle.rp_model.specs.declared.part.NodePart.{NodePart}
-use Rattle.rp_model.specs.Effect.{Done, restart_part}
-use Rattle.rp_agreement.specs.Sound.{IsMember}
+use Rattle.rp_model.specs.Effect.{restart_part}
 use Rattle.rp_agreement.proofs.NodeEffects.{below_eight, if_done, done_keeps, input_sound, cut_sound, stop_sound, restart_sound}
 use Rattle.rp_agreement.proofs.keeping.node_events_keep.Goals as goal
 

@@ -1,0 +1,105 @@
+-- A majority of promises founds an offer.
+use Rattle.std.proofs.Common.{◌≡◌, ℕ, true, Option, Some, None, List, [], length, map, inl, inr, refl, sym, ap, subst}
+use Rattle.std.specs.Prelude.{nat_eq, IfSome, unwrap_or}
+use Rattle.std.proofs.lemmas.Bool.{leb-true, and_parts}
+use Rattle.std.proofs.lemmas.Bool.Decides.{Decides-eqb}
+use Rattle.rp_base.specs.declared.action.Action.{Action}
+use Rattle.rp_base.specs.declared.action.Action.TheVariants.{Noop}
+use Rattle.rp_base.specs.declared.record.Vote.{Vote}
+use Rattle.rp_base.specs.declared.record.Rec.{Rec}
+use Rattle.rp_base.specs.Number.{in_range}
+use Rattle.rp_base.specs.Sets.{Has}
+use Rattle.rp_base.specs.Majority.{majority_of, nodes_among, is_majority}
+use Rattle.rp_base.specs.Promises.{Promise, promisers_of, highest_vote, action_or, offer_of}
+use Rattle.rp_base.proofs.Members.{has_passing, has_members, mapped_has, set_members, set_passing}
+use Rattle.rp_codec.specs.Message.{Message}
+use Rattle.rp_codec.specs.declared.packet.Party.{Party}
+use Rattle.rp_codec.specs.declared.packet.Body.{Body}
+use Rattle.rp_codec.specs.declared.packet.Body.TheVariants as bodies
+use Rattle.rp_model.specs.declared.part.NodePart.{NodePart}
+use Rattle.rp_model.specs.Facts.{IsOffered}
+use Rattle.rp_agreement.specs.Told.{IsPromise, HasPromised, IsAsked}
+use Rattle.rp_agreement.specs.Founded.{Reports, IsFounded}
+use Rattle.rp_agreement.specs.Sound.{IsMember, IsSo, SaysSo, IsSound}
+use Rattle.rp_agreement.proofs.Lists.{has_picked, highest_has}
+
+-- ---- what is told is so
+
+promise_so : (nodes : ℕ) (sent : List Message) (records : List Rec) (body : Body) (i b : ℕ) (last : Option Vote) → IsPromise body i b last → IsSo nodes sent records body
+    → Reports records i b last
+promise_so nodes sent records (bodies.Call action) i b last is so = absurd is
+promise_so nodes sent records (bodies.Prepare position ballot) i b last is so = absurd is
+promise_so nodes sent records (bodies.Promise position ballot vote) i b last is so =
+    subst (Reports records i b) is.2 (subst (λ (c : ℕ). Reports records i c vote) is.1 (subst (λ (j : ℕ). Reports records j ballot vote) is.0 so))
+promise_so nodes sent records (bodies.Accept position ballot action) i b last is so = absurd is
+promise_so nodes sent records (bodies.Accepted position ballot action) i b last is so = absurd is
+promise_so nodes sent records (bodies.Decided position action) i b last is so = absurd is
+promise_so nodes sent records (bodies.Ask position) i b last is so = absurd is
+promise_so nodes sent records (bodies.Nack position ballot bound) i b last is so = absurd is
+promise_so nodes sent records (bodies.Reply number reply) i b last is so = absurd is
+promise_so nodes sent records (bodies.Report first applied actions) i b last is so = absurd is
+
+-- who told a promise is a node that keeps it
+pub promise_kept : (nodes : ℕ) (node : ℕ → NodePart) (sent : List Message) → IsSound nodes node sent → (a i b : ℕ) (last : Option Vote) → HasPromised sent a i b last
+    → IsMember nodes a × Reports (node a).records i b last
+promise_kept nodes node sent sound a i b last told =
+    let so = subst (λ (party : Party). SaysSo nodes node sent party told.0.body) told.2 (sound.says told.0 told.1) in
+    (so.0, promise_so nodes sent (node a).records told.0.body i b last told.3 so.1)
+
+-- what is offered was asked for
+pub offer_asked : (nodes : ℕ) (node : ℕ → NodePart) (sent : List Message) → IsSound nodes node sent → (i b : ℕ) (v : Action) → IsOffered sent i b v → IsAsked sent v
+offer_asked nodes node sent sound i b v offer = (sound.says _ offer.2).1.2
+
+-- ---- offers
+
+pub noop_asked : (sent : List Message) → IsAsked sent Noop
+noop_asked sent = record { right = tt; asked = λ call h. absurd h }
+
+own_asked : (sent : List Message) (own : Option Action) → IfSome own (IsAsked sent) → IsAsked sent (unwrap_or own Noop)
+own_asked sent None h = noop_asked sent
+own_asked sent (Some action) h = h
+
+vote_or_own : (sent : List Message) (own : Action) (vote : Option Vote) → IsAsked sent own → ((w : Vote) → vote ≡ Some w → IsAsked sent w.action) → IsAsked sent (action_or own vote)
+vote_or_own sent own None asked reported = asked
+vote_or_own sent own (Some w) asked reported = reported w refl
+
+-- each promise of the list was told
+abbrev pub AreTold : List Message → ℕ → ℕ → List Promise → Type 0
+AreTold sent i b promises = (a : ℕ) (last : Option Vote) → Has (a, last) promises → HasPromised sent a i b last
+
+-- the offer was asked for
+pub offer_is_asked : (nodes : ℕ) (node : ℕ → NodePart) (sent : List Message) → IsSound nodes node sent → (i b : ℕ) (promises : List Promise) (own : Option Action)
+    → AreTold sent i b promises → IfSome own (IsAsked sent) → IsAsked sent (offer_of own promises)
+offer_is_asked nodes node sent sound i b promises own told asked =
+    vote_or_own sent (unwrap_or own Noop) (highest_vote promises) (own_asked sent own asked) (λ w is.
+      let picked = has_picked (λ (p : Promise). p.1) w promises (highest_has w _ is) in
+      let kept = promise_kept nodes node sent sound picked.0.0 i b picked.0.1 (told picked.0.0 picked.0.1 picked.1) in
+      let cast = kept.1.cast w picked.2 in
+      offer_asked nodes node sent sound i w.ballot w.action (sound.voted picked.0.0 i w.ballot w.action cast.0))
+
+promiser : (a : ℕ) (promises : List Promise) → Has a (promisers_of promises) → (last : Option Vote) × (let p : Promise = (a, last) in Has p promises)
+promiser a promises h =
+    elim (has_members nat_eq Decides-eqb a [] (map (λ (p : Promise). p.0) promises) h) [
+      | inl none ↦ absurd none
+      | inr there ↦
+          let hit = mapped_has (λ (p : Promise). p.0) a promises there in
+          (hit.0.1, subst (λ (k : ℕ). let p : Promise = (k, hit.0.1) in Has p promises) (sym hit.2) hit.1)
+    ]
+
+-- more than half promised, so the offer is founded
+pub founds : (nodes : ℕ) (sent : List Message) (i b : ℕ) (promises : List Promise) (own : Option Action) → AreTold sent i b promises
+    → is_majority nodes (promisers_of promises) ≡ true → IsFounded nodes sent i b (offer_of own promises)
+founds nodes sent i b promises own told most =
+    let among = λ (a : ℕ) (h : Has a (nodes_among nodes (promisers_of promises))). has_passing (in_range 1 nodes) a (promisers_of promises) h in
+    record {
+      promises = promises;
+      told = told;
+      promisers = nodes_among nodes (promisers_of promises);
+      members = record {
+        members = λ a h. let test = and_parts _ _ (among a h).1 in (leb-true 1 a test.0, leb-true a nodes test.1);
+        distinct = set_passing (in_range 1 nodes) (promisers_of promises) (set_members nat_eq Decides-eqb [] (map (λ (p : Promise). p.0) promises) tt);
+      };
+      majority = leb-true (majority_of nodes) (length (nodes_among nodes (promisers_of promises))) most;
+      promised = λ a h. promiser a promises (among a h).0;
+      highest = λ w is. ap (action_or (unwrap_or own Noop)) is;
+    }

@@ -1,0 +1,5 @@
+use Rattle.rp_agreement.proofs.Offering.{promise_kept}
+use Rattle.rp_agreement.proofs.packets.packets_say_so.Goals as goal
+
+pub returns-clause-promised : goal.returns-clause-promised
+returns-clause-promised c = λ nodes node sent sound a i b last promised. (promise_kept nodes node sent sound a i b last promised).1

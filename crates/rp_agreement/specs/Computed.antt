@@ -1,0 +1,50 @@
+-- The order, read off the packets (this project's own).
+use Rattle.std.specs.Prelude.{ℕ, zero, suc, nat_eq, ◌&&◌, Option, Some, None, List, [], length, find, filter_map}
+use Rattle.std.specs.Option.{option_map}
+use Rattle.rp_base.specs.Promises.{HeardVote, makes_majority}
+use Rattle.rp_base.specs.Records.{unless_missing}
+use Rattle.rp_base.specs.declared.action.Action.{Action}
+use Rattle.rp_codec.specs.Message.{Message}
+use Rattle.rp_codec.specs.declared.packet.Party.{Party}
+use Rattle.rp_codec.specs.declared.packet.Party.TheVariants.{Node, Task, Audit}
+use Rattle.rp_codec.specs.declared.packet.Body.{Body}
+use Rattle.rp_codec.specs.declared.packet.Body.TheVariants.{Call, Prepare, Promise, Accept, Accepted, Decided, Ask, Nack, Reply, Report}
+
+-- the vote of this node that a body tells, if it tells one
+abbrev pub vote_in : ℕ → Body → Option HeardVote
+vote_in a (Call action) = None
+vote_in a (Prepare position ballot) = None
+vote_in a (Promise position ballot last) = None
+vote_in a (Accept position ballot action) = None
+vote_in a (Accepted position ballot action) = Some (a, position, record { ballot = ballot; action = action })
+vote_in a (Decided position action) = None
+vote_in a (Ask position) = None
+vote_in a (Nack position ballot bound) = None
+vote_in a (Reply number reply) = None
+vote_in a (Report first applied actions) = None
+
+-- the vote that a packet from node to node tells
+abbrev pub vote_between : Party → Party → Body → Option HeardVote
+vote_between (Node a) (Node to) body = vote_in a body
+vote_between (Node a) (Task t) body = None
+vote_between (Node a) Audit body = None
+vote_between (Task t) to body = None
+vote_between Audit to body = None
+
+-- all votes that were told
+abbrev pub votes_told : List Message → List HeardVote
+votes_told sent = filter_map (λ m. vote_between m.from m.to m.body) sent
+
+-- the action decided at a position: that of a vote which a majority told
+abbrev pub decided_at : ℕ → List Message → ℕ → Option Action
+decided_at nodes sent i =
+    option_map (λ h. h.2.action) (find (λ h. nat_eq h.1 i && makes_majority nodes i h.2 (votes_told sent)) (votes_told sent))
+
+-- the actions decided from a position on without a gap, so many at most
+abbrev pub decided_run : ℕ → List Message → ℕ → ℕ → List Action
+decided_run nodes sent zero i = []
+decided_run nodes sent (suc most) i = unless_missing (decided_at nodes sent i) (decided_run nodes sent most (suc i))
+
+-- The order: the longest list whose ith action is decided at i. (It is no longer than the packets.)
+abbrev pub order_of : ℕ → List Message → List Action
+order_of nodes sent = decided_run nodes sent (length sent) 1

@@ -1,0 +1,39 @@
+-- What an actor may be given, and what its step comes to for all who look (this project's own).
+use Rattle.std.specs.Prelude.{◌≡◌, ◌≢◌, ℕ, ◌<◌, ◌^◌, FitsSigned, Some, List}
+use Rattle.std.specs.Int.{w64}
+use Rattle.rp_base.specs.Action.{IsIndex, IsCount}
+use Rattle.rp_base.specs.Sets.{Has}
+use Rattle.rp_base.specs.declared.action.Action.{Action}
+use Rattle.rp_codec.specs.Message.{Message}
+use Rattle.rp_codec.specs.declared.packet.Body.TheVariants.{Call}
+use Rattle.rp_model.specs.Effect.{Done, NodeInput, Receive, Lead, Interrupt, Tick, Report}
+use Rattle.rp_model.specs.Tasks.{TaskInput, Submit, Again, Take}
+use Rattle.rp_model.specs.declared.part.NodePart.{NodePart}
+use Rattle.rp_model.specs.declared.part.TaskPart.{TaskPart}
+use Rattle.rp_agreement.specs.Sound.{IsCall}
+use Rattle.rp_agreement.specs.Steps.{SentToo}
+
+-- the packet was sent, and the numbers are within the ranges of their types
+abbrev pub IsInput : List Message → NodeInput → Type 0
+IsInput sent (Receive message) = Has message sent
+IsInput sent (Lead choice) = Unit {0}
+IsInput sent (Interrupt source occurrence) = IsIndex source × IsCount occurrence
+IsInput sent (Tick now) = now < 2 ^ 32
+IsInput sent (Report first) = Unit {0}
+
+-- the argument of a call is within the range of its type
+abbrev pub IsTaskInput : TaskInput → Type 0
+IsTaskInput (Submit node object operation arg) = FitsSigned w64 arg
+IsTaskInput (Again node) = Unit {0}
+IsTaskInput (Take message) = Unit {0}
+
+-- The node x has come to this part and sent these packets; every other node stays as it was.
+pub record NodeMoves (x : ℕ) (done : Done NodePart) (node : ℕ → NodePart) (sent : List Message)
+    (node' : ℕ → NodePart) (sent' : List Message) : Type 0 where
+  pub part : node' x ≡ done.part
+  pub others : (k : ℕ) → k ≢ x → node' k ≡ node k
+  pub sends : SentToo done.sends sent sent'
+
+-- what the task t waits for is a right call of its own
+abbrev pub WaitsForOwn : ℕ → TaskPart → Type 0
+WaitsForOwn t part = (call : Action) → part.outstanding ≡ Some call → IsCall t (Call call)

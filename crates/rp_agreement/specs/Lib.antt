@@ -1,0 +1,10 @@
+pub mod Told
+pub mod Founded
+pub mod Sound
+pub mod Steps
+pub mod Inputs
+pub mod Worlds
+pub mod Decided
+pub mod Order
+pub mod Computed
+pub mod History

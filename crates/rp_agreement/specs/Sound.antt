@@ -1,0 +1,89 @@
+-- The invariant: what every packet says is so, by the records of who sent it; what a node wrote and what
+-- it knows while it runs is founded on packets that were sent. Each fact speaks of a position and a
+-- ballot. Lamport, "Paxos Made Simple", section 2; the list of facts is this project's own.
+use Rattle.std.specs.Prelude.{◌≡◌, ℕ, ◌-◌, ◌≤◌, Option, Some, IfSome, List, length, map, take, drop}
+use Rattle.rp_base.specs.Action.{IsRight}
+use Rattle.rp_base.specs.Ballot.{owner_of}
+use Rattle.rp_base.specs.Sets.{Has, IsSet}
+use Rattle.rp_base.specs.Proposals.{Proposal}
+use Rattle.rp_base.specs.Records.{applied_of}
+use Rattle.rp_base.specs.declared.action.Action.{Action}
+use Rattle.rp_base.specs.declared.proposal.Phase.TheVariants.{Preparing}
+use Rattle.rp_base.specs.declared.record.Vote.{Vote}
+use Rattle.rp_base.specs.declared.record.Rec.{Rec}
+use Rattle.rp_base.specs.declared.record.Rec.TheVariants.{Started, Voted, Learned}
+use Rattle.rp_codec.specs.Message.{Message, IsCallBy, report_len}
+use Rattle.rp_codec.specs.declared.packet.Party.{Party}
+use Rattle.rp_codec.specs.declared.packet.Party.TheVariants.{Node, Task, Audit}
+use Rattle.rp_codec.specs.declared.packet.Body.{Body}
+use Rattle.rp_codec.specs.declared.packet.Body.TheVariants.{Call, Prepare, Promise, Accept, Accepted, Decided, Ask, Nack, Reply, Report}
+use Rattle.rp_model.specs.Facts.{HasVoted, IsOffered, IsDecided}
+use Rattle.rp_model.specs.declared.part.Running.{Running}
+use Rattle.rp_model.specs.declared.part.NodePart.{NodePart}
+use Rattle.rp_agreement.specs.Told.{HasPromised, IsAsked}
+use Rattle.rp_agreement.specs.Founded.{Reports, IsFounded}
+
+-- x is one of the nodes 1 to n
+abbrev pub IsMember : ℕ → ℕ → Type 0
+IsMember nodes x = (1 ≤ x) × (x ≤ nodes)
+
+-- so many actions were applied, and these are the ones from a position on, as many as a report tells
+abbrev pub IsReported : List Action → ℕ → ℕ → List Action → Type 0
+IsReported all first applied actions =
+    (applied ≤ length all) × (actions ≡ take (report_len first applied) (drop (first - 1) (take applied all)))
+
+-- what a node's packet says is so, by the node's records and the packets sent
+abbrev pub IsSo : ℕ → List Message → List Rec → Body → Type 0
+IsSo nodes sent records (Call action) = ⊥
+IsSo nodes sent records (Prepare i b) = Has (Started b) records
+IsSo nodes sent records (Promise i b last) = Reports records i b last
+IsSo nodes sent records (Accept i b v) = Has (Started b) records × IsFounded nodes sent i b v × IsAsked sent v
+IsSo nodes sent records (Accepted i b v) = Has (Voted i b v) records
+IsSo nodes sent records (Decided i v) = Has (Learned i v) records
+IsSo nodes sent records (Ask i) = Unit {0}
+IsSo nodes sent records (Nack i b bound) = Unit {0}
+IsSo nodes sent records (Reply number reply) = Unit {0}
+IsSo nodes sent records (Report first applied actions) = IsReported (applied_of records) first applied actions
+
+-- a task says nothing but calls of its own, which are right
+abbrev pub IsCall : ℕ → Body → Type 0
+IsCall t (Call action) = IsCallBy t action × IsRight action
+IsCall t (Prepare i b) = ⊥
+IsCall t (Promise i b last) = ⊥
+IsCall t (Accept i b v) = ⊥
+IsCall t (Accepted i b v) = ⊥
+IsCall t (Decided i v) = ⊥
+IsCall t (Ask i) = ⊥
+IsCall t (Nack i b bound) = ⊥
+IsCall t (Reply number reply) = ⊥
+IsCall t (Report first applied actions) = ⊥
+
+-- what a packet says is so, by who sent it
+abbrev pub SaysSo : ℕ → (ℕ → NodePart) → List Message → Party → Body → Type 0
+SaysSo nodes node sent (Node x) body = IsMember nodes x × IsSo nodes sent (node x).records body
+SaysSo nodes node sent (Task t) body = IsCall t body
+SaysSo nodes node sent Audit body = ⊥
+
+-- A running proposal: its ballot is started, its promises were sent, what it would offer was asked for,
+-- and while it waits for promises nothing is offered in its ballot at its position.
+pub record IsProposal (sent : List Message) (records : List Rec) (p : Proposal) : Type 0 where
+  pub started : Has (Started p.ballot) records
+  pub promised : (a : ℕ) (last : Option Vote) → Has (a, last) p.promises → HasPromised sent a p.position p.ballot last
+  pub asked : IfSome p.own (IsAsked sent)
+  pub unoffered : p.phase ≡ Preparing → (v : Action) → ¬ IsOffered sent p.position p.ballot v
+
+-- what a node knows while it runs
+pub record IsRunning (sent : List Message) (records : List Rec) (running : Running) : Type 0 where
+  pub proposals : (p : Proposal) → Has p running.proposals → IsProposal sent records p
+  pub apart : IsSet (map (λ p. p.position) running.proposals)
+  pub pending : (action : Action) → Has action running.pending → IsAsked sent action
+  pub heard : (a i : ℕ) (w : Vote) → Has (a, i, w) running.heard → HasVoted sent a i w.ballot w.action
+
+-- The invariant, over the parts of the nodes 1 to n and the packets ever sent.
+pub record IsSound (nodes : ℕ) (node : ℕ → NodePart) (sent : List Message) : Type 0 where
+  pub says : (m : Message) → Has m sent → SaysSo nodes node sent m.from m.body
+  pub one_offer : (i b : ℕ) (v w : Action) → IsOffered sent i b v → IsOffered sent i b w → v ≡ w
+  pub started : (x b : ℕ) → Has (Started b) (node x).records → owner_of b ≡ x
+  pub voted : (x i b : ℕ) (v : Action) → Has (Voted i b v) (node x).records → IsOffered sent i b v
+  pub learned : (x i : ℕ) (v : Action) → Has (Learned i v) (node x).records → IsDecided nodes sent i v
+  pub runs : (x : ℕ) (running : Running) → (node x).running ≡ Some running → IsRunning sent (node x).records running

@@ -1,0 +1,43 @@
+-- What the packets of a world tell of a promise and of a call (this project's own).
+use Rattle.std.specs.Prelude.{◌≡◌, ℕ, Option, List}
+use Rattle.rp_base.specs.Action.{IsRight}
+use Rattle.rp_base.specs.Sets.{Has}
+use Rattle.rp_base.specs.declared.action.Action.{Action}
+use Rattle.rp_base.specs.declared.record.Vote.{Vote}
+use Rattle.rp_codec.specs.Message.{Message}
+use Rattle.rp_codec.specs.declared.packet.Party.{Party}
+use Rattle.rp_codec.specs.declared.packet.Party.TheVariants.{Node}
+use Rattle.rp_codec.specs.declared.packet.Body.{Body}
+use Rattle.rp_codec.specs.declared.packet.Body.TheVariants.{Call, Prepare, Promise, Accept, Accepted, Decided, Ask, Nack, Reply, Report}
+use Rattle.rp_machine.specs.Calls.{CallName, calls_of}
+use Rattle.rp_model.specs.Tasks.{asks}
+
+-- the body promises the ballot at the position, with this last vote
+abbrev pub IsPromise : Body → ℕ → ℕ → Option Vote → Type 0
+IsPromise (Call action) i b last = ⊥
+IsPromise (Prepare position ballot) i b last = ⊥
+IsPromise (Promise position ballot vote) i b last = (position ≡ i) × (ballot ≡ b) × (vote ≡ last)
+IsPromise (Accept position ballot action) i b last = ⊥
+IsPromise (Accepted position ballot action) i b last = ⊥
+IsPromise (Decided position action) i b last = ⊥
+IsPromise (Ask position) i b last = ⊥
+IsPromise (Nack position ballot bound) i b last = ⊥
+IsPromise (Reply number reply) i b last = ⊥
+IsPromise (Report first applied actions) i b last = ⊥
+
+-- the node said that it promises the ballot at the position, with this last vote
+abbrev pub HasPromised : List Message → ℕ → ℕ → ℕ → Option Vote → Type 0
+HasPromised sent a i b last = (m : Message) × Has m sent × (m.from ≡ Node a) × IsPromise m.body i b last
+
+-- the task asked some node for this very call
+abbrev pub Asks : List Message → ℕ → Action → Type 0
+Asks sent task action = (node : ℕ) × Has (asks task node action) sent
+
+-- the action is right, and if it is a call, its task asked for it
+pub record IsAsked (sent : List Message) (action : Action) : Type 0 where
+  pub right : IsRight action
+  pub asked : (call : CallName) → Has call (calls_of action) → Asks sent call.task action
+
+-- the node said this to someone
+abbrev pub Says : List Message → ℕ → Body → Type 0
+Says sent a body = (to : Party) × Has (record { from = Node a; to = to; body = body }) sent

@@ -1,0 +1,34 @@
+//! Nodes agree, whatever stops: at each position one action at most is decided, and what each node
+//! has applied begins one order.
+//!
+//! Each law is the contract of a function that does nothing. It speaks of the parts of the nodes 1
+//! to `nodes`, `node`, and of all packets ever sent, `sent`, that meet the invariant `IsSound`.
+//!
+//! In reading order:
+//! - `packets`: what a node says stands in its records
+//! - `offers`: what is offered in one ballot, and above a decided one
+//! - `decisions`: what is decided, and what is learned
+//! - `order`: what is applied, and where that leads a machine
+//! - `opening`: the invariant holds where nothing has happened
+//! - `keeping`: each event keeps it
+#![tactic(auto)]
+
+mod decisions;
+mod keeping;
+mod offers;
+mod opening;
+mod order;
+mod packets;
+
+pub use decisions::{
+    decisions_are_one, decisions_stay, only_asked_actions_are_decided,
+    only_decided_actions_are_learned,
+};
+pub use keeping::{events_keep, histories_keep, node_events_keep, task_events_keep};
+pub use offers::{offers_are_one, offers_follow_decisions};
+pub use opening::the_opening_is_sound;
+pub use order::{
+    applied_lists_are_alike, applied_lists_begin_the_order, reports_tell_the_order,
+    states_are_alike, the_order_exists, the_order_grows, the_order_is_one,
+};
+pub use packets::packets_say_so;

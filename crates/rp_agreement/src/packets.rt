@@ -1,0 +1,23 @@
+//! What a node says stands in its records.
+
+ghost use Rattle.std.specs.Prelude.{ℕ, Option, List};
+ghost use Rattle.rp_base.specs.declared.record.Vote.{Vote};
+ghost use Rattle.rp_codec.specs.Message.{Message};
+ghost use Rattle.rp_codec.specs.declared.packet.Body.{Body};
+ghost use Rattle.rp_model.specs.declared.part.NodePart.{NodePart};
+ghost use Rattle.rp_agreement.specs.Told.{Says, HasPromised};
+ghost use Rattle.rp_agreement.specs.Founded.{Reports};
+ghost use Rattle.rp_agreement.specs.Sound.{IsSo, IsSound};
+
+/// What a node says is so, by what it has written down by now and by what was sent: a vote or a
+/// decision is among its records, a promise binds it and reports its last vote, an offer is founded
+/// on a majority's promises, and a report tells what it has applied.
+pub fn packets_say_so()
+    ensures said { (nodes : ℕ) (node : ℕ → NodePart) (sent : List Message)
+        → IsSound nodes node sent
+        → (a : ℕ) (body : Body) → Says sent a body → IsSo nodes sent (node a).records body }
+    ensures promised { (nodes : ℕ) (node : ℕ → NodePart) (sent : List Message)
+        → IsSound nodes node sent
+        → (a i b : ℕ) (last : Option Vote)
+        → HasPromised sent a i b last → Reports (node a).records i b last }
+{}

@@ -1,5 +1,9 @@
 //! What can happen in a world.
 
+ghost use Rattle.std.specs.Prelude.{◌<◌, ◌^◌, FitsSigned};
+ghost use Rattle.std.specs.Int.{w64};
+ghost use Rattle.rp_model.specs.Events.{IsOperation, IsStep, IsEvent, step_of, event_of};
+
 use rp_base::{NodeId, Operation, Position, TaskId};
 
 /// One step of a node.
@@ -28,4 +32,62 @@ pub enum Event {
     },
     /// A node makes a step.
     Node(Step),
+}
+
+impl Event {
+    /// The numbers of an event are within the ranges of their types. It does nothing: what it promises
+    /// is for contracts.
+    pub fn keeps_ranges(&self)
+        ensures { IsEvent (event_of self.now) }
+    {
+        match *self {
+            Event::Submit {
+                task,
+                node,
+                object,
+                operation,
+                arg,
+            } => {
+                let _ = (task.get(), node.get(), index_of(operation));
+                call_keeps_ranges(object, arg);
+            }
+            Event::Node(step) => step.keeps_ranges(),
+        }
+    }
+}
+
+impl Step {
+    /// The same of a step.
+    fn keeps_ranges(self)
+        ensures { IsStep (step_of self) }
+    {
+        match self {
+            Step::Deliver(number) => {
+                let _ = number;
+            }
+            Step::Lead { node, position } => {
+                let _ = (node.get(), position.map(Position::get));
+            }
+        }
+    }
+}
+
+/// The index of an operation, which is within its range.
+fn index_of(operation: Operation) -> u8
+    ensures { IsOperation operation }
+{
+    match operation {
+        Operation::Function(index) => index,
+        Operation::Procedure(index) => index,
+        Operation::Entry(index) => index,
+        Operation::SetTimer(index) => index,
+        Operation::CancelTimer(index) => index,
+    }
+}
+
+/// An object and an argument are within their ranges.
+fn call_keeps_ranges(object: u8, arg: i64)
+    ensures object { object < 2 ^ 8 }
+    ensures arg { FitsSigned w64 arg }
+{
 }

@@ -1,5 +1,5 @@
 -- Events one after another.
-use Rattle.std.proofs.Common.{◌≡◌, ℕ, Option, Some, Result, Ok, Err, List, [], ◌∷◌, ◌++◌, inl, inr, refl, sym, ap, ◌∙◌, subst}
+use Rattle.std.proofs.Common.{◌≡◌, ℕ, Option, Some, Result, Ok, Err, List, [], ◌∷◌, ◌++◌, refl, sym, ap, ◌∙◌, subst}
 use Rattle.rp_base.specs.declared.fault.Fault.{Fault}
 use Rattle.rp_base.specs.Sets.{Has}
 use Rattle.rp_base.proofs.Members.{has_left}
@@ -16,11 +16,12 @@ use Rattle.rp_agreement.proofs.Computing.{order_is}
 use Rattle.rp_agreement.proofs.Following.{one_decided}
 use Rattle.rp_agreement.proofs.Ordering.{decided_begins, all_decided_stays, applied_alike}
 use Rattle.rp_agreement.proofs.Sending.{decided_more}
+use Rattle.rp_agreement.proofs.WorldKeeping.{history_keeps}
 use Rattle.rp_model.specs.Effect.{Setting}
-use Rattle.rp_model.specs.Events.{Event, IsEvent}
+use Rattle.rp_model.specs.Events.{Event}
 use Rattle.rp_model.specs.World.{World, Happening, opening_world, part_at, event_effect}
 use Rattle.rp_model.proofs.WorldGrowing.{GrowsIf, event_grows}
-use Rattle.rp_agreement.specs.History.{IsHistory}
+use Rattle.rp_agreement.specs.History.{IsHistory, AreMoments}
 use Rattle.rp_agreement.specs.Order.{Begins, AreAlike, AllSent}
 use Rattle.rp_agreement.specs.Worlds.{node_in, IsSoundWorld}
 
@@ -32,17 +33,6 @@ same_happening : (a b : Happening) → (let one : Result Happening Fault = Ok a 
 same_happening a b e = ap (happening_or a) e
 
 module _ {S : Type 0} (s : Setting S) where
-  -- an event keeps the invariant
-  abbrev KeepsSound : Type 0
-  KeepsSound = (before : World) (event : Event) (happening : Happening) → IsEvent event → event_effect s before event ≡ Ok happening
-      → IsSoundWorld s.config.nodes before → IsSoundWorld s.config.nodes happening.world
-
-  happen_keeps : KeepsSound → (events : List Event) (before after : World) → ((event : Event) → Has event events → IsEvent event)
-      → Happen s before events after → IsSoundWorld s.config.nodes before → IsSoundWorld s.config.nodes after
-  happen_keeps keeps [] before after right happened sound = subst (IsSoundWorld s.config.nodes) (sym happened) sound
-  happen_keeps keeps (event ∷ rest) before after right happened sound =
-      happen_keeps keeps rest happened.0.world after (λ other h. right other (inr h)) happened.2 (keeps before event happened.0 (right event (inl refl)) happened.1 sound)
-
   -- every packet stays
   one_sends : (before : World) (event : Event) (happening : Happening) → event_effect s before event ≡ Ok happening → AllSent before.sent happening.world.sent
   one_sends before event happening is m there =
@@ -75,8 +65,8 @@ module _ {S : Type 0} (s : Setting S) where
       subst (λ (w : World). AllSent w.sent later.sent) same (all_sent more split.0 later split.2)
 
   -- a history leads to a world that meets the invariant
-  pub history_sound : KeepsSound → IsSoundWorld s.config.nodes (opening_world s.config.nodes) → (events : List Event) (w : World) → IsHistory s events w → IsSoundWorld s.config.nodes w
-  history_sound keeps opening events w history = happen_keeps keeps events (opening_world s.config.nodes) w history.right history.happened opening
+  pub history_sound : IsSoundWorld s.config.nodes (opening_world s.config.nodes) → (events : List Event) (w : World) → IsHistory s events w → IsSoundWorld s.config.nodes w
+  history_sound opening events w history = history_keeps s history.config (opening_world s.config.nodes) events w opening history.right history.happened
 
 -- ---- at two moments of a history
 
@@ -84,23 +74,32 @@ in_place : (nodes : List NodePart) (x : ℕ) (part : NodePart) → part_at nodes
 in_place nodes x part is = ap (λ (o : Option NodePart). unwrap_or o fresh_node) is
 
 -- Two worlds that meet the invariant, the second one later.
-pub record AreMoments (nodes : ℕ) (now later : World) : Type 0 where
+pub record AreSoundMoments (nodes : ℕ) (now later : World) : Type 0 where
   pub first : IsSoundWorld nodes now
   pub second : IsSoundWorld nodes later
   pub sent : AllSent now.sent later.sent
 
-module _ {nodes : ℕ} {now later : World} (moments : AreMoments nodes now later) where
+module _ {nodes : ℕ} {now later : World} (both : AreSoundMoments nodes now later) where
   pub one_action : (i : ℕ) (v w : Action) → IsDecided nodes now.sent i v → IsDecided nodes later.sent i w → v ≡ w
-  one_action i v w before after = one_decided moments.second.sound i v w (decided_more nodes now.sent later.sent moments.sent i v before) after
+  one_action i v w before after = one_decided both.second.sound i v w (decided_more nodes now.sent later.sent both.sent i v before) after
 
   pub order_begins : Begins (order_of nodes now.sent) (order_of nodes later.sent)
   order_begins =
       let order = order_of nodes now.sent in
-      decided_begins moments.second.sound order (order_of nodes later.sent) (all_decided_stays nodes now.sent later.sent order moments.sent (order_is nodes now.sent).decided) (order_is nodes later.sent)
+      decided_begins both.second.sound order (order_of nodes later.sent) (all_decided_stays nodes now.sent later.sent order both.sent (order_is nodes now.sent).decided) (order_is nodes later.sent)
 
   pub parts_alike : (x y : ℕ) (one other : NodePart) → part_at now.nodes x ≡ Some one → part_at later.nodes y ≡ Some other → AreAlike (applied_of one.records) (applied_of other.records)
   parts_alike x y one other is is_other =
-      let both = applied_alike nodes (node_in now.nodes) (node_in later.nodes) now.sent later.sent moments.first.sound moments.second.sound moments.sent x y in
+      let alike = applied_alike nodes (node_in now.nodes) (node_in later.nodes) now.sent later.sent both.first.sound both.second.sound both.sent x y in
       let left : node_in now.nodes x ≡ one = in_place now.nodes x one is in
       let right : node_in later.nodes y ≡ other = in_place later.nodes y other is_other in
-      subst (λ (p : NodePart × NodePart). AreAlike (applied_of p.0.records) (applied_of p.1.records)) (λ k. (left k, right k)) both
+      subst (λ (p : NodePart × NodePart). AreAlike (applied_of p.0.records) (applied_of p.1.records)) (λ k. (left k, right k)) alike
+
+-- the moments of a history
+pub moments : {S : Type 0} (s : Setting S) → IsSoundWorld s.config.nodes (opening_world s.config.nodes) → (now later : World) → AreMoments s now later → AreSoundMoments s.config.nodes now later
+moments s opening now later are =
+    record {
+      first = history_sound s opening are.events now are.before;
+      second = history_sound s opening (are.events ++ are.more) later are.after;
+      sent = all_sent_later s are.events are.more now later are.before are.after;
+    }

@@ -15,7 +15,7 @@ pub mod Following
 pub mod Ordering
 pub mod Counting
 pub mod Computing
-pub mod Happening
 pub mod NodeEffects
 pub mod TaskEffects
 pub mod WorldKeeping
+pub mod Happening

@@ -1,6 +1,6 @@
-//! What is decided, and what is learned. Lamport, "Paxos Made Simple", section 2.1: only a value that
-//! has been proposed may be chosen, only a single value is chosen, and no process learns a value that
-//! was not chosen.
+//! What is decided, and what is learned. Lamport, "Paxos Made Simple", section 2.1: only a value
+//! that has been proposed may be chosen, only a single value is chosen, and no process learns a
+//! value that was not chosen.
 
 ghost use Rattle.std.specs.Prelude.{◌≡◌, ℕ, List};
 ghost use Rattle.rp_base.specs.Sets.{Has};
@@ -35,8 +35,8 @@ pub fn only_asked_actions_are_decided()
         → (i : ℕ) (v : Action) → IsDecided nodes sent i v → IsAsked sent v }
 {}
 
-/// What a node learns, or says that it has learned, is decided; so what nodes learn at a position is
-/// one action.
+/// What a node learns, or says that it has learned, is decided; so what nodes learn at a position
+/// is one action.
 pub fn only_decided_actions_are_learned()
     ensures learned { (nodes : ℕ) (node : ℕ → NodePart) (sent : List Message)
         → IsSound nodes node sent

@@ -15,7 +15,6 @@ use Rattle.rp_model.specs.declared.part.Dropped.TheVariants.{No}
 use Rattle.rp_model.specs.Effect.{Setting, Done, goes_on_as}
 use Rattle.rp_model.specs.Tasks.{takes, takes_reply, task_hears}
 use Rattle.rp_model.specs.World.{World, Happening, part_at, with_part, task_done, task_is_told, arrives, delivers}
-use Rattle.rp_world.specs.Shape.{IsCluster}
 use Rattle.rp_world.specs.Steps.{AnswersBy}
 
 set_same : {A : Type 0} (xs : List A) (i : ℕ) (x : A) → slice_get xs i ≡ Some x → slice_set xs i x ≡ xs
@@ -72,15 +71,3 @@ module _ {S : Type 0} (s : Setting S) (w new : World) (task number : ℕ) (reply
       let there : delivers s w (part_at w.sent place) ≡ task_is_told s.config w task message (part_at w.tasks task) =
       ap (delivers s w) sent ∙ ap (arrives s w message) to in
       subst (λ (r : Result Happening Fault). AnswersBy w new r answer) (sym there) (told_by message body (part_at w.tasks task) taken)
-
-  keeps_by : (config : Config) (r : Result Effect Fault) (part : TaskPart) → IsCluster config w → AnswersBy w new (Ok (task_done w task (takes_reply task part number reply))) r → IsCluster config new
-  keeps_by config (Ok effect) part is answers = subst (IsCluster config) (sym answers.0) (record { right = is.right; all_nodes = is.all_nodes })
-  keeps_by config (Err fault) part is answers = subst (IsCluster config) (sym answers.0) is
-
-  keeps_in : (config : Config) (o : Option TaskPart) → IsCluster config w → TakenBy o → IsCluster config new
-  keeps_in config None is taken = absurd taken
-  keeps_in config (Some part) is taken = keeps_by config answer part is taken
-
-  -- and the cluster stays one
-  pub keeps_cluster : (config : Config) → IsCluster config w → TakenBy (part_at w.tasks task) → IsCluster config new
-  keeps_cluster config is taken = keeps_in config (part_at w.tasks task) is taken

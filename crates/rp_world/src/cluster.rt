@@ -6,18 +6,25 @@ ghost use Rattle.rp_base.specs.Records.{applied_of};
 ghost use Rattle.rp_codec.specs.Text.{text_of};
 ghost use Rattle.rp_machine.specs.Replay.{replay_state};
 ghost use Rattle.rp_model.specs.Effect as nodes;
-ghost use Rattle.rp_model.specs.Events.{event_of};
+ghost use Rattle.rp_model.specs.Events.{Makes, Deliver, Lead, IsEvent, event_of};
 ghost use Rattle.rp_model.specs.World.{opening_world, delivers, node_takes, event_effect, part_at};
 ghost use Rattle.rp_world.specs.Steps.{AnswersBy, IsSameSetup, IsStep, setting_of, IsToldOf, IsToldUnlessMemory};
+ghost use Rattle.rp_agreement.specs.Order.{AllSent};
+ghost use Rattle.rp_agreement.specs.Worlds.{IsSoundWorld};
+ghost use Rattle.rp_world.specs.Agreeing.{Agree};
 ghost use Rattle.rp_world.specs.Runs.{IsRun};
 
 use crate::effect::{Refused, nothing};
 use crate::world::World;
+use rp_agreement::{
+    applied_lists_are_alike, events_keep, states_are_alike, the_opening_is_sound,
+};
 use rp_base::{Answer, Config, Fault, NodeId, Position, TaskId};
 use rp_codec::{Body, Party, encode};
 use rp_machine::Machine;
 use rp_model::{
     Effect, Event, RightRecord, Step, applied_count, applied_of, on_lead, receives, replay,
+    worlds_grow,
 };
 use std::alloc::Global;
 use std::marker::Model;
@@ -56,6 +63,7 @@ impl<M: Machine> Cluster<M> {
         if !config.is_right() || config.max_positions != 1 {
             return Err(Fault::BadConfig);
         }
+        the_opening_is_sound();
         Ok(Cluster {
             config,
             program,
@@ -81,6 +89,8 @@ impl<M: Machine> Cluster<M> {
             (event_of event.now)) result }
         ensures setup { IsSameSetup self.old self.new }
     {
+        event.keeps_ranges();
+        events_keep::<M>();
         match *event {
             Event::Submit {
                 task,
@@ -96,10 +106,27 @@ impl<M: Machine> Cluster<M> {
         }
     }
 
-    /// The steps of these events one after another, up to the first that is refused.
+    /// The steps of these events one after another, up to the first that is refused. Whatever they
+    /// are, nodes agree, before the run and behind it.
     pub fn run(&mut self, alloc: Global, events: &[Event]) -> Result<(), Refused>
         ensures run { IsRun M.next M.answers M.begin self.old events.now self.new result }
+        ensures agree { Agree M.next M.answers (M.begin self.old.program)
+            self.old.world self.new.world }
     {
+        self.is_sound();
+        let ran = self.run_all(alloc, events);
+        self.is_sound();
+        applied_lists_are_alike();
+        states_are_alike::<M>();
+        ran
+    }
+
+    /// The same, by what was sent before the run and behind it.
+    fn run_all(&mut self, alloc: Global, events: &[Event]) -> Result<(), Refused>
+        ensures run { IsRun M.next M.answers M.begin self.old events.now self.new result }
+        ensures sent { AllSent self.old.world.sent self.new.world.sent }
+    {
+        worlds_grow::<M>();
         for (place, event) in events.iter().enumerate() {
             if let Err(fault) = self.step(alloc, event) {
                 return Err(Refused { place, fault });
@@ -108,13 +135,23 @@ impl<M: Machine> Cluster<M> {
         Ok(())
     }
 
+    /// The cluster's world meets the invariant by which nodes agree. It does nothing: what it promises
+    /// is for contracts.
+    fn is_sound(&self)
+        ensures { IsSoundWorld self.now.config.nodes self.now.world }
+    {
+        let _ = self.world.messages();
+    }
+
     /// A message is taken by whom it is for.
     fn deliver(&mut self, alloc: Global, number: u64) -> Result<Effect, Fault>
+        requires ranges { IsEvent (Makes (Deliver number)) }
         ensures effect { AnswersBy self.old.world self.new.world
             (delivers (setting_of M.next M.answers M.begin self.old) self.old.world
             (part_at self.old.world.sent number)) result }
         ensures setup { IsSameSetup self.old self.new }
     {
+        events_keep::<M>();
         let first = self.world.next_number();
         let Some(packet) = self.world.message(number) else {
             return Err(Fault::NoSuchMessage);
@@ -156,12 +193,14 @@ impl<M: Machine> Cluster<M> {
         node: NodeId,
         position: Option<Position>,
     ) -> Result<Effect, Fault>
+        requires ranges { IsEvent (Makes (Lead node position)) }
         ensures effect { AnswersBy self.old.world self.new.world
             (node_takes (setting_of M.next M.answers M.begin self.old) self.old.world node
             (nodes.Lead position)
             (part_at self.old.world.nodes node)) result }
         ensures setup { IsSameSetup self.old self.new }
     {
+        events_keep::<M>();
         let Some(part) = self.world.node(node) else {
             return Err(Fault::BadConfig);
         };

@@ -22,7 +22,7 @@ use Rattle.rp_codec.specs.declared.packet.Body.{Body}
 use Rattle.rp_codec.specs.declared.packet.Body.TheVariants.{Call, Prepare, Promise, Accept, Accepted, Decided, Ask, Nack, Reply, Report}
 use Rattle.rp_machine.specs.Replay.{one_to}
 use Rattle.rp_model.specs.Facts.{HasVoted, IsDecided, IsOrder}
-use Rattle.rp_agreement.specs.Computed.{vote_in, vote_between, votes_told, decided_at, decided_run, order_of}
+use Rattle.rp_agreement.specs.Computed.{vote_by, vote_between, votes_told, decided_at, decided_run, order_of}
 use Rattle.rp_agreement.proofs.Lists.{some_same, has_picked, picked_has, found_has}
 use Rattle.rp_agreement.proofs.Counting.{majority_decides, decided_counts, decided_voter}
 
@@ -31,7 +31,7 @@ use Rattle.rp_agreement.proofs.Counting.{majority_decides, decided_counts, decid
 abbrev IsVoteOf : Body → ℕ → HeardVote → Type 0
 IsVoteOf body a h = (h.0 ≡ a) × (body ≡ Accepted h.1 h.2.ballot h.2.action)
 
-vote_is : (a : ℕ) (body : Body) (h : HeardVote) → vote_in a body ≡ Some h → IsVoteOf body a h
+vote_is : (a : ℕ) (body : Body) (h : HeardVote) → vote_by a body ≡ Some h → IsVoteOf body a h
 vote_is a (Call action) h e = absurd (cc)
 vote_is a (Prepare position ballot) h e = absurd (cc)
 vote_is a (Promise position ballot last) h e = absurd (cc)

@@ -1,22 +1,17 @@
 -- A node's steps as a learner are sound.
-use Rattle.std.proofs.Common.{◌≡◌, ℕ, Bool, true, Option, Some, None, List, [], ◌∷◌, ◌++◌, length, drop, map, inl, inr, refl, sym, ap, subst}
-use Rattle.std.specs.Prelude.{nat_eq, not, filter, ◌&&◌}
+use Rattle.std.proofs.Common.{◌≡◌, ℕ, Bool, true, Option, Some, None, List, [], ◌∷◌, ◌++◌, length, drop, inl, inr, refl, sym, ap, subst}
+use Rattle.std.specs.Prelude.{nat_eq, not, filter}
 use Rattle.std.specs.List.{list_any}
-use Rattle.std.proofs.lemmas.Bool.{leb-true, and_parts, eqb-true}
-use Rattle.std.proofs.lemmas.Bool.Decides.{Decides-eqb}
 use Rattle.rp_base.specs.declared.action.Action.{Action}
 use Rattle.rp_base.specs.declared.reply.Answer.{Answer}
 use Rattle.rp_base.specs.declared.record.Vote.{Vote}
 use Rattle.rp_base.specs.declared.record.Rec.{Rec}
 use Rattle.rp_base.specs.declared.record.Rec.TheVariants.{Learned}
-use Rattle.rp_base.specs.Number.{in_range}
 use Rattle.rp_base.specs.Sets.{Has, with_member}
-use Rattle.rp_base.specs.Majority.{majority_of, nodes_among}
 use Rattle.rp_base.specs.Records.{learned_at, applied_of}
-use Rattle.rp_base.specs.Promises.{HeardVote, same_vote, same_heard, voters_of, makes_majority, heard_elsewhere}
+use Rattle.rp_base.specs.Promises.{HeardVote, same_heard, makes_majority, heard_elsewhere}
 use Rattle.rp_base.specs.Proposals.{without_proposal}
-use Rattle.rp_base.proofs.Members.{has_right, has_passing, has_members, mapped_has, set_members, set_passing}
-use Rattle.rp_base.proofs.Sameness.{vote_decides}
+use Rattle.rp_base.proofs.Members.{has_right, has_passing}
 use Rattle.rp_codec.specs.Message.{Message}
 use Rattle.rp_codec.specs.declared.packet.Body.TheVariants as bodies
 use Rattle.rp_machine.specs.Replay.{kept_of, replay_answers, one_to}
@@ -28,6 +23,7 @@ use Rattle.rp_model.specs.Facts.{HasVoted, IsDecided}
 use Rattle.rp_agreement.specs.Sound.{IsRunning}
 use Rattle.rp_agreement.proofs.RecordGrowth.{learned_has}
 use Rattle.rp_agreement.proofs.Turns.{IsSoundTurn, ArePlain, none_plain, one_plain, both_plain, mapped_plain, said_plain, plain, quiet, sending, either, runs_written}
+use Rattle.rp_agreement.proofs.Counting.{majority_decides}
 use Rattle.rp_agreement.proofs.Proposing.{member_or_new, without_apart, stays_there}
 
 -- each vote of the list was told
@@ -36,39 +32,9 @@ AreCast sent heard = (a i : ℕ) (w : Vote) → (let h : HeardVote = (a, i, w) i
 
 -- ---- votes that make a majority
 
--- a voter of this vote at the position is one whose vote was told
-voter_told : (sent : List Message) (i : ℕ) (vote : Vote) (heard : List HeardVote) → AreCast sent heard → (a : ℕ) → Has a (voters_of i vote heard)
-    → HasVoted sent a i vote.ballot vote.action
-voter_told sent i vote heard cast a h =
-    let test : HeardVote → Bool = λ k. nat_eq k.1 i && same_vote k.2 vote in
-    elim (has_members nat_eq Decides-eqb a [] (map (λ (k : HeardVote). k.0) (filter test heard)) h) [
-      | inl none ↦ absurd none
-      | inr there ↦
-          let hit = mapped_has (λ (k : HeardVote). k.0) a (filter test heard) there in
-          let passed = has_passing test hit.0 heard hit.1 in
-          let both = and_parts (nat_eq hit.0.1 i) (same_vote hit.0.2 vote) passed.1 in
-          let place : hit.0.1 ≡ i = eqb-true hit.0.1 i both.0 in
-          let same : hit.0.2 ≡ vote = (vote_decides hit.0.2 vote).0 both.1 in
-          subst (λ (k : ℕ). HasVoted sent k i vote.ballot vote.action) (sym hit.2)
-          (subst (λ (w : Vote). HasVoted sent hit.0.0 i w.ballot w.action) same
-          (subst (λ (j : ℕ). HasVoted sent hit.0.0 j hit.0.2.ballot hit.0.2.action) place (cast hit.0.0 hit.0.1 hit.0.2 passed.0)))
-    ]
-
 decides : (nodes : ℕ) (sent : List Message) (i : ℕ) (vote : Vote) (heard : List HeardVote) → AreCast sent heard → makes_majority nodes i vote heard ≡ true
     → IsDecided nodes sent i vote.action
-decides nodes sent i vote heard cast most =
-    let among = λ (a : ℕ) (h : Has a (nodes_among nodes (voters_of i vote heard))). has_passing (in_range 1 nodes) a (voters_of i vote heard) h in
-    record {
-      ballot = vote.ballot;
-      voters = nodes_among nodes (voters_of i vote heard);
-      members = record {
-        members = λ a h. let test = and_parts _ _ (among a h).1 in (leb-true 1 a test.0, leb-true a nodes test.1);
-        distinct = set_passing (in_range 1 nodes) (voters_of i vote heard)
-          (set_members nat_eq Decides-eqb [] (map (λ (k : HeardVote). k.0) (filter (λ (k : HeardVote). nat_eq k.1 i && same_vote k.2 vote) heard)) tt);
-      };
-      majority = leb-true (majority_of nodes) (length (nodes_among nodes (voters_of i vote heard))) most;
-      voted = λ a h. voter_told sent i vote heard cast a (among a h).0;
-    }
+decides nodes sent i vote heard cast most = majority_decides nodes sent i vote heard (λ a there. cast a i vote there) most
 
 heard_more : (sent : List Message) (heard : List HeardVote) (from i : ℕ) (vote : Vote) → AreCast sent heard → HasVoted sent from i vote.ballot vote.action
     → AreCast sent (with_member same_heard heard (from, i, vote))

@@ -11,21 +11,21 @@ use Rattle.rp_codec.specs.declared.packet.Body.{Body}
 use Rattle.rp_codec.specs.declared.packet.Body.TheVariants.{Call, Prepare, Promise, Accept, Accepted, Decided, Ask, Nack, Reply, Report}
 
 -- the vote of this node that a body tells, if it tells one
-abbrev pub vote_in : ℕ → Body → Option HeardVote
-vote_in a (Call action) = None
-vote_in a (Prepare position ballot) = None
-vote_in a (Promise position ballot last) = None
-vote_in a (Accept position ballot action) = None
-vote_in a (Accepted position ballot action) = Some (a, position, record { ballot = ballot; action = action })
-vote_in a (Decided position action) = None
-vote_in a (Ask position) = None
-vote_in a (Nack position ballot bound) = None
-vote_in a (Reply number reply) = None
-vote_in a (Report first applied actions) = None
+abbrev pub vote_by : ℕ → Body → Option HeardVote
+vote_by a (Call action) = None
+vote_by a (Prepare position ballot) = None
+vote_by a (Promise position ballot last) = None
+vote_by a (Accept position ballot action) = None
+vote_by a (Accepted position ballot action) = Some (a, position, record { ballot = ballot; action = action })
+vote_by a (Decided position action) = None
+vote_by a (Ask position) = None
+vote_by a (Nack position ballot bound) = None
+vote_by a (Reply number reply) = None
+vote_by a (Report first applied actions) = None
 
 -- the vote that a packet from node to node tells
 abbrev pub vote_between : Party → Party → Body → Option HeardVote
-vote_between (Node a) (Node to) body = vote_in a body
+vote_between (Node a) (Node to) body = vote_by a body
 vote_between (Node a) (Task t) body = None
 vote_between (Node a) Audit body = None
 vote_between (Task t) to body = None

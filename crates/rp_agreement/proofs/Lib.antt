@@ -21,4 +21,5 @@ pub mod PartPlaces
 pub mod EventWalk
 pub mod WorldKeeping
 pub mod Happening
+pub mod Playing
 pub mod AnswerTurns

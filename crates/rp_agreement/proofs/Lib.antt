@@ -17,5 +17,9 @@ pub mod Counting
 pub mod Computing
 pub mod NodeEffects
 pub mod TaskEffects
+pub mod PartPlaces
+pub mod EventWalk
 pub mod WorldKeeping
 pub mod Happening
+pub mod Playing
+pub mod AnswerTurns

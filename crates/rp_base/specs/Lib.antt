@@ -6,6 +6,7 @@ pub mod Majority
 pub mod Action
 pub mod Fault
 pub mod Config
+pub mod Calls
 pub mod Right
 pub mod Records
 pub mod Voting

@@ -1,8 +1,7 @@
 -- What an input comes to for one task. Its calls are numbered from 1, and the next one is made once the
 -- last one has its reply (this project's own).
-use Rattle.std.specs.Prelude.{ℕ, suc, ◌-◌, ◌^◌, Bool, not, ◌&&◌, ◌||◌, nat_eq, nat_lt, nat_le, ℤ, Option, Some, None, Result, Ok, Err, List, [], ◌∷◌, ◌++◌, length, if◌then◌else◌}
+use Rattle.std.specs.Prelude.{ℕ, Bool, not, ◌||◌, nat_lt, ℤ, Option, Some, None, Result, Ok, Err, List, [], ◌∷◌, ◌++◌, length, if◌then◌else◌}
 use Rattle.rp_base.specs.declared.action.Action.{Action}
-use Rattle.rp_base.specs.declared.action.Action.TheVariants as actions
 use Rattle.rp_base.specs.declared.action.Operation.{Operation}
 use Rattle.rp_base.specs.declared.reply.Reply.{Reply}
 use Rattle.rp_base.specs.declared.reply.Answer.{Answer}
@@ -10,6 +9,8 @@ use Rattle.rp_base.specs.declared.config.Config.{Config}
 use Rattle.rp_base.specs.declared.fault.Fault.{Fault}
 use Rattle.rp_base.specs.declared.fault.Fault.TheVariants.{TaskBusy, NumbersSpent, BadConfig}
 use Rattle.rp_base.specs.Action.{is_right}
+use Rattle.rp_base.specs.Calls as calls
+use Rattle.rp_base.specs.Calls.{are_spent, is_reply_to}
 use Rattle.rp_codec.specs.Message.{Message}
 use Rattle.rp_codec.specs.declared.packet.Party.TheVariants.{Node, Task}
 use Rattle.rp_codec.specs.declared.packet.Body.{Body}
@@ -29,13 +30,13 @@ asks task node call = record { from = Task task; to = Node node; body = bodies.C
 
 -- the next call of a task
 abbrev pub next_call : ℕ → TaskPart → ℕ → Operation → ℤ → Action
-next_call task part object operation arg = actions.Call task (suc (length part.replies)) object operation arg
+next_call task part object operation arg = calls.next_call task (length part.replies) object operation arg
 
 -- the call that a task which waits for nothing may make, or its refusal
 abbrev pub may_call : Config → ℕ → TaskPart → Action → Option Action → Result Action Fault
 may_call config node part call (Some waits) = Err TaskBusy
 may_call config node part call None =
-    if nat_le (2 ^ 32 - 1) (length part.replies) then Err NumbersSpent
+    if are_spent (length part.replies) then Err NumbersSpent
     else if nat_lt config.nodes node || not (is_right call) then Err BadConfig
     else Ok call
 
@@ -50,17 +51,9 @@ abbrev pub asks_again : ℕ → ℕ → TaskPart → Option Action → Done Task
 asks_again task node part None = goes_on_as part
 asks_again task node part (Some call) = record (goes_on_as part) { sends = asks task node call ∷ [] }
 
--- the number of the call that a task waits for, 0 where it waits for none
-abbrev pub outstanding_number : Option Action → ℕ
-outstanding_number None = 0
-outstanding_number (Some actions.Noop) = 0
-outstanding_number (Some (actions.Call task number object operation arg)) = number
-outstanding_number (Some (actions.Interrupt source occurrence)) = 0
-outstanding_number (Some (actions.Tick now)) = 0
-
 -- a reply of this number is to the call that the task waits for
 abbrev pub takes : TaskPart → ℕ → Bool
-takes part number = nat_lt 0 number && nat_eq number (outstanding_number part.outstanding)
+takes part number = is_reply_to number part.outstanding
 
 -- a reply to the call that the task waits for ends it; any other is ignored
 abbrev pub takes_reply : ℕ → TaskPart → ℕ → Reply → Done TaskPart

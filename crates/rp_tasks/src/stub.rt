@@ -1,9 +1,10 @@
 //! What a task keeps of its calls.
 
-ghost use Rattle.std.specs.Prelude.{◌≡◌, ◌↔◌, IfSome, IfOk, OnErr, IsTrue, if◌then◌else◌};
+ghost use Rattle.std.specs.Prelude.{◌≡◌, IfSome, IfOk, OnErr, if◌then◌else◌};
 ghost use Rattle.std.specs.Result.{result_err};
 ghost use Rattle.rp_base.specs.Action.{IsIndex, IsRight, IsRightOperation};
-ghost use Rattle.rp_tasks.specs.Calls.{no_calls, next_call, refusal_of, with_call, with_reply, IsOutstanding};
+ghost use Rattle.rp_base.specs.Calls.{next_call, is_reply_to};
+ghost use Rattle.rp_tasks.specs.Calls.{no_calls, refusal_of, with_call, with_reply};
 
 use rp_base::{Action, Fault, Operation, Reply, TaskId};
 use std::marker::Model;
@@ -83,7 +84,8 @@ impl Stub {
     pub fn call(&mut self, object: u8, operation: Operation, arg: i64) -> Result<Action, Fault>
         requires object { IsIndex object }
         requires operation { IsRightOperation operation }
-        ensures value { IfOk result (λ call. call ≡ next_call self.old object operation arg) }
+        ensures value { IfOk result (λ call. call
+            ≡ next_call self.old.task self.old.made object operation arg) }
         ensures right { IfOk result IsRight }
         ensures made { IfOk result (λ call. self.new ≡ with_call self.old call) }
         ensures refused { result_err result ≡ refusal_of self.old }
@@ -137,7 +139,7 @@ impl Stub {
     /// Takes the reply to a call of this number: true exactly where it is the outstanding one, which
     /// thereby ends. What the reply says is the caller's to keep.
     pub fn reply(&mut self, number: u32, _reply: Reply) -> bool
-        ensures taken { IsTrue result ↔ IsOutstanding number self.old }
+        ensures taken { result ≡ is_reply_to number self.old.outstanding }
         ensures after { self.new ≡ (if result then with_reply self.old else self.old) }
     {
         let taken = self.outstanding.is_some() && number == self.made;

@@ -2,11 +2,12 @@
 
 ghost use Rattle.std.specs.Prelude.{◌≡◌, ◌++◌, ◌↔◌, Some, replicate, IsTrue, Ok, Err, true, false, IfSome, IfNone, OnOk, OnErr, IfOk, IfErr};
 ghost use Rattle.rp_base.specs.Action.{IsRight, is_right};
+ghost use Rattle.rp_base.specs.Calls.{outstanding_number};
 ghost use Rattle.rp_codec.specs.Message.{IsCallBy};
 ghost use Rattle.rp_codec.specs.declared.packet.Party.TheVariants.{Node, Task};
 ghost use Rattle.rp_codec.specs.declared.packet.Body.TheVariants.{Call};
 ghost use Rattle.rp_model.specs.Parts.{with_record, fresh_node, fresh_task};
-ghost use Rattle.rp_model.specs.Tasks.{asks, outstanding_number, takes, next_call, may_call};
+ghost use Rattle.rp_model.specs.Tasks.{asks, takes, next_call, may_call};
 
 use rp_base::{Action, Answer, Config, Fault, NodeId, Operation, Reply, TaskId};
 use rp_codec::{Body, Packet, Party};

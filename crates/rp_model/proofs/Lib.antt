@@ -3,6 +3,7 @@ pub mod FreePositions
 pub mod LastVotes
 pub mod Numbering
 pub mod OneMore
+pub mod Forgetting
 pub mod Replying
 pub mod Runs
 pub mod AppliedGrowing

@@ -13,3 +13,4 @@ pub mod World
 pub mod Answers
 pub mod Facts
 pub mod Growing
+pub mod Forgetting

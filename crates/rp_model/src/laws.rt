@@ -4,12 +4,15 @@ ghost use Rattle.std.specs.Prelude.{◌≡◌, ℕ, Some, Ok, List, [], ◌++◌
 ghost use Rattle.rp_base.specs.Records.{applied_of};
 ghost use Rattle.rp_base.specs.declared.action.Action.{Action};
 ghost use Rattle.rp_base.specs.declared.record.Rec.{Rec};
-ghost use Rattle.rp_model.specs.Effect.{Setting};
+ghost use Rattle.rp_model.specs.Effect.{Setting, NodeInput, running_effect};
 ghost use Rattle.rp_model.specs.Events.{Event};
 ghost use Rattle.rp_model.specs.World.{World, Happening, event_effect};
+ghost use Rattle.rp_model.specs.Forgetting.{KnowsAlike, AreAlikeAnswers};
+ghost use Rattle.rp_model.specs.declared.part.Running.{Running};
 ghost use Rattle.rp_model.specs.Facts.{IsOrder};
 ghost use Rattle.rp_model.specs.Growing.{Grows};
 
+use rp_base::one_more_record;
 use rp_machine::Machine;
 
 /// What a node has applied stays, in its place, whatever it writes afterwards.
@@ -30,3 +33,15 @@ pub fn worlds_grow<M: Machine>()
 pub fn nothing_is_decided_at_first()
     ensures { (nodes : ℕ) (order : List Action) → IsOrder nodes [] order → order ≡ [] }
 {}
+
+/// Votes that a node heard at positions that it has learned change nothing that an input comes to, and
+/// may be forgotten.
+pub fn old_votes_change_nothing<M: Machine>()
+    ensures { (setting : Setting M) (me : ℕ) (records : List Rec) (one other : Running)
+        (input : NodeInput)
+        → KnowsAlike records one other
+        → AreAlikeAnswers records (running_effect setting me records one input)
+        (running_effect setting me records other input) }
+{
+    one_more_record();
+}

@@ -17,5 +17,7 @@ pub mod Counting
 pub mod Computing
 pub mod NodeEffects
 pub mod TaskEffects
+pub mod PartPlaces
+pub mod EventWalk
 pub mod WorldKeeping
 pub mod Happening

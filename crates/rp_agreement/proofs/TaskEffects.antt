@@ -182,13 +182,13 @@ done_if : (t : ℕ) (b : Bool) (fault : Fault) (done : Done TaskPart) → IsTask
 done_if t true fault done is = tt
 done_if t false fault done is = is
 
-pub task_sound : (config : Config) (t : ℕ) (part : TaskPart) (input : TaskInput) → WaitsForOwn t part → IsTaskInput input → IsTaskDoneIf t (task_effect config t part input)
-task_sound config t part (Submit node object operation arg) waits fits =
+pub task_sound : (config : Config) (sent : List Message) (t : ℕ) (part : TaskPart) (input : TaskInput) → WaitsForOwn t part → IsTaskInput sent t input → IsTaskDoneIf t (task_effect config t part input)
+task_sound config sent t part (Submit node object operation arg) waits fits =
     calls_done t node part (may_call config node part (next_call t part object operation arg) part.outstanding)
     (call_made config t node part object operation arg part.outstanding fits)
-task_sound config t part (Again node) waits fits =
+task_sound config sent t part (Again node) waits fits =
     done_if t (nat_lt config.nodes node) BadConfig (asks_again t node part part.outstanding) (again_done t node part part.outstanding waits refl)
-task_sound config t part (Take message) waits fits = hears_done t part message.body waits
+task_sound config sent t part (Take message) waits fits = hears_done t part message.body waits
 
 -- what was not refused
 pub if_task_done : (t : ℕ) (result : Result (Done TaskPart) Fault) (done : Done TaskPart) → IsTaskDoneIf t result → result ≡ Ok done → IsTaskDone t done

@@ -5,6 +5,7 @@ use Rattle.rp_base.specs.Action.{IsIndex, IsCount}
 use Rattle.rp_base.specs.Sets.{Has}
 use Rattle.rp_base.specs.declared.action.Action.{Action}
 use Rattle.rp_codec.specs.Message.{Message}
+use Rattle.rp_codec.specs.declared.packet.Party.TheVariants.{Task}
 use Rattle.rp_codec.specs.declared.packet.Body.TheVariants.{Call}
 use Rattle.rp_model.specs.Effect.{Done, NodeInput, Receive, Lead, Interrupt, Tick, Report}
 use Rattle.rp_model.specs.Tasks.{TaskInput, Submit, Again, Take}
@@ -21,11 +22,11 @@ IsInput sent (Interrupt source occurrence) = IsIndex source × IsCount occurrenc
 IsInput sent (Tick now) = now < 2 ^ 32
 IsInput sent (Report first) = Unit {0}
 
--- the argument of a call is within the range of its type
-abbrev pub IsTaskInput : TaskInput → Type 0
-IsTaskInput (Submit node object operation arg) = FitsSigned w64 arg
-IsTaskInput (Again node) = Unit {0}
-IsTaskInput (Take message) = Unit {0}
+-- the argument of a call is within the range of its type, and a packet was sent to the task
+abbrev pub IsTaskInput : List Message → ℕ → TaskInput → Type 0
+IsTaskInput sent t (Submit node object operation arg) = FitsSigned w64 arg
+IsTaskInput sent t (Again node) = Unit {0}
+IsTaskInput sent t (Take message) = Has message sent × (message.to ≡ Task t)
 
 -- The node x has come to this part and sent these packets; every other node stays as it was.
 pub record NodeMoves (x : ℕ) (done : Done NodePart) (node : ℕ → NodePart) (sent : List Message)

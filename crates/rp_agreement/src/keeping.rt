@@ -55,13 +55,13 @@ pub fn node_events_keep<M: Machine>()
 pub fn task_events_keep()
     ensures sound { (config : Config) (nodes t : ℕ) (part : TaskPart) (input : TaskInput)
         (done : Done TaskPart) (node after : ℕ → NodePart) (sent later : List Message)
-        → WaitsForOwn t part → IsSound nodes node sent → IsTaskInput input
+        → WaitsForOwn t part → IsSound nodes node sent → IsTaskInput sent t input
         → task_effect config t part input ≡ Ok done
         → ((k : ℕ) → after k ≡ node k) → SentToo done.sends sent later
         → IsSound nodes after later }
-    ensures waits { (config : Config) (t : ℕ) (part : TaskPart) (input : TaskInput)
-        (done : Done TaskPart)
-        → WaitsForOwn t part → IsTaskInput input
+    ensures waits { (config : Config) (sent : List Message) (t : ℕ) (part : TaskPart)
+        (input : TaskInput) (done : Done TaskPart)
+        → WaitsForOwn t part → IsTaskInput sent t input
         → task_effect config t part input ≡ Ok done
         → WaitsForOwn t done.part }
 {}

@@ -21,3 +21,4 @@ pub mod PartPlaces
 pub mod EventWalk
 pub mod WorldKeeping
 pub mod Happening
+pub mod AnswerTurns

@@ -6,18 +6,22 @@ use Rattle.std.proofs.lemmas.List.{append-nil}
 use Rattle.rp_base.specs.declared.action.Action.{Action}
 use Rattle.rp_base.specs.declared.fault.Fault.{Fault}
 use Rattle.rp_base.specs.Config.{IsRightConfig}
+use Rattle.rp_base.specs.Sets.{Has}
 use Rattle.rp_codec.specs.Message.{Message}
 use Rattle.rp_model.specs.declared.part.NodePart.{NodePart}
 use Rattle.rp_model.specs.declared.part.TaskPart.{TaskPart}
 use Rattle.rp_model.specs.Parts.{fresh_node}
 use Rattle.rp_model.specs.Effect.{Setting, Done, goes_on_as, NodeInput, node_effect, cut_effect, stop_effect, restart_part, untorn_part}
 use Rattle.rp_model.specs.Tasks.{TaskInput, task_effect}
+use Rattle.rp_model.specs.Events.{Event, IsEvent}
+use Rattle.rp_model.specs.Answers.{Happen}
 use Rattle.rp_model.specs.World.{World, part_at, with_part, node_done, task_done}
 use Rattle.rp_agreement.specs.Sound.{IsMember, IsSound}
 use Rattle.rp_agreement.specs.Steps.{SentToo, TaskHappens}
 use Rattle.rp_agreement.specs.Inputs.{IsTaskInput, NodeMoves, WaitsForOwn}
 use Rattle.rp_agreement.specs.Worlds.{node_in, IsSoundWorld}
 use Rattle.rp_agreement.proofs.PartPlaces.{part_below, put_there, put_beside, put_length, sent_behind}
+use Rattle.rp_agreement.proofs.EventWalk as walk
 use Rattle.rp_agreement.proofs.EventWalk.{IsKeptByAll}
 use Rattle.rp_agreement.proofs.NodeEffects.{IsSoundDone, IsSoundDoneIf, done_keeps, if_done, below_eight, input_sound, cut_sound, stop_sound, restart_sound, untorn_sound}
 use Rattle.rp_agreement.proofs.TaskEffects.{IsTaskDone, task_keeps, task_sound, if_task_done}
@@ -107,3 +111,8 @@ module _ {S : Type 0} (s : Setting S) (right : IsRightConfig s.config) where
       task_done_keeps s.config.nodes w t part done sound here
       (if_task_done t (task_effect s.config t part input) done (task_sound s.config w.sent t part input (sound.waits t part here) is) came);
   }
+
+  -- so any events keep it
+  pub history_keeps : (w : World) (events : List Event) (after : World) → IsSoundWorld s.config.nodes w → ((event : Event) → Has event events → IsEvent event)
+      → Happen s w events after → IsSoundWorld s.config.nodes after
+  history_keeps w events after sound are happen = walk.history_keeps s (IsSoundWorld s.config.nodes) sound_kept w events after sound are happen

@@ -8,3 +8,4 @@ pub mod Decided
 pub mod Order
 pub mod Computed
 pub mod History
+pub mod Answered

@@ -1,0 +1,79 @@
+-- What tasks are told: each reply that a node sent is an answer that its applied list leads to, and each
+-- reply that a task took is an answer that the order leads to (this project's own).
+use Rattle.std.specs.Prelude.{◌≡◌, ℕ, suc, Some, List, [], ◌∷◌, length, map, unwrap_or}
+use Rattle.rp_base.specs.Sets.{Has}
+use Rattle.rp_base.specs.Records.{applied_of}
+use Rattle.rp_base.specs.declared.action.Action.{Action}
+use Rattle.rp_base.specs.declared.reply.Answer.{Answer}
+use Rattle.rp_base.specs.declared.reply.Reply.{Reply as Told}
+use Rattle.rp_codec.specs.Message.{Message}
+use Rattle.rp_codec.specs.declared.packet.Party.{Party}
+use Rattle.rp_codec.specs.declared.packet.Party.TheVariants.{Node, Task, Audit}
+use Rattle.rp_codec.specs.declared.packet.Body.{Body}
+use Rattle.rp_codec.specs.declared.packet.Body.TheVariants.{Call, Prepare, Promise, Accept, Accepted, Decided, Ask, Nack, Reply, Report}
+use Rattle.rp_machine.specs.Calls.{CallName, calls_of, call_of}
+use Rattle.rp_machine.specs.Replay.{one_to, replay_answers}
+use Rattle.rp_model.specs.Effect.{Setting}
+use Rattle.rp_model.specs.Parts.{fresh_task}
+use Rattle.rp_model.specs.World.{World, part_at}
+use Rattle.rp_model.specs.declared.part.NodePart.{NodePart}
+use Rattle.rp_model.specs.declared.part.TaskPart.{TaskPart}
+use Rattle.rp_agreement.specs.Computed.{order_of}
+use Rattle.rp_agreement.specs.Sound.{IsSound}
+use Rattle.rp_agreement.specs.Inputs.{WaitsForOwn}
+use Rattle.rp_agreement.specs.Worlds.{node_in, IsSoundWorld}
+
+-- the reply of this number to this party is one of these answers
+abbrev pub IsAnswerTo : List Answer → Party → ℕ → Told → Type 0
+IsAnswerTo given (Node k) number reply = ⊥
+IsAnswerTo given (Task t) number reply = Has (record { task = t; number = number; reply = reply }) given
+IsAnswerTo given Audit number reply = ⊥
+
+-- what the packet to this party replies, if it replies, is one of these answers
+abbrev pub SaysAnswer : List Answer → Party → Body → Type 0
+SaysAnswer given to (Call action) = Unit {0}
+SaysAnswer given to (Prepare i b) = Unit {0}
+SaysAnswer given to (Promise i b last) = Unit {0}
+SaysAnswer given to (Accept i b v) = Unit {0}
+SaysAnswer given to (Accepted i b v) = Unit {0}
+SaysAnswer given to (Decided i v) = Unit {0}
+SaysAnswer given to (Ask i) = Unit {0}
+SaysAnswer given to (Nack i b bound) = Unit {0}
+SaysAnswer given to (Reply number reply) = IsAnswerTo given to number reply
+SaysAnswer given to (Report first applied actions) = Unit {0}
+
+-- the answers that the actions lead to
+abbrev pub answers_of : {S : Type 0} → Setting S → List Action → List Answer
+answers_of s actions = replay_answers s.next s.answers s.begin actions
+
+-- each reply that a node sent is an answer that its applied list leads to
+abbrev pub RepliesAre : {S : Type 0} → Setting S → (ℕ → NodePart) → List Message → Type 0
+RepliesAre s node sent = (m : Message) → Has m sent → (a : ℕ) → m.from ≡ Node a
+    → SaysAnswer (answers_of s (applied_of (node a).records)) m.to m.body
+
+-- the call of this task and number
+abbrev pub named : ℕ → ℕ → CallName
+named task number = record { task = task; number = number }
+
+-- A task has its replies to its calls from 1 on, in order; what it waits for is its next call; and its
+-- replies are among these answers.
+pub record IsAnswered (given : List Answer) (t : ℕ) (part : TaskPart) : Type 0 where
+  pub numbered : map call_of part.replies ≡ map (named t) (one_to (length part.replies))
+  pub waits : (call : Action) → part.outstanding ≡ Some call → calls_of call ≡ named t (suc (length part.replies)) ∷ []
+  pub replied : (answer : Answer) → Has answer part.replies → Has answer given
+
+-- The invariant with what tasks are told, over the parts of nodes and tasks and the packets ever sent.
+pub record IsKept {S : Type 0} (s : Setting S) (node : ℕ → NodePart) (task : ℕ → TaskPart) (sent : List Message) : Type 0 where
+  pub sound : IsSound s.config.nodes node sent
+  pub own : (t : ℕ) → WaitsForOwn t (task t)
+  pub replies : RepliesAre s node sent
+  pub answered : (t : ℕ) → IsAnswered (answers_of s (order_of s.config.nodes sent)) t (task t)
+
+-- the part of the task of this number, from 1; a fresh one where there is no such task
+abbrev pub task_in : List TaskPart → ℕ → TaskPart
+task_in tasks t = unwrap_or (part_at tasks t) fresh_task
+
+-- A world of n nodes meets it.
+pub record IsKeptWorld {S : Type 0} (s : Setting S) (w : World) : Type 0 where
+  pub size : length w.nodes ≡ s.config.nodes
+  pub kept : IsKept s (node_in w.nodes) (task_in w.tasks) w.sent

@@ -22,3 +22,4 @@ pub mod EventWalk
 pub mod WorldKeeping
 pub mod Happening
 pub mod AnswerTurns
+pub mod AnswerKeeping

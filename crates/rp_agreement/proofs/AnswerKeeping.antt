@@ -1,6 +1,6 @@
 -- Each actor's step keeps what tasks are told.
-use Rattle.std.proofs.Common.{◌≡◌, ◌≢◌, ℕ, zero, suc, ◌+◌, ◌<◌, ◌≤◌, Bool, true, false, cond, if◌then◌else◌, Result, Ok, Err, Option, Some, None, List, [], ◌∷◌, ◌++◌, length, map, ◌⊎◌, inl, inr, refl, sym, ap, subst, ◌∙◌, arith, length-append}
-use Rattle.std.specs.Prelude.{nat_eq, nat_lt, nat_le, not, ◌&&◌, ◌||◌, unwrap_or}
+use Rattle.std.proofs.Common.{◌≡◌, ◌≢◌, ℕ, zero, suc, ◌+◌, ◌-◌, ◌<◌, ◌≤◌, Bool, true, false, cond, if◌then◌else◌, Result, Ok, Err, Option, Some, None, List, [], ◌∷◌, ◌++◌, length, map, ◌⊎◌, inl, inr, refl, sym, ap, subst, ◌∙◌, arith, length-append}
+use Rattle.std.specs.Prelude.{nat_eq, nat_lt, nat_le, not, ◌&&◌, ◌||◌, ◌^◌, unwrap_or}
 use Rattle.std.proofs.lemmas.Bool.{cases_Bool, cases_eq, cond-true, cond-false, and_parts, eqb-true, ltb-true}
 use Rattle.std.proofs.lemmas.List.{append-nil, map-append}
 use Rattle.rp_base.specs.declared.action.Action.{Action}
@@ -117,3 +117,160 @@ module _ {S : Type 0} (s : Setting S) where
         answered = λ t. still_answered (answers_of s (order_of s.config.nodes sent)) (answers_of s (order_of s.config.nodes sent'))
           (answers_grow _ _ (order_grows s.config.nodes node' sent sent' sound all)) t (task t) (kept.answered t);
       }
+
+  -- ---- what a node replies
+
+  abbrev pub DoneAnswersIf : Result (Done NodePart) Fault → Type 0
+  DoneAnswersIf (Ok done) = AreAnswers (answers_of s (applied_of done.part.records)) done.sends
+  DoneAnswersIf (Err fault) = Unit {0}
+
+  turned_answers : (part : NodePart) (turn : Result Turn Fault) → TurnAnswersIf s part.records turn → DoneAnswersIf (turned_if part turn)
+  turned_answers part (Ok turn) told = told
+  turned_answers part (Err fault) told = tt
+
+  while_answers : (me : ℕ) (part : NodePart) (input : NodeInput) (running : Option Running) → DoneAnswersIf (effect_while s me part input running)
+  while_answers me part input None = tt
+  while_answers me part input (Some running) = turned_answers part (running_effect s me part.records running input) (input_answers s me part.records running input)
+
+  answers_if : (result : Result (Done NodePart) Fault) (done : Done NodePart) → DoneAnswersIf result → result ≡ Ok done → AreAnswers (answers_of s (applied_of done.part.records)) done.sends
+  answers_if result done told came = subst DoneAnswersIf came told
+
+  pub effect_answers : (me : ℕ) (part : NodePart) (input : NodeInput) (done : Done NodePart) → node_effect s me part input ≡ Ok done
+      → AreAnswers (answers_of s (applied_of done.part.records)) done.sends
+  effect_answers me part input done came = answers_if (node_effect s me part input) done (while_answers me part input part.running) came
+
+  cut_silent : (kept : ℕ) (part : NodePart) (result : Result (Done NodePart) Fault) → DoneAnswersIf (cut_if kept part result)
+  cut_silent kept part (Ok done) = λ m h. absurd h
+  cut_silent kept part (Err fault) = tt
+
+  pub cut_answers : (me kept : ℕ) (part : NodePart) (input : NodeInput) (done : Done NodePart) → cut_effect s me part input kept ≡ Ok done
+      → AreAnswers (answers_of s (applied_of done.part.records)) done.sends
+  cut_answers me kept part input done came = answers_if (cut_effect s me part input kept) done (cut_silent kept part (node_effect s me part input)) came
+
+  stop_silent : (part : NodePart) (running : Option Running) → DoneAnswersIf (stops_while part running)
+  stop_silent part None = tt
+  stop_silent part (Some running) = λ m h. absurd h
+
+  pub stop_answers : (part : NodePart) (done : Done NodePart) → stop_effect part ≡ Ok done → AreAnswers (answers_of s (applied_of done.part.records)) done.sends
+  stop_answers part done came = answers_if (stop_effect part) done (stop_silent part part.running) came
+
+  restart_silent : (part : NodePart) (running : Option Running) → (let done = restart_while part running in AreAnswers (answers_of s (applied_of done.part.records)) done.sends)
+  restart_silent part None m h = absurd h
+  restart_silent part (Some running) m h = absurd h
+
+  pub restart_answers : (part : NodePart) → (let done = restart_part part in AreAnswers (answers_of s (applied_of done.part.records)) done.sends)
+  restart_answers part = restart_silent part part.running
+
+-- ---- what a task takes
+
+abbrev number_of_first : List CallName → ℕ
+number_of_first [] = 0
+number_of_first (call ∷ rest) = call.number
+
+-- the number of the call that a task waits for is the next one
+waits_for_next : (given : List Answer) (t : ℕ) (part : TaskPart) (waiting : Option Action) → IsAnswered given t part → part.outstanding ≡ waiting → 0 < outstanding_number waiting
+    → outstanding_number waiting ≡ suc (length part.replies)
+waits_for_next given t part None old is some = absurd (omega (arith, some))
+waits_for_next given t part (Some actions.Noop) old is some = absurd (omega (arith, some))
+waits_for_next given t part (Some (actions.Call task number object operation arg)) old is some =
+    let same : (let one : CallName = record { task = task; number = number } in one ∷ []) ≡ named t (suc (length part.replies)) ∷ [] = old.waits (actions.Call task number object operation arg) is in
+    ap number_of_first same
+waits_for_next given t part (Some (actions.Interrupt source occurrence)) old is some = absurd (omega (arith, some))
+waits_for_next given t part (Some (actions.Tick now)) old is some = absurd (omega (arith, some))
+
+-- one reply more
+one_reply_more : (given : List Answer) (t : ℕ) (part : TaskPart) (reply : Reply) → IsAnswered given t part
+    → Has (record { task = t; number = suc (length part.replies); reply = reply }) given
+    → (let answer : Answer = record { task = t; number = suc (length part.replies); reply = reply } in IsAnswered given t (record { outstanding = None; replies = part.replies ++ answer ∷ [] }))
+one_reply_more given t part reply old told =
+    let answer : Answer = record { task = t; number = suc (length part.replies); reply = reply } in
+    let long : length (part.replies ++ answer ∷ []) ≡ suc (length part.replies) = let sum : length (part.replies ++ answer ∷ []) ≡ length part.replies + 1 = length-append part.replies (answer ∷ []) in omega (arith, sum) in
+    record {
+      numbered =
+        map-append call_of part.replies (answer ∷ [])
+        ∙ ap (λ (calls : List CallName). calls ++ named t (suc (length part.replies)) ∷ []) old.numbered
+        ∙ sym (map-append (named t) (one_to (length part.replies)) (suc (length part.replies) ∷ []))
+        ∙ ap (λ (n : ℕ). map (named t) (one_to n)) (sym long);
+      waits = λ call e. absurd (cc);
+      replied = λ other h. elim (has_split other part.replies (answer ∷ []) h) [
+        | inl before ↦ old.replied other before
+        | inr last ↦ elim last [ inl same ↦ subst (λ (a : Answer). Has a given) (sym same) told | inr none ↦ absurd none ]
+      ];
+    }
+
+reply_taken : (given : List Answer) (t : ℕ) (part : TaskPart) (number : ℕ) (reply : Reply) → IsAnswered given t part → Has (record { task = t; number = number; reply = reply }) given
+    → IsAnswered given t (takes_reply t part number reply).part
+reply_taken given t part number reply old told =
+    let answer : Answer = record { task = t; number = number; reply = reply } in
+    let one : Done TaskPart = record (goes_on_as (let after : TaskPart = record { outstanding = None; replies = part.replies ++ answer ∷ [] } in after)) { taken = Some answer } in
+    elim (cases_Bool (takes part number)) [
+      | inl hit ↦
+          let both = and_parts (nat_lt 0 number) (nat_eq number (outstanding_number part.outstanding)) hit in
+          let positive : 0 < number = ltb-true 0 number both.0 in
+          let same : number ≡ outstanding_number part.outstanding = eqb-true number (outstanding_number part.outstanding) both.1 in
+          let next : outstanding_number part.outstanding ≡ suc (length part.replies) = waits_for_next given t part part.outstanding old refl (omega (arith, positive, same)) in
+          let is : number ≡ suc (length part.replies) = same ∙ next in
+          subst (λ (done : Done TaskPart). IsAnswered given t done.part) (sym (cond-true (takes part number) one (goes_on_as part) hit))
+          (subst (λ (n : ℕ). (let a : Answer = record { task = t; number = n; reply = reply } in IsAnswered given t (record { outstanding = None; replies = part.replies ++ a ∷ [] }))) (sym is)
+          (one_reply_more given t part reply old (subst (λ (n : ℕ). Has (record { task = t; number = n; reply = reply }) given) is told)))
+      | inr miss ↦ subst (λ (done : Done TaskPart). IsAnswered given t done.part) (sym (cond-false (takes part number) one (goes_on_as part) miss)) old
+    ]
+
+-- a body comes, which is an answer if it is a reply
+hears_answer : (given : List Answer) (t : ℕ) (part : TaskPart) (body : Body) → IsAnswered given t part → SaysAnswer given (Task t) body → IsAnswered given t (task_hears t part body).part
+hears_answer given t part (bodies.Call action) old told = old
+hears_answer given t part (bodies.Prepare i b) old told = old
+hears_answer given t part (bodies.Promise i b last) old told = old
+hears_answer given t part (bodies.Accept i b v) old told = old
+hears_answer given t part (bodies.Accepted i b v) old told = old
+hears_answer given t part (bodies.Decided i v) old told = old
+hears_answer given t part (bodies.Ask i) old told = old
+hears_answer given t part (bodies.Nack i b bound) old told = old
+hears_answer given t part (bodies.Reply number reply) old told = reply_taken given t part number reply old told
+hears_answer given t part (bodies.Report first applied actions) old told = old
+
+-- a call that is made is the next one
+abbrev IsNextIf : Action → Result Action Fault → Type 0
+IsNextIf call (Ok made) = made ≡ call
+IsNextIf call (Err fault) = Unit {0}
+
+next_if : (call : Action) (b : Bool) (fault : Fault) (other : Result Action Fault) → IsNextIf call other → IsNextIf call (if b then Err fault else other)
+next_if call true fault other is = tt
+next_if call false fault other is = is
+
+made_next : (config : Config) (node : ℕ) (part : TaskPart) (call : Action) (waiting : Option Action) → IsNextIf call (may_call config node part call waiting)
+made_next config node part call (Some other) = tt
+made_next config node part call None =
+    let last : Result Action Fault = if nat_lt config.nodes node || not (is_right call) then Err BadConfig else Ok call in
+    next_if call (nat_le (2 ^ 32 - 1) (length part.replies)) NumbersSpent last (next_if call (nat_lt config.nodes node || not (is_right call)) BadConfig (Ok call) refl)
+
+abbrev pub IsAnsweredIf : List Answer → ℕ → Result (Done TaskPart) Fault → Type 0
+IsAnsweredIf given t (Ok done) = IsAnswered given t done.part
+IsAnsweredIf given t (Err fault) = Unit {0}
+
+call_answered : (given : List Answer) (t node : ℕ) (part : TaskPart) (call : Action) (made : Result Action Fault) → IsAnswered given t part
+    → calls_of call ≡ named t (suc (length part.replies)) ∷ [] → IsNextIf call made → IsAnsweredIf given t (calls_if t node part made)
+call_answered given t node part call (Ok action) old named_so next = record {
+  numbered = old.numbered;
+  waits = λ other e. ap calls_of (sym (some_same e) ∙ next) ∙ named_so;
+  replied = old.replied;
+}
+call_answered given t node part call (Err fault) old named_so next = tt
+
+again_answered : (given : List Answer) (t node : ℕ) (part : TaskPart) (waiting : Option Action) → IsAnswered given t part → IsAnswered given t (asks_again t node part waiting).part
+again_answered given t node part None old = old
+again_answered given t node part (Some call) old = old
+
+answered_if : (given : List Answer) (t : ℕ) (b : Bool) (fault : Fault) (done : Done TaskPart) → IsAnswered given t done.part → IsAnsweredIf given t (if b then Err fault else Ok done)
+answered_if given t true fault done is = tt
+answered_if given t false fault done is = is
+
+task_answered : (config : Config) (given : List Answer) (t : ℕ) (part : TaskPart) (input : TaskInput) → IsAnswered given t part
+    → ((message : Message) → input ≡ Take message → SaysAnswer given (Task t) message.body)
+    → IsAnsweredIf given t (task_effect config t part input)
+task_answered config given t part (Submit node object operation arg) old told =
+    let call = next_call t part object operation arg in
+    call_answered given t node part call (may_call config node part call part.outstanding) old refl (made_next config node part call part.outstanding)
+task_answered config given t part (Again node) old told =
+    answered_if given t (nat_lt config.nodes node) BadConfig (asks_again t node part part.outstanding) (again_answered given t node part part.outstanding old)
+task_answered config given t part (Take message) old told = hears_answer given t part message.body old (told message refl)

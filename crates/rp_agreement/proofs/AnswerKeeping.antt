@@ -33,17 +33,17 @@ use Rattle.rp_model.specs.Parts.{with_record}
 use Rattle.rp_model.specs.Effect.{Setting, Done, goes_on_as, NodeInput, turned_if, running_effect, effect_while, node_effect, cut_if, cut_effect, stops_while, stop_effect, restart_while, restart_part}
 use Rattle.rp_model.specs.Tasks.{TaskInput, Submit, Again, Take, asks, next_call, may_call, calls_if, asks_again, outstanding_number, takes, takes_reply, task_hears, task_effect}
 use Rattle.rp_model.proofs.AppliedGrowing.{applied_more}
-use Rattle.rp_agreement.specs.Sound.{SaysSo, IsSound}
+use Rattle.rp_agreement.specs.Sound.{SaysSo, IsCall, IsSound}
 use Rattle.rp_agreement.specs.Steps.{SentToo}
 use Rattle.rp_agreement.specs.Order.{Begins, AllSent}
 use Rattle.rp_agreement.specs.Computed.{order_of}
-use Rattle.rp_agreement.specs.Inputs.{NodeMoves, WaitsForOwn, IsTaskInput}
+use Rattle.rp_agreement.specs.Inputs.{NodeMoves, TaskMoves, WaitsForOwn, IsTaskInput}
 use Rattle.rp_agreement.specs.Answered.{IsAnswerTo, SaysAnswer, answers_of, RepliesAre, named, IsAnswered, IsKept}
 use Rattle.rp_agreement.proofs.Lists.{some_same}
 use Rattle.rp_agreement.proofs.Computing.{order_is}
 use Rattle.rp_agreement.proofs.Ordering.{decided_begins, applied_decided, all_decided_stays}
 use Rattle.rp_agreement.proofs.NodeEffects.{IsSoundDone}
-use Rattle.rp_agreement.proofs.TaskEffects.{AreCalls, IsTaskDone}
+use Rattle.rp_agreement.proofs.TaskEffects.{AreCalls, IsTaskDone, task_keeps, task_sound, if_task_done}
 use Rattle.rp_agreement.proofs.AnswerTurns.{AreAnswers, TurnAnswersIf, input_answers}
 
 same_node : {a x : ℕ} → Node a ≡ Node x → a ≡ x
@@ -274,3 +274,67 @@ task_answered config given t part (Submit node object operation arg) old told =
 task_answered config given t part (Again node) old told =
     answered_if given t (nat_lt config.nodes node) BadConfig (asks_again t node part part.outstanding) (again_answered given t node part part.outstanding old)
 task_answered config given t part (Take message) old told = hears_answer given t part message.body old (told message refl)
+
+-- ---- a task's step
+
+-- what a task says is no reply
+calls_answer : (given : List Answer) (to : Party) (u : ℕ) (body : Body) → IsCall u body → SaysAnswer given to body
+calls_answer given to u (bodies.Call action) is = tt
+calls_answer given to u (bodies.Prepare i b) is = tt
+calls_answer given to u (bodies.Promise i b last) is = tt
+calls_answer given to u (bodies.Accept i b v) is = tt
+calls_answer given to u (bodies.Accepted i b v) is = tt
+calls_answer given to u (bodies.Decided i v) is = tt
+calls_answer given to u (bodies.Ask i) is = tt
+calls_answer given to u (bodies.Nack i b bound) is = tt
+calls_answer given to u (bodies.Reply number reply) is = absurd is
+calls_answer given to u (bodies.Report first applied actions) is = tt
+
+module _ {S : Type 0} (s : Setting S) where
+  -- a reply that was sent to a task is an answer of the order
+  reply_by_party : (node : ℕ → NodePart) (task : ℕ → TaskPart) (sent : List Message) → IsKept s node task sent → (m : Message) → Has m sent → (t : ℕ) → m.to ≡ Task t
+      → (from : Party) → m.from ≡ from → SaysAnswer (answers_of s (order_of s.config.nodes sent)) (Task t) m.body
+  reply_by_party node task sent kept m h t to (Node a) is =
+      subst (λ (party : Party). SaysAnswer (answers_of s (order_of s.config.nodes sent)) party m.body) to
+      (answer_more (answers_of s (applied_of (node a).records)) (answers_of s (order_of s.config.nodes sent))
+        (answers_grow s (applied_of (node a).records) (order_of s.config.nodes sent) (applied_begins s s.config.nodes node sent kept.sound a)) m.to m.body
+        (kept.replies m h a is))
+  reply_by_party node task sent kept m h t to (Task u) is =
+      calls_answer (answers_of s (order_of s.config.nodes sent)) (Task t) u m.body (subst (λ (party : Party). SaysSo s.config.nodes node sent party m.body) is (kept.sound.says m h))
+  reply_by_party node task sent kept m h t to Audit is = absurd (subst (λ (party : Party). SaysSo s.config.nodes node sent party m.body) is (kept.sound.says m h))
+
+  input_answered : (node : ℕ → NodePart) (task : ℕ → TaskPart) (sent : List Message) → IsKept s node task sent → (t : ℕ) (input : TaskInput) → IsTaskInput sent t input
+      → (message : Message) → input ≡ Take message → SaysAnswer (answers_of s (order_of s.config.nodes sent)) (Task t) message.body
+  input_answered node task sent kept t input right message is =
+      let there = subst (IsTaskInput sent t) is right in
+      reply_by_party node task sent kept message there.0 t there.1 message.from refl
+
+  -- what is kept where a task goes on
+  pub task_goes_on : (t : ℕ) (input : TaskInput) (done : Done TaskPart) (node : ℕ → NodePart) (task : ℕ → TaskPart) (sent : List Message)
+      (node' : ℕ → NodePart) (task' : ℕ → TaskPart) (sent' : List Message)
+      → IsKept s node task sent → IsTaskInput sent t input → task_effect s.config t (task t) input ≡ Ok done
+      → ((k : ℕ) → node' k ≡ node k) → TaskMoves t done task sent task' sent'
+      → IsKept s node' task' sent'
+  task_goes_on t input done node task sent node' task' sent' kept right came stays moves =
+      let given = answers_of s (order_of s.config.nodes sent) in
+      let d = if_task_done t (task_effect s.config t (task t) input) done (task_sound s.config sent t (task t) input (kept.own t) right) came in
+      let sound = task_keeps s.config.nodes t done.sends node sent node' sent' kept.sound (record { calls = d.calls; stays = stays; sends = moves.sends }) in
+      let all : AllSent sent sent' = λ m h. (moves.sends m).1 (inl h) in
+      let now : IsAnswered given t done.part = subst (IsAnsweredIf given t) came (task_answered s.config given t (task t) input (kept.answered t) (input_answered node task sent kept t input right)) in
+      let more = answers_grow s (order_of s.config.nodes sent) (order_of s.config.nodes sent') (order_grows s s.config.nodes node' sent sent' sound all) in
+      record {
+        sound = sound;
+        own = λ k. elim (cases_eq k t) [
+          | inl same ↦ subst (λ (u : ℕ). WaitsForOwn u (task' u)) (sym same) (subst (WaitsForOwn t) (sym moves.part) d.waits)
+          | inr other ↦ subst (WaitsForOwn k) (sym (moves.others k other)) (kept.own k)
+        ];
+        replies = λ m h a from. elim ((moves.sends m).0 h) [
+          | inl old ↦ subst (λ (p : NodePart). SaysAnswer (answers_of s (applied_of p.records)) m.to m.body) (sym (stays a)) (kept.replies m old a from)
+          | inr new ↦ let bad : Node a ≡ Task t = sym from ∙ (d.calls m new).0 in absurd (cc)
+        ];
+        answered = λ k. elim (cases_eq k t) [
+          | inl same ↦ subst (λ (u : ℕ). IsAnswered (answers_of s (order_of s.config.nodes sent')) u (task' u)) (sym same)
+              (subst (IsAnswered (answers_of s (order_of s.config.nodes sent')) t) (sym moves.part) (still_answered given (answers_of s (order_of s.config.nodes sent')) more t done.part now))
+          | inr other ↦ subst (IsAnswered (answers_of s (order_of s.config.nodes sent')) k) (sym (moves.others k other)) (still_answered given (answers_of s (order_of s.config.nodes sent')) more k (task k) (kept.answered k))
+        ];
+      }

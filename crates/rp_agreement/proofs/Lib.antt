@@ -23,3 +23,4 @@ pub mod WorldKeeping
 pub mod Happening
 pub mod AnswerTurns
 pub mod AnswerKeeping
+pub mod KeptWorlds

@@ -1,49 +1,46 @@
 -- Each actor's step keeps what tasks are told.
-use Rattle.std.proofs.Common.{◌≡◌, ◌≢◌, ℕ, zero, suc, ◌+◌, ◌-◌, ◌<◌, ◌≤◌, Bool, true, false, cond, if◌then◌else◌, Result, Ok, Err, Option, Some, None, List, [], ◌∷◌, ◌++◌, length, map, ◌⊎◌, inl, inr, refl, sym, ap, subst, ◌∙◌, arith, length-append}
-use Rattle.std.specs.Prelude.{nat_eq, nat_lt, nat_le, not, ◌&&◌, ◌||◌, ◌^◌, unwrap_or}
+use Rattle.std.proofs.Common.{◌≡◌, ℕ, suc, ◌+◌, ◌-◌, ◌<◌, Bool, true, false, if◌then◌else◌, Result, Ok, Err, Option, Some, None, List, [], ◌∷◌, ◌++◌, length, map, inl, inr, refl, sym, ap, subst, ◌∙◌, arith, length-append}
+use Rattle.std.specs.Prelude.{nat_eq, nat_lt, nat_le, not, ◌||◌, ◌^◌}
 use Rattle.std.proofs.lemmas.Bool.{cases_Bool, cases_eq, cond-true, cond-false, and_parts, eqb-true, ltb-true}
 use Rattle.std.proofs.lemmas.List.{append-nil, map-append}
 use Rattle.rp_base.specs.declared.action.Action.{Action}
 use Rattle.rp_base.specs.declared.action.Action.TheVariants as actions
-use Rattle.rp_base.specs.declared.action.Operation.{Operation}
 use Rattle.rp_base.specs.declared.reply.Answer.{Answer}
 use Rattle.rp_base.specs.declared.reply.Reply.{Reply}
 use Rattle.rp_base.specs.declared.config.Config.{Config}
 use Rattle.rp_base.specs.declared.fault.Fault.{Fault}
-use Rattle.rp_base.specs.declared.fault.Fault.TheVariants.{TaskBusy, NumbersSpent, BadConfig}
+use Rattle.rp_base.specs.declared.fault.Fault.TheVariants.{NumbersSpent, BadConfig}
 use Rattle.rp_base.specs.declared.record.Rec.{Rec}
 use Rattle.rp_base.specs.Action.{is_right}
 use Rattle.rp_base.specs.Sets.{Has}
 use Rattle.rp_base.specs.Records.{applied_of}
-use Rattle.rp_base.proofs.Members.{has_split, has_left, has_right}
+use Rattle.rp_base.proofs.Members.{has_split, has_left}
 use Rattle.rp_codec.specs.Message.{Message}
 use Rattle.rp_codec.specs.declared.packet.Party.{Party}
 use Rattle.rp_codec.specs.declared.packet.Party.TheVariants.{Node, Task, Audit}
 use Rattle.rp_codec.specs.declared.packet.Body.{Body}
 use Rattle.rp_codec.specs.declared.packet.Body.TheVariants as bodies
 use Rattle.rp_machine.specs.Calls.{CallName, calls_of, call_of}
-use Rattle.rp_machine.specs.Replay.{one_to, replay_of, replay_from, unmoved, GoesOn}
+use Rattle.rp_machine.specs.Replay.{one_to, replay_of, unmoved}
 use Rattle.rp_machine.proofs.Replaying.{replay_from-append, goes_on_from}
-use Rattle.rp_machine.proofs.Numbering.{length-one_to}
 use Rattle.rp_model.specs.declared.part.Running.{Running}
 use Rattle.rp_model.specs.declared.part.NodePart.{NodePart}
 use Rattle.rp_model.specs.declared.part.TaskPart.{TaskPart}
 use Rattle.rp_model.specs.declared.part.Turn.{Turn}
 use Rattle.rp_model.specs.Parts.{with_record}
 use Rattle.rp_model.specs.Effect.{Setting, Done, goes_on_as, NodeInput, turned_if, running_effect, effect_while, node_effect, cut_if, cut_effect, stops_while, stop_effect, restart_while, restart_part}
-use Rattle.rp_model.specs.Tasks.{TaskInput, Submit, Again, Take, asks, next_call, may_call, calls_if, asks_again, outstanding_number, takes, takes_reply, task_hears, task_effect}
+use Rattle.rp_model.specs.Tasks.{TaskInput, Submit, Again, Take, next_call, may_call, calls_if, asks_again, outstanding_number, takes, takes_reply, task_hears, task_effect}
 use Rattle.rp_model.proofs.AppliedGrowing.{applied_more}
 use Rattle.rp_agreement.specs.Sound.{SaysSo, IsCall, IsSound}
-use Rattle.rp_agreement.specs.Steps.{SentToo}
 use Rattle.rp_agreement.specs.Order.{Begins, AllSent}
 use Rattle.rp_agreement.specs.Computed.{order_of}
 use Rattle.rp_agreement.specs.Inputs.{NodeMoves, TaskMoves, WaitsForOwn, IsTaskInput}
-use Rattle.rp_agreement.specs.Answered.{IsAnswerTo, SaysAnswer, answers_of, RepliesAre, named, IsAnswered, IsKept}
+use Rattle.rp_agreement.specs.Answered.{SaysAnswer, answers_of, named, IsAnswered, IsKept}
 use Rattle.rp_agreement.proofs.Lists.{some_same}
 use Rattle.rp_agreement.proofs.Computing.{order_is}
 use Rattle.rp_agreement.proofs.Ordering.{decided_begins, applied_decided, all_decided_stays}
 use Rattle.rp_agreement.proofs.NodeEffects.{IsSoundDone}
-use Rattle.rp_agreement.proofs.TaskEffects.{AreCalls, IsTaskDone, task_keeps, task_sound, if_task_done}
+use Rattle.rp_agreement.proofs.TaskEffects.{task_keeps, task_sound, if_task_done}
 use Rattle.rp_agreement.proofs.AnswerTurns.{AreAnswers, TurnAnswersIf, input_answers}
 
 same_node : {a x : ℕ} → Node a ≡ Node x → a ≡ x
@@ -115,7 +112,7 @@ module _ {S : Type 0} (s : Setting S) where
               (subst (λ (p : NodePart). SaysAnswer (answers_of s (applied_of p.records)) m.to m.body) (sym moves.part) (told m new))
         ];
         answered = λ t. still_answered (answers_of s (order_of s.config.nodes sent)) (answers_of s (order_of s.config.nodes sent'))
-          (answers_grow _ _ (order_grows s.config.nodes node' sent sent' sound all)) t (task t) (kept.answered t);
+            (answers_grow _ _ (order_grows s.config.nodes node' sent sent' sound all)) t (task t) (kept.answered t);
       }
 
   -- ---- what a node replies
@@ -187,10 +184,10 @@ one_reply_more given t part reply old told =
     let long : length (part.replies ++ answer ∷ []) ≡ suc (length part.replies) = let sum : length (part.replies ++ answer ∷ []) ≡ length part.replies + 1 = length-append part.replies (answer ∷ []) in omega (arith, sum) in
     record {
       numbered =
-        map-append call_of part.replies (answer ∷ [])
-        ∙ ap (λ (calls : List CallName). calls ++ named t (suc (length part.replies)) ∷ []) old.numbered
-        ∙ sym (map-append (named t) (one_to (length part.replies)) (suc (length part.replies) ∷ []))
-        ∙ ap (λ (n : ℕ). map (named t) (one_to n)) (sym long);
+          map-append call_of part.replies (answer ∷ [])
+          ∙ ap (λ (calls : List CallName). calls ++ named t (suc (length part.replies)) ∷ []) old.numbered
+          ∙ sym (map-append (named t) (one_to (length part.replies)) (suc (length part.replies) ∷ []))
+          ∙ ap (λ (n : ℕ). map (named t) (one_to n)) (sym long);
       waits = λ call e. absurd (cc);
       replied = λ other h. elim (has_split other part.replies (answer ∷ []) h) [
         | inl before ↦ old.replied other before
@@ -297,8 +294,8 @@ module _ {S : Type 0} (s : Setting S) where
   reply_by_party node task sent kept m h t to (Node a) is =
       subst (λ (party : Party). SaysAnswer (answers_of s (order_of s.config.nodes sent)) party m.body) to
       (answer_more (answers_of s (applied_of (node a).records)) (answers_of s (order_of s.config.nodes sent))
-        (answers_grow s (applied_of (node a).records) (order_of s.config.nodes sent) (applied_begins s s.config.nodes node sent kept.sound a)) m.to m.body
-        (kept.replies m h a is))
+      (answers_grow s (applied_of (node a).records) (order_of s.config.nodes sent) (applied_begins s s.config.nodes node sent kept.sound a)) m.to m.body
+      (kept.replies m h a is))
   reply_by_party node task sent kept m h t to (Task u) is =
       calls_answer (answers_of s (order_of s.config.nodes sent)) (Task t) u m.body (subst (λ (party : Party). SaysSo s.config.nodes node sent party m.body) is (kept.sound.says m h))
   reply_by_party node task sent kept m h t to Audit is = absurd (subst (λ (party : Party). SaysSo s.config.nodes node sent party m.body) is (kept.sound.says m h))

@@ -1,28 +1,24 @@
 -- Each actor's step in a world keeps the invariant with what tasks are told.
-use Rattle.std.proofs.Common.{◌≡◌, ◌≢◌, ℕ, zero, suc, ◌+◌, ◌<◌, ◌≤◌, Result, Ok, Option, Some, None, List, [], ◌∷◌, ◌++◌, length, map, ◌⊎◌, inl, inr, refl, sym, ap, subst, ◌∙◌, arith}
+use Rattle.std.proofs.Common.{◌≡◌, ℕ, zero, suc, Ok, Option, Some, List, [], ◌∷◌, ◌++◌, length, map, ◌⊎◌, inl, inr, refl, sym, ap, subst, ◌∙◌}
 use Rattle.std.specs.Prelude.{unwrap_or, slice_get, replicate}
-use Rattle.std.proofs.lemmas.Bool.{cases_eq}
-use Rattle.rp_base.specs.declared.action.Action.{Action}
 use Rattle.rp_base.specs.declared.reply.Answer.{Answer}
 use Rattle.rp_base.specs.Config.{IsRightConfig}
 use Rattle.rp_base.specs.Sets.{Has}
 use Rattle.rp_base.specs.Records.{applied_of}
-use Rattle.rp_codec.specs.Message.{Message}
 use Rattle.rp_machine.specs.Calls.{CallName, call_of}
 use Rattle.rp_machine.specs.Replay.{one_to}
 use Rattle.rp_machine.proofs.Numbering.{length-one_to}
 use Rattle.rp_model.specs.declared.part.NodePart.{NodePart}
 use Rattle.rp_model.specs.declared.part.TaskPart.{TaskPart}
 use Rattle.rp_model.specs.Parts.{fresh_task}
-use Rattle.rp_model.specs.Effect.{Setting, Done, goes_on_as, NodeInput, node_effect, restart_part, untorn_part}
-use Rattle.rp_model.specs.Tasks.{TaskInput, task_effect}
-use Rattle.rp_model.specs.World.{World, opening_world, part_at, with_part, node_done, task_done}
-use Rattle.rp_agreement.specs.Sound.{IsSound}
+use Rattle.rp_model.specs.Effect.{Setting, Done, goes_on_as, restart_part, untorn_part}
+use Rattle.rp_model.specs.Tasks.{task_effect}
+use Rattle.rp_model.specs.World.{World, opening_world, part_at, with_part, node_done}
 use Rattle.rp_agreement.specs.Inputs.{TaskMoves, WaitsForOwn}
 use Rattle.rp_agreement.specs.Computed.{order_of}
 use Rattle.rp_agreement.specs.Worlds.{node_in, IsSoundWorld}
-use Rattle.rp_agreement.specs.Answered.{answers_of, named, IsAnswered, IsKept, task_in, IsKeptWorld}
-use Rattle.rp_agreement.proofs.PartPlaces.{put_there, put_beside, put_length, sent_behind}
+use Rattle.rp_agreement.specs.Answered.{answers_of, named, IsAnswered, task_in, IsKeptWorld}
+use Rattle.rp_agreement.proofs.PartPlaces.{part_has, put_there, put_beside, put_length, sent_behind}
 use Rattle.rp_agreement.proofs.NodeEffects.{IsSoundDone, done_keeps}
 use Rattle.rp_agreement.proofs.WorldKeeping.{member_here, moves_here, untorn_world, input_done, cut_done, stop_done, restart_done, torn_done}
 use Rattle.rp_agreement.proofs.EventWalk.{IsKeptByAll}
@@ -62,11 +58,11 @@ module _ {S : Type 0} (s : Setting S) (right : IsRightConfig s.config) where
     stop = λ w me part done world here came. node_case w me part done world here (stop_done s right w me part world.size world.kept.sound here done came) (stop_answers s part done came);
     restart = λ w me part world here. node_case w me part (restart_part part) world here (restart_done s right w me part world.size world.kept.sound here) (restart_answers s part);
     torn = λ w me part world here.
-      untorn_world (IsKeptWorld s) w me part (node_case w me part (goes_on_as (untorn_part part)) world here (torn_done s right w me part world.size world.kept.sound here) (λ m h. absurd h));
+        untorn_world (IsKeptWorld s) w me part (node_case w me part (goes_on_as (untorn_part part)) world here (torn_done s right w me part world.size world.kept.sound here) (λ m h. absurd h));
     task = λ w t part input done world here is came. record {
       size = world.size;
       kept = task_goes_on s t input done (node_in w.nodes) (task_in w.tasks) w.sent (node_in w.nodes) (task_in (with_part w.tasks t done.part)) (w.sent ++ done.sends) world.kept is
-        (subst (λ (p : TaskPart). task_effect s.config t p input ≡ Ok done) (sym (task_here w t part here)) came) (λ k. refl) (task_moves_here w t part done here);
+          (subst (λ (p : TaskPart). task_effect s.config t p input ≡ Ok done) (sym (task_here w t part here)) came) (λ k. refl) (task_moves_here w t part done here);
     };
   }
 
@@ -101,3 +97,42 @@ get_mapped : {A B : Type 0} (f : A → B) (xs : List A) (k : ℕ) (a : A) → sl
 get_mapped f [] k a e = absurd (cc)
 get_mapped {A} f (x ∷ xs) zero a e = ap (λ (o : Option A). Some (f (unwrap_or o x))) e
 get_mapped f (x ∷ xs) (suc k) a e = get_mapped f xs k a e
+
+get_behind : {A : Type 0} (xs : List A) (y : A) (k : ℕ) (a : A) → slice_get (xs ++ y ∷ []) k ≡ Some a → (slice_get xs k ≡ Some a) ⊎ ((k ≡ length xs) × (a ≡ y))
+get_behind [] y zero a e = inr (refl, sym (ap (λ (o : Option _). unwrap_or o y) e))
+get_behind [] y (suc k) a e = absurd (cc)
+get_behind (x ∷ xs) y zero a e = inl e
+get_behind (x ∷ xs) y (suc k) a e =
+    elim (get_behind xs y k a e) [
+      | inl before ↦ inl before
+      | inr last ↦ inr (ap suc last.0, last.1)
+    ]
+
+-- the kth of the numbers from 1 on
+get_one_to : (n k m : ℕ) → slice_get (one_to n) k ≡ Some m → m ≡ suc k
+get_one_to zero k m e = absurd (cc)
+get_one_to (suc n) k m e =
+    elim (get_behind (one_to n) (suc n) k m e) [
+      | inl before ↦ get_one_to n k m before
+      | inr last ↦ last.1 ∙ ap suc (sym (last.0 ∙ length-one_to n))
+    ]
+
+get_unmapped : {A B : Type 0} (f : A → B) (xs : List A) (k : ℕ) (b : B) → slice_get (map f xs) k ≡ Some b → (a : A) × (slice_get xs k ≡ Some a) × (b ≡ f a)
+get_unmapped f [] k b e = absurd (cc)
+get_unmapped f (x ∷ xs) zero b e = (x, refl, sym (ap (λ (o : Option _). unwrap_or o (f x)) e))
+get_unmapped f (x ∷ xs) (suc k) b e = get_unmapped f xs k b e
+
+-- the kth reply is to the kth call
+pub reply_named : (given : List Answer) (t : ℕ) (part : TaskPart) (k : ℕ) (answer : Answer) → IsAnswered given t part → slice_get part.replies k ≡ Some answer → call_of answer ≡ named t (suc k)
+reply_named given t part k answer is e =
+    let here : slice_get (map (named t) (one_to (length part.replies))) k ≡ Some (call_of answer) =
+    subst (λ (calls : List CallName). slice_get calls k ≡ Some (call_of answer)) is.numbered (get_mapped call_of part.replies k answer e) in
+    let hit = get_unmapped (named t) (one_to (length part.replies)) k (call_of answer) here in
+    hit.2 ∙ ap (named t) (get_one_to (length part.replies) k hit.0 hit.1)
+
+pub reply_has : (replies : List Answer) (k : ℕ) (answer : Answer) → slice_get replies k ≡ Some answer → Has answer replies
+reply_has replies k answer e = part_has replies (suc k) answer e
+
+pub task_answered_here : {S : Type 0} (s : Setting S) (w : World) → IsKeptWorld s w → (t : ℕ) (part : TaskPart) → part_at w.tasks t ≡ Some part
+    → IsAnswered (answers_of s (order_of s.config.nodes w.sent)) t part
+task_answered_here s w world t part here = subst (IsAnswered (answers_of s (order_of s.config.nodes w.sent)) t) (task_here w t part here) (world.kept.answered t)

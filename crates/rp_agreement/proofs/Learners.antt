@@ -82,7 +82,7 @@ asking_plain nodes x sent records from (Some i) = one_plain nodes x sent records
 -- a node that lets go what ended, and keeps some of what is pending, knows what it knew
 runs_learned : (sent : List Message) (records : List Rec) (running : Running) (i : ℕ) (test : Action → Bool) → IsRunning sent records running
     → IsRunning sent records
-      (record running { proposals = without_proposal running.proposals i; heard = heard_elsewhere running.heard i; pending = filter test running.pending })
+    (record running { proposals = without_proposal running.proposals i; heard = heard_elsewhere running.heard i; pending = filter test running.pending })
 runs_learned sent records running i test runs = record {
   proposals = λ p h. runs.proposals p (stays_there p i running.proposals h);
   apart = without_apart i running.proposals runs.apart;
@@ -119,10 +119,10 @@ module _ {S : Type 0} (next : S → Action → S) (answers : S → Action → Li
       (learns next answers begin x records running i vote.action (says_to_others nodes x (bodies.Decided i vote.action)) [])
       (notes (record running { heard = heard }))
       (λ most. learned_sound nodes x records sent running i vote.action (says_to_others nodes x (bodies.Decided i vote.action)) []
-        (decides nodes sent i vote heard cast most) runs
-        (said_plain nodes x sent more (bodies.Decided i vote.action) (has_right (Learned i vote.action) records (Learned i vote.action ∷ []) (inl refl)) (λ h. h)
-        (filter (λ k. not (nat_eq k x)) (one_to nodes)))
-        (none_plain nodes x sent more))
+      (decides nodes sent i vote heard cast most) runs
+      (said_plain nodes x sent more (bodies.Decided i vote.action) (has_right (Learned i vote.action) records (Learned i vote.action ∷ []) (inl refl)) (λ h. h)
+      (filter (λ k. not (nat_eq k x)) (one_to nodes)))
+      (none_plain nodes x sent more))
       (λ _. quiet nodes x records sent (record running { heard = heard }) (runs_heard sent records running heard runs cast))
 
   pub accepted_sound : (nodes x : ℕ) (records : List Rec) (sent : List Message) (running : Running) (from i : ℕ) (vote : Vote)

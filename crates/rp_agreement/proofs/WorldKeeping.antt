@@ -1,10 +1,8 @@
 -- Each actor's step keeps the invariant of a world.
-use Rattle.std.proofs.Common.{◌≡◌, ℕ, ◌<◌, ◌≤◌, Result, Ok, Option, Some, List, ◌++◌, length, ◌⊎◌, inl, inr, refl, sym, ap, subst, ◌∙◌, arith}
+use Rattle.std.proofs.Common.{◌≡◌, ℕ, ◌<◌, Ok, Option, Some, List, ◌++◌, length, inl, inr, refl, sym, ap, subst, ◌∙◌}
 use Rattle.std.specs.Prelude.{unwrap_or}
 use Rattle.std.proofs.lemmas.Bool.{cases_eq}
 use Rattle.std.proofs.lemmas.List.{append-nil}
-use Rattle.rp_base.specs.declared.action.Action.{Action}
-use Rattle.rp_base.specs.declared.fault.Fault.{Fault}
 use Rattle.rp_base.specs.Config.{IsRightConfig}
 use Rattle.rp_base.specs.Sets.{Has}
 use Rattle.rp_codec.specs.Message.{Message}
@@ -12,13 +10,12 @@ use Rattle.rp_model.specs.declared.part.NodePart.{NodePart}
 use Rattle.rp_model.specs.declared.part.TaskPart.{TaskPart}
 use Rattle.rp_model.specs.Parts.{fresh_node}
 use Rattle.rp_model.specs.Effect.{Setting, Done, goes_on_as, NodeInput, node_effect, cut_effect, stop_effect, restart_part, untorn_part}
-use Rattle.rp_model.specs.Tasks.{TaskInput, task_effect}
+use Rattle.rp_model.specs.Tasks.{task_effect}
 use Rattle.rp_model.specs.Events.{Event, IsEvent}
 use Rattle.rp_model.specs.Answers.{untorn, Happen}
 use Rattle.rp_model.specs.World.{World, part_at, with_part, node_done, task_done}
 use Rattle.rp_agreement.specs.Sound.{IsMember, IsSound}
-use Rattle.rp_agreement.specs.Steps.{SentToo, TaskHappens}
-use Rattle.rp_agreement.specs.Inputs.{IsInput, IsTaskInput, NodeMoves, WaitsForOwn}
+use Rattle.rp_agreement.specs.Inputs.{IsInput, NodeMoves, WaitsForOwn}
 use Rattle.rp_agreement.specs.Worlds.{node_in, IsSoundWorld}
 use Rattle.rp_agreement.proofs.PartPlaces.{part_below, put_there, put_beside, put_length, sent_behind}
 use Rattle.rp_agreement.proofs.EventWalk as walk
@@ -47,7 +44,7 @@ node_done_keeps : (nodes : ℕ) (w : World) (me : ℕ) (part : NodePart) (done :
 node_done_keeps nodes w me part done sound here d = record {
   size = put_length w.nodes me done.part ∙ sound.size;
   sound = done_keeps nodes me done (node_in w.nodes) w.sent (node_in (with_part w.nodes me done.part)) (w.sent ++ done.sends)
-    (member_here nodes w me part sound.size here) sound.sound d (moves_here w me part done here);
+      (member_here nodes w me part sound.size here) sound.sound d (moves_here w me part done here);
   waits = sound.waits;
 }
 
@@ -68,7 +65,7 @@ task_done_keeps : (nodes : ℕ) (w : World) (t : ℕ) (part : TaskPart) (done : 
 task_done_keeps nodes w t part done sound here d = record {
   size = sound.size;
   sound = task_keeps nodes t done.sends (node_in w.nodes) w.sent (node_in w.nodes) (w.sent ++ done.sends) sound.sound
-    (record { calls = d.calls; stays = λ k. refl; sends = sent_behind w.sent done.sends });
+      (record { calls = d.calls; stays = λ k. refl; sends = sent_behind w.sent done.sends });
   waits = each_task WaitsForOwn w.tasks t part done.part here d.waits sound.waits;
 }
 
@@ -124,11 +121,11 @@ module _ {S : Type 0} (s : Setting S) (right : IsRightConfig s.config) where
     stop = λ w me part done sound here came. node_done_keeps s.config.nodes w me part done sound here (stop_done w me part sound.size sound.sound here done came);
     restart = λ w me part sound here. node_done_keeps s.config.nodes w me part (restart_part part) sound here (restart_done w me part sound.size sound.sound here);
     torn = λ w me part sound here.
-      untorn_world (IsSoundWorld s.config.nodes) w me part
-      (node_done_keeps s.config.nodes w me part (goes_on_as (untorn_part part)) sound here (torn_done w me part sound.size sound.sound here));
+        untorn_world (IsSoundWorld s.config.nodes) w me part
+        (node_done_keeps s.config.nodes w me part (goes_on_as (untorn_part part)) sound here (torn_done w me part sound.size sound.sound here));
     task = λ w t part input done sound here is came.
-      task_done_keeps s.config.nodes w t part done sound here
-      (if_task_done t (task_effect s.config t part input) done (task_sound s.config w.sent t part input (sound.waits t part here) is) came);
+        task_done_keeps s.config.nodes w t part done sound here
+        (if_task_done t (task_effect s.config t part input) done (task_sound s.config w.sent t part input (sound.waits t part here) is) came);
   }
 
   -- so any events keep it

@@ -21,7 +21,7 @@ use Rattle.rp_model.specs.declared.part.TaskPart.{TaskPart}
 use Rattle.rp_agreement.specs.Computed.{order_of}
 use Rattle.rp_agreement.specs.Sound.{IsSound}
 use Rattle.rp_agreement.specs.Inputs.{WaitsForOwn}
-use Rattle.rp_agreement.specs.Worlds.{node_in, IsSoundWorld}
+use Rattle.rp_agreement.specs.Worlds.{node_in}
 
 -- the reply of this number to this party is one of these answers
 abbrev pub IsAnswerTo : List Answer → Party → ℕ → Told → Type 0

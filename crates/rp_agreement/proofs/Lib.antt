@@ -21,6 +21,7 @@ pub mod PartPlaces
 pub mod EventWalk
 pub mod WorldKeeping
 pub mod Happening
+pub mod Playing
 pub mod AnswerTurns
 pub mod AnswerKeeping
 pub mod KeptWorlds

@@ -2,6 +2,8 @@
 use Rattle.std.specs.Prelude.{List, ◌++◌}
 use Rattle.rp_base.specs.Config.{IsRightConfig}
 use Rattle.rp_base.specs.Sets.{Has}
+use Rattle.rp_base.specs.declared.action.Action.{Action}
+use Rattle.rp_base.specs.declared.reply.Answer.{Answer}
 use Rattle.rp_model.specs.Answers.{Happen}
 use Rattle.rp_model.specs.Effect.{Setting}
 use Rattle.rp_model.specs.Events.{Event, IsEvent}
@@ -19,3 +21,7 @@ pub record AreMoments {S : Type 0} (s : Setting S) (now later : World) : Type 0 
   pub more : List Event
   pub before : IsHistory s events now
   pub after : IsHistory s (events ++ more) later
+
+-- three nodes, a log of one position, and this machine
+abbrev pub three_nodes : {S : Type 0} → (S → Action → S) → (S → Action → List Answer) → S → Setting S
+three_nodes next answers begin = record { config = record { nodes = 3; max_positions = 1 }; next = next; answers = answers; begin = begin }

@@ -1,8 +1,10 @@
 //! Nodes agree in every history, whatever stops, is cut short or starts again.
 
-ghost use Rattle.std.specs.Prelude.{◌≡◌, ℕ, Some, List, length};
+ghost use Rattle.std.specs.Prelude.{◌≡◌, ℕ, pos, Some, List, length};
 ghost use Rattle.rp_base.specs.Records.{applied_of};
 ghost use Rattle.rp_base.specs.declared.action.Action.{Action};
+ghost use Rattle.rp_base.specs.declared.action.Action.TheVariants.{Call};
+ghost use Rattle.rp_base.specs.declared.action.Operation.TheVariants.{Procedure};
 ghost use Rattle.rp_machine.specs.Replay.{replay_of};
 ghost use Rattle.rp_model.specs.Effect.{Setting};
 ghost use Rattle.rp_model.specs.Events.{Event};
@@ -10,7 +12,7 @@ ghost use Rattle.rp_model.specs.Facts.{IsDecided};
 ghost use Rattle.rp_model.specs.World.{World, part_at};
 ghost use Rattle.rp_model.specs.declared.part.NodePart.{NodePart};
 ghost use Rattle.rp_agreement.specs.Computed.{order_of};
-ghost use Rattle.rp_agreement.specs.History.{IsHistory, AreMoments};
+ghost use Rattle.rp_agreement.specs.History.{IsHistory, AreMoments, three_nodes};
 ghost use Rattle.rp_agreement.specs.Order.{Begins, AreAlike};
 ghost use Rattle.rp_agreement.specs.Worlds.{IsSoundWorld};
 
@@ -50,3 +52,11 @@ pub fn histories_agree<M: Machine>()
 {
     the_opening_is_sound();
 }
+
+/// The laws do not speak of nothing: with three nodes, whatever the machine, some history leads to a
+/// world in which a task's call is decided.
+pub fn some_history_decides<M: Machine>()
+    ensures { (begin : M) → (events : List Event) × (world : World)
+        × IsHistory (three_nodes M.next M.answers begin) events world
+        × IsDecided 3 world.sent 1 (Call 1 1 1 (Procedure 1) (pos 5)) }
+{}

@@ -28,7 +28,7 @@ pub use decisions::{
     decisions_are_one, decisions_stay, only_asked_actions_are_decided,
     only_decided_actions_are_learned,
 };
-pub use histories::{histories_agree, histories_are_sound};
+pub use histories::{histories_agree, histories_are_sound, some_history_decides};
 pub use keeping::{events_keep, histories_keep, node_events_keep, task_events_keep};
 pub use offers::{offers_are_one, offers_follow_decisions};
 pub use opening::the_opening_is_sound;

@@ -1,5 +1,5 @@
 -- Each actor's step in a world keeps the invariant with what tasks are told.
-use Rattle.std.proofs.Common.{◌≡◌, ℕ, zero, suc, Ok, Option, Some, List, [], ◌∷◌, ◌++◌, length, map, ◌⊎◌, inl, inr, refl, sym, ap, subst, ◌∙◌}
+use Rattle.std.proofs.Common.{◌≡◌, ℕ, zero, suc, Ok, Option, Some, List, [], ◌∷◌, ◌++◌, length, map, ◌⊎◌, inl, inr, refl, sym, ap, subst, ◌∙◌, ◌≤◌, arith}
 use Rattle.std.specs.Prelude.{unwrap_or, slice_get, replicate}
 use Rattle.rp_base.specs.declared.reply.Answer.{Answer}
 use Rattle.rp_base.specs.Config.{IsRightConfig}
@@ -17,7 +17,7 @@ use Rattle.rp_model.specs.World.{World, opening_world, part_at, with_part, node_
 use Rattle.rp_agreement.specs.Inputs.{TaskMoves, WaitsForOwn}
 use Rattle.rp_agreement.specs.Computed.{order_of}
 use Rattle.rp_agreement.specs.Worlds.{node_in, IsSoundWorld}
-use Rattle.rp_agreement.specs.Answered.{answers_of, named, IsAnswered, task_in, IsKeptWorld}
+use Rattle.rp_agreement.specs.Answered.{answers_of, named, IsAnswered, task_in, IsKeptWorld, IsReady}
 use Rattle.rp_agreement.proofs.PartPlaces.{part_has, put_there, put_beside, put_length, sent_behind}
 use Rattle.rp_agreement.proofs.NodeEffects.{IsSoundDone, done_keeps}
 use Rattle.rp_agreement.proofs.WorldKeeping.{member_here, moves_here, untorn_world, input_done, cut_done, stop_done, restart_done, torn_done}
@@ -88,6 +88,13 @@ kept_opening s opening = record {
     own = λ t. subst (WaitsForOwn t) (sym (all_fresh t)) (λ call e. absurd (cc));
     replies = λ m h. absurd h;
     answered = λ t. subst (IsAnswered (answers_of s (order_of s.config.nodes [])) t) (sym (all_fresh t)) (fresh_answered (answers_of s (order_of s.config.nodes [])) t);
+    in_turn = λ t action asked. absurd asked.1;
+    ready = λ t n. subst (λ (part : TaskPart). n ≤ length part.replies → IsReady s (order_of s.config.nodes []) t n) (sym (all_fresh t)) (λ few. record {
+      before = [];
+      begins = (order_of s.config.nodes [], refl);
+      absent = λ stands. stands.1;
+      answered = inl (omega (arith, few));
+    });
   };
 }
 

@@ -1,6 +1,6 @@
 -- What tasks are told: each reply that a node sent is an answer that its applied list leads to, and each
 -- reply that a task took is an answer that the order leads to (this project's own).
-use Rattle.std.specs.Prelude.{◌≡◌, ℕ, suc, Some, List, [], ◌∷◌, length, map, unwrap_or}
+use Rattle.std.specs.Prelude.{◌≤◌, ◌⊎◌, is_some, if◌then◌else◌, ◌≡◌, ℕ, suc, Some, List, [], ◌∷◌, length, map, unwrap_or}
 use Rattle.rp_base.specs.Sets.{Has}
 use Rattle.rp_base.specs.Records.{applied_of}
 use Rattle.rp_base.specs.declared.action.Action.{Action}
@@ -18,6 +18,8 @@ use Rattle.rp_model.specs.Parts.{fresh_task}
 use Rattle.rp_model.specs.World.{World, part_at}
 use Rattle.rp_model.specs.declared.part.NodePart.{NodePart}
 use Rattle.rp_model.specs.declared.part.TaskPart.{TaskPart}
+use Rattle.rp_agreement.specs.Told.{Asks}
+use Rattle.rp_agreement.specs.Order.{Begins}
 use Rattle.rp_agreement.specs.Computed.{order_of}
 use Rattle.rp_agreement.specs.Sound.{IsSound}
 use Rattle.rp_agreement.specs.Inputs.{WaitsForOwn}
@@ -62,12 +64,33 @@ pub record IsAnswered (given : List Answer) (t : ℕ) (part : TaskPart) : Type 0
   pub waits : (call : Action) → part.outstanding ≡ Some call → calls_of call ≡ named t (suc (length part.replies)) ∷ []
   pub replied : (answer : Answer) → Has answer part.replies → Has answer given
 
+-- how many calls a task made: those that it has replies to, and the one that it waits for
+abbrev pub calls_so_far : TaskPart → ℕ
+calls_so_far part = if is_some part.outstanding then suc (length part.replies) else length part.replies
+
+-- what was asked for the task is one of its calls so far
+abbrev pub AsksInTurn : List Message → ℕ → TaskPart → Type 0
+AsksInTurn sent t part = (action : Action) → Asks sent t action → (call : CallName) → Has call (calls_of action) → call.number ≤ calls_so_far part
+
+-- the call stands among the actions
+abbrev pub Stands : CallName → List Action → Type 0
+Stands call actions = (action : Action) × Has action actions × Has call (calls_of action)
+
+-- A beginning of the order leads to the answer to the task's nth call, and the next one does not stand in it.
+pub record IsReady {S : Type 0} (s : Setting S) (order : List Action) (t n : ℕ) : Type 0 where
+  pub before : List Action
+  pub begins : Begins before order
+  pub absent : ¬ Stands (named t (suc n)) before
+  pub answered : (n ≡ 0) ⊎ Has (named t n) (map call_of (answers_of s before))
+
 -- The invariant with what tasks are told, over the parts of nodes and tasks and the packets ever sent.
 pub record IsKept {S : Type 0} (s : Setting S) (node : ℕ → NodePart) (task : ℕ → TaskPart) (sent : List Message) : Type 0 where
   pub sound : IsSound s.config.nodes node sent
   pub own : (t : ℕ) → WaitsForOwn t (task t)
   pub replies : RepliesAre s node sent
   pub answered : (t : ℕ) → IsAnswered (answers_of s (order_of s.config.nodes sent)) t (task t)
+  pub in_turn : (t : ℕ) → AsksInTurn sent t (task t)
+  pub ready : (t n : ℕ) → n ≤ length (task t).replies → IsReady s (order_of s.config.nodes sent) t n
 
 -- the part of the task of this number, from 1; a fresh one where there is no such task
 abbrev pub task_in : List TaskPart → ℕ → TaskPart

@@ -344,7 +344,7 @@ one_asked : (t node : ℕ) (call : Action) (after : TaskPart) → after.outstand
     → (k : ℕ) × (other : Action) × (m ≡ asks t k other) × (after.outstanding ≡ Some other)
 one_asked t node call after waits m h = elim h [ inl same ↦ (node, call, same, waits) | inr none ↦ absurd none ]
 
-most_calls : (waiting : Option Action) (n : ℕ) → (if is_some waiting then suc n else n) ≤ suc n
+pub most_calls : (waiting : Option Action) (n : ℕ) → (if is_some waiting then suc n else n) ≤ suc n
 most_calls None n = omega arith
 most_calls (Some call) n = omega arith
 
@@ -465,7 +465,7 @@ module _ {S : Type 0} (s : Setting S) where
       reply_by_party node task sent kept message there.0 t there.1 message.from refl
 
   -- what stands in the order was asked for
-  asked_in_order : (node : ℕ → NodePart) (sent : List Message) → IsSound s.config.nodes node sent → (action : Action) → Has action (order_of s.config.nodes sent) → IsAsked sent action
+  pub asked_in_order : (node : ℕ → NodePart) (sent : List Message) → IsSound s.config.nodes node sent → (action : Action) → Has action (order_of s.config.nodes sent) → IsAsked sent action
   asked_in_order node sent sound action h =
       let at = has_get (order_of s.config.nodes sent) action h in
       decided_asked sound (suc at.0) action ((order_is s.config.nodes sent).decided at.0 action at.1)

@@ -25,3 +25,4 @@ pub mod Playing
 pub mod AnswerTurns
 pub mod AnswerKeeping
 pub mod KeptWorlds
+pub mod Places

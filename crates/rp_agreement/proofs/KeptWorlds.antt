@@ -21,7 +21,9 @@ use Rattle.rp_agreement.specs.Answered.{answers_of, named, IsAnswered, task_in, 
 use Rattle.rp_agreement.proofs.PartPlaces.{part_has, put_there, put_beside, put_length, sent_behind}
 use Rattle.rp_agreement.proofs.NodeEffects.{IsSoundDone, done_keeps}
 use Rattle.rp_agreement.proofs.WorldKeeping.{member_here, moves_here, untorn_world, input_done, cut_done, stop_done, restart_done, torn_done}
-use Rattle.rp_agreement.proofs.EventWalk.{IsKeptByAll}
+use Rattle.rp_model.specs.Events.{Event}
+use Rattle.rp_agreement.specs.History.{IsHistory}
+use Rattle.rp_agreement.proofs.EventWalk.{IsKeptByAll, history_keeps}
 use Rattle.rp_agreement.proofs.AnswerTurns.{AreAnswers}
 use Rattle.rp_agreement.proofs.AnswerKeeping.{node_keeps, effect_answers, cut_answers, stop_answers, restart_answers, task_goes_on}
 
@@ -143,3 +145,10 @@ reply_has replies k answer e = part_has replies (suc k) answer e
 pub task_answered_here : {S : Type 0} (s : Setting S) (w : World) → IsKeptWorld s w → (t : ℕ) (part : TaskPart) → part_at w.tasks t ≡ Some part
     → IsAnswered (answers_of s (order_of s.config.nodes w.sent)) t part
 task_answered_here s w world t part here = subst (IsAnswered (answers_of s (order_of s.config.nodes w.sent)) t) (task_here w t part here) (world.kept.answered t)
+
+-- ---- histories
+
+-- each history leads to a world that keeps what tasks are told
+pub kept_in : {S : Type 0} (s : Setting S) (events : List Event) (world : World) → IsSoundWorld s.config.nodes (opening_world s.config.nodes) → IsHistory s events world → IsKeptWorld s world
+kept_in s events world opening history =
+    history_keeps s (IsKeptWorld s) (kept_by_all s history.config) (opening_world s.config.nodes) events world (kept_opening s opening) history.right history.happened

@@ -17,6 +17,7 @@ use Rattle.rp_machine.specs.Replay.{number_for, one_to, is_for, numbers_of, is_n
 use Rattle.rp_machine.specs.Asked.{last_number}
 use Rattle.rp_machine.proofs.Calling.{made_number, one_to_bound}
 use Rattle.rp_machine.proofs.Numbering.{IsCounted, counted}
+use Rattle.rp_model.specs.Facts.{IsPlace}
 use Rattle.rp_model.specs.Effect.{Setting}
 use Rattle.rp_model.specs.declared.part.NodePart.{NodePart}
 use Rattle.rp_model.specs.declared.part.TaskPart.{TaskPart}
@@ -226,3 +227,31 @@ module _ {S : Type 0} (s : Setting S) where
         | inr told ↦ inr (answered_more ready.before (take k order) begins (named t m) told)
       ] in
       next_counts known (take k order) right t m first answered action is
+
+  -- a right call's number is 1 or more
+  positive : (action : Action) (t n : ℕ) → IsRight action → calls_of action ≡ named t n ∷ [] → 1 ≤ n
+  positive actions.Noop t n right is = absurd (cc)
+  positive (actions.Call task number object operation arg) t n right is = subst (λ (m : ℕ). 1 ≤ m) (same_name (first_call is)).1 right.1.0
+  positive (actions.Interrupt source occurrence) t n right is = absurd (cc)
+  positive (actions.Tick now) t n right is = absurd (cc)
+
+  -- that is its place
+  pub first_is_place : (node : ℕ → NodePart) (task : ℕ → TaskPart) (sent : List Message) → IsKept s node task sent → AnswersKnown
+      → (let order = order_of s.config.nodes sent in (t n k : ℕ) (action : Action) → slice_get order k ≡ Some action → calls_of action ≡ named t n ∷ []
+        → ¬ Stands (named t n) (take k order)
+        → IsPlace s.next s.answers s.begin order (named t n) (suc k))
+  first_is_place node task sent kept known t zero k action stands is first =
+      let here : Has action (order_of s.config.nodes sent) = part_has (order_of s.config.nodes sent) (suc k) action stands in
+      let low : 1 ≤ 0 = positive action t 0 (asked_in_order s node sent kept.sound action here).right is in
+      absurd (omega (arith, low))
+  first_is_place node task sent kept known t (suc m) k action stands is first =
+      let order = order_of s.config.nodes sent in
+      let back : suc k - 1 ≡ k = omega arith in
+      record {
+        action = action;
+        stands = subst (λ (j : ℕ). slice_get order j ≡ Some action) (sym back) stands;
+        first = omega arith;
+        is_call = is;
+        takes_effect = subst (λ (j : ℕ). (let before = replay_of s.next s.answers s.begin (take j order) in counts before.kept before.given action) ≡ true) (sym back)
+          (first_counts node task sent kept known t m k action stands is first);
+      }

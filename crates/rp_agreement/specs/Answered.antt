@@ -4,6 +4,7 @@ use Rattle.std.specs.Prelude.{◌≤◌, ◌⊎◌, is_some, if◌then◌else◌
 use Rattle.rp_base.specs.Sets.{Has}
 use Rattle.rp_base.specs.Records.{applied_of}
 use Rattle.rp_base.specs.declared.action.Action.{Action}
+use Rattle.rp_base.specs.declared.config.Config.{Config}
 use Rattle.rp_base.specs.declared.reply.Answer.{Answer}
 use Rattle.rp_base.specs.declared.reply.Reply.{Reply as Told}
 use Rattle.rp_codec.specs.Message.{Message}
@@ -47,6 +48,10 @@ SaysAnswer given to (Report first applied actions) = Unit {0}
 -- the answers that the actions lead to
 abbrev pub answers_of : {S : Type 0} → Setting S → List Action → List Answer
 answers_of s actions = replay_answers s.next s.answers s.begin actions
+
+-- where the nodes run this program of a machine
+abbrev pub setting_for : {S P : Type 0} → (S → Action → S) → (S → Action → List Answer) → (P → S) → Config → P → Setting S
+setting_for next answers begin config program = record { config = config; next = next; answers = answers; begin = begin program }
 
 -- each reply that a node sent is an answer that its applied list leads to
 abbrev pub RepliesAre : {S : Type 0} → Setting S → (ℕ → NodePart) → List Message → Type 0

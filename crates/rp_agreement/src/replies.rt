@@ -1,14 +1,17 @@
 //! Each reply that a task takes is the answer which the order gives to its call.
 
-ghost use Rattle.std.specs.Prelude.{◌≡◌, ℕ, suc, Result, Ok, Some, List, slice_get};
+ghost use Rattle.std.specs.Prelude.{◌≡◌, ℕ, suc, Result, Ok, Some, List, [], ◌∷◌, slice_get, take};
 ghost use Rattle.rp_base.specs.Config.{IsRightConfig};
+ghost use Rattle.rp_base.specs.declared.action.Action.{Action};
+ghost use Rattle.rp_base.specs.declared.config.Config.{Config};
 ghost use Rattle.rp_base.specs.declared.fault.Fault.{Fault};
 ghost use Rattle.rp_base.specs.declared.reply.Answer.{Answer};
 ghost use Rattle.rp_codec.specs.Message.{Message};
+ghost use Rattle.rp_machine.specs.Calls.{calls_of};
 ghost use Rattle.rp_model.specs.Answers.{Steps};
 ghost use Rattle.rp_model.specs.Effect.{Setting, Done, NodeInput, node_effect, cut_effect, stop_effect, restart_part};
 ghost use Rattle.rp_model.specs.Events.{Event, IsEvent};
-ghost use Rattle.rp_model.specs.Facts.{IsAnswerOf};
+ghost use Rattle.rp_model.specs.Facts.{IsAnswerOf, IsPlace};
 ghost use Rattle.rp_model.specs.Tasks.{TaskInput, task_effect};
 ghost use Rattle.rp_model.specs.World.{World, Happening, part_at, event_effect};
 ghost use Rattle.rp_model.specs.declared.effect.Effect.{Effect};
@@ -18,7 +21,7 @@ ghost use Rattle.rp_agreement.specs.Computed.{order_of};
 ghost use Rattle.rp_agreement.specs.History.{IsHistory};
 ghost use Rattle.rp_agreement.specs.Inputs.{IsInput, IsTaskInput, NodeMoves, TaskMoves};
 ghost use Rattle.rp_agreement.specs.Sound.{IsMember};
-ghost use Rattle.rp_agreement.specs.Answered.{named, IsKept, IsKeptWorld};
+ghost use Rattle.rp_agreement.specs.Answered.{named, setting_for, Stands, IsKept, IsKeptWorld};
 
 use crate::opening::the_opening_is_sound;
 use rp_machine::Machine;
@@ -90,6 +93,21 @@ pub fn replies_tell_the_order<M: Machine>()
         (t k : ℕ) (part : TaskPart) (answer : Answer)
         → part_at world.tasks t ≡ Some part → slice_get part.replies k ≡ Some answer
         → IsAnswerOf setting.next setting.answers setting.begin order (named t (suc k)) answer }
+{
+    the_opening_is_sound();
+}
+
+/// In every history, at a program of a machine: the first standing of a call in the order is its
+/// place, where it counts. So no call is passed over, and what stands again later counts no more.
+pub fn calls_count_where_they_first_stand<M: Machine>()
+    ensures { (config : Config) (program : M.Program) (events : List Event) (world : World)
+        → let setting = setting_for M.next M.answers M.begin config program in
+        IsHistory setting events world
+        → let order = order_of config.nodes world.sent in
+        (t n k : ℕ) (action : Action)
+        → slice_get order k ≡ Some action → calls_of action ≡ named t n ∷ []
+        → ¬ Stands (named t n) (take k order)
+        → IsPlace M.next M.answers (M.begin program) order (named t n) (suc k) }
 {
     the_opening_is_sound();
 }

@@ -6,13 +6,8 @@ use Rattle.rp_model.specs.World.{World, opening_world}
 use Rattle.rp_agreement.specs.History.{IsHistory}
 use Rattle.rp_agreement.specs.Worlds.{IsSoundWorld}
 use Rattle.rp_agreement.specs.Answered.{IsKeptWorld}
-use Rattle.rp_agreement.proofs.EventWalk.{history_keeps}
-use Rattle.rp_agreement.proofs.KeptWorlds.{kept_by_all, kept_opening, task_answered_here, reply_named, reply_has}
+use Rattle.rp_agreement.proofs.KeptWorlds.{kept_in, task_answered_here, reply_named, reply_has}
 use Rattle.rp_agreement.proofs.replies.replies_tell_the_order.Goals as goal
-
-kept_in : {S : Type 0} (s : Setting S) (events : List Event) (world : World) → IsSoundWorld s.config.nodes (opening_world s.config.nodes) → IsHistory s events world → IsKeptWorld s world
-kept_in s events world opening history =
-    history_keeps s (IsKeptWorld s) (kept_by_all s history.config) (opening_world s.config.nodes) events world (kept_opening s opening) history.right history.happened
 
 pub returns-clause-kept : goal.returns-clause-kept
 returns-clause-kept g c = λ s events world history. kept_in s events world (c.the_opening_is_sound.ensures s.config.nodes) history

@@ -25,7 +25,8 @@ use Rattle.rp_model.specs.Events.{Event}
 use Rattle.rp_agreement.specs.History.{IsHistory}
 use Rattle.rp_agreement.proofs.EventWalk.{IsKeptByAll, history_keeps}
 use Rattle.rp_agreement.proofs.AnswerTurns.{AreAnswers}
-use Rattle.rp_agreement.proofs.AnswerKeeping.{node_keeps, effect_answers, cut_answers, stop_answers, restart_answers, task_goes_on}
+use Rattle.rp_agreement.proofs.NodeTelling.{node_keeps, effect_answers, cut_answers, stop_answers, restart_answers}
+use Rattle.rp_agreement.proofs.TaskKeeping.{task_goes_on}
 
 task_here : (w : World) (t : ℕ) (part : TaskPart) → part_at w.tasks t ≡ Some part → task_in w.tasks t ≡ part
 task_here w t part here = ap (λ (o : Option TaskPart). unwrap_or o fresh_task) here

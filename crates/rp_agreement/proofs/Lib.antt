@@ -23,6 +23,9 @@ pub mod WorldKeeping
 pub mod Happening
 pub mod Playing
 pub mod AnswerTurns
-pub mod AnswerKeeping
+pub mod AnswersGrow
+pub mod NodeTelling
+pub mod TaskTelling
+pub mod TaskKeeping
 pub mod KeptWorlds
 pub mod Places

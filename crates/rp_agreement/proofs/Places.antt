@@ -1,7 +1,7 @@
 -- The first standing of a call in the order is its place: there it counts.
-use Rattle.std.proofs.Common.{◌≡◌, ◌≢◌, ℕ, zero, suc, ◌+◌, ◌-◌, ◌<◌, ◌≤◌, Bool, true, false, cond, if◌then◌else◌, Option, Some, None, List, [], ◌∷◌, ◌++◌, length, map, take, drop, ◌⊎◌, inl, inr, refl, sym, ap, subst, ◌∙◌, arith}
-use Rattle.std.specs.Prelude.{nat_eq, slice_get, is_some, ◌&&◌}
-use Rattle.std.specs.List.{list_any, list_all}
+use Rattle.std.proofs.Common.{◌≡◌, ℕ, zero, suc, ◌-◌, ◌<◌, ◌≤◌, Bool, true, Some, None, List, [], ◌∷◌, ◌++◌, length, map, take, drop, ◌⊎◌, inl, inr, refl, sym, ap, subst, ◌∙◌, arith}
+use Rattle.std.specs.Prelude.{nat_eq, slice_get, ◌&&◌}
+use Rattle.std.specs.List.{list_all}
 use Rattle.std.specs.Cmp.Lexicographic.{pointwise, bytes_decides}
 use Rattle.std.proofs.lemmas.Bool.{cases_Bool, cases_eq, cond-true, cond-false, and_from, or_left, or_right, eqb-true, eq-eqb}
 use Rattle.std.proofs.lemmas.Bool.Decides.{leb_tells}
@@ -24,10 +24,13 @@ use Rattle.rp_model.specs.declared.part.TaskPart.{TaskPart}
 use Rattle.rp_codec.specs.Message.{Message}
 use Rattle.rp_agreement.specs.Order.{Begins}
 use Rattle.rp_agreement.specs.Computed.{order_of}
-use Rattle.rp_agreement.specs.Answered.{answers_of, named, calls_so_far, Stands, IsReady, IsKept}
+use Rattle.rp_agreement.specs.Answered.{answers_of, named, calls_so_far, Stands, IsKept}
 use Rattle.rp_agreement.proofs.Lists.{some_same, has_picked}
 use Rattle.rp_agreement.proofs.PartPlaces.{part_has}
-use Rattle.rp_agreement.proofs.AnswerKeeping.{has_get, one_to_has, most_calls, asked_in_order, answers_grow}
+use Rattle.rp_agreement.proofs.Lists.{one_to_has}
+use Rattle.rp_agreement.proofs.TaskTelling.{most_calls}
+use Rattle.rp_agreement.proofs.TaskKeeping.{asked_in_order}
+use Rattle.rp_agreement.proofs.AnswersGrow.{answers_grow}
 
 -- ---- lists
 
@@ -204,8 +207,8 @@ module _ {S : Type 0} (s : Setting S) where
   -- where a call stands first it counts
   pub first_counts : (node : ℕ → NodePart) (task : ℕ → TaskPart) (sent : List Message) → IsKept s node task sent → AnswersKnown
       → (let order = order_of s.config.nodes sent in (t m k : ℕ) (action : Action) → slice_get order k ≡ Some action → calls_of action ≡ named t (suc m) ∷ []
-        → ¬ Stands (named t (suc m)) (take k order)
-        → counts (kept_of s.next s.answers s.begin (take k order)) (answers_of s (take k order)) action ≡ true)
+      → ¬ Stands (named t (suc m)) (take k order)
+      → counts (kept_of s.next s.answers s.begin (take k order)) (answers_of s (take k order)) action ≡ true)
   first_counts node task sent kept known t m k action stands is first =
       let order = order_of s.config.nodes sent in
       let here : Has action order = part_has order (suc k) action stands in
@@ -238,8 +241,8 @@ module _ {S : Type 0} (s : Setting S) where
   -- that is its place
   pub first_is_place : (node : ℕ → NodePart) (task : ℕ → TaskPart) (sent : List Message) → IsKept s node task sent → AnswersKnown
       → (let order = order_of s.config.nodes sent in (t n k : ℕ) (action : Action) → slice_get order k ≡ Some action → calls_of action ≡ named t n ∷ []
-        → ¬ Stands (named t n) (take k order)
-        → IsPlace s.next s.answers s.begin order (named t n) (suc k))
+      → ¬ Stands (named t n) (take k order)
+      → IsPlace s.next s.answers s.begin order (named t n) (suc k))
   first_is_place node task sent kept known t zero k action stands is first =
       let here : Has action (order_of s.config.nodes sent) = part_has (order_of s.config.nodes sent) (suc k) action stands in
       let low : 1 ≤ 0 = positive action t 0 (asked_in_order s node sent kept.sound action here).right is in
@@ -253,5 +256,5 @@ module _ {S : Type 0} (s : Setting S) where
         first = omega arith;
         is_call = is;
         takes_effect = subst (λ (j : ℕ). (let before = replay_of s.next s.answers s.begin (take j order) in counts before.kept before.given action) ≡ true) (sym back)
-          (first_counts node task sent kept known t m k action stands is first);
+            (first_counts node task sent kept known t m k action stands is first);
       }

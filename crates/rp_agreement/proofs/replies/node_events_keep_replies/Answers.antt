@@ -1,7 +1,7 @@
 -- Each is a sound step, and replies what its node's applied list leads to.
 use Rattle.rp_model.specs.Effect.{node_effect, cut_effect, stop_effect, restart_part}
 use Rattle.rp_agreement.proofs.NodeEffects.{below_eight, if_done, done_keeps, input_sound, cut_sound, stop_sound, restart_sound}
-use Rattle.rp_agreement.proofs.AnswerKeeping.{node_keeps, effect_answers, cut_answers, stop_answers, restart_answers}
+use Rattle.rp_agreement.proofs.NodeTelling.{node_keeps, effect_answers, cut_answers, stop_answers, restart_answers}
 use Rattle.rp_agreement.proofs.replies.node_events_keep_replies.Goals as goal
 
 pub returns-clause-input : goal.returns-clause-input

@@ -1,11 +1,4 @@
 -- By induction on the events.
-use Rattle.std.proofs.Common.{List}
-use Rattle.rp_model.specs.Events.{Event}
-use Rattle.rp_model.specs.Effect.{Setting}
-use Rattle.rp_model.specs.World.{World, opening_world}
-use Rattle.rp_agreement.specs.History.{IsHistory}
-use Rattle.rp_agreement.specs.Worlds.{IsSoundWorld}
-use Rattle.rp_agreement.specs.Answered.{IsKeptWorld}
 use Rattle.rp_agreement.proofs.KeptWorlds.{kept_in, task_answered_here, reply_named, reply_has}
 use Rattle.rp_agreement.proofs.replies.replies_tell_the_order.Goals as goal
 

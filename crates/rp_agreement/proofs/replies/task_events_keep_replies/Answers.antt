@@ -1,5 +1,5 @@
 -- By the cases of the input.
-use Rattle.rp_agreement.proofs.AnswerKeeping.{task_goes_on}
+use Rattle.rp_agreement.proofs.TaskKeeping.{task_goes_on}
 use Rattle.rp_agreement.proofs.replies.task_events_keep_replies.Goals as goal
 
 pub returns : goal.returns

@@ -29,3 +29,4 @@ pub mod TaskTelling
 pub mod TaskKeeping
 pub mod KeptWorlds
 pub mod Places
+pub mod OneAnswer

@@ -38,6 +38,6 @@ pub use order::{
 };
 pub use packets::packets_say_so;
 pub use replies::{
-    calls_count_where_they_first_stand, events_keep_replies, node_events_keep_replies,
-    replies_tell_the_order, task_events_keep_replies,
+    answers_are_one, calls_count_where_they_first_stand, events_keep_replies,
+    node_events_keep_replies, replies_tell_the_order, task_events_keep_replies,
 };

@@ -7,7 +7,7 @@ ghost use Rattle.rp_base.specs.declared.config.Config.{Config};
 ghost use Rattle.rp_base.specs.declared.fault.Fault.{Fault};
 ghost use Rattle.rp_base.specs.declared.reply.Answer.{Answer};
 ghost use Rattle.rp_codec.specs.Message.{Message};
-ghost use Rattle.rp_machine.specs.Calls.{calls_of};
+ghost use Rattle.rp_machine.specs.Calls.{CallName, calls_of};
 ghost use Rattle.rp_model.specs.Answers.{Steps};
 ghost use Rattle.rp_model.specs.Effect.{Setting, Done, NodeInput, node_effect, cut_effect, stop_effect, restart_part};
 ghost use Rattle.rp_model.specs.Events.{Event, IsEvent};
@@ -108,6 +108,20 @@ pub fn calls_count_where_they_first_stand<M: Machine>()
         → slice_get order k ≡ Some action → calls_of action ≡ named t n ∷ []
         → ¬ Stands (named t n) (take k order)
         → IsPlace M.next M.answers (M.begin program) order (named t n) (suc k) }
+{
+    the_opening_is_sound();
+}
+
+/// In every history, at a program of a machine: the order gives one answer to a call at most.
+pub fn answers_are_one<M: Machine>()
+    ensures { (config : Config) (program : M.Program) (events : List Event) (world : World)
+        → let setting = setting_for M.next M.answers M.begin config program in
+        IsHistory setting events world
+        → let order = order_of config.nodes world.sent in
+        (call : CallName) (one other : Answer)
+        → IsAnswerOf M.next M.answers (M.begin program) order call one
+        → IsAnswerOf M.next M.answers (M.begin program) order call other
+        → one ≡ other }
 {
     the_opening_is_sound();
 }

@@ -143,10 +143,6 @@ reply_named given t part k answer is e =
 pub reply_has : (replies : List Answer) (k : ℕ) (answer : Answer) → slice_get replies k ≡ Some answer → Has answer replies
 reply_has replies k answer e = part_has replies (suc k) answer e
 
-pub task_answered_here : {S : Type 0} (s : Setting S) (w : World) → IsKeptWorld s w → (t : ℕ) (part : TaskPart) → part_at w.tasks t ≡ Some part
-    → IsAnswered (answers_of s (order_of s.config.nodes w.sent)) t part
-task_answered_here s w world t part here = subst (IsAnswered (answers_of s (order_of s.config.nodes w.sent)) t) (task_here w t part here) (world.kept.answered t)
-
 -- ---- histories
 
 -- each history leads to a world that keeps what tasks are told

@@ -1,6 +1,6 @@
 -- What tasks are told: each reply that a node sent is an answer that its applied list leads to, and each
 -- reply that a task took is an answer that the order leads to (this project's own).
-use Rattle.std.specs.Prelude.{◌≤◌, ◌⊎◌, is_some, if◌then◌else◌, ◌≡◌, ℕ, suc, Some, List, [], ◌∷◌, length, map, unwrap_or}
+use Rattle.std.specs.Prelude.{◌≡◌, ◌⊎◌, ℕ, suc, ◌≤◌, Some, is_some, unwrap_or, List, [], ◌∷◌, length, map, if◌then◌else◌}
 use Rattle.rp_base.specs.Sets.{Has}
 use Rattle.rp_base.specs.Records.{applied_of}
 use Rattle.rp_base.specs.declared.action.Action.{Action}
@@ -75,13 +75,15 @@ calls_so_far part = if is_some part.outstanding then suc (length part.replies) e
 
 -- what was asked for the task is one of its calls so far
 abbrev pub AsksInTurn : List Message → ℕ → TaskPart → Type 0
-AsksInTurn sent t part = (action : Action) → Asks sent t action → (call : CallName) → Has call (calls_of action) → call.number ≤ calls_so_far part
+AsksInTurn sent t part =
+    (action : Action) → Asks sent t action → (call : CallName) → Has call (calls_of action) → call.number ≤ calls_so_far part
 
 -- the call stands among the actions
 abbrev pub Stands : CallName → List Action → Type 0
 Stands call actions = (action : Action) × Has action actions × Has call (calls_of action)
 
--- A beginning of the order leads to the answer to the task's nth call, and the next one does not stand in it.
+-- A beginning of the order leads to the answer to the task's nth call, where n is 1 or more, and the next
+-- call does not stand in it.
 pub record IsReady {S : Type 0} (s : Setting S) (order : List Action) (t n : ℕ) : Type 0 where
   pub before : List Action
   pub begins : Begins before order
@@ -101,7 +103,7 @@ pub record IsKept {S : Type 0} (s : Setting S) (node : ℕ → NodePart) (task :
 abbrev pub task_in : List TaskPart → ℕ → TaskPart
 task_in tasks t = unwrap_or (part_at tasks t) fresh_task
 
--- A world of n nodes meets it.
+-- A world meets it.
 pub record IsKeptWorld {S : Type 0} (s : Setting S) (w : World) : Type 0 where
   pub size : length w.nodes ≡ s.config.nodes
   pub kept : IsKept s (node_in w.nodes) (task_in w.tasks) w.sent

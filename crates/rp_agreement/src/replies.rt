@@ -1,4 +1,4 @@
-//! Each reply that a task takes is the answer which the order gives to its call.
+//! Each reply that a task takes is the answer that the order gives to its call.
 
 ghost use Rattle.std.specs.Prelude.{◌≡◌, ℕ, suc, Result, Ok, Some, List, [], ◌∷◌, slice_get, take};
 ghost use Rattle.rp_base.specs.Config.{IsRightConfig};
@@ -82,46 +82,42 @@ pub fn events_keep_replies<M: Machine>()
         → IsKeptWorld setting after }
 {}
 
-/// In every history, whatever stops, is cut short or starts again: the kth reply that a task took
-/// answers its kth call, and is the answer that the order gives to it.
+/// Every history, whatever stops, is cut short or starts again, leads to a world that keeps what
+/// tasks are told. There the kth reply that a task took answers its kth call, and is an answer that
+/// the order gives to it.
 pub fn replies_tell_the_order<M: Machine>()
-    ensures kept { (setting : Setting M) (events : List Event) (world : World)
+    ensures histories { (setting : Setting M) (events : List Event) (world : World)
         → IsHistory setting events world → IsKeptWorld setting world }
-    ensures answer { (setting : Setting M) (events : List Event) (world : World)
-        → IsHistory setting events world
-        → let order = order_of setting.config.nodes world.sent in
-        (t k : ℕ) (part : TaskPart) (answer : Answer)
-        → part_at world.tasks t ≡ Some part → slice_get part.replies k ≡ Some answer
+    ensures replies { (setting : Setting M) (node : ℕ → NodePart) (task : ℕ → TaskPart)
+        (sent : List Message) → IsKept setting node task sent
+        → let order = order_of setting.config.nodes sent in
+        (t k : ℕ) (answer : Answer) → slice_get (task t).replies k ≡ Some answer
         → IsAnswerOf setting.next setting.answers setting.begin order (named t (suc k)) answer }
 {
     the_opening_is_sound();
 }
 
-/// In every history, at a program of a machine: the first standing of a call in the order is its
-/// place, where it counts. So no call is passed over, and what stands again later counts no more.
-pub fn calls_count_where_they_first_stand<M: Machine>()
-    ensures { (config : Config) (program : M.Program) (events : List Event) (world : World)
-        → let setting = setting_for M.next M.answers M.begin config program in
-        IsHistory setting events world
-        → let order = order_of config.nodes world.sent in
-        (t n k : ℕ) (action : Action)
-        → slice_get order k ≡ Some action → calls_of action ≡ named t n ∷ []
-        → ¬ Stands (named t n) (take k order)
-        → IsPlace M.next M.answers (M.begin program) order (named t n) (suc k) }
-{
-    the_opening_is_sound();
-}
-
-/// In every history, at a program of a machine: the order gives one answer to a call at most.
+/// At a program of a machine the order gives one answer to a call at most.
 pub fn answers_are_one<M: Machine>()
-    ensures { (config : Config) (program : M.Program) (events : List Event) (world : World)
-        → let setting = setting_for M.next M.answers M.begin config program in
-        IsHistory setting events world
-        → let order = order_of config.nodes world.sent in
+    ensures { (config : Config) (program : M.Program) (node : ℕ → NodePart)
+        (task : ℕ → TaskPart) (sent : List Message)
+        → IsKept (setting_for M.next M.answers M.begin config program) node task sent
+        → let order = order_of config.nodes sent in
         (call : CallName) (one other : Answer)
         → IsAnswerOf M.next M.answers (M.begin program) order call one
         → IsAnswerOf M.next M.answers (M.begin program) order call other
         → one ≡ other }
-{
-    the_opening_is_sound();
-}
+{}
+
+/// At a program of a machine the first standing of a call in the order is its place, where it
+/// counts. So no call is passed over; and what stands again later counts no more.
+pub fn calls_count_where_they_first_stand<M: Machine>()
+    ensures { (config : Config) (program : M.Program) (node : ℕ → NodePart)
+        (task : ℕ → TaskPart) (sent : List Message)
+        → IsKept (setting_for M.next M.answers M.begin config program) node task sent
+        → let order = order_of config.nodes sent in
+        (t n k : ℕ) (action : Action)
+        → slice_get order k ≡ Some action → calls_of action ≡ named t n ∷ []
+        → ¬ Stands (named t n) (take k order)
+        → IsPlace M.next M.answers (M.begin program) order (named t n) (suc k) }
+{}

@@ -9,7 +9,8 @@ ghost use Rattle.rp_base.specs.declared.reply.Answer.{Answer};
 ghost use Rattle.rp_codec.specs.Message.{Message};
 ghost use Rattle.rp_machine.specs.Calls.{CallName, calls_of};
 ghost use Rattle.rp_model.specs.Answers.{Steps};
-ghost use Rattle.rp_model.specs.Effect.{Setting, Done, NodeInput, node_effect, cut_effect, stop_effect, restart_part};
+ghost use Rattle.rp_model.specs.Effect.{Setting, Done, NodeInput, goes_on_as, untorn_part};
+ghost use Rattle.rp_model.specs.Effect.{node_effect, cut_effect, stop_effect, restart_part};
 ghost use Rattle.rp_model.specs.Events.{Event, IsEvent};
 ghost use Rattle.rp_model.specs.Facts.{IsAnswerOf, IsPlace};
 ghost use Rattle.rp_model.specs.Tasks.{TaskInput, task_effect};
@@ -26,8 +27,9 @@ ghost use Rattle.rp_agreement.specs.Answered.{named, setting_for, Stands, IsKept
 use crate::opening::the_opening_is_sound;
 use rp_machine::Machine;
 
-/// What an input comes to at a node keeps the invariant with what tasks are told; so does a stop
-/// within that step, however many bytes of its record are kept, a stop, and a restart.
+/// What an input comes to at a node keeps the invariant with what tasks are told; so do a stop
+/// within that step, however many bytes of its record are kept, a stop, a restart, and torn bytes
+/// that are cut off where a restart fails.
 pub fn node_events_keep_replies<M: Machine>()
     ensures input { (setting : Setting M) (x : ℕ) (input : NodeInput) (done : Done NodePart)
         (node after : ℕ → NodePart) (task : ℕ → TaskPart) (sent later : List Message)
@@ -53,6 +55,11 @@ pub fn node_events_keep_replies<M: Machine>()
         (node after : ℕ → NodePart) (task : ℕ → TaskPart) (sent later : List Message)
         → IsMember setting.config.nodes x → IsKept setting node task sent
         → NodeMoves x (restart_part (node x)) node sent after later
+        → IsKept setting after task later }
+    ensures untorn { (setting : Setting M) (x : ℕ)
+        (node after : ℕ → NodePart) (task : ℕ → TaskPart) (sent later : List Message)
+        → IsMember setting.config.nodes x → IsKept setting node task sent
+        → NodeMoves x (goes_on_as (untorn_part (node x))) node sent after later
         → IsKept setting after task later }
 {}
 

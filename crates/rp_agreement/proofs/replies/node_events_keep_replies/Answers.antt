@@ -1,6 +1,6 @@
 -- Each is a sound step, and replies what its node's applied list leads to.
-use Rattle.rp_model.specs.Effect.{node_effect, cut_effect, stop_effect, restart_part}
-use Rattle.rp_agreement.proofs.NodeEffects.{below_eight, if_done, done_keeps, input_sound, cut_sound, stop_sound, restart_sound}
+use Rattle.rp_model.specs.Effect.{goes_on_as, untorn_part, node_effect, cut_effect, stop_effect, restart_part}
+use Rattle.rp_agreement.proofs.NodeEffects.{below_eight, if_done, done_keeps, input_sound, cut_sound, stop_sound, restart_sound, untorn_sound}
 use Rattle.rp_agreement.proofs.NodeTelling.{node_keeps, effect_answers, cut_answers, stop_answers, restart_answers}
 use Rattle.rp_agreement.proofs.replies.node_events_keep_replies.Goals as goal
 
@@ -24,3 +24,9 @@ returns-clause-restart g c = λ s x node after task sent later member kept moves
     let d = restart_sound s.config.nodes x node sent kept.sound in
     node_keeps s x (restart_part (node x)) node task sent after later kept
     (done_keeps s.config.nodes x (restart_part (node x)) node sent after later member kept.sound d moves) d (restart_answers s (node x)) moves
+
+pub returns-clause-untorn : goal.returns-clause-untorn
+returns-clause-untorn g c = λ s x node after task sent later member kept moves.
+    let d = untorn_sound s.config.nodes x node sent kept.sound in
+    node_keeps s x (goes_on_as (untorn_part (node x))) node task sent after later kept
+    (done_keeps s.config.nodes x (goes_on_as (untorn_part (node x))) node sent after later member kept.sound d moves) d (λ m h. absurd h) moves

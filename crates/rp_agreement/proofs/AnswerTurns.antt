@@ -1,5 +1,5 @@
 -- What a node replies in a turn is an answer that its applied list leads to.
-use Rattle.std.proofs.Common.{◌≡◌, ℕ, ◌+◌, Bool, true, false, cond, if◌then◌else◌, Result, Ok, Err, Option, Some, None, List, [], ◌∷◌, ◌++◌, length, take, drop, map, ◌⊎◌, inl, inr, refl, sym, ap, subst, ◌∙◌}
+use Rattle.std.proofs.Common.{◌≡◌, ℕ, Bool, true, false, if◌then◌else◌, Result, Ok, Err, Option, Some, None, List, [], ◌∷◌, ◌++◌, length, take, drop, map, inl, inr, refl, sym, subst, ◌∙◌}
 use Rattle.std.specs.Prelude.{nat_eq, nat_lt, nat_le, not, ◌&&◌, ◌^◌, is_some, filter}
 use Rattle.std.specs.List.{list_any}
 use Rattle.std.specs.Option.{option_map}
@@ -9,7 +9,6 @@ use Rattle.rp_base.specs.declared.action.Action.{Action}
 use Rattle.rp_base.specs.declared.action.Action.TheVariants as actions
 use Rattle.rp_base.specs.declared.reply.Answer.{Answer}
 use Rattle.rp_base.specs.declared.reply.Reply.{Reply}
-use Rattle.rp_base.specs.declared.config.Config.{Config}
 use Rattle.rp_base.specs.declared.fault.Fault.{Fault}
 use Rattle.rp_base.specs.declared.record.Vote.{Vote}
 use Rattle.rp_base.specs.declared.record.Rec.{Rec}
@@ -28,22 +27,20 @@ use Rattle.rp_base.specs.Proposals.{Proposal, proposal_at, without_proposal, is_
 use Rattle.rp_base.specs.Voting.{prepare_answer, accept_answer}
 use Rattle.rp_base.proofs.Members.{has_split, has_right, has_passing, mapped_has}
 use Rattle.rp_codec.specs.Message.{Message}
-use Rattle.rp_codec.specs.declared.packet.Party.{Party}
-use Rattle.rp_codec.specs.declared.packet.Party.TheVariants.{Node, Task, Audit}
+use Rattle.rp_codec.specs.declared.packet.Party.TheVariants.{Node}
 use Rattle.rp_codec.specs.declared.packet.Body.{Body}
 use Rattle.rp_codec.specs.declared.packet.Body.TheVariants as bodies
-use Rattle.rp_machine.specs.Replay.{is_for, kept_of, replay_answers, one_to}
+use Rattle.rp_machine.specs.Replay.{is_for, kept_of, one_to}
 use Rattle.rp_machine.specs.Asked.{last_number, last_occurrence, answer_to, kept_reply}
 use Rattle.rp_model.specs.declared.part.Running.{Running}
-use Rattle.rp_model.specs.declared.part.NodePart.{NodePart}
 use Rattle.rp_model.specs.declared.part.Turn.{Turn}
 use Rattle.rp_model.specs.Parts.{with_record}
-use Rattle.rp_model.specs.Says.{says, says_to_all, says_to_others, says_to_task, sends, notes, writes, drops_foreign, drops_full}
-use Rattle.rp_model.specs.Acceptor.{tells_promise, on_prepare, tells_vote, on_accept}
-use Rattle.rp_model.specs.Pending.{most_pending, adds_pending, on_numbered, on_call, on_interrupt, on_tick, is_answered_by, replies_to}
-use Rattle.rp_model.specs.Leader.{chosen_position, is_out_of_reach, starts_above, begins, on_lead, counts_promise, on_promise_to, on_promise, on_nack}
-use Rattle.rp_model.specs.Learner.{missing_position, asks_for, tells_learned, on_ask, learns, on_vote, on_accepted, on_decision, on_decided}
-use Rattle.rp_model.specs.Receiving.{is_for_node, party_number, on_body, receives}
+use Rattle.rp_model.specs.Says.{says, says_to_all, says_to_others, says_to_task, sends, notes, drops_foreign, drops_full}
+use Rattle.rp_model.specs.Acceptor.{tells_promise, tells_vote}
+use Rattle.rp_model.specs.Pending.{most_pending, adds_pending, on_numbered, on_call, is_answered_by, replies_to}
+use Rattle.rp_model.specs.Leader.{chosen_position, is_out_of_reach, starts_above, begins, on_lead, counts_promise, on_promise_to}
+use Rattle.rp_model.specs.Learner.{missing_position, asks_for, tells_learned, learns, on_vote, on_decision}
+use Rattle.rp_model.specs.Receiving.{is_for_node, party_number, on_body}
 use Rattle.rp_model.specs.Effect.{Setting, NodeInput, Receive, Lead, Interrupt, Tick, Report, report_of, running_effect}
 use Rattle.rp_agreement.specs.Answered.{SaysAnswer, answers_of}
 use Rattle.rp_agreement.proofs.Lists.{some_same, found_has}
@@ -129,7 +126,7 @@ module _ {S : Type 0} (s : Setting S) where
       let accept = bodies.Accept p.position p.ballot (offer_of p.own after.promises) in
       choice records (takes_promise b p) (counts_promise nodes me running p promise) (notes running)
       (choice records (is_promised nodes after) (sends known (says_to_all nodes me accept)) (notes known)
-        (says_all (answers_of s (applied_of records)) me accept (one_to nodes) (λ k. tt)) (silent records known))
+      (says_all (answers_of s (applied_of records)) me accept (one_to nodes) (λ k. tt)) (silent records known))
       (silent records running)
 
   adds_answers : (records : List Rec) (running : Running) (item : Action) → TurnAnswers records (adds_pending running item)
@@ -179,7 +176,7 @@ module _ {S : Type 0} (s : Setting S) where
       let decided = says_to_others nodes me (bodies.Decided i vote.action) in
       choice records (makes_majority nodes i vote heard) (learns s.next s.answers s.begin me records running i vote.action decided []) (notes known)
       (learned_answers me records running i vote.action decided []
-        (λ given. says_all given me (bodies.Decided i vote.action) (filter (λ k. not (nat_eq k me)) (one_to nodes)) (λ k. tt)) (λ given m h. absurd h))
+      (λ given. says_all given me (bodies.Decided i vote.action) (filter (λ k. not (nat_eq k me)) (one_to nodes)) (λ k. tt)) (λ given m h. absurd h))
       (silent records known)
 
   decision_answers : (me : ℕ) (records : List Rec) (running : Running) (from i : ℕ) (v : Action) (learned : Option Action)

@@ -100,9 +100,9 @@ old_says nodes x written running packets node sent node_after sent_after may hap
     let in_after : Within sent sent_after = λ m h. (happens.sends m).1 (inl h) in (
       so.0,
       each_node (λ k records. (k ≡ a → IsSo nodes sent_after records body)) x written running packets node sent node_after sent_after happens
-      (λ e. so_sent nodes sent sent_after in_after _ body (so_written nodes x sent (node x).records written may body (subst (λ (k : ℕ). IsSo nodes sent (node k).records body) (sym e) so.1)))
-      (λ k e. so_sent nodes sent sent_after in_after _ body (subst (λ (j : ℕ). IsSo nodes sent (node j).records body) (sym e) so.1))
-      a refl,
+          (λ e. so_sent nodes sent sent_after in_after _ body (so_written nodes x sent (node x).records written may body (subst (λ (k : ℕ). IsSo nodes sent (node k).records body) (sym e) so.1)))
+          (λ k e. so_sent nodes sent sent_after in_after _ body (subst (λ (j : ℕ). IsSo nodes sent (node j).records body) (sym e) so.1))
+          a refl,
     )
 old_says nodes x written running packets node sent node_after sent_after may happens (Task t) body so = so
 old_says nodes x written running packets node sent node_after sent_after may happens Audit body so = so
@@ -133,13 +133,13 @@ keeps nodes x written running packets node sent node_after sent_after member sou
         ]
       ];
       started = each_node (λ k records. (b : ℕ) → Has (Started b) records → owner_of b ≡ k) x written running packets node sent node_after sent_after happens
-        owned (λ k. sound.started k);
+          owned (λ k. sound.started k);
       voted = each_node (λ k records. (i b : ℕ) (v : Action) → Has (Voted i b v) records → IsOffered sent_after i b v) x written running packets node sent node_after sent_after happens
-        (λ i b v h. offered_more sent sent_after in_after i b v (voted_after nodes x node sent written sound step.writes i b v h))
-        (λ k i b v h. offered_more sent sent_after in_after i b v (sound.voted k i b v h));
+          (λ i b v h. offered_more sent sent_after in_after i b v (voted_after nodes x node sent written sound step.writes i b v h))
+          (λ k i b v h. offered_more sent sent_after in_after i b v (sound.voted k i b v h));
       learned = each_node (λ k records. (i : ℕ) (v : Action) → Has (Learned i v) records → IsDecided nodes sent_after i v) x written running packets node sent node_after sent_after happens
-        (λ i v h. decided_more nodes sent sent_after in_after i v (learned_after nodes x node sent written sound step.writes i v h))
-        (λ k i v h. decided_more nodes sent sent_after in_after i v (sound.learned k i v h));
+          (λ i v h. decided_more nodes sent sent_after in_after i v (learned_after nodes x node sent written sound step.writes i v h))
+          (λ k i v h. decided_more nodes sent sent_after in_after i v (sound.learned k i v h));
       runs = λ k after is. elim (cases_eq k x) [
         | inl same ↦
             let goes_on : running ≡ Some after = sym happens.part ∙ ap (λ (j : ℕ). (node_after j).running) (sym same) ∙ is in

@@ -102,7 +102,7 @@ offers_sound : (nodes x : ℕ) (node : ℕ → NodePart) (sent : List Message) (
     → IsSound nodes node sent → IsRunning sent (node x).records running → IsProposal sent (node x).records p → p.phase ≡ Preparing
     → is_promised nodes p ≡ true
     → IsSoundTurn nodes x (node x).records sent
-      (sends (record running { proposals = with_proposal running.proposals (offering p) }) (says_to_all nodes x (bodies.Accept p.position p.ballot (offer_of p.own p.promises))))
+    (sends (record running { proposals = with_proposal running.proposals (offering p) }) (says_to_all nodes x (bodies.Accept p.position p.ballot (offer_of p.own p.promises))))
 offers_sound nodes x node sent running p sound runs is waits most =
     let v = offer_of p.own p.promises in
     let accept = bodies.Accept p.position p.ballot v in
@@ -116,17 +116,17 @@ offers_sound nodes x node sent running p sound runs is waits most =
       from = λ m h. ap (λ (k : Message). k.from) (mapped_has (says x accept) m (one_to nodes) h).2;
       says = λ m h. subst (λ (k : Message). IsSo nodes sent (node x).records k.body) (sym (mapped_has (says x accept) m (one_to nodes) h).2) so;
       unoffered = λ j c u w offer old.
-        let which = offer_is x p.position p.ballot v (one_to nodes) j c u offer in
-        is.unoffered waits w (subst (λ (b : ℕ). IsOffered sent p.position b w) which.1 (subst (λ (i : ℕ). IsOffered sent i c w) which.0 old));
+          let which = offer_is x p.position p.ballot v (one_to nodes) j c u offer in
+          is.unoffered waits w (subst (λ (b : ℕ). IsOffered sent p.position b w) which.1 (subst (λ (i : ℕ). IsOffered sent i c w) which.0 old));
       one_offer = λ j c u w one two.
-        (offer_is x p.position p.ballot v (one_to nodes) j c u one).2 ∙ sym (offer_is x p.position p.ballot v (one_to nodes) j c w two).2;
+          (offer_is x p.position p.ballot v (one_to nodes) j c u one).2 ∙ sym (offer_is x p.position p.ballot v (one_to nodes) j c w two).2;
       runs = λ after e. subst (IsRunning sent (node x).records) (some_same e) (runs_with sent (node x).records running (offering p) runs (now_offers sent (node x).records p is));
       waits = λ after e q h preparing u offer.
-        let there = subst (λ (r : Running). Has q r.proposals) (sym (some_same e)) h in
-        elim (proposal_or_new q (offering p) running.proposals runs.apart there) [
-          | inl same ↦ never_waits (sym (ap (λ (r : Proposal). r.phase) same) ∙ preparing)
-          | inr old ↦ old.1 (offer_is x p.position p.ballot v (one_to nodes) q.position q.ballot u offer).0
-        ];
+          let there = subst (λ (r : Running). Has q r.proposals) (sym (some_same e)) h in
+          elim (proposal_or_new q (offering p) running.proposals runs.apart there) [
+            | inl same ↦ never_waits (sym (ap (λ (r : Proposal). r.phase) same) ∙ preparing)
+            | inr old ↦ old.1 (offer_is x p.position p.ballot v (one_to nodes) q.position q.ballot u offer).0
+          ];
     }
 
 counts_sound : (nodes x : ℕ) (node : ℕ → NodePart) (sent : List Message) (running : Running) (p : Proposal) (from : ℕ) (last : Option Vote)
@@ -162,10 +162,10 @@ promise_to nodes x node sent running from i b last (Some p) sound runs told is =
     let found = found_has (λ (q : Proposal). nat_eq q.position i) p running.proposals is in
     let place : p.position ≡ i = eqb-true p.position i found.1 in
     either nodes x (node x).records sent (takes_promise b p) (counts_promise nodes x running p (from, last)) (notes running) (λ takes.
-      let both = and_parts _ _ takes in
-      let ballot : p.ballot ≡ b = eqb-true p.ballot b both.0 in
-      let here = subst (λ (c : ℕ). HasPromised sent from p.position c last) (sym ballot) (subst (λ (j : ℕ). HasPromised sent from j b last) (sym place) told) in
-      counts_sound nodes x node sent running p from last sound runs (runs.proposals p found.0) (waits_by p.phase both.1) here)
+    let both = and_parts _ _ takes in
+    let ballot : p.ballot ≡ b = eqb-true p.ballot b both.0 in
+    let here = subst (λ (c : ℕ). HasPromised sent from p.position c last) (sym ballot) (subst (λ (j : ℕ). HasPromised sent from j b last) (sym place) told) in
+    counts_sound nodes x node sent running p from last sound runs (runs.proposals p found.0) (waits_by p.phase both.1) here)
     (λ _. quiet nodes x (node x).records sent running runs)
 
 pub promise_sound : (nodes x : ℕ) (node : ℕ → NodePart) (sent : List Message) (running : Running) (from i b : ℕ) (last : Option Vote)

@@ -23,3 +23,10 @@ pub mod WorldKeeping
 pub mod Happening
 pub mod Playing
 pub mod AnswerTurns
+pub mod AnswersGrow
+pub mod NodeTelling
+pub mod TaskTelling
+pub mod TaskKeeping
+pub mod KeptWorlds
+pub mod Places
+pub mod OneAnswer

@@ -1,8 +1,10 @@
 -- The members of lists that are searched, mapped in part, and of the highest of some votes.
-use Rattle.std.proofs.Common.{◌≡◌, ◌≤◌, Bool, true, ◌⊎◌, inl, inr, Option, Some, None, List, [], ◌∷◌, refl, sym, ap, subst, ◌∙◌, arith}
-use Rattle.std.specs.Prelude.{nat_lt, filter_map, find, unwrap_or}
+use Rattle.rp_machine.specs.Replay.{one_to}
+use Rattle.rp_base.proofs.Members.{has_left, has_right}
+use Rattle.std.proofs.Common.{◌≡◌, ◌≤◌, Bool, true, ◌⊎◌, inl, inr, Option, Some, None, List, [], ◌∷◌, refl, sym, ap, subst, ◌∙◌, arith, ℕ, zero, suc}
+use Rattle.std.specs.Prelude.{nat_lt, filter_map, find, unwrap_or, slice_get}
 use Rattle.std.specs.List.{cons_option}
-use Rattle.std.proofs.lemmas.Bool.{cases_Bool, cond-true, cond-false}
+use Rattle.std.proofs.lemmas.Bool.{cases_Bool, cond-true, cond-false, cases_eq}
 use Rattle.rp_base.specs.declared.record.Vote.{Vote}
 use Rattle.rp_base.specs.Sets.{Has}
 use Rattle.rp_base.specs.Records.{higher_vote, highest}
@@ -81,4 +83,22 @@ highest_covers w (first ∷ rest) h =
           let below = highest_covers w rest later in
           let less : below.0.ballot ≤ (higher_vote first (highest rest)).ballot = covers.1 below.0 below.1 in
           (higher_vote first (highest rest), refl, omega (arith, below.2, less))
+    ]
+
+-- ---- members by their places, and numbers from 1 on
+
+pub has_get : {A : Type 0} (xs : List A) (x : A) → Has x xs → (k : ℕ) × (slice_get xs k ≡ Some x)
+has_get [] x h = absurd h
+has_get (y ∷ ys) x h =
+    elim h [
+      | inl same ↦ (0, ap Some (sym same))
+      | inr later ↦ let rest = has_get ys x later in (suc rest.0, rest.1)
+    ]
+
+pub one_to_has : (n k : ℕ) → 1 ≤ k → k ≤ n → Has k (one_to n)
+one_to_has zero k low high = absurd (omega (arith, low, high))
+one_to_has (suc n) k low high =
+    elim (cases_eq k (suc n)) [
+      | inl same ↦ has_right k (one_to n) (suc n ∷ []) (inl same)
+      | inr other ↦ has_left k (one_to n) (suc n ∷ []) (one_to_has n k low (omega (arith, high, other)))
     ]

@@ -72,10 +72,10 @@ pub offer_is_asked : (nodes : ℕ) (node : ℕ → NodePart) (sent : List Messag
     → AreTold sent i b promises → IfSome own (IsAsked sent) → IsAsked sent (offer_of own promises)
 offer_is_asked nodes node sent sound i b promises own told asked =
     vote_or_own sent (unwrap_or own Noop) (highest_vote promises) (own_asked sent own asked) (λ w is.
-      let picked = has_picked (λ (p : Promise). p.1) w promises (highest_has w _ is) in
-      let kept = promise_kept nodes node sent sound picked.0.0 i b picked.0.1 (told picked.0.0 picked.0.1 picked.1) in
-      let cast = kept.1.cast w picked.2 in
-      offer_asked nodes node sent sound i w.ballot w.action (sound.voted picked.0.0 i w.ballot w.action cast.0))
+    let picked = has_picked (λ (p : Promise). p.1) w promises (highest_has w _ is) in
+    let kept = promise_kept nodes node sent sound picked.0.0 i b picked.0.1 (told picked.0.0 picked.0.1 picked.1) in
+    let cast = kept.1.cast w picked.2 in
+    offer_asked nodes node sent sound i w.ballot w.action (sound.voted picked.0.0 i w.ballot w.action cast.0))
 
 promiser : (a : ℕ) (promises : List Promise) → Has a (promisers_of promises) → (last : Option Vote) × (let p : Promise = (a, last) in Has p promises)
 promiser a promises h =

@@ -43,8 +43,8 @@ adds_sound nodes x records sent running item runs asked =
     either nodes x records sent (list_any (equal_items item) running.pending) (notes running) (if room then more else drops_full running)
     (λ _. quiet nodes x records sent running runs)
     (λ _. either nodes x records sent room more (drops_full running)
-      (λ _. quiet nodes x records sent (record running { pending = running.pending ++ item ∷ [] }) (runs_pending sent records running item runs asked))
-      (λ _. full nodes x records sent running runs))
+    (λ _. quiet nodes x records sent (record running { pending = running.pending ++ item ∷ [] }) (runs_pending sent records running item runs asked))
+    (λ _. full nodes x records sent running runs))
 
 numbered_sound : (nodes x : ℕ) (records : List Rec) (sent : List Message) (running : Running) (kept : List Action) (task number : ℕ) (call : Action) (reply : Option Reply)
     → IsRunning sent records running → IsAsked sent call → IsSoundTurn nodes x records sent (on_numbered x kept running task number call reply)

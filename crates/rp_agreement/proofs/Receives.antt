@@ -75,7 +75,7 @@ module _ {S : Type 0} (next : S → Action → S) (answers : S → Action → Li
       → IsSound config.nodes node sent → IsRunning sent (node x).records running
       → Has (record { from = from; to = to; body = body }) sent
       → IsSoundTurn config.nodes x (node x).records sent
-        (receives next answers begin config x (node x).records running (record { from = from; to = to; body = body }))
+      (receives next answers begin config x (node x).records running (record { from = from; to = to; body = body }))
   taken config x node sent running from (Node k) body sound runs h =
       let records = (node x).records in
       let message : Message = record { from = from; to = Node k; body = body } in

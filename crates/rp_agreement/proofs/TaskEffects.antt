@@ -68,11 +68,11 @@ task_keeps nodes t packets node sent node' sent' sound happens =
       one_offer = λ i b v w one two. sound.one_offer i b v w (was i b v one) (was i b w two);
       started = λ x. subst (λ (part : NodePart). (b : ℕ) → Has (Started b) part.records → owner_of b ≡ x) (sym (happens.stays x)) (sound.started x);
       voted = λ x. subst (λ (part : NodePart). (i b : ℕ) (v : Action) → Has (Voted i b v) part.records → IsOffered sent' i b v) (sym (happens.stays x))
-        (λ i b v h. offered_more sent sent' in_after i b v (sound.voted x i b v h));
+          (λ i b v h. offered_more sent sent' in_after i b v (sound.voted x i b v h));
       learned = λ x. subst (λ (part : NodePart). (i : ℕ) (v : Action) → Has (Learned i v) part.records → IsDecided nodes sent' i v) (sym (happens.stays x))
-        (λ i v h. decided_more nodes sent sent' in_after i v (sound.learned x i v h));
+          (λ i v h. decided_more nodes sent sent' in_after i v (sound.learned x i v h));
       runs = λ x. subst (λ (part : NodePart). (running : Running) → part.running ≡ Some running → IsRunning sent' part.records running) (sym (happens.stays x))
-        (λ running is. running_more sent packets sent' (node x).records running in_after (λ m. (happens.sends m).0)
+          (λ running is. running_more sent packets sent' (node x).records running in_after (λ m. (happens.sends m).0)
           (λ p h preparing v. calls_offer_nothing t packets happens.calls p.position p.ballot v) (sound.runs x running is));
     }
 
@@ -105,8 +105,7 @@ call_right task number object operation arg small fits e =
     let third = and_parts _ _ last.0 in
     let second = and_parts _ _ third.0 in
     let of_task = and_parts _ _ second.0 in
-    let of_object = and_parts _ _ third.1 in
-    (
+    let of_object = and_parts _ _ third.1 in (
       (leb-true 1 task of_task.0, leb-true task 8 of_task.1),
       (leb-true 1 number second.1, small),
       (leb-true 1 object of_object.0, leb-true object 8 of_object.1),
@@ -140,9 +139,9 @@ call_made config t node part object operation arg (Some other) fits = tt
 call_made config t node part object operation arg None fits =
     let call = next_call t part object operation arg in
     right_if t (nat_le (2 ^ 32 - 1) (length part.replies)) NumbersSpent _ (λ left.
-      right_if t (nat_lt config.nodes node || not (is_right call)) BadConfig _ (λ allowed.
-        let few : length part.replies < 2 ^ 32 - 1 = leb_not (2 ^ 32 - 1) (length part.replies) left in
-        (refl, call_right t (suc (length part.replies)) object operation arg (omega (arith, few)) fits (not_false (is_right call) (or_neither (nat_lt config.nodes node) (not (is_right call)) allowed)))))
+    right_if t (nat_lt config.nodes node || not (is_right call)) BadConfig _ (λ allowed.
+    let few : length part.replies < 2 ^ 32 - 1 = leb_not (2 ^ 32 - 1) (length part.replies) left in
+    (refl, call_right t (suc (length part.replies)) object operation arg (omega (arith, few)) fits (not_false (is_right call) (or_neither (nat_lt config.nodes node) (not (is_right call)) allowed)))))
 
 asking : (t node : ℕ) (call : Action) → IsCall t (bodies.Call call) → AreCalls t (asks t node call ∷ [])
 asking t node call is m h =

@@ -1,10 +1,8 @@
 -- Each actor's step keeps the invariant of a world.
-use Rattle.std.proofs.Common.{◌≡◌, ℕ, ◌<◌, ◌≤◌, Result, Ok, Option, Some, List, ◌++◌, length, ◌⊎◌, inl, inr, refl, sym, ap, subst, ◌∙◌, arith}
+use Rattle.std.proofs.Common.{◌≡◌, ℕ, ◌<◌, Ok, Option, Some, List, ◌++◌, length, inl, inr, refl, sym, ap, subst, ◌∙◌}
 use Rattle.std.specs.Prelude.{unwrap_or}
 use Rattle.std.proofs.lemmas.Bool.{cases_eq}
 use Rattle.std.proofs.lemmas.List.{append-nil}
-use Rattle.rp_base.specs.declared.action.Action.{Action}
-use Rattle.rp_base.specs.declared.fault.Fault.{Fault}
 use Rattle.rp_base.specs.Config.{IsRightConfig}
 use Rattle.rp_base.specs.Sets.{Has}
 use Rattle.rp_codec.specs.Message.{Message}
@@ -12,13 +10,12 @@ use Rattle.rp_model.specs.declared.part.NodePart.{NodePart}
 use Rattle.rp_model.specs.declared.part.TaskPart.{TaskPart}
 use Rattle.rp_model.specs.Parts.{fresh_node}
 use Rattle.rp_model.specs.Effect.{Setting, Done, goes_on_as, NodeInput, node_effect, cut_effect, stop_effect, restart_part, untorn_part}
-use Rattle.rp_model.specs.Tasks.{TaskInput, task_effect}
+use Rattle.rp_model.specs.Tasks.{task_effect}
 use Rattle.rp_model.specs.Events.{Event, IsEvent}
-use Rattle.rp_model.specs.Answers.{Happen}
+use Rattle.rp_model.specs.Answers.{untorn, Happen}
 use Rattle.rp_model.specs.World.{World, part_at, with_part, node_done, task_done}
 use Rattle.rp_agreement.specs.Sound.{IsMember, IsSound}
-use Rattle.rp_agreement.specs.Steps.{SentToo, TaskHappens}
-use Rattle.rp_agreement.specs.Inputs.{IsTaskInput, NodeMoves, WaitsForOwn}
+use Rattle.rp_agreement.specs.Inputs.{IsInput, NodeMoves, WaitsForOwn}
 use Rattle.rp_agreement.specs.Worlds.{node_in, IsSoundWorld}
 use Rattle.rp_agreement.proofs.PartPlaces.{part_below, put_there, put_beside, put_length, sent_behind}
 use Rattle.rp_agreement.proofs.EventWalk as walk
@@ -47,7 +44,7 @@ node_done_keeps : (nodes : ℕ) (w : World) (me : ℕ) (part : NodePart) (done :
 node_done_keeps nodes w me part done sound here d = record {
   size = put_length w.nodes me done.part ∙ sound.size;
   sound = done_keeps nodes me done (node_in w.nodes) w.sent (node_in (with_part w.nodes me done.part)) (w.sent ++ done.sends)
-    (member_here nodes w me part sound.size here) sound.sound d (moves_here w me part done here);
+      (member_here nodes w me part sound.size here) sound.sound d (moves_here w me part done here);
   waits = sound.waits;
 }
 
@@ -68,48 +65,67 @@ task_done_keeps : (nodes : ℕ) (w : World) (t : ℕ) (part : TaskPart) (done : 
 task_done_keeps nodes w t part done sound here d = record {
   size = sound.size;
   sound = task_keeps nodes t done.sends (node_in w.nodes) w.sent (node_in w.nodes) (w.sent ++ done.sends) sound.sound
-    (record { calls = d.calls; stays = λ k. refl; sends = sent_behind w.sent done.sends });
+      (record { calls = d.calls; stays = λ k. refl; sends = sent_behind w.sent done.sends });
   waits = each_task WaitsForOwn w.tasks t part done.part here d.waits sound.waits;
 }
+
+-- a world in which torn bytes are gone is one in which nothing was sent
+pub untorn_world : (P : World → Type 0) (w : World) (me : ℕ) (part : NodePart) → P (node_done w me (goes_on_as (untorn_part part))).world → P (untorn w me (Some part))
+untorn_world P w me part meets =
+    subst (λ (sent : List Message). P (record { nodes = with_part w.nodes me (untorn_part part); tasks = w.tasks; sent = sent })) (append-nil w.sent) meets
 
 module _ {S : Type 0} (s : Setting S) (right : IsRightConfig s.config) where
   -- the effects speak of the part at the place
   at_part : (P : NodePart → Type 0) (w : World) (me : ℕ) (part : NodePart) → part_at w.nodes me ≡ Some part → P (node_in w.nodes me) → P part
   at_part P w me part here p = subst P (node_here w me part here) p
 
-  small : (w : World) (me : ℕ) (part : NodePart) → IsSoundWorld s.config.nodes w → part_at w.nodes me ≡ Some part → me < 8
-  small w me part sound here = below_eight s.config me right (member_here s.config.nodes w me part sound.size here)
+  -- what a node's step comes to in a world is sound
+  module _ (w : World) (me : ℕ) (part : NodePart) (size : length w.nodes ≡ s.config.nodes) (sound : IsSound s.config.nodes (node_in w.nodes) w.sent)
+      (here : part_at w.nodes me ≡ Some part) where
+    small : me < 8
+    small = below_eight s.config me right (member_here s.config.nodes w me part size here)
+
+    pub input_done : (input : NodeInput) (done : Done NodePart) → IsInput w.sent input → node_effect s me part input ≡ Ok done
+        → IsSoundDone s.config.nodes me (node_in w.nodes me) w.sent done
+    input_done input done is came =
+        if_done s.config.nodes me (node_in w.nodes me) w.sent (node_effect s me part input) done
+        (at_part (λ p. IsSoundDoneIf s.config.nodes me (node_in w.nodes me) w.sent (node_effect s me p input)) w me part here
+        (input_sound s me (node_in w.nodes) w.sent input small sound is)) came
+
+    pub cut_done : (kept : ℕ) (input : NodeInput) (done : Done NodePart) → IsInput w.sent input → cut_effect s me part input kept ≡ Ok done
+        → IsSoundDone s.config.nodes me (node_in w.nodes me) w.sent done
+    cut_done kept input done is came =
+        if_done s.config.nodes me (node_in w.nodes me) w.sent (cut_effect s me part input kept) done
+        (at_part (λ p. IsSoundDoneIf s.config.nodes me (node_in w.nodes me) w.sent (cut_effect s me p input kept)) w me part here
+        (cut_sound s me kept (node_in w.nodes) w.sent input small sound is)) came
+
+    pub stop_done : (done : Done NodePart) → stop_effect part ≡ Ok done → IsSoundDone s.config.nodes me (node_in w.nodes me) w.sent done
+    stop_done done came =
+        if_done s.config.nodes me (node_in w.nodes me) w.sent (stop_effect part) done
+        (at_part (λ p. IsSoundDoneIf s.config.nodes me (node_in w.nodes me) w.sent (stop_effect p)) w me part here (stop_sound s.config.nodes me (node_in w.nodes me) w.sent)) came
+
+    pub restart_done : IsSoundDone s.config.nodes me (node_in w.nodes me) w.sent (restart_part part)
+    restart_done =
+        at_part (λ p. IsSoundDone s.config.nodes me (node_in w.nodes me) w.sent (restart_part p)) w me part here (restart_sound s.config.nodes me (node_in w.nodes) w.sent sound)
+
+    pub torn_done : IsSoundDone s.config.nodes me (node_in w.nodes me) w.sent (goes_on_as (untorn_part part))
+    torn_done =
+        at_part (λ p. IsSoundDone s.config.nodes me (node_in w.nodes me) w.sent (goes_on_as (untorn_part p))) w me part here
+        (untorn_sound s.config.nodes me (node_in w.nodes) w.sent sound)
 
   -- the invariant of a world is kept by all
   pub sound_kept : IsKeptByAll s (IsSoundWorld s.config.nodes)
   sound_kept = record {
-    input = λ w me part input done sound here is came.
-      node_done_keeps s.config.nodes w me part done sound here
-      (if_done s.config.nodes me (node_in w.nodes me) w.sent (node_effect s me part input) done
-      (at_part (λ p. IsSoundDoneIf s.config.nodes me (node_in w.nodes me) w.sent (node_effect s me p input)) w me part here
-      (input_sound s me (node_in w.nodes) w.sent input (small w me part sound here) sound.sound is)) came);
-    cut = λ w me kept part input done sound here is came.
-      node_done_keeps s.config.nodes w me part done sound here
-      (if_done s.config.nodes me (node_in w.nodes me) w.sent (cut_effect s me part input kept) done
-      (at_part (λ p. IsSoundDoneIf s.config.nodes me (node_in w.nodes me) w.sent (cut_effect s me p input kept)) w me part here
-      (cut_sound s me kept (node_in w.nodes) w.sent input (small w me part sound here) sound.sound is)) came);
-    stop = λ w me part done sound here came.
-      node_done_keeps s.config.nodes w me part done sound here
-      (if_done s.config.nodes me (node_in w.nodes me) w.sent (stop_effect part) done
-      (at_part (λ p. IsSoundDoneIf s.config.nodes me (node_in w.nodes me) w.sent (stop_effect p)) w me part here (stop_sound s.config.nodes me (node_in w.nodes me) w.sent)) came);
-    restart = λ w me part sound here.
-      node_done_keeps s.config.nodes w me part (restart_part part) sound here
-      (at_part (λ p. IsSoundDone s.config.nodes me (node_in w.nodes me) w.sent (restart_part p)) w me part here
-      (restart_sound s.config.nodes me (node_in w.nodes) w.sent sound.sound));
+    input = λ w me part input done sound here is came. node_done_keeps s.config.nodes w me part done sound here (input_done w me part sound.size sound.sound here input done is came);
+    cut = λ w me kept part input done sound here is came. node_done_keeps s.config.nodes w me part done sound here (cut_done w me part sound.size sound.sound here kept input done is came);
+    stop = λ w me part done sound here came. node_done_keeps s.config.nodes w me part done sound here (stop_done w me part sound.size sound.sound here done came);
+    restart = λ w me part sound here. node_done_keeps s.config.nodes w me part (restart_part part) sound here (restart_done w me part sound.size sound.sound here);
     torn = λ w me part sound here.
-      let kept : IsSoundWorld s.config.nodes (node_done w me (goes_on_as (untorn_part part))).world =
-      node_done_keeps s.config.nodes w me part (goes_on_as (untorn_part part)) sound here
-      (at_part (λ p. IsSoundDone s.config.nodes me (node_in w.nodes me) w.sent (goes_on_as (untorn_part p))) w me part here
-      (untorn_sound s.config.nodes me (node_in w.nodes) w.sent sound.sound)) in
-      subst (λ (sent : List Message). IsSoundWorld s.config.nodes (record { nodes = with_part w.nodes me (untorn_part part); tasks = w.tasks; sent = sent })) (append-nil w.sent) kept;
+        untorn_world (IsSoundWorld s.config.nodes) w me part
+        (node_done_keeps s.config.nodes w me part (goes_on_as (untorn_part part)) sound here (torn_done w me part sound.size sound.sound here));
     task = λ w t part input done sound here is came.
-      task_done_keeps s.config.nodes w t part done sound here
-      (if_task_done t (task_effect s.config t part input) done (task_sound s.config w.sent t part input (sound.waits t part here) is) came);
+        task_done_keeps s.config.nodes w t part done sound here
+        (if_task_done t (task_effect s.config t part input) done (task_sound s.config w.sent t part input (sound.waits t part here) is) came);
   }
 
   -- so any events keep it

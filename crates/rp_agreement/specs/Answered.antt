@@ -1,9 +1,10 @@
 -- What tasks are told: each reply that a node sent is an answer that its applied list leads to, and each
 -- reply that a task took is an answer that the order leads to (this project's own).
-use Rattle.std.specs.Prelude.{◌≡◌, ℕ, suc, Some, List, [], ◌∷◌, length, map, unwrap_or}
+use Rattle.std.specs.Prelude.{◌≡◌, ◌⊎◌, ℕ, suc, ◌≤◌, Some, is_some, unwrap_or, List, [], ◌∷◌, length, map, if◌then◌else◌}
 use Rattle.rp_base.specs.Sets.{Has}
 use Rattle.rp_base.specs.Records.{applied_of}
 use Rattle.rp_base.specs.declared.action.Action.{Action}
+use Rattle.rp_base.specs.declared.config.Config.{Config}
 use Rattle.rp_base.specs.declared.reply.Answer.{Answer}
 use Rattle.rp_base.specs.declared.reply.Reply.{Reply as Told}
 use Rattle.rp_codec.specs.Message.{Message}
@@ -18,10 +19,12 @@ use Rattle.rp_model.specs.Parts.{fresh_task}
 use Rattle.rp_model.specs.World.{World, part_at}
 use Rattle.rp_model.specs.declared.part.NodePart.{NodePart}
 use Rattle.rp_model.specs.declared.part.TaskPart.{TaskPart}
+use Rattle.rp_agreement.specs.Told.{Asks}
+use Rattle.rp_agreement.specs.Order.{Begins}
 use Rattle.rp_agreement.specs.Computed.{order_of}
 use Rattle.rp_agreement.specs.Sound.{IsSound}
 use Rattle.rp_agreement.specs.Inputs.{WaitsForOwn}
-use Rattle.rp_agreement.specs.Worlds.{node_in, IsSoundWorld}
+use Rattle.rp_agreement.specs.Worlds.{node_in}
 
 -- the reply of this number to this party is one of these answers
 abbrev pub IsAnswerTo : List Answer → Party → ℕ → Told → Type 0
@@ -46,6 +49,10 @@ SaysAnswer given to (Report first applied actions) = Unit {0}
 abbrev pub answers_of : {S : Type 0} → Setting S → List Action → List Answer
 answers_of s actions = replay_answers s.next s.answers s.begin actions
 
+-- where the nodes run this program of a machine
+abbrev pub setting_for : {S P : Type 0} → (S → Action → S) → (S → Action → List Answer) → (P → S) → Config → P → Setting S
+setting_for next answers begin config program = record { config = config; next = next; answers = answers; begin = begin program }
+
 -- each reply that a node sent is an answer that its applied list leads to
 abbrev pub RepliesAre : {S : Type 0} → Setting S → (ℕ → NodePart) → List Message → Type 0
 RepliesAre s node sent = (m : Message) → Has m sent → (a : ℕ) → m.from ≡ Node a
@@ -62,18 +69,41 @@ pub record IsAnswered (given : List Answer) (t : ℕ) (part : TaskPart) : Type 0
   pub waits : (call : Action) → part.outstanding ≡ Some call → calls_of call ≡ named t (suc (length part.replies)) ∷ []
   pub replied : (answer : Answer) → Has answer part.replies → Has answer given
 
+-- how many calls a task made: those that it has replies to, and the one that it waits for
+abbrev pub calls_so_far : TaskPart → ℕ
+calls_so_far part = if is_some part.outstanding then suc (length part.replies) else length part.replies
+
+-- what was asked for the task is one of its calls so far
+abbrev pub AsksInTurn : List Message → ℕ → TaskPart → Type 0
+AsksInTurn sent t part =
+    (action : Action) → Asks sent t action → (call : CallName) → Has call (calls_of action) → call.number ≤ calls_so_far part
+
+-- the call stands among the actions
+abbrev pub Stands : CallName → List Action → Type 0
+Stands call actions = (action : Action) × Has action actions × Has call (calls_of action)
+
+-- A beginning of the order leads to the answer to the task's nth call, where n is 1 or more, and the next
+-- call does not stand in it.
+pub record IsReady {S : Type 0} (s : Setting S) (order : List Action) (t n : ℕ) : Type 0 where
+  pub before : List Action
+  pub begins : Begins before order
+  pub absent : ¬ Stands (named t (suc n)) before
+  pub answered : (n ≡ 0) ⊎ Has (named t n) (map call_of (answers_of s before))
+
 -- The invariant with what tasks are told, over the parts of nodes and tasks and the packets ever sent.
 pub record IsKept {S : Type 0} (s : Setting S) (node : ℕ → NodePart) (task : ℕ → TaskPart) (sent : List Message) : Type 0 where
   pub sound : IsSound s.config.nodes node sent
   pub own : (t : ℕ) → WaitsForOwn t (task t)
   pub replies : RepliesAre s node sent
   pub answered : (t : ℕ) → IsAnswered (answers_of s (order_of s.config.nodes sent)) t (task t)
+  pub in_turn : (t : ℕ) → AsksInTurn sent t (task t)
+  pub ready : (t n : ℕ) → n ≤ length (task t).replies → IsReady s (order_of s.config.nodes sent) t n
 
 -- the part of the task of this number, from 1; a fresh one where there is no such task
 abbrev pub task_in : List TaskPart → ℕ → TaskPart
 task_in tasks t = unwrap_or (part_at tasks t) fresh_task
 
--- A world of n nodes meets it.
+-- A world meets it.
 pub record IsKeptWorld {S : Type 0} (s : Setting S) (w : World) : Type 0 where
   pub size : length w.nodes ≡ s.config.nodes
   pub kept : IsKept s (node_in w.nodes) (task_in w.tasks) w.sent

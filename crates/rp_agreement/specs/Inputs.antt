@@ -38,3 +38,10 @@ pub record NodeMoves (x : ℕ) (done : Done NodePart) (node : ℕ → NodePart) 
 -- what the task t waits for is a right call of its own
 abbrev pub WaitsForOwn : ℕ → TaskPart → Type 0
 WaitsForOwn t part = (call : Action) → part.outstanding ≡ Some call → IsCall t (Call call)
+
+-- The task t has come to this part and sent these packets; every other task stays as it was.
+pub record TaskMoves (t : ℕ) (done : Done TaskPart) (task : ℕ → TaskPart) (sent : List Message)
+    (task' : ℕ → TaskPart) (sent' : List Message) : Type 0 where
+  pub part : task' t ≡ done.part
+  pub others : (k : ℕ) → k ≢ t → task' k ≡ task k
+  pub sends : SentToo done.sends sent sent'

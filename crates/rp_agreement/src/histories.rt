@@ -53,8 +53,8 @@ pub fn histories_agree<M: Machine>()
     the_opening_is_sound();
 }
 
-/// The laws do not speak of nothing: with three nodes, whatever the machine, some history leads to a
-/// world in which a task's call is decided.
+/// The laws do not speak of nothing: with three nodes, whatever the machine, some history leads to
+/// a world in which a task's call is decided.
 pub fn some_history_decides<M: Machine>()
     ensures { (begin : M) → (events : List Event) × (world : World)
         × IsHistory (three_nodes M.next M.answers begin) events world

@@ -7,7 +7,8 @@ ghost use Rattle.rp_base.specs.declared.config.Config.{Config};
 ghost use Rattle.rp_base.specs.declared.fault.Fault.{Fault};
 ghost use Rattle.rp_codec.specs.Message.{Message};
 ghost use Rattle.rp_model.specs.Answers.{Steps, Happen};
-ghost use Rattle.rp_model.specs.Effect.{Setting, Done, NodeInput, node_effect, cut_effect, stop_effect, restart_part};
+ghost use Rattle.rp_model.specs.Effect.{Setting, Done, NodeInput, goes_on_as, untorn_part};
+ghost use Rattle.rp_model.specs.Effect.{node_effect, cut_effect, stop_effect, restart_part};
 ghost use Rattle.rp_model.specs.Events.{Event, IsEvent};
 ghost use Rattle.rp_model.specs.Tasks.{TaskInput, task_effect};
 ghost use Rattle.rp_model.specs.World.{World, Happening, event_effect};
@@ -21,8 +22,9 @@ ghost use Rattle.rp_agreement.specs.Worlds.{IsSoundWorld};
 
 use rp_machine::Machine;
 
-/// What an input comes to at a node keeps the invariant; so does a stop within that step, however
-/// many bytes of its record are kept, a stop, and a restart.
+/// What an input comes to at a node keeps the invariant; so do a stop within that step, however
+/// many bytes of its record are kept, a stop, a restart, and torn bytes that are cut off where a
+/// restart fails.
 pub fn node_events_keep<M: Machine>()
     ensures input { (setting : Setting M) (x : ℕ) (input : NodeInput) (done : Done NodePart)
         (node after : ℕ → NodePart) (sent later : List Message)
@@ -47,6 +49,10 @@ pub fn node_events_keep<M: Machine>()
     ensures restart { (nodes x : ℕ) (node after : ℕ → NodePart) (sent later : List Message)
         → IsMember nodes x → IsSound nodes node sent
         → NodeMoves x (restart_part (node x)) node sent after later
+        → IsSound nodes after later }
+    ensures untorn { (nodes x : ℕ) (node after : ℕ → NodePart) (sent later : List Message)
+        → IsMember nodes x → IsSound nodes node sent
+        → NodeMoves x (goes_on_as (untorn_part (node x))) node sent after later
         → IsSound nodes after later }
 {}
 

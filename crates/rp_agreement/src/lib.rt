@@ -12,6 +12,7 @@
 //! - `opening`: the invariant holds where nothing has happened
 //! - `keeping`: each event keeps it
 //! - `histories`: nodes agree in every history
+//! - `replies`: what tasks are told
 #![tactic(auto)]
 
 mod decisions;
@@ -21,6 +22,7 @@ mod offers;
 mod opening;
 mod order;
 mod packets;
+mod replies;
 
 pub use decisions::{
     decisions_are_one, decisions_stay, only_asked_actions_are_decided,
@@ -35,3 +37,7 @@ pub use order::{
     states_are_alike, the_order_exists, the_order_grows, the_order_is_one,
 };
 pub use packets::packets_say_so;
+pub use replies::{
+    answers_are_one, calls_count_where_they_first_stand, events_keep_replies,
+    node_events_keep_replies, replies_tell_the_order, task_events_keep_replies,
+};

@@ -1,6 +1,6 @@
 -- Each is a sound step.
-use Rattle.rp_model.specs.Effect.{restart_part}
-use Rattle.rp_agreement.proofs.NodeEffects.{below_eight, if_done, done_keeps, input_sound, cut_sound, stop_sound, restart_sound}
+use Rattle.rp_model.specs.Effect.{goes_on_as, untorn_part, restart_part}
+use Rattle.rp_agreement.proofs.NodeEffects.{below_eight, if_done, done_keeps, input_sound, cut_sound, stop_sound, restart_sound, untorn_sound}
 use Rattle.rp_agreement.proofs.keeping.node_events_keep.Goals as goal
 
 pub returns-clause-input : goal.returns-clause-input
@@ -20,3 +20,7 @@ returns-clause-stop g c = λ nodes x done node after sent later member sound cam
 pub returns-clause-restart : goal.returns-clause-restart
 returns-clause-restart g c = λ nodes x node after sent later member sound moves.
     done_keeps nodes x (restart_part (node x)) node sent after later member sound (restart_sound nodes x node sent sound) moves
+
+pub returns-clause-untorn : goal.returns-clause-untorn
+returns-clause-untorn g c = λ nodes x node after sent later member sound moves.
+    done_keeps nodes x (goes_on_as (untorn_part (node x))) node sent after later member sound (untorn_sound nodes x node sent sound) moves

@@ -1,0 +1,151 @@
+-- Each actor's step in a world keeps the invariant with what tasks are told.
+use Rattle.std.proofs.Common.{◌≡◌, ℕ, zero, suc, Ok, Option, Some, List, [], ◌∷◌, ◌++◌, length, map, ◌⊎◌, inl, inr, refl, sym, ap, subst, ◌∙◌, ◌≤◌, arith}
+use Rattle.std.specs.Prelude.{unwrap_or, slice_get, replicate}
+use Rattle.rp_base.specs.declared.reply.Answer.{Answer}
+use Rattle.rp_base.specs.Config.{IsRightConfig}
+use Rattle.rp_base.specs.Sets.{Has}
+use Rattle.rp_base.specs.Records.{applied_of}
+use Rattle.rp_machine.specs.Calls.{CallName, call_of}
+use Rattle.rp_machine.specs.Replay.{one_to}
+use Rattle.rp_machine.proofs.Numbering.{length-one_to}
+use Rattle.rp_model.specs.declared.part.NodePart.{NodePart}
+use Rattle.rp_model.specs.declared.part.TaskPart.{TaskPart}
+use Rattle.rp_model.specs.Parts.{fresh_task}
+use Rattle.rp_model.specs.Effect.{Setting, Done, goes_on_as, restart_part, untorn_part}
+use Rattle.rp_model.specs.Tasks.{task_effect}
+use Rattle.rp_model.specs.World.{World, opening_world, part_at, with_part, node_done}
+use Rattle.rp_agreement.specs.Inputs.{TaskMoves, WaitsForOwn}
+use Rattle.rp_agreement.specs.Computed.{order_of}
+use Rattle.rp_agreement.specs.Worlds.{node_in, IsSoundWorld}
+use Rattle.rp_agreement.specs.Answered.{answers_of, named, IsAnswered, task_in, IsKeptWorld, IsReady}
+use Rattle.rp_agreement.proofs.PartPlaces.{part_has, put_there, put_beside, put_length, sent_behind}
+use Rattle.rp_agreement.proofs.NodeEffects.{IsSoundDone, done_keeps}
+use Rattle.rp_agreement.proofs.WorldKeeping.{member_here, moves_here, untorn_world, input_done, cut_done, stop_done, restart_done, torn_done}
+use Rattle.rp_model.specs.Events.{Event}
+use Rattle.rp_agreement.specs.History.{IsHistory}
+use Rattle.rp_agreement.proofs.EventWalk.{IsKeptByAll, history_keeps}
+use Rattle.rp_agreement.proofs.AnswerTurns.{AreAnswers}
+use Rattle.rp_agreement.proofs.NodeTelling.{node_keeps, effect_answers, cut_answers, stop_answers, restart_answers}
+use Rattle.rp_agreement.proofs.TaskKeeping.{task_goes_on}
+
+task_here : (w : World) (t : ℕ) (part : TaskPart) → part_at w.tasks t ≡ Some part → task_in w.tasks t ≡ part
+task_here w t part here = ap (λ (o : Option TaskPart). unwrap_or o fresh_task) here
+
+-- what comes of a task's step stands in the world
+task_moves_here : (w : World) (t : ℕ) (part : TaskPart) (done : Done TaskPart) → part_at w.tasks t ≡ Some part
+    → TaskMoves t done (task_in w.tasks) w.sent (task_in (with_part w.tasks t done.part)) (w.sent ++ done.sends)
+task_moves_here w t part done here = record {
+  part = ap (λ (o : Option TaskPart). unwrap_or o fresh_task) (put_there w.tasks t part done.part here);
+  others = λ k other. ap (λ (o : Option TaskPart). unwrap_or o fresh_task) (put_beside w.tasks t k done.part other);
+  sends = sent_behind w.sent done.sends;
+}
+
+module _ {S : Type 0} (s : Setting S) (right : IsRightConfig s.config) where
+  node_case : (w : World) (me : ℕ) (part : NodePart) (done : Done NodePart) → IsKeptWorld s w → part_at w.nodes me ≡ Some part
+      → IsSoundDone s.config.nodes me (node_in w.nodes me) w.sent done → AreAnswers (answers_of s (applied_of done.part.records)) done.sends
+      → IsKeptWorld s (node_done w me done).world
+  node_case w me part done world here d told =
+      let moves = moves_here w me part done here in
+      let after = node_in (with_part w.nodes me done.part) in
+      let sound = done_keeps s.config.nodes me done (node_in w.nodes) w.sent after (w.sent ++ done.sends) (member_here s.config.nodes w me part world.size here) world.kept.sound d moves in
+      record {
+        size = put_length w.nodes me done.part ∙ world.size;
+        kept = node_keeps s me done (node_in w.nodes) (task_in w.tasks) w.sent after (w.sent ++ done.sends) world.kept sound d told moves;
+      }
+
+  -- what tasks are told is kept by all
+  pub kept_by_all : IsKeptByAll s (IsKeptWorld s)
+  kept_by_all = record {
+    input = λ w me part input done world here is came. node_case w me part done world here (input_done s right w me part world.size world.kept.sound here input done is came) (effect_answers s me part input done came);
+    cut = λ w me kept part input done world here is came. node_case w me part done world here (cut_done s right w me part world.size world.kept.sound here kept input done is came) (cut_answers s me kept part input done came);
+    stop = λ w me part done world here came. node_case w me part done world here (stop_done s right w me part world.size world.kept.sound here done came) (stop_answers s part done came);
+    restart = λ w me part world here. node_case w me part (restart_part part) world here (restart_done s right w me part world.size world.kept.sound here) (restart_answers s part);
+    torn = λ w me part world here.
+        untorn_world (IsKeptWorld s) w me part (node_case w me part (goes_on_as (untorn_part part)) world here (torn_done s right w me part world.size world.kept.sound here) (λ m h. absurd h));
+    task = λ w t part input done world here is came. record {
+      size = world.size;
+      kept = task_goes_on s t input done (node_in w.nodes) (task_in w.tasks) w.sent (node_in w.nodes) (task_in (with_part w.tasks t done.part)) (w.sent ++ done.sends) world.kept is
+          (subst (λ (p : TaskPart). task_effect s.config t p input ≡ Ok done) (sym (task_here w t part here)) came) (λ k. refl) (task_moves_here w t part done here);
+    };
+  }
+
+-- ---- the opening world
+
+get_copy : {A : Type 0} (n : ℕ) (a : A) (i : ℕ) → unwrap_or (slice_get (replicate n a) i) a ≡ a
+get_copy zero a i = refl
+get_copy (suc n) a zero = refl
+get_copy (suc n) a (suc i) = get_copy n a i
+
+all_fresh : (t : ℕ) → task_in (replicate 8 fresh_task) t ≡ fresh_task
+all_fresh zero = refl
+all_fresh (suc i) = get_copy 8 fresh_task i
+
+fresh_answered : (given : List Answer) (t : ℕ) → IsAnswered given t fresh_task
+fresh_answered given t = record { numbered = refl; waits = λ call e. absurd (cc); replied = λ answer h. absurd h }
+
+pub kept_opening : {S : Type 0} (s : Setting S) → IsSoundWorld s.config.nodes (opening_world s.config.nodes) → IsKeptWorld s (opening_world s.config.nodes)
+kept_opening s opening = record {
+  size = opening.size;
+  kept = record {
+    sound = opening.sound;
+    own = λ t. subst (WaitsForOwn t) (sym (all_fresh t)) (λ call e. absurd (cc));
+    replies = λ m h. absurd h;
+    answered = λ t. subst (IsAnswered (answers_of s (order_of s.config.nodes [])) t) (sym (all_fresh t)) (fresh_answered (answers_of s (order_of s.config.nodes [])) t);
+    in_turn = λ t action asked. absurd asked.1;
+    ready = λ t n. subst (λ (part : TaskPart). n ≤ length part.replies → IsReady s (order_of s.config.nodes []) t n) (sym (all_fresh t)) (λ few. record {
+      before = [];
+      begins = (order_of s.config.nodes [], refl);
+      absent = λ stands. stands.1;
+      answered = inl (omega (arith, few));
+    });
+  };
+}
+
+-- ---- the reply to each call
+
+get_mapped : {A B : Type 0} (f : A → B) (xs : List A) (k : ℕ) (a : A) → slice_get xs k ≡ Some a → slice_get (map f xs) k ≡ Some (f a)
+get_mapped f [] k a e = absurd (cc)
+get_mapped {A} f (x ∷ xs) zero a e = ap (λ (o : Option A). Some (f (unwrap_or o x))) e
+get_mapped f (x ∷ xs) (suc k) a e = get_mapped f xs k a e
+
+get_behind : {A : Type 0} (xs : List A) (y : A) (k : ℕ) (a : A) → slice_get (xs ++ y ∷ []) k ≡ Some a → (slice_get xs k ≡ Some a) ⊎ ((k ≡ length xs) × (a ≡ y))
+get_behind [] y zero a e = inr (refl, sym (ap (λ (o : Option _). unwrap_or o y) e))
+get_behind [] y (suc k) a e = absurd (cc)
+get_behind (x ∷ xs) y zero a e = inl e
+get_behind (x ∷ xs) y (suc k) a e =
+    elim (get_behind xs y k a e) [
+      | inl before ↦ inl before
+      | inr last ↦ inr (ap suc last.0, last.1)
+    ]
+
+-- the kth of the numbers from 1 on
+get_one_to : (n k m : ℕ) → slice_get (one_to n) k ≡ Some m → m ≡ suc k
+get_one_to zero k m e = absurd (cc)
+get_one_to (suc n) k m e =
+    elim (get_behind (one_to n) (suc n) k m e) [
+      | inl before ↦ get_one_to n k m before
+      | inr last ↦ last.1 ∙ ap suc (sym (last.0 ∙ length-one_to n))
+    ]
+
+get_unmapped : {A B : Type 0} (f : A → B) (xs : List A) (k : ℕ) (b : B) → slice_get (map f xs) k ≡ Some b → (a : A) × (slice_get xs k ≡ Some a) × (b ≡ f a)
+get_unmapped f [] k b e = absurd (cc)
+get_unmapped f (x ∷ xs) zero b e = (x, refl, sym (ap (λ (o : Option _). unwrap_or o (f x)) e))
+get_unmapped f (x ∷ xs) (suc k) b e = get_unmapped f xs k b e
+
+-- the kth reply is to the kth call
+pub reply_named : (given : List Answer) (t : ℕ) (part : TaskPart) (k : ℕ) (answer : Answer) → IsAnswered given t part → slice_get part.replies k ≡ Some answer → call_of answer ≡ named t (suc k)
+reply_named given t part k answer is e =
+    let here : slice_get (map (named t) (one_to (length part.replies))) k ≡ Some (call_of answer) =
+    subst (λ (calls : List CallName). slice_get calls k ≡ Some (call_of answer)) is.numbered (get_mapped call_of part.replies k answer e) in
+    let hit = get_unmapped (named t) (one_to (length part.replies)) k (call_of answer) here in
+    hit.2 ∙ ap (named t) (get_one_to (length part.replies) k hit.0 hit.1)
+
+pub reply_has : (replies : List Answer) (k : ℕ) (answer : Answer) → slice_get replies k ≡ Some answer → Has answer replies
+reply_has replies k answer e = part_has replies (suc k) answer e
+
+-- ---- histories
+
+-- each history leads to a world that keeps what tasks are told
+pub kept_in : {S : Type 0} (s : Setting S) (events : List Event) (world : World) → IsSoundWorld s.config.nodes (opening_world s.config.nodes) → IsHistory s events world → IsKeptWorld s world
+kept_in s events world opening history =
+    history_keeps s (IsKeptWorld s) (kept_by_all s history.config) (opening_world s.config.nodes) events world (kept_opening s opening) history.right history.happened

@@ -1,0 +1,130 @@
+//! Each reply that a task takes is the answer that the order gives to its call.
+
+ghost use Rattle.std.specs.Prelude.{◌≡◌, ℕ, suc, Result, Ok, Some, List, [], ◌∷◌, slice_get, take};
+ghost use Rattle.rp_base.specs.Config.{IsRightConfig};
+ghost use Rattle.rp_base.specs.declared.action.Action.{Action};
+ghost use Rattle.rp_base.specs.declared.config.Config.{Config};
+ghost use Rattle.rp_base.specs.declared.fault.Fault.{Fault};
+ghost use Rattle.rp_base.specs.declared.reply.Answer.{Answer};
+ghost use Rattle.rp_codec.specs.Message.{Message};
+ghost use Rattle.rp_machine.specs.Calls.{CallName, calls_of};
+ghost use Rattle.rp_model.specs.Answers.{Steps};
+ghost use Rattle.rp_model.specs.Effect.{Setting, Done, NodeInput, goes_on_as, untorn_part};
+ghost use Rattle.rp_model.specs.Effect.{node_effect, cut_effect, stop_effect, restart_part};
+ghost use Rattle.rp_model.specs.Events.{Event, IsEvent};
+ghost use Rattle.rp_model.specs.Facts.{IsAnswerOf, IsPlace};
+ghost use Rattle.rp_model.specs.Tasks.{TaskInput, task_effect};
+ghost use Rattle.rp_model.specs.World.{World, Happening, part_at, event_effect};
+ghost use Rattle.rp_model.specs.declared.effect.Effect.{Effect};
+ghost use Rattle.rp_model.specs.declared.part.NodePart.{NodePart};
+ghost use Rattle.rp_model.specs.declared.part.TaskPart.{TaskPart};
+ghost use Rattle.rp_agreement.specs.Computed.{order_of};
+ghost use Rattle.rp_agreement.specs.History.{IsHistory};
+ghost use Rattle.rp_agreement.specs.Inputs.{IsInput, IsTaskInput, NodeMoves, TaskMoves};
+ghost use Rattle.rp_agreement.specs.Sound.{IsMember};
+ghost use Rattle.rp_agreement.specs.Answered.{named, setting_for, Stands, IsKept, IsKeptWorld};
+
+use crate::opening::the_opening_is_sound;
+use rp_machine::Machine;
+
+/// What an input comes to at a node keeps the invariant with what tasks are told; so do a stop
+/// within that step, however many bytes of its record are kept, a stop, a restart, and torn bytes
+/// that are cut off where a restart fails.
+pub fn node_events_keep_replies<M: Machine>()
+    ensures input { (setting : Setting M) (x : ℕ) (input : NodeInput) (done : Done NodePart)
+        (node after : ℕ → NodePart) (task : ℕ → TaskPart) (sent later : List Message)
+        → IsRightConfig setting.config → IsMember setting.config.nodes x
+        → IsKept setting node task sent → IsInput sent input
+        → node_effect setting x (node x) input ≡ Ok done
+        → NodeMoves x done node sent after later
+        → IsKept setting after task later }
+    ensures cut { (setting : Setting M) (x kept : ℕ) (input : NodeInput) (done : Done NodePart)
+        (node after : ℕ → NodePart) (task : ℕ → TaskPart) (sent later : List Message)
+        → IsRightConfig setting.config → IsMember setting.config.nodes x
+        → IsKept setting node task sent → IsInput sent input
+        → cut_effect setting x (node x) input kept ≡ Ok done
+        → NodeMoves x done node sent after later
+        → IsKept setting after task later }
+    ensures stop { (setting : Setting M) (x : ℕ) (done : Done NodePart)
+        (node after : ℕ → NodePart) (task : ℕ → TaskPart) (sent later : List Message)
+        → IsMember setting.config.nodes x → IsKept setting node task sent
+        → stop_effect (node x) ≡ Ok done
+        → NodeMoves x done node sent after later
+        → IsKept setting after task later }
+    ensures restart { (setting : Setting M) (x : ℕ)
+        (node after : ℕ → NodePart) (task : ℕ → TaskPart) (sent later : List Message)
+        → IsMember setting.config.nodes x → IsKept setting node task sent
+        → NodeMoves x (restart_part (node x)) node sent after later
+        → IsKept setting after task later }
+    ensures untorn { (setting : Setting M) (x : ℕ)
+        (node after : ℕ → NodePart) (task : ℕ → TaskPart) (sent later : List Message)
+        → IsMember setting.config.nodes x → IsKept setting node task sent
+        → NodeMoves x (goes_on_as (untorn_part (node x))) node sent after later
+        → IsKept setting after task later }
+{}
+
+/// What an input comes to at a task keeps the invariant with what tasks are told.
+pub fn task_events_keep_replies<M: Machine>()
+    ensures { (setting : Setting M) (t : ℕ) (input : TaskInput) (done : Done TaskPart)
+        (node after : ℕ → NodePart) (task told : ℕ → TaskPart) (sent later : List Message)
+        → IsKept setting node task sent → IsTaskInput sent t input
+        → task_effect setting.config t (task t) input ≡ Ok done
+        → ((k : ℕ) → after k ≡ node k) → TaskMoves t done task sent told later
+        → IsKept setting after told later }
+{}
+
+/// What an event of a world leads to keeps what tasks are told, and so does the world that a step
+/// leaves whatever it answers.
+pub fn events_keep_replies<M: Machine>()
+    ensures effect { (setting : Setting M) (world : World) (event : Event) (happening : Happening)
+        → IsRightConfig setting.config → IsKeptWorld setting world
+        → IsEvent event
+        → event_effect setting world event ≡ Ok happening
+        → IsKeptWorld setting happening.world }
+    ensures answer { (setting : Setting M) (world after : World) (event : Event)
+        (answer : Result Effect Fault)
+        → IsRightConfig setting.config → IsKeptWorld setting world
+        → IsEvent event
+        → Steps setting world event after answer
+        → IsKeptWorld setting after }
+{}
+
+/// Every history, whatever stops, is cut short or starts again, leads to a world that keeps what
+/// tasks are told. There the kth reply that a task took answers its kth call, and is an answer that
+/// the order gives to it.
+pub fn replies_tell_the_order<M: Machine>()
+    ensures histories { (setting : Setting M) (events : List Event) (world : World)
+        → IsHistory setting events world → IsKeptWorld setting world }
+    ensures replies { (setting : Setting M) (node : ℕ → NodePart) (task : ℕ → TaskPart)
+        (sent : List Message) → IsKept setting node task sent
+        → let order = order_of setting.config.nodes sent in
+        (t k : ℕ) (answer : Answer) → slice_get (task t).replies k ≡ Some answer
+        → IsAnswerOf setting.next setting.answers setting.begin order (named t (suc k)) answer }
+{
+    the_opening_is_sound();
+}
+
+/// At a program of a machine the order gives one answer to a call at most.
+pub fn answers_are_one<M: Machine>()
+    ensures { (config : Config) (program : M.Program) (node : ℕ → NodePart)
+        (task : ℕ → TaskPart) (sent : List Message)
+        → IsKept (setting_for M.next M.answers M.begin config program) node task sent
+        → let order = order_of config.nodes sent in
+        (call : CallName) (one other : Answer)
+        → IsAnswerOf M.next M.answers (M.begin program) order call one
+        → IsAnswerOf M.next M.answers (M.begin program) order call other
+        → one ≡ other }
+{}
+
+/// At a program of a machine the first standing of a call in the order is its place, where it
+/// counts. So no call is passed over; and what stands again later counts no more.
+pub fn calls_count_where_they_first_stand<M: Machine>()
+    ensures { (config : Config) (program : M.Program) (node : ℕ → NodePart)
+        (task : ℕ → TaskPart) (sent : List Message)
+        → IsKept (setting_for M.next M.answers M.begin config program) node task sent
+        → let order = order_of config.nodes sent in
+        (t n k : ℕ) (action : Action)
+        → slice_get order k ≡ Some action → calls_of action ≡ named t n ∷ []
+        → ¬ Stands (named t n) (take k order)
+        → IsPlace M.next M.answers (M.begin program) order (named t n) (suc k) }
+{}

@@ -9,9 +9,9 @@ use Rattle.rp_base.specs.Sets.{Has}
 use Rattle.rp_base.specs.Majority.{majority_of, AreNodes}
 use Rattle.rp_base.proofs.SetsMeet.{sets_meet}
 use Rattle.rp_codec.specs.Message.{Message}
-use Rattle.rp_model.specs.Facts.{HasVoted, IsOffered, IsDecided}
+use Rattle.rp_model.specs.Facts.{HasPromised, HasVoted, IsOffered, IsDecided}
 use Rattle.rp_model.specs.declared.part.NodePart.{NodePart}
-use Rattle.rp_agreement.specs.Told.{HasPromised, IsAsked}
+use Rattle.rp_agreement.specs.Told.{IsAsked}
 use Rattle.rp_agreement.specs.Founded.{IsFounded}
 use Rattle.rp_agreement.specs.Sound.{IsSound}
 use Rattle.rp_agreement.specs.Decided.{IsCast}

@@ -28,8 +28,8 @@ use Rattle.rp_model.specs.declared.part.Turn.{Turn}
 use Rattle.rp_model.specs.Says.{says, says_to_all, sends, notes}
 use Rattle.rp_model.specs.Pending.{is_free_item, own_action}
 use Rattle.rp_model.specs.Leader.{chosen_position, is_out_of_reach, starts_above, begins, on_lead, counts_promise, on_promise_to, on_promise, on_nack}
-use Rattle.rp_model.specs.Facts.{IsOffered}
-use Rattle.rp_agreement.specs.Told.{HasPromised, IsAsked}
+use Rattle.rp_model.specs.Facts.{HasPromised, IsOffered}
+use Rattle.rp_agreement.specs.Told.{IsAsked}
 use Rattle.rp_agreement.specs.Sound.{IsSo, IsProposal, IsRunning, IsSound}
 use Rattle.rp_agreement.proofs.Lists.{some_same, found_has}
 use Rattle.rp_agreement.proofs.RecordGrowth.{started_below}

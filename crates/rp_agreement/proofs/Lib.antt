@@ -29,4 +29,3 @@ pub mod TaskTelling
 pub mod TaskKeeping
 pub mod KeptWorlds
 pub mod Places
-pub mod OneAnswer

@@ -17,8 +17,8 @@ use Rattle.rp_codec.specs.declared.packet.Party.{Party}
 use Rattle.rp_codec.specs.declared.packet.Body.{Body}
 use Rattle.rp_codec.specs.declared.packet.Body.TheVariants as bodies
 use Rattle.rp_model.specs.declared.part.NodePart.{NodePart}
-use Rattle.rp_model.specs.Facts.{IsOffered}
-use Rattle.rp_agreement.specs.Told.{IsPromise, HasPromised, IsAsked}
+use Rattle.rp_model.specs.Facts.{IsPromise, HasPromised, IsOffered}
+use Rattle.rp_agreement.specs.Told.{IsAsked}
 use Rattle.rp_agreement.specs.Founded.{Reports, IsFounded}
 use Rattle.rp_agreement.specs.Sound.{IsMember, IsSo, SaysSo, IsSound}
 use Rattle.rp_agreement.proofs.Lists.{has_picked, highest_has}

@@ -17,7 +17,7 @@ use Rattle.rp_machine.specs.Replay.{number_for, one_to, is_for, numbers_of, is_n
 use Rattle.rp_machine.specs.Asked.{last_number}
 use Rattle.rp_machine.proofs.Calling.{made_number, one_to_bound}
 use Rattle.rp_machine.proofs.Numbering.{IsCounted, counted}
-use Rattle.rp_model.specs.Facts.{IsPlace}
+use Rattle.rp_machine.specs.Places.{IsPlace}
 use Rattle.rp_model.specs.Effect.{Setting}
 use Rattle.rp_model.specs.declared.part.NodePart.{NodePart}
 use Rattle.rp_model.specs.declared.part.TaskPart.{TaskPart}
@@ -49,6 +49,14 @@ begins_take (x ∷ xs) rest zero short = absurd (omega (arith, short))
 begins_take (x ∷ xs) rest (suc k) short =
     let later = begins_take xs rest k (omega (arith, short)) in
     (later.0, ap (λ (list : List _). x ∷ list) later.1)
+
+-- an item stands between what is before it and what is behind it
+split_at : {A : Type 0} (xs : List A) (k : ℕ) (x : A) → slice_get xs k ≡ Some x → (xs ≡ take k xs ++ x ∷ drop (suc k) xs) × (length (take k xs) ≡ k)
+split_at [] k x is = absurd (cc)
+split_at {A} (y ∷ xs) zero x is = (ap (λ (z : A). z ∷ xs) (some_same is), refl)
+split_at {A} (y ∷ xs) (suc k) x is =
+    let later = split_at xs k x is in
+    (ap (λ (list : List A). y ∷ list) later.0, ap suc later.1)
 
 all_pass : (test : ℕ → Bool) (xs : List ℕ) → ((x : ℕ) → Has x xs → test x ≡ true) → list_all test xs ≡ true
 all_pass test [] each = refl
@@ -249,12 +257,13 @@ module _ {S : Type 0} (s : Setting S) where
       absurd (omega (arith, low))
   first_is_place node task sent kept known t (suc m) k action stands is first =
       let order = order_of s.config.nodes sent in
-      let back : suc k - 1 ≡ k = omega arith in
+      let split = split_at order k action stands in
       record {
+        before = take k order;
         action = action;
-        stands = subst (λ (j : ℕ). slice_get order j ≡ Some action) (sym back) stands;
-        first = omega arith;
+        behind = drop (suc k) order;
+        stands = split.0;
+        here = ap suc (sym split.1);
         is_call = is;
-        takes_effect = subst (λ (j : ℕ). (let before = replay_of s.next s.answers s.begin (take j order) in counts before.kept before.given action) ≡ true) (sym back)
-            (first_counts node task sent kept known t m k action stands is first);
+        takes_effect = first_counts node task sent kept known t m k action stands is first;
       }

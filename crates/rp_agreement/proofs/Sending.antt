@@ -13,8 +13,8 @@ use Rattle.rp_codec.specs.declared.packet.Body.{Body}
 use Rattle.rp_codec.specs.declared.packet.Body.TheVariants as bodies
 use Rattle.rp_model.specs.Parts.{with_record}
 use Rattle.rp_model.proofs.AppliedGrowing.{applied_more}
-use Rattle.rp_model.specs.Facts.{HasVoted, IsOffered, IsDecided}
-use Rattle.rp_agreement.specs.Told.{HasPromised, IsAsked}
+use Rattle.rp_model.specs.Facts.{HasPromised, HasVoted, IsOffered, IsDecided}
+use Rattle.rp_agreement.specs.Told.{IsAsked}
 use Rattle.rp_agreement.specs.Founded.{IsFounded}
 use Rattle.rp_agreement.specs.Sound.{IsSo, IsReported}
 use Rattle.rp_agreement.specs.Steps.{MayWrite}

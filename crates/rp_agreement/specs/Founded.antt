@@ -11,7 +11,7 @@ use Rattle.rp_base.specs.declared.record.Vote.{Vote}
 use Rattle.rp_base.specs.declared.record.Rec.{Rec}
 use Rattle.rp_base.specs.declared.record.Rec.TheVariants.{Voted}
 use Rattle.rp_codec.specs.Message.{Message}
-use Rattle.rp_agreement.specs.Told.{HasPromised}
+use Rattle.rp_model.specs.Facts.{HasPromised}
 
 -- The records promise the ballot at the position, and this is their last vote there below it: it was
 -- cast, and no vote between it and the ballot was.

@@ -12,23 +12,6 @@ use Rattle.rp_codec.specs.declared.packet.Body.TheVariants.{Call, Prepare, Promi
 use Rattle.rp_machine.specs.Calls.{CallName, calls_of}
 use Rattle.rp_model.specs.Tasks.{asks}
 
--- the body promises the ballot at the position, with this last vote
-abbrev pub IsPromise : Body → ℕ → ℕ → Option Vote → Type 0
-IsPromise (Call action) i b last = ⊥
-IsPromise (Prepare position ballot) i b last = ⊥
-IsPromise (Promise position ballot vote) i b last = (position ≡ i) × (ballot ≡ b) × (vote ≡ last)
-IsPromise (Accept position ballot action) i b last = ⊥
-IsPromise (Accepted position ballot action) i b last = ⊥
-IsPromise (Decided position action) i b last = ⊥
-IsPromise (Ask position) i b last = ⊥
-IsPromise (Nack position ballot bound) i b last = ⊥
-IsPromise (Reply number reply) i b last = ⊥
-IsPromise (Report first applied actions) i b last = ⊥
-
--- the node said that it promises the ballot at the position, with this last vote
-abbrev pub HasPromised : List Message → ℕ → ℕ → ℕ → Option Vote → Type 0
-HasPromised sent a i b last = (m : Message) × Has m sent × (m.from ≡ Node a) × IsPromise m.body i b last
-
 -- the task asked some node for this very call
 abbrev pub Asks : List Message → ℕ → Action → Type 0
 Asks sent task action = (node : ℕ) × Has (asks task node action) sent

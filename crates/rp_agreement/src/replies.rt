@@ -8,11 +8,11 @@ ghost use Rattle.rp_base.specs.declared.fault.Fault.{Fault};
 ghost use Rattle.rp_base.specs.declared.reply.Answer.{Answer};
 ghost use Rattle.rp_codec.specs.Message.{Message};
 ghost use Rattle.rp_machine.specs.Calls.{CallName, calls_of};
+ghost use Rattle.rp_machine.specs.Places.{IsAnswerOf, IsPlace};
 ghost use Rattle.rp_model.specs.Answers.{Steps};
 ghost use Rattle.rp_model.specs.Effect.{Setting, Done, NodeInput, goes_on_as, untorn_part};
 ghost use Rattle.rp_model.specs.Effect.{node_effect, cut_effect, stop_effect, restart_part};
 ghost use Rattle.rp_model.specs.Events.{Event, IsEvent};
-ghost use Rattle.rp_model.specs.Facts.{IsAnswerOf, IsPlace};
 ghost use Rattle.rp_model.specs.Tasks.{TaskInput, task_effect};
 ghost use Rattle.rp_model.specs.World.{World, Happening, part_at, event_effect};
 ghost use Rattle.rp_model.specs.declared.effect.Effect.{Effect};
@@ -25,7 +25,7 @@ ghost use Rattle.rp_agreement.specs.Sound.{IsMember};
 ghost use Rattle.rp_agreement.specs.Answered.{named, setting_for, Stands, IsKept, IsKeptWorld};
 
 use crate::opening::the_opening_is_sound;
-use rp_machine::Machine;
+use rp_machine::{Machine, a_call_has_one_answer};
 
 /// What an input comes to at a node keeps the invariant with what tasks are told; so do a stop
 /// within that step, however many bytes of its record are kept, a stop, a restart, and torn bytes
@@ -114,7 +114,9 @@ pub fn answers_are_one<M: Machine>()
         → IsAnswerOf M.next M.answers (M.begin program) order call one
         → IsAnswerOf M.next M.answers (M.begin program) order call other
         → one ≡ other }
-{}
+{
+    a_call_has_one_answer::<M>();
+}
 
 /// At a program of a machine the first standing of a call in the order is its place, where it
 /// counts. So no call is passed over; and what stands again later counts no more.

@@ -15,36 +15,42 @@ use Rattle.rp_model.specs.Events.{Event, IsEvent}
 use Rattle.rp_model.specs.Growing.{Grows}
 use Rattle.rp_model.specs.Receiving.{receives}
 use Rattle.rp_model.specs.World.{World, Happening, part_at, node_done, node_done_if, node_hears, node_is_told, arrives, delivers, event_effect}
-use Rattle.std.specs.Prelude.{unwrap_or}
+use Rattle.std.specs.Prelude.{suc, slice_get, unwrap_or}
 use Rattle.rp_base.specs.Records.{applied_of}
 use Rattle.rp_base.specs.declared.action.Action.{Action}
 use Rattle.rp_base.specs.declared.reply.Answer.{Answer}
+use Rattle.rp_machine.specs.Calls.{CallName}
+use Rattle.rp_machine.specs.Places.{IsPlace, IsAnswerOf}
 use Rattle.rp_machine.specs.Replay.{replay_of}
-use Rattle.rp_model.specs.Parts.{fresh_node}
+use Rattle.rp_model.specs.Facts.{IsOrder}
+use Rattle.rp_model.specs.declared.part.TaskPart.{TaskPart}
+use Rattle.rp_model.specs.Parts.{fresh_node, fresh_task}
 use Rattle.rp_agreement.specs.Sound.{IsSound}
-use Rattle.rp_agreement.specs.Order.{AllSent, AreAlike}
-use Rattle.rp_agreement.specs.Worlds.{IsSoundWorld, node_in}
-use Rattle.rp_world.specs.Agreeing.{Agree}
+use Rattle.rp_agreement.specs.Order.{AllSent, Begins, AreAlike}
+use Rattle.rp_agreement.specs.Computed.{order_of}
+use Rattle.rp_agreement.specs.Answered.{named, task_in, IsKept, IsKeptWorld}
+use Rattle.rp_agreement.specs.Worlds.{node_in}
+use Rattle.rp_world.specs.Agreeing.{Agree, IsOrdered}
 use Rattle.rp_world.specs.Shape.{IsCluster}
 use Rattle.rp_world.specs.Steps.{AnswersBy}
 
 -- each event keeps the invariant
 abbrev pub Keeps : {S : Type 0} → Setting S → Type 0
-Keeps s = (world : World) (event : Event) (happening : Happening) → IsRightConfig s.config → IsSoundWorld s.config.nodes world
-    → IsEvent event → event_effect s world event ≡ Ok happening → IsSoundWorld s.config.nodes happening.world
+Keeps s = (world : World) (event : Event) (happening : Happening) → IsRightConfig s.config → IsKeptWorld s world
+    → IsEvent event → event_effect s world event ≡ Ok happening → IsKeptWorld s happening.world
 
 module _ {S : Type 0} (s : Setting S) (keeps : Keeps s) (w new : World) (event : Event) (ranges : IsEvent event) where
   sound_by : (wanted : Result Happening Fault) (answer : Result Effect Fault) → event_effect s w event ≡ wanted → AnswersBy w new wanted answer
-      → IsCluster s.config w → IsCluster s.config new
+      → IsCluster s w → IsCluster s new
   sound_by (Ok happening) (Ok effect) came answers is =
-      let after = keeps w event happening is.right is.sound ranges came in
-      subst (IsCluster s.config) (sym answers.0) (record { right = is.right; sound = after })
-  sound_by (Ok happening) (Err fault) came answers is = subst (IsCluster s.config) (sym answers.0) is
+      let after = keeps w event happening is.right is.kept ranges came in
+      subst (IsCluster s) (sym answers.0) (record { right = is.right; kept = after })
+  sound_by (Ok happening) (Err fault) came answers is = subst (IsCluster s) (sym answers.0) is
   sound_by (Err refusal) (Ok effect) came answers is = absurd answers
-  sound_by (Err refusal) (Err fault) came answers is = subst (IsCluster s.config) (sym answers.0) is
+  sound_by (Err refusal) (Err fault) came answers is = subst (IsCluster s) (sym answers.0) is
 
   -- a cluster stays one, whatever a step answers
-  pub stays_cluster : (answer : Result Effect Fault) → AnswersBy w new (event_effect s w event) answer → IsCluster s.config w → IsCluster s.config new
+  pub stays_cluster : (answer : Result Effect Fault) → AnswersBy w new (event_effect s w event) answer → IsCluster s w → IsCluster s new
   stays_cluster answer answers is = sound_by (event_effect s w event) answer refl answers is
 
 -- a packet is taken by a node that runs
@@ -84,16 +90,39 @@ module _ {S : Type 0} (next : S → Action → S) (answers : S → Action → Li
   here : (w : World) (x : ℕ) (part : NodePart) → part_at w.nodes x ≡ Some part → node_in w.nodes x ≡ part
   here w x part is = ap (λ (o : Option NodePart). unwrap_or o fresh_node) is
 
-  pub agree : (now later : World) → IsSoundWorld nodes now → IsSoundWorld nodes later → AllSent now.sent later.sent → Agree next answers begin now later
+  pub agree : (now later : World) → IsSound nodes (node_in now.nodes) now.sent → IsSound nodes (node_in later.nodes) later.sent → AllSent now.sent later.sent → Agree next answers begin now later
   agree now later sound after sent = record {
     applied = λ x y one other p q.
         subst (λ (b : NodePart). AreAlike (applied_of one.records) (applied_of b.records)) (here later y other q)
         (subst (λ (a : NodePart). AreAlike (applied_of a.records) (applied_of (node_in later.nodes y).records)) (here now x one p)
-        (alike nodes (node_in now.nodes) (node_in later.nodes) now.sent later.sent sound.sound after.sound sent x y));
+        (alike nodes (node_in now.nodes) (node_in later.nodes) now.sent later.sent sound after sent x y));
     states = λ x y one other p q.
         let P : NodePart → NodePart → Type 0 = λ a b. length (applied_of a.records) ≡ length (applied_of b.records)
             → replay_of next answers begin (applied_of a.records) ≡ replay_of next answers begin (applied_of b.records) in
         subst (λ (b : NodePart). P one b) (here later y other q)
         (subst (λ (a : NodePart). P a (node_in later.nodes y)) (here now x one p)
-        (states nodes (node_in now.nodes) (node_in later.nodes) now.sent later.sent sound.sound after.sound sent x y));
+        (states nodes (node_in now.nodes) (node_in later.nodes) now.sent later.sent sound after sent x y));
   }
+
+-- and there is one order, by which each reply is an answer
+module _ {S : Type 0} (s : Setting S)
+    (exists : (n : ℕ) (sent : List Message) → IsOrder n sent (order_of n sent))
+    (begins : (n : ℕ) (node : ℕ → NodePart) (sent : List Message) → IsSound n node sent → (order : List Action) → IsOrder n sent order → (x : ℕ) → Begins (applied_of (node x).records) order)
+    (tells : (node : ℕ → NodePart) (task : ℕ → TaskPart) (sent : List Message) → IsKept s node task sent → (t k : ℕ) (answer : Answer) → slice_get (task t).replies k ≡ Some answer
+      → IsAnswerOf s.next s.answers s.begin (order_of s.config.nodes sent) (named t (suc k)) answer)
+    (once : (actions : List Action) (call : CallName) (one other : ℕ) → IsPlace s.next s.answers s.begin actions call one → IsPlace s.next s.answers s.begin actions call other → one ≡ other) where
+  pub ordered : (w : World) → IsKeptWorld s w → IsOrdered s.next s.answers s.begin s.config.nodes w
+  ordered w kept =
+      let nodes = s.config.nodes in
+      let order = order_of nodes w.sent in
+      record {
+        order = order;
+        decided = exists nodes w.sent;
+        applied = λ x part p.
+            subst (λ (a : NodePart). Begins (applied_of a.records) order) (ap (λ (o : Option NodePart). unwrap_or o fresh_node) p)
+            (begins nodes (node_in w.nodes) w.sent kept.kept.sound order (exists nodes w.sent) x);
+        replies = λ t k part answer p is.
+            let here : task_in w.tasks t ≡ part = ap (λ (o : Option TaskPart). unwrap_or o fresh_task) p in
+            tells (node_in w.nodes) (task_in w.tasks) w.sent kept.kept t k answer (ap (λ (a : TaskPart). slice_get a.replies k) here ∙ is);
+        once = once order;
+      }

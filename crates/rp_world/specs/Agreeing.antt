@@ -1,12 +1,16 @@
 -- What nodes have in common (this project's own).
-use Rattle.std.specs.Prelude.{◌≡◌, ℕ, Some, List, length}
+use Rattle.std.specs.Prelude.{◌≡◌, ℕ, suc, Some, List, length, slice_get}
 use Rattle.rp_base.specs.Records.{applied_of}
 use Rattle.rp_base.specs.declared.action.Action.{Action}
 use Rattle.rp_base.specs.declared.reply.Answer.{Answer}
+use Rattle.rp_machine.specs.Calls.{CallName}
+use Rattle.rp_machine.specs.Places.{IsPlace, IsAnswerOf}
 use Rattle.rp_machine.specs.Replay.{replay_of}
+use Rattle.rp_model.specs.Facts.{IsOrder}
 use Rattle.rp_model.specs.World.{World, part_at}
 use Rattle.rp_model.specs.declared.part.NodePart.{NodePart}
-use Rattle.rp_agreement.specs.Order.{AreAlike}
+use Rattle.rp_model.specs.declared.part.TaskPart.{TaskPart}
+use Rattle.rp_agreement.specs.Order.{Begins, AreAlike}
 
 module _ {S : Type 0} (next : S → Action → S) (answers : S → Action → List Answer) (begin : S) where
   -- Of what two nodes have applied, the one now and the other later, one begins the other; and where they
@@ -17,3 +21,14 @@ module _ {S : Type 0} (next : S → Action → S) (answers : S → Action → Li
     pub states : (x y : ℕ) (one other : NodePart) → part_at now.nodes x ≡ Some one → part_at later.nodes y ≡ Some other
         → length (applied_of one.records) ≡ length (applied_of other.records)
         → replay_of next answers begin (applied_of one.records) ≡ replay_of next answers begin (applied_of other.records)
+
+  -- There is one order in which all happens: what each node has applied begins it, each reply that a task
+  -- got is the answer that it gives to the task's call of that number, and a call takes effect at one
+  -- place of it at most.
+  pub record IsOrdered (nodes : ℕ) (w : World) : Type 0 where
+    pub order : List Action
+    pub decided : IsOrder nodes w.sent order
+    pub applied : (x : ℕ) (part : NodePart) → part_at w.nodes x ≡ Some part → Begins (applied_of part.records) order
+    pub replies : (t k : ℕ) (part : TaskPart) (answer : Answer) → part_at w.tasks t ≡ Some part → slice_get part.replies k ≡ Some answer
+        → IsAnswerOf next answers begin order (record { task = t; number = suc k }) answer
+    pub once : (call : CallName) (one other : ℕ) → IsPlace next answers begin order call one → IsPlace next answers begin order call other → one ≡ other

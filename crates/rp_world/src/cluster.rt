@@ -10,18 +10,19 @@ ghost use Rattle.rp_model.specs.Events.{Makes, Deliver, Lead, IsEvent, event_of}
 ghost use Rattle.rp_model.specs.World.{opening_world, delivers, node_takes, event_effect, part_at};
 ghost use Rattle.rp_world.specs.Steps.{AnswersBy, IsSameSetup, IsStep, setting_of, IsToldOf, IsToldUnlessMemory};
 ghost use Rattle.rp_agreement.specs.Order.{AllSent};
-ghost use Rattle.rp_agreement.specs.Worlds.{IsSoundWorld};
-ghost use Rattle.rp_world.specs.Agreeing.{Agree};
+ghost use Rattle.rp_agreement.specs.Answered.{IsKeptWorld};
+ghost use Rattle.rp_world.specs.Agreeing.{Agree, IsOrdered};
 ghost use Rattle.rp_world.specs.Runs.{IsRun};
 
 use crate::effect::{Refused, nothing};
 use crate::world::World;
 use rp_agreement::{
-    applied_lists_are_alike, events_keep, states_are_alike, the_opening_is_sound,
+    applied_lists_are_alike, applied_lists_begin_the_order, events_keep_replies,
+    replies_tell_the_order, states_are_alike, the_order_exists,
 };
 use rp_base::{Answer, Config, Fault, NodeId, Position, TaskId};
 use rp_codec::{Body, Party, encode};
-use rp_machine::Machine;
+use rp_machine::{Machine, a_call_has_one_place};
 use rp_model::{
     Effect, Event, RightRecord, Step, applied_count, applied_of, on_lead, receives, replay,
     worlds_grow,
@@ -39,14 +40,15 @@ pub struct Cluster<M: Machine> {
 }
 
 impl<M: Machine> Model for Cluster<M> {
-    ghost use Rattle.rp_world.specs.Steps.{Setup};
+    ghost use Rattle.rp_world.specs.Steps.{Setup, setting_of};
     ghost use Rattle.rp_world.specs.Shape.{IsCluster};
 
     ghost Value = { Setup M.Program };
 
     ghost view = { λ c. record { config = c.config; program = c.program; world = c.world } };
 
-    ghost invariant = { λ c. IsCluster c.config c.world };
+    ghost invariant = { λ c. IsCluster (setting_of M.next M.answers M.begin
+        (record { config = c.config; program = c.program; world = c.world })) c.world };
 }
 
 impl<M: Machine> Cluster<M> {
@@ -63,7 +65,7 @@ impl<M: Machine> Cluster<M> {
         if !config.is_right() || config.max_positions != 1 {
             return Err(Fault::BadConfig);
         }
-        the_opening_is_sound();
+        replies_tell_the_order::<M>();
         Ok(Cluster {
             config,
             program,
@@ -90,7 +92,7 @@ impl<M: Machine> Cluster<M> {
         ensures setup { IsSameSetup self.old self.new }
     {
         event.keeps_ranges();
-        events_keep::<M>();
+        events_keep_replies::<M>();
         match *event {
             Event::Submit {
                 task,
@@ -107,17 +109,24 @@ impl<M: Machine> Cluster<M> {
     }
 
     /// The steps of these events one after another, up to the first that is refused. Whatever they
-    /// are, nodes agree, before the run and behind it.
+    /// are, nodes agree, before the run and behind it, and what they have applied begins one order, in
+    /// which each reply that a task got is the answer to its call, and no call takes effect twice.
     pub fn run(&mut self, alloc: Global, events: &[Event]) -> Result<(), Refused>
         ensures run { IsRun M.next M.answers M.begin self.old events.now self.new result }
         ensures agree { Agree M.next M.answers (M.begin self.old.program)
             self.old.world self.new.world }
+        ensures ordered { IsOrdered M.next M.answers (M.begin self.old.program)
+            self.old.config.nodes self.new.world }
     {
-        self.is_sound();
+        self.is_kept();
         let ran = self.run_all(alloc, events);
-        self.is_sound();
+        self.is_kept();
         applied_lists_are_alike();
         states_are_alike::<M>();
+        the_order_exists();
+        applied_lists_begin_the_order();
+        replies_tell_the_order::<M>();
+        a_call_has_one_place::<M>();
         ran
     }
 
@@ -135,10 +144,10 @@ impl<M: Machine> Cluster<M> {
         Ok(())
     }
 
-    /// The cluster's world meets the invariant by which nodes agree. It does nothing: what it promises
-    /// is for contracts.
-    fn is_sound(&self)
-        ensures { IsSoundWorld self.now.config.nodes self.now.world }
+    /// The cluster's world meets the invariant by which nodes agree and replies are the order's. It
+    /// does nothing: what it promises is for contracts.
+    fn is_kept(&self)
+        ensures { IsKeptWorld (setting_of M.next M.answers M.begin self.now) self.now.world }
     {
         let _ = self.world.messages();
     }
@@ -151,7 +160,7 @@ impl<M: Machine> Cluster<M> {
             (part_at self.old.world.sent number)) result }
         ensures setup { IsSameSetup self.old self.new }
     {
-        events_keep::<M>();
+        events_keep_replies::<M>();
         let first = self.world.next_number();
         let Some(packet) = self.world.message(number) else {
             return Err(Fault::NoSuchMessage);
@@ -200,7 +209,7 @@ impl<M: Machine> Cluster<M> {
             (part_at self.old.world.nodes node)) result }
         ensures setup { IsSameSetup self.old self.new }
     {
-        events_keep::<M>();
+        events_keep_replies::<M>();
         let Some(part) = self.world.node(node) else {
             return Err(Fault::BadConfig);
         };

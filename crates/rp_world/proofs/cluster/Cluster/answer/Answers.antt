@@ -15,5 +15,5 @@ invariant_of-self g c =
     let s = setting_of m.next m.answers m.begin (record { config = c.self.inside.config; program = c.self.inside.program; world = w }) in
     let call = c.in-Submit in
     let ranges : IsEvent (Submit call.task call.node call.object call.operation call.arg) = subst (λ (event : Event). IsEvent (event_of event)) call.is c.keeps_ranges.ensures in
-    stays_cluster s (c.events_keep.ensures.effect s) w c.calls.new.self (Submit call.task call.node call.object call.operation call.arg) ranges c.calls.result
+    stays_cluster s (c.events_keep_replies.ensures.effect s) w c.calls.new.self (Submit call.task call.node call.object call.operation call.arg) ranges c.calls.result
     (subst (λ (arg : ℤ). AnswersBy w c.calls.new.self (event_effect s w (Submit call.task call.node call.object call.operation arg)) c.calls.result) (to_z-of_z w64 call.arg ranges.4) c.calls.ensures) c.self.invariant

@@ -31,7 +31,7 @@ invariant_of-self g c =
     let is : receives s.next s.answers s.begin s.config c.in-Node.node part.records running message ≡ turn =
     subst (λ (records : List Rec). receives s.next s.answers s.begin s.config c.in-Node.node records running message ≡ turn) c.as_slice-records.ensures (sym c.in_ok-turn-in-Node.ensures) in
     let answers = subst (λ (o : Option NodePart). IfSome o (λ p. AnswersBy w c.turns.new.self (Ok (node_done w c.in-Node.node (turned p turn))) c.turns.result)) here c.turns.ensures in
-    stays_cluster s (c.events_keep.ensures.effect s) w c.turns.new.self (Makes (Deliver c.args.number)) c.requires.ranges c.turns.result
+    stays_cluster s (c.events_keep_replies.ensures.effect s) w c.turns.new.self (Makes (Deliver c.args.number)) c.requires.ranges c.turns.result
     (subst (λ (r : Result Happening Fault). AnswersBy w c.turns.new.self r c.turns.result) (sym (heard s w c.args.number c.in-Node.node message part running sent to here runs turn is)) answers)
     c.self.invariant
 
@@ -43,7 +43,7 @@ invariant_of-self-in-Task g c =
     let sent : part_at w.sent c.args.number ≡ Some c.in-Some.packet.now = cc (ap option_copied c.in-Some.is, c.message.ensures) in
     let to : c.in-Some.packet.now.to ≡ Task c.in-Task.task = cc (c.in-Task.is, c.to.ensures) in
     let body : c.in-Some.packet.now.body ≡ Reply c.in-Reply.number c.in-Reply.reply = cc (c.in-Reply.is, c.body.ensures.value) in
-    stays_cluster s (c.events_keep.ensures.effect s) w c.takes.new.self (Makes (Deliver c.args.number)) c.requires.ranges c.takes.result
+    stays_cluster s (c.events_keep_replies.ensures.effect s) w c.takes.new.self (Makes (Deliver c.args.number)) c.requires.ranges c.takes.result
     (replied s w c.takes.new.self c.in-Task.task c.in-Reply.number c.in-Reply.reply c.takes.result c.in-Some.packet.now c.args.number sent to body c.takes.ensures)
     c.self.invariant
 

@@ -28,7 +28,7 @@ invariant_of-self g c =
     let is : on_lead m.next m.answers begin config c.args.node part.records running c.args.position ≡ Ok c.in-Ok.turn =
     subst (λ (records : List Rec). on_lead m.next m.answers begin config c.args.node records running c.args.position ≡ Ok c.in-Ok.turn) c.as_slice-records.ensures c.in-Ok.ensures in
     let answers = subst (λ (o : Option NodePart). IfSome o (λ p. AnswersBy w c.turns.new.self (Ok (node_done w c.args.node (turned p c.in-Ok.turn))) c.turns.result)) here c.turns.ensures in
-    stays_cluster s (c.events_keep.ensures.effect s) w c.turns.new.self (Makes (Lead c.args.node c.args.position)) c.requires.ranges c.turns.result
+    stays_cluster s (c.events_keep_replies.ensures.effect s) w c.turns.new.self (Makes (Lead c.args.node c.args.position)) c.requires.ranges c.turns.result
     (led s w c.args.node c.args.position part running here runs c.turns.new.self c.in-Ok.turn c.turns.result is answers)
     c.self.invariant
 

@@ -81,7 +81,7 @@ impl Entry {
 impl Operations {
     /// Whether there are at most 8 functions and 8 procedures, and each function, each body and the
     /// entry keep the limits.
-    pub(crate) fn fit(&self, limits: &Limits) -> bool
+    pub fn fit(&self, limits: &Limits) -> bool
         ensures { IsTrue result ↔ OperationsFit limits.now self.now }
     {
         let entry_fits = match &self.entry {

@@ -1,0 +1,14 @@
+-- How memory holds a program that runs (this project's own; no public clause names it).
+use Rattle.std.specs.Prelude.{◌≡◌, ℤ, ◌≤◌, Option, List, length}
+use Rattle.std.specs.List.{All}
+use Rattle.rp_entry.specs.Queue.{longest_queue}
+use Rattle.rp_entry.specs.Protected.{Protected}
+use Rattle.rp_object.specs.declared.program.Declarations.{Declarations}
+use Rattle.rp_object.specs.Program.{IsProgram}
+
+-- the program is right, each object and each timing event that is declared is there, and no queue is too long
+pub record IsHeld (program : Declarations) (objects : List Protected) (timers : List (Option ℤ)) : Type 0 where
+  pub right : IsProgram program
+  pub all_objects : length objects ≡ length program.objects.items
+  pub all_timers : length timers ≡ length program.timers.items
+  pub short : All (λ object. length object.state.queue ≤ longest_queue) objects

@@ -1,0 +1,13 @@
+//! All protected objects of an Ada program, with their tasks, interrupts and timing events, as a
+//! machine that a log drives.
+//!
+//! In reading order:
+//! - `program`: what is declared before anything runs
+//! - `objects`: a program that runs
+#![tactic(auto)]
+
+mod objects;
+mod program;
+
+pub use objects::Objects;
+pub use program::{Declarations, Handler, ObjectDeclaration, Program, TimingEvent};

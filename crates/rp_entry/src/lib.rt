@@ -19,5 +19,5 @@ pub use laws::{
     actions_keep_ranges, servicing_has_one_end,
 };
 pub use object::Object;
-pub use operations::{Entry, Function, Operations};
+pub use operations::{Entry, Function, Operations, of_index};
 pub use state::{CallOutcome, Done, Waiting};

@@ -120,8 +120,8 @@ fn procedures_fit(procedures: &[Vec<Stmt>], limits: &Limits) -> bool
     true
 }
 
-/// The one of this index, counted from 1, or `None` where there is none.
-pub(crate) fn of_index<T>(items: &[T], index: u8) -> Option<&T>
+/// The one of this index, counted from 1, or `None` where there is none. Its cost is constant.
+pub fn of_index<T>(items: &[T], index: u8) -> Option<&T>
     ensures { option_copied result ≡ of_index items.now index }
 {
     items.get(usize::from(index.checked_sub(1)?))

@@ -1,5 +1,5 @@
 -- How memory holds a program that runs (this project's own; no public clause names it).
-use Rattle.std.specs.Prelude.{◌≡◌, ℤ, ◌≤◌, Option, List, length}
+use Rattle.std.specs.Prelude.{◌≡◌, ℕ, ℤ, ◌≤◌, Option, List, length, sum_by}
 use Rattle.std.specs.List.{All}
 use Rattle.rp_entry.specs.Queue.{longest_queue}
 use Rattle.rp_entry.specs.Protected.{Protected}
@@ -12,3 +12,7 @@ pub record IsHeld (program : Declarations) (objects : List Protected) (timers : 
   pub all_objects : length objects ≡ length program.objects.items
   pub all_timers : length timers ≡ length program.timers.items
   pub short : All (λ object. length object.state.queue ≤ longest_queue) objects
+
+-- how many calls wait at these objects
+abbrev pub waiting_count : List Protected → ℕ
+waiting_count objects = sum_by (λ object. length object.state.queue) objects

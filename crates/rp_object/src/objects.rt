@@ -1,14 +1,15 @@
 //! A program that runs.
 
-ghost use Rattle.std.specs.Prelude.{◌≡◌, ◌↔◌, ◌≤◌, IsTrue, Some, None, List, [], ◌++◌, length, option_to_list};
+ghost use Rattle.std.specs.Prelude.{◌≡◌, ◌↔◌, ◌≤◌, IsTrue, Some, None, List, [], ◌++◌, ◌+◌, length, option_to_list};
 ghost use Rattle.rp_base.specs.declared.reply.Answer.{Answer};
 ghost use Rattle.rp_entry.specs.Actions.{calls_function, calls_procedure, calls_entry, event};
 ghost use Rattle.rp_object.specs.State.{Running};
 ghost use Rattle.rp_object.specs.Step.{Result, asks, is_set, with_timer};
+ghost use Rattle.rp_object.specs.Held.{waiting_count};
 
 use crate::program::{Declarations, Handler};
-use rp_base::Answers;
-use rp_entry::{Done, CallOutcome, Object, Waiting};
+use rp_base::{Action, Answer, Answers, Operation, Reply, TaskId};
+use rp_entry::{CallOutcome, Done, Object};
 use std::alloc::Global;
 use std::marker::Model;
 use std::sync::Arc;
@@ -68,14 +69,43 @@ impl Objects {
     }
 
     /// Calls the entry of the object.
-    fn entry(&mut self, object: u8, call: Waiting) -> Done
+    fn entry(&mut self, object: u8, task: TaskId, number: u32, arg: i64) -> Done
         requires there { 1 ≤ object }
         requires declared { object ≤ length self.old.state.objects }
-        ensures action { asks self.old.state object (calls_entry call)
+        ensures action { asks self.old.state object
+            (calls_entry (record { task = task; number = number; arg = arg }))
             ≡ record { caller = Some result.outcome; told = result.served; after = self.new.state } }
         ensures served { length result.served ≤ 1 }
         ensures program { self.new.program ≡ self.old.program }
     {
-        self.objects[usize::from(object) - 1].entry(call.task, call.number, call.arg)
+        self.objects[usize::from(object) - 1].entry(task, number, arg)
+    }
+
+    /// Runs a handler.
+    fn handle(&mut self, handler: Handler) -> Answers
+        requires there { 1 ≤ handler.object }
+        requires declared { handler.object ≤ length self.old.state.objects }
+        ensures action { asks self.old.state handler.object (event handler.procedure)
+            ≡ record { caller = None; told = result; after = self.new.state } }
+        ensures program { self.new.program ≡ self.old.program }
+        ensures room { length result + waiting_count self.new.state.objects
+            ≡ waiting_count self.old.state.objects }
+    {
+        self.objects[usize::from(handler.object) - 1].handler(handler.procedure)
+    }
+
+    /// Sets a timing event, or sets it no longer, and tells whether it was set.
+    fn set_timer(&mut self, number: u8, time: Option<i64>) -> bool
+        requires there { 1 ≤ number }
+        requires declared { number ≤ length self.old.state.timers }
+        ensures was { result ≡ is_set self.old.state number }
+        ensures timer { self.new ≡ record self.old {
+          state = with_timer self.old.state number time;
+        } }
+    {
+        let place = usize::from(number) - 1;
+        let was = self.timers[place].is_some();
+        self.timers[place] = time;
+        was
     }
 }

@@ -3,10 +3,11 @@
 ghost use Rattle.std.specs.Prelude.{◌≡◌, ◌↔◌, IsTrue, SomeIff};
 ghost use Rattle.std.specs.Arc.{arc_value};
 ghost use Rattle.std.specs.List.{All};
-ghost use Rattle.rp_object.specs.Program.{IsPriority, DeclarationFits, IsProgram};
+ghost use Rattle.rp_object.specs.Program.{has_operation, object_has, is_offered, is_declared, is_within_ceiling, IsProgram};
 
+use rp_base::{Operation, TaskId};
 use rp_body::Components;
-use rp_entry::Operations;
+use rp_entry::{Operations, of_index};
 use std::alloc::Global;
 use std::marker::Model;
 use std::sync::Arc;
@@ -74,4 +75,61 @@ impl Model for Program {
     ghost view = { λ p. arc_value p.declarations };
 
     ghost invariant = { λ p. IsProgram (arc_value p.declarations) };
+}
+
+impl Declarations {
+    /// Whether the task is declared, and the object has what it calls.
+    pub(crate) fn declares(&self, task: TaskId, object: u8, operation: Operation) -> bool
+        ensures { result ≡ is_declared self.now task object operation }
+    {
+        of_index(&self.priorities, task.get()).is_some() && self.offers(object, operation)
+    }
+
+    /// Whether the object has what is called: an operation, or a timing event whose handler is its.
+    fn offers(&self, object: u8, operation: Operation) -> bool
+        ensures { result ≡ is_offered self.now object operation }
+    {
+        match operation {
+            Operation::SetTimer(number) | Operation::CancelTimer(number) => {
+                match of_index(&self.timers, number) {
+                    Some(timer) => timer.handler.object == object,
+                    None => false,
+                }
+            }
+            _ => self.object_has(object, operation),
+        }
+    }
+
+    /// Whether the object has the function, the procedure or the entry.
+    fn object_has(&self, object: u8, operation: Operation) -> bool
+        ensures { result ≡ object_has self.now object operation }
+    {
+        match of_index(&self.objects, object) {
+            Some(declared) => has_operation(&declared.operations, operation),
+            None => false,
+        }
+    }
+
+    /// Whether the task's base priority is not above the object's ceiling (Ada Reference Manual,
+    /// section D.3).
+    pub(crate) fn is_within_ceiling(&self, task: TaskId, object: u8) -> bool
+        ensures { result ≡ is_within_ceiling self.now task object }
+    {
+        match (of_index(&self.priorities, task.get()), of_index(&self.objects, object)) {
+            (Some(priority), Some(declared)) => *priority <= declared.ceiling,
+            _ => false,
+        }
+    }
+}
+
+/// Whether the function, the procedure or the entry is among these operations.
+fn has_operation(operations: &Operations, operation: Operation) -> bool
+    ensures { result ≡ has_operation operation operations.now }
+{
+    match operation {
+        Operation::Function(index) => of_index(&operations.functions, index).is_some(),
+        Operation::Procedure(index) => of_index(&operations.procedures, index).is_some(),
+        Operation::Entry(_) => operations.entry.is_some(),
+        Operation::SetTimer(_) | Operation::CancelTimer(_) => false,
+    }
 }

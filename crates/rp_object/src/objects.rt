@@ -1,15 +1,17 @@
 //! A program that runs.
 
-ghost use Rattle.std.specs.Prelude.{◌≡◌, ◌↔◌, ◌≤◌, IsTrue, Some, None, List, [], ◌++◌, ◌+◌, length, option_to_list};
+ghost use Rattle.std.specs.Prelude.{◌≡◌, ◌↔◌, ◌≤◌, max, IsTrue, Some, None, IfSome, IfNone, List, [], ◌∷◌, ◌++◌, ◌+◌, length, option_to_list};
 ghost use Rattle.rp_base.specs.declared.reply.Answer.{Answer};
 ghost use Rattle.rp_entry.specs.Actions.{calls_function, calls_procedure, calls_entry, event};
 ghost use Rattle.rp_object.specs.State.{Running};
-ghost use Rattle.rp_object.specs.Step.{Result, asks, is_set, with_timer};
+ghost use Rattle.rp_object.specs.Program.{is_declared, interrupt_handler};
+ghost use Rattle.rp_object.specs.Step.{Result, asks, is_set, with_timer, called, allowed, handled, fires, ticked};
+ghost use Rattle.rp_object.specs.Timers.{due_events};
 ghost use Rattle.rp_object.specs.Held.{waiting_count};
 
 use crate::program::{Declarations, Handler};
 use rp_base::{Action, Answer, Answers, Operation, Reply, TaskId};
-use rp_entry::{CallOutcome, Done, Object};
+use rp_entry::{CallOutcome, Done, Object, of_index};
 use std::alloc::Global;
 use std::marker::Model;
 use std::sync::Arc;
@@ -26,7 +28,8 @@ pub struct Objects {
 impl Model for Objects {
     ghost use Rattle.std.specs.Arc.{arc_value};
     ghost use Rattle.rp_object.specs.State.{Running, running_code};
-    ghost use Rattle.rp_object.specs.Held.{IsHeld};
+    ghost use Rattle.rp_object.specs.Timers.{due_events};
+ghost use Rattle.rp_object.specs.Held.{IsHeld};
 
     ghost Value = { Running };
 
@@ -107,5 +110,156 @@ impl Objects {
         let was = self.timers[place].is_some();
         self.timers[place] = time;
         was
+    }
+
+    /// The `number`th call of the task: what is not declared is refused before anything else.
+    fn call(
+        &mut self,
+        task: TaskId,
+        number: u32,
+        object: u8,
+        operation: Operation,
+        arg: i64,
+    ) -> Done
+        ensures action { called self.old.program self.old.state
+            (record { task = task; number = number; arg = arg }) object operation
+            ≡ record { caller = Some result.outcome; told = result.served; after = self.new.state } }
+        ensures served { length result.served ≤ 1 }
+        ensures program { self.new.program ≡ self.old.program }
+    {
+        if self.declarations.declares(task, object, operation) {
+            self.allowed(task, number, object, operation, arg)
+        } else {
+            Done::alone(CallOutcome::Reply(Reply::NoSuchOperation))
+        }
+    }
+
+    /// A call of what is declared. Timing events are not checked against the ceiling.
+    fn allowed(
+        &mut self,
+        task: TaskId,
+        number: u32,
+        object: u8,
+        operation: Operation,
+        arg: i64,
+    ) -> Done
+        requires declared { IsTrue (is_declared self.old.program task object operation) }
+        ensures action { allowed self.old.program self.old.state
+            (record { task = task; number = number; arg = arg }) object operation
+            ≡ record { caller = Some result.outcome; told = result.served; after = self.new.state } }
+        ensures served { length result.served ≤ 1 }
+        ensures program { self.new.program ≡ self.old.program }
+    {
+        let within = self.declarations.is_within_ceiling(task, object);
+        match operation {
+            Operation::SetTimer(timer) => {
+                self.set_timer(timer, Some(arg));
+                Done::alone(CallOutcome::Reply(Reply::Value(0)))
+            }
+            Operation::CancelTimer(timer) => {
+                let was_set = self.set_timer(timer, None);
+                Done::alone(CallOutcome::Reply(Reply::Truth(was_set)))
+            }
+            Operation::Function(index) if within => self.function(object, index, arg),
+            Operation::Procedure(index) if within => self.procedure(object, index, arg),
+            Operation::Entry(_) if within => self.entry(object, task, number, arg),
+            _ => Done::alone(CallOutcome::Reply(Reply::ProgramError)),
+        }
+    }
+
+    /// The time of a timing event has come: it is no longer set, and then its handler runs.
+    fn fire(&mut self, number: u8) -> Answers
+        requires there { 1 ≤ number }
+        requires declared { number ≤ length self.old.state.timers }
+        ensures action { fires self.old.program self.old.state number
+            ≡ record { caller = None; told = result; after = self.new.state } }
+        ensures program { self.new.program ≡ self.old.program }
+        ensures timers { self.new.state.timers
+            ≡ (with_timer self.old.state number None).timers }
+        ensures clock { self.new.state.clock ≡ self.old.state.clock }
+        ensures room { length result + waiting_count self.new.state.objects
+            ≡ waiting_count self.old.state.objects }
+    {
+        self.set_timer(number, None);
+        let handler = self.declarations.timers[usize::from(number) - 1].handler;
+        self.handle(handler)
+    }
+
+    /// An occurrence of an interrupt: its handler runs, if there is one.
+    fn interrupt(&mut self, source: u8) -> Answers
+        ensures action { handled self.old.state (interrupt_handler self.old.program source)
+            ≡ record { caller = None; told = result; after = self.new.state } }
+        ensures program { self.new.program ≡ self.old.program }
+    {
+        match of_index(&self.declarations.interrupts, source) {
+            Some(handler) => {
+                let handler = *handler;
+                self.handle(handler)
+            }
+            None => Answers::new(),
+        }
+    }
+
+    /// The timing event that fires next: of those that are due, the first by time and number.
+    fn next_due(&self) -> Option<u8>
+        ensures there { IfSome result (λ number. (1 ≤ number)
+            × (number ≤ length self.now.state.timers)) }
+        ensures first { let now = self.now.state in IfSome result (λ number.
+            due_events now.clock now.timers
+            ≡ number ∷ due_events now.clock (with_timer now number None).timers) }
+        ensures none { let now = self.now.state in
+            IfNone result (due_events now.clock now.timers ≡ []) }
+    {
+        let mut next: Option<(i64, u8)> = None;
+        let mut number = 0;
+        for timer in &self.timers {
+            number += 1;
+            if let Some(time) = *timer {
+                let is_next = match next {
+                    Some((earliest, _)) => time < earliest,
+                    None => time <= i64::from(self.clock),
+                };
+                if is_next {
+                    next = Some((time, number));
+                }
+            }
+        }
+        let (_, number) = next?;
+        Some(number)
+    }
+
+    /// Raises the clock where it is below `now`.
+    fn raise_clock(&mut self, now: u32)
+        ensures { self.new ≡ record self.old {
+          state = record self.old.state { clock = max self.old.state.clock now };
+        } }
+    {
+        self.clock = self.clock.max(now);
+    }
+
+    /// The clock is at least `now`: it is raised where it is below, and then the timing events that are
+    /// due fire, one after another.
+    fn tick(&mut self, now: u32) -> Answers
+        ensures action { ticked self.old.program self.old.state now
+            ≡ record { caller = None; told = result; after = self.new.state } }
+        ensures program { self.new.program ≡ self.old.program }
+    {
+        self.raise_clock(now);
+        let mut answers = Answers::new();
+        while let Some(number) = self.next_due() {
+            let told = self.fire(number);
+            append(&mut answers, &told);
+        }
+        answers
+    }
+}
+
+/// Puts further answers behind the others.
+fn append(answers: &mut Answers, more: &Answers)
+    requires { length answers.old + length more.now ≤ 8 }
+    ensures { answers.new ≡ answers.old ++ more.now }
+{
+    for answer in more.as_slice() {
+        answers.push(*answer);
     }
 }

@@ -5,7 +5,7 @@ ghost use Rattle.rp_base.specs.declared.reply.Answer.{Answer};
 ghost use Rattle.rp_entry.specs.Actions.{calls_function, calls_procedure, calls_entry, event};
 ghost use Rattle.rp_object.specs.State.{Running};
 ghost use Rattle.rp_object.specs.Program.{is_declared, interrupt_handler};
-ghost use Rattle.rp_object.specs.Step.{Result, asks, is_set, with_timer, called, allowed, handled, fires, ticked};
+ghost use Rattle.rp_object.specs.Step.{Result, asks, is_set, with_timer, called, allowed, handled, fires, ticked, own_answer};
 ghost use Rattle.rp_object.specs.Timers.{due_events};
 ghost use Rattle.rp_object.specs.Held.{waiting_count};
 
@@ -230,7 +230,8 @@ impl Objects {
 
     /// Raises the clock where it is below `now`.
     fn raise_clock(&mut self, now: u32)
-        ensures { self.new ≡ record self.old {
+        ensures few { waiting_count self.new.state.objects ≤ 8 }
+        ensures clock { self.new ≡ record self.old {
           state = record self.old.state { clock = max self.old.state.clock now };
         } }
     {
@@ -252,6 +253,24 @@ impl Objects {
         }
         answers
     }
+}
+
+/// The answer to a call, if it does not wait, and behind it those to the callers that were served.
+fn answers_of(task: TaskId, number: u32, done: &Done) -> Answers
+    requires { length done.now.served ≤ 1 }
+    ensures { result ≡ own_answer (record { task = task; number = number }) (Some done.now.outcome)
+        ++ done.now.served }
+{
+    let mut answers = Answers::new();
+    if let CallOutcome::Reply(reply) = done.outcome {
+        answers.push(Answer {
+            task,
+            number,
+            reply,
+        });
+    }
+    append(&mut answers, &done.served);
+    answers
 }
 
 /// Puts further answers behind the others.

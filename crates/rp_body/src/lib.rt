@@ -16,5 +16,5 @@ mod tests;
 
 pub use components::{Components, Limits, Ranged};
 pub use expression::{Cond, Expr, truth, value};
-pub use laws::bodies_keep_ranges;
+pub use laws::{bodies_keep_booleans, bodies_keep_ranges};
 pub use statement::{Outcome, Stmt, check, run};

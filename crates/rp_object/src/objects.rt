@@ -5,7 +5,7 @@ ghost use Rattle.rp_base.specs.declared.reply.Answer.{Answer};
 ghost use Rattle.rp_entry.specs.Actions.{calls_function, calls_procedure, calls_entry, event};
 ghost use Rattle.rp_object.specs.State.{Running};
 ghost use Rattle.rp_object.specs.Program.{is_declared, interrupt_handler};
-ghost use Rattle.rp_object.specs.Step.{Result, asks, is_set, with_timer, called, allowed, handled, fires, ticked, own_answer};
+ghost use Rattle.rp_object.specs.Step.{Result, asks, is_set, with_timer, called, allowed, handled, fires, ticked, own_answer, objects_next, objects_answers};
 ghost use Rattle.rp_object.specs.Timers.{due_events};
 ghost use Rattle.rp_object.specs.Held.{waiting_count};
 
@@ -44,6 +44,29 @@ ghost use Rattle.rp_object.specs.Held.{IsHeld};
 }
 
 impl Objects {
+    /// Applies an action, and gives the answers that come of it: the caller's, and then those of the
+    /// callers that were served. It takes no memory.
+    pub fn apply(&mut self, action: &Action) -> Answers
+        ensures next { self.new ≡ objects_next self.old action.now }
+        ensures answers { result ≡ objects_answers self.old action.now }
+    {
+        match *action {
+            Action::Noop => Answers::new(),
+            Action::Call {
+                task,
+                number,
+                object,
+                operation,
+                arg,
+            } => {
+                let done = self.call(task, number, object, operation, arg);
+                answers_of(task, number, &done)
+            }
+            Action::Interrupt { source, .. } => self.interrupt(source),
+            Action::Tick { now } => self.tick(now),
+        }
+    }
+
     /// Calls a function of the object.
     fn function(&self, object: u8, index: u8, arg: i64) -> Done
         requires there { 1 ≤ object }

@@ -1,9 +1,10 @@
 //! What is declared before anything runs.
 
-ghost use Rattle.std.specs.Prelude.{◌≡◌, ◌↔◌, IsTrue, SomeIff};
+ghost use Rattle.std.specs.Prelude.{◌≡◌, ◌↔◌, true, IsTrue, SomeIff};
 ghost use Rattle.std.specs.Arc.{arc_value};
 ghost use Rattle.std.specs.List.{All};
-ghost use Rattle.rp_object.specs.Program.{has_operation, object_has, is_offered, is_declared, is_within_ceiling, IsProgram};
+ghost use Rattle.rp_object.specs.Program.{has_operation, object_has, is_offered, is_declared, is_within_ceiling, is_handler, IsPriority, DeclarationFits, IsProgram};
+ghost use Rattle.rp_body.specs.Ranges.{IsInRange};
 
 use rp_base::{Operation, TaskId};
 use rp_body::Components;
@@ -77,7 +78,135 @@ impl Model for Program {
     ghost invariant = { λ p. IsProgram (arc_value p.declarations) };
 }
 
+impl Program {
+    /// The program of these declarations, or `None` where they do not keep the limits: at most 8 of each
+    /// kind, priorities and ceilings 1 to 30, a name for each component, first values in their ranges,
+    /// operations that fit the components, and handlers that are there. It takes no memory.
+    pub fn new(declarations: Arc<Declarations, Global>) -> Option<Self>
+        ensures { SomeIff result (IsProgram (arc_value declarations)) (arc_value declarations) }
+    {
+        if declarations.is_program() {
+            Some(Program { declarations })
+        } else {
+            None
+        }
+    }
+
+    /// What is declared.
+    pub fn declarations(&self) -> &Declarations
+        ensures { result.now ≡ self.now }
+    {
+        &self.declarations
+    }
+}
+
+impl ObjectDeclaration {
+    /// Whether it keeps the limits.
+    fn fits(&self) -> bool
+        ensures { IsTrue result ↔ DeclarationFits self.now }
+    {
+        let limits = self.components.limits();
+        is_priority(self.ceiling)
+            && self.ints.len() == usize::from(limits.ints)
+            && self.bools.len() == usize::from(limits.bools)
+            && is_in_range(&self.components)
+            && self.operations.fit(&limits)
+    }
+}
+
+/// Whether a priority or a ceiling is 1 to 30.
+fn is_priority(number: u8) -> bool
+    ensures { IsTrue result ↔ IsPriority number }
+{
+    matches!(number, 1..=30)
+}
+
+/// Whether each whole number lies in its range.
+fn is_in_range(components: &Components) -> bool
+    ensures { IsTrue result ↔ IsInRange components.now }
+{
+    for name in 0..components.limits().ints {
+        if let Some(component) = components.int(name) {
+            if component.value < component.low || component.high < component.value {
+                return false;
+            }
+        }
+    }
+    true
+}
+
+/// Whether each is 1 to 30.
+fn are_priorities(priorities: &[u8]) -> bool
+    ensures { IsTrue result ↔ All IsPriority priorities.now }
+{
+    for priority in priorities {
+        if !is_priority(*priority) {
+            return false;
+        }
+    }
+    true
+}
+
+/// Whether each object keeps the limits.
+fn objects_fit(objects: &[ObjectDeclaration]) -> bool
+    ensures { IsTrue result ↔ All DeclarationFits objects.now }
+{
+    for object in objects {
+        if !object.fits() {
+            return false;
+        }
+    }
+    true
+}
+
 impl Declarations {
+    /// Whether they keep the limits.
+    fn is_program(&self) -> bool
+        ensures { IsTrue result ↔ IsProgram self.now }
+    {
+        self.priorities.len() <= MOST
+            && self.objects.len() <= MOST
+            && self.interrupts.len() <= MOST
+            && self.timers.len() <= MOST
+            && are_priorities(&self.priorities)
+            && objects_fit(&self.objects)
+            && self.interrupts_are_handled()
+            && self.timers_are_handled()
+    }
+
+    /// Whether the handler's object has the procedure.
+    fn has_handler(&self, handler: Handler) -> bool
+        ensures { result ≡ is_handler self.now handler }
+    {
+        self.object_has(handler.object, Operation::Procedure(handler.procedure))
+    }
+
+    /// Whether each interrupt has its handler.
+    fn interrupts_are_handled(&self) -> bool
+        ensures { IsTrue result ↔ All (λ handler. is_handler self.now handler ≡ true)
+            self.now.interrupts.items }
+    {
+        for handler in &self.interrupts {
+            if !self.has_handler(*handler) {
+                return false;
+            }
+        }
+        true
+    }
+
+    /// Whether each timing event has its handler.
+    fn timers_are_handled(&self) -> bool
+        ensures { IsTrue result ↔ All (λ timer. is_handler self.now timer.handler ≡ true)
+            self.now.timers.items }
+    {
+        for timer in &self.timers {
+            if !self.has_handler(timer.handler) {
+                return false;
+            }
+        }
+        true
+    }
+
     /// Whether the task is declared, and the object has what it calls.
     pub(crate) fn declares(&self, task: TaskId, object: u8, operation: Operation) -> bool
         ensures { result ≡ is_declared self.now task object operation }

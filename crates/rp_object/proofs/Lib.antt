@@ -1,3 +1,5 @@
 pub mod Asking
 pub mod Timing
 pub mod Ticking
+pub mod Writing
+pub mod Starting

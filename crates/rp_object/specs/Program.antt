@@ -68,9 +68,15 @@ timer_handler program number = option_map (λ timer. timer.handler) (of_index pr
 abbrev pub IsPriority : ℕ → Type 0
 IsPriority n = (1 ≤ n) × (n ≤ 30)
 
--- an object has its ceiling, a name for each component, first values in their ranges, and operations that fit the components
+-- the most tasks, objects, interrupts or timing events, and the most components of a kind
+abbrev pub most_declared : ℕ
+most_declared = 8
+
+-- an object has its ceiling, at most 8 components of each kind, a name for each component, first values in their ranges, and operations that fit the components
 pub record DeclarationFits (declared : ObjectDeclaration) : Type 0 where
   pub ceiling : IsPriority declared.ceiling
+  pub few_ints : length declared.ints.items ≤ most_declared
+  pub few_bools : length declared.bools.items ≤ most_declared
   pub ints : length declared.ints.items ≡ len declared.components.ints
   pub bools : length declared.bools.items ≡ len declared.components.bools
   pub in_range : IsInRange declared.components
@@ -79,10 +85,6 @@ pub record DeclarationFits (declared : ObjectDeclaration) : Type 0 where
 -- the handler's object has the procedure
 abbrev pub is_handler : Declarations → Handler → Bool
 is_handler program handler = object_has program handler.object (Procedure handler.procedure)
-
--- the most tasks, objects, interrupts or timing events
-abbrev pub most_declared : ℕ
-most_declared = 8
 
 -- A right program: each kind is declared at most 8 times, priorities are in their range, each object fits, and each handler is there.
 pub record IsProgram (program : Declarations) : Type 0 where

@@ -3,9 +3,11 @@
 //!
 //! In reading order:
 //! - `program`: what is declared before anything runs
+//! - `image`: the text that shows the state of a program
 //! - `objects`: a program that runs
 #![tactic(auto)]
 
+mod image;
 mod objects;
 mod program;
 

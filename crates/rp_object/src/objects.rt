@@ -1,18 +1,21 @@
 //! A program that runs.
 
-ghost use Rattle.std.specs.Prelude.{◌≡◌, ◌↔◌, ◌≤◌, max, IsTrue, Some, None, IfSome, IfNone, List, [], ◌∷◌, ◌++◌, ◌+◌, length, option_to_list};
+ghost use Rattle.std.specs.Prelude.{◌≡◌, ◌↔◌, ◌≤◌, max, IsTrue, Some, None, IfSome, IfNone, IfOk, map, List, [], ◌∷◌, ◌++◌, ◌+◌, length, option_to_list};
 ghost use Rattle.rp_base.specs.declared.reply.Answer.{Answer};
 ghost use Rattle.rp_entry.specs.Actions.{calls_function, calls_procedure, calls_entry, event};
-ghost use Rattle.rp_object.specs.State.{Running};
-ghost use Rattle.rp_object.specs.Program.{is_declared, interrupt_handler};
+ghost use Rattle.rp_object.specs.State.{Running, unset, first_object, first_state};
+ghost use Rattle.std.specs.List.{All};
+ghost use Rattle.rp_object.specs.Program.{is_declared, interrupt_handler, DeclarationFits};
 ghost use Rattle.rp_object.specs.Step.{Result, asks, is_set, with_timer, called, allowed, handled, fires, ticked, own_answer, objects_next, objects_answers};
 ghost use Rattle.rp_object.specs.Timers.{due_events};
+ghost use Rattle.rp_object.specs.Image.{objects_image};
 ghost use Rattle.rp_object.specs.Held.{waiting_count};
 
-use crate::program::{Declarations, Handler};
+use crate::image::{write_objects, write_timers};
+use crate::program::{Declarations, Handler, ObjectDeclaration, Program, TimingEvent};
 use rp_base::{Action, Answer, Answers, Operation, Reply, TaskId};
 use rp_entry::{CallOutcome, Done, Object, of_index};
-use std::alloc::Global;
+use std::alloc::{AllocError, Global};
 use std::marker::Model;
 use std::sync::Arc;
 
@@ -29,6 +32,7 @@ impl Model for Objects {
     ghost use Rattle.std.specs.Arc.{arc_value};
     ghost use Rattle.rp_object.specs.State.{Running, running_code};
     ghost use Rattle.rp_object.specs.Timers.{due_events};
+ghost use Rattle.rp_object.specs.Image.{objects_image};
 ghost use Rattle.rp_object.specs.Held.{IsHeld};
 
     ghost Value = { Running };
@@ -44,6 +48,21 @@ ghost use Rattle.rp_object.specs.Held.{IsHeld};
 }
 
 impl Objects {
+    /// The start of the program: each object as it is declared, no time set, and the clock at 0.
+    pub fn start(alloc: Global, program: &Program) -> Result<Self, AllocError>
+        ensures { IfOk result (λ objects. objects ≡ first_state program.now) }
+    {
+        let declarations = program.share()?;
+        let objects = first_objects(alloc, &declarations.objects)?;
+        let timers = no_times(alloc, &declarations.timers)?;
+        Ok(Objects {
+            declarations,
+            objects,
+            timers,
+            clock: 0,
+        })
+    }
+
     /// Applies an action, and gives the answers that come of it: the caller's, and then those of the
     /// callers that were served. It takes no memory.
     pub fn apply(&mut self, action: &Action) -> Answers
@@ -65,6 +84,18 @@ impl Objects {
             Action::Interrupt { source, .. } => self.interrupt(source),
             Action::Tick { now } => self.tick(now),
         }
+    }
+
+    /// A line for each object with its components and its queue, the line of the clock, and a line for
+    /// each timing event.
+    pub fn image(&self, alloc: Global) -> Result<Vec<u8>, AllocError>
+        ensures { IfOk result (λ text. text.items ≡ objects_image self.now) }
+    {
+        let mut text = String::new(alloc);
+        write_objects(&mut text, &self.declarations.objects, &self.objects)?;
+        writeln!(text, "clock {}", self.clock)?;
+        write_timers(&mut text, &self.declarations.timers, &self.timers)?;
+        Ok(text.into_bytes())
     }
 
     /// Calls a function of the object.
@@ -276,6 +307,34 @@ impl Objects {
         }
         answers
     }
+}
+
+/// The objects as they are declared.
+fn first_objects(
+    alloc: Global,
+    declared: &[ObjectDeclaration],
+) -> Result<Vec<Object>, AllocError>
+    requires { All DeclarationFits declared.now }
+    ensures { IfOk result (λ objects. objects.items ≡ map first_object declared.now) }
+{
+    let mut objects = Vec::new(alloc);
+    for declaration in declared {
+        let operations = declaration.operations.clone()?;
+        let components = declaration.components.clone()?;
+        objects.push(Object::new(operations, components).unwrap())?;
+    }
+    Ok(objects)
+}
+
+/// No timing event is set.
+fn no_times(alloc: Global, declared: &[TimingEvent]) -> Result<Vec<Option<i64>>, AllocError>
+    ensures { IfOk result (λ times. times.items ≡ map unset declared.now) }
+{
+    let mut times = Vec::new(alloc);
+    for _ in declared {
+        times.push(None)?;
+    }
+    Ok(times)
 }
 
 /// The answer to a call, if it does not wait, and behind it those to the callers that were served.

@@ -1,6 +1,6 @@
 //! What is declared before anything runs.
 
-ghost use Rattle.std.specs.Prelude.{◌≡◌, ◌↔◌, true, IsTrue, SomeIff};
+ghost use Rattle.std.specs.Prelude.{◌≡◌, ◌↔◌, true, IsTrue, IfOk, SomeIff};
 ghost use Rattle.std.specs.Arc.{arc_value};
 ghost use Rattle.std.specs.List.{All};
 ghost use Rattle.rp_object.specs.Program.{has_operation, object_has, is_offered, is_declared, is_within_ceiling, is_handler, IsPriority, DeclarationFits, IsProgram};
@@ -9,11 +9,11 @@ ghost use Rattle.rp_body.specs.Ranges.{IsInRange};
 use rp_base::{Operation, TaskId};
 use rp_body::Components;
 use rp_entry::{Operations, of_index};
-use std::alloc::Global;
+use std::alloc::{AllocError, Global};
 use std::marker::Model;
 use std::sync::Arc;
 
-/// The most tasks, objects, interrupts or timing events.
+/// The most tasks, objects, interrupts or timing events, and the most components of a kind.
 const MOST: usize = 8;
 
 /// What runs at an interrupt, or when the time of a timing event has come: a procedure of an object, both
@@ -92,6 +92,14 @@ impl Program {
         }
     }
 
+    /// What is declared, shared with whoever runs the program.
+    pub(crate) fn share(&self) -> Result<Arc<Declarations, Global>, AllocError>
+        ensures shared { IfOk result (λ declarations. arc_value declarations ≡ self.now) }
+        ensures right { IsProgram self.now }
+    {
+        self.declarations.clone()
+    }
+
     /// What is declared.
     pub fn declarations(&self) -> &Declarations
         ensures { result.now ≡ self.now }
@@ -107,6 +115,8 @@ impl ObjectDeclaration {
     {
         let limits = self.components.limits();
         is_priority(self.ceiling)
+            && self.ints.len() <= MOST
+            && self.bools.len() <= MOST
             && self.ints.len() == usize::from(limits.ints)
             && self.bools.len() == usize::from(limits.bools)
             && is_in_range(&self.components)

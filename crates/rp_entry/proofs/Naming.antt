@@ -1,5 +1,5 @@
 -- An action keeps which Booleans there are.
-use Rattle.std.proofs.Common.{◌≡◌, ◌<◌, ◌≤◌, ◌⊎◌, inl, inr, ℕ, zero, suc, ℤ, List, length, get_or, Option, None, Some, IsTrue, sym, ◌∙◌, refl, ap, subst}
+use Rattle.std.proofs.Common.{◌≡◌, ◌<◌, ◌≤◌, ◌⊎◌, inl, inr, ℕ, zero, suc, ℤ, List, length, get_or, Option, None, Some, ◌∙◌, refl, subst}
 use Rattle.std.specs.Prelude.{IfSome}
 use Rattle.std.specs.List.{All, slice_get}
 use Rattle.std.proofs.lemmas.Option.{slice_get_cases}
@@ -8,7 +8,7 @@ use Rattle.rp_body.specs.declared.components.Limits.{Limits}
 use Rattle.rp_body.specs.declared.statement.Stmt.{Stmt}
 use Rattle.rp_body.specs.declared.statement.Outcome.{Outcome}
 use Rattle.rp_body.specs.Store.{Store}
-use Rattle.rp_body.specs.Check.{KeepsLimits, body_fits}
+use Rattle.rp_body.specs.Check.{KeepsLimits}
 use Rattle.rp_body.specs.Meaning.{body_effect}
 use Rattle.rp_body.specs.Ranges.{HasBools, HasBoolsOf}
 use Rattle.rp_body.proofs.Booleans.{booleans_kept}
@@ -17,7 +17,7 @@ use Rattle.rp_entry.specs.declared.operations.Operations.{Operations}
 use Rattle.rp_entry.specs.declared.state.CallOutcome.{CallOutcome}
 use Rattle.rp_entry.specs.Operations.{of_index, EntryFits, OperationsFit}
 use Rattle.rp_entry.specs.Queue.{State}
-use Rattle.rp_entry.specs.Servicing.{Serves, Services, ends, goes_on}
+use Rattle.rp_entry.specs.Servicing.{Services, ends, goes_on}
 use Rattle.rp_entry.specs.Actions.{Request, Runs, Acts, function, procedure, open_entry, closed_entry, full_queue, handler, no_function, no_procedure, no_entry, no_handler}
 use Rattle.rp_entry.proofs.Acting.{missing, one_item}
 

@@ -26,7 +26,6 @@ pub struct Object {
 
 impl Model for Object {
     ghost use Rattle.rp_entry.specs.Protected.{Protected, protected_code, IsObject};
-
     ghost use Rattle.std.specs.Arc.{arc_value};
 
     ghost Value = { Protected };

@@ -58,7 +58,11 @@ fn gate_operations(alloc: Global) -> Result<Operations, AllocError> {
 
 /// The gate with n at this value.
 fn gate(alloc: Global, n: i64, up: bool) -> Result<Object, Fail> {
-    Ok(Object::new(Arc::new(alloc, gate_operations(alloc)?)?, gate_components(n, up)).ok_or("a gate")?)
+    Ok(Object::new(
+        Arc::new(alloc, gate_operations(alloc)?)?,
+        gate_components(n, up),
+    )
+    .ok_or("a gate")?)
 }
 
 /// The values of n and up.
@@ -182,7 +186,9 @@ fn functions_and_absent_operations_reply_and_change_nothing(rt: HostRuntime) -> 
 fn an_object_without_an_entry_has_none_to_call(rt: HostRuntime) -> Result<(), Fail> {
     let mut operations = gate_operations(rt.alloc())?;
     operations.entry = None;
-    let mut gate = Object::new(Arc::new(alloc, operations)?, gate_components(0, true)).ok_or("a gate")?;
+    let mut gate = Object::new(Arc::new(rt.alloc(), operations)?, gate_components(0, true)).ok_or(
+        "a gate",
+    )?;
     let done = gate.entry(TaskId::first(), 1, 0);
     assert_eq!(rt; done.outcome, CallOutcome::Reply(Reply::NoSuchOperation));
     assert_eq!(rt; gate.waiting(), None);
@@ -192,7 +198,13 @@ fn an_object_without_an_entry_has_none_to_call(rt: HostRuntime) -> Result<(), Fa
 #[test]
 fn operations_that_do_not_fit_make_no_object(rt: HostRuntime) -> Result<(), Fail> {
     let alloc = rt.alloc();
-    assert!(rt; Object::new(Arc::new(alloc, gate_operations(alloc)?)?, gate_components(0, false)).is_some());
+    assert!(rt;
+        Object::new(
+            Arc::new(alloc, gate_operations(alloc)?)?,
+            gate_components(0, false)
+        )
+        .is_some()
+    );
 
     let mut unknown = gate_operations(alloc)?;
     unknown.functions.push(Function::Truth(Cond::Bool(1)))?;

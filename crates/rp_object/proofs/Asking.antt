@@ -1,27 +1,25 @@
 -- One object's protected action, as the program's.
 use Rattle.std.proofs.Common.{◌≡◌, ◌<◌, ◌≤◌, ◌+◌, ◌-◌, ℕ, zero, suc, ℤ, List, [], ◌∷◌, ◌++◌, length, get_or, set, Option, Some, None, map, refl, sym, ◌∙◌, ap, subst, arith, length-append, length-set}
 use Rattle.std.proofs.lemmas.List.{length-map, set-get_or}
-use Rattle.std.specs.List.{All}
 use Rattle.std.proofs.lemmas.List.Elements.{All-set}
 use Rattle.std.proofs.lemmas.List.Sums.{sum_by-set}
 use Rattle.std.proofs.lemmas.Option.{slice_get_read}
 use Rattle.rp_base.specs.declared.reply.Answer.{Answer}
 use Rattle.rp_entry.specs.declared.operations.Operations.{Operations}
-use Rattle.rp_entry.specs.declared.state.Waiting.{Waiting}
 use Rattle.rp_entry.specs.declared.state.CallOutcome.{CallOutcome}
 use Rattle.rp_entry.specs.Operations.{of_index}
 use Rattle.rp_entry.specs.Queue.{State, longest_queue}
 use Rattle.rp_entry.specs.Protected.{Protected}
 use Rattle.rp_entry.specs.Servicing.{Services, ends, goes_on}
 use Rattle.rp_entry.specs.Actions.{Request, Acts, event, function, procedure, open_entry, closed_entry, full_queue, handler, no_function, no_procedure, no_entry, no_handler}
-use Rattle.rp_entry.specs.Results.{Acted, acted}
+use Rattle.rp_entry.specs.Results.{Acted}
 use Rattle.rp_entry.specs.Accounting.{name_of, call_of, joins}
 use Rattle.rp_entry.proofs.Results.{acts_acted}
 use Rattle.rp_entry.proofs.Accounting.{acts_account}
 use Rattle.rp_entry.proofs.Chains.{no_more_wait}
 use Rattle.rp_object.specs.declared.program.Declarations.{Declarations}
 use Rattle.rp_object.specs.State.{ProgramState, Running}
-use Rattle.rp_object.specs.Step.{Result, object_acts, asks, with_object}
+use Rattle.rp_object.specs.Step.{object_acts, asks, with_object}
 use Rattle.rp_object.specs.Held.{IsHeld, waiting_count}
 
 -- ---- queues

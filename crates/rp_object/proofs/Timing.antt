@@ -1,12 +1,12 @@
 -- The timing event that is due first, and those that are due after it.
-use Rattle.std.proofs.Common.{◌≡◌, ◌<◌, ◌≤◌, ◌+◌, ◌-◌, ◌⊎◌, inl, inr, ℕ, zero, suc, ℤ, pos, ◌<ℤ◌, ◌≤ℤ◌, Bool, true, false, cond, ◌&&◌, ◌||◌, List, [], ◌∷◌, ◌++◌, length, get_or, set, take, Option, Some, None, map, refl, sym, ◌∙◌, ap, subst, arith, eq-eqb, append_assoc, append-nil, length-append, length-take-le}
+use Rattle.std.proofs.Common.{◌≡◌, ◌<◌, ◌≤◌, ◌+◌, ◌-◌, ◌⊎◌, inl, inr, ℕ, suc, ℤ, pos, ◌<ℤ◌, ◌≤ℤ◌, Bool, true, false, cond, ◌&&◌, ◌||◌, List, [], ◌∷◌, ◌++◌, length, get_or, set, take, Option, Some, None, map, refl, sym, ◌∙◌, ap, subst, arith, append_assoc, append-nil, length-append, length-take-le}
 use Rattle.std.specs.Prelude.{int_lt, int_le, nat_lt}
 use Rattle.std.specs.Ordering.{int_eq}
 use Rattle.std.proofs.lemmas.Int.{ints, by_lt_z}
 use lib.Signed.{lt_z, le_z}
 use Rattle.std.specs.Cmp.{signed_Decides}
 use Rattle.std.proofs.lemmas.Bool.Decides.{nat_tests}
-use Rattle.std.proofs.lemmas.List.{take_more, take_all}
+use Rattle.std.proofs.lemmas.List.{take_more}
 use Rattle.rp_object.specs.Timers.{Setting, is_before, due_from, with_setting, sorted, due_events}
 
 -- ---- order
@@ -178,8 +178,8 @@ earlier_found clock seen best time number was less place =
 due_last : (clock number : ℕ) (s : Setting) (time : ℤ) → s.0 ≤ℤ time → s.1 < number → BeforeAll s (due_from clock number (Some time ∷ []))
 due_last clock number s time le below =
     elim (int_le time (pos clock)) as (λ b. BeforeAll s (cond b ((time, number) ∷ []) [])) [ true ↦ (not_later s.0 time s.1 number le below, tt) | false ↦ tt ] where
-  not_later : (a b : ℤ) (n m : ℕ) → a ≤ℤ b → n < m → IsBefore (a, n) (b, m)
-  not_later a b n m le below = by_lt_z a b (λ less. inl less) (λ back. inr (antisymmetric a b le back, below))
+      not_later : (a b : ℤ) (n m : ℕ) → a ≤ℤ b → n < m → IsBefore (a, n) (b, m)
+      not_later a b n m le below = by_lt_z a b (λ less. inl less) (λ back. inr (antisymmetric a b le back, below))
 
 -- one that is set for the same time or a later one
 pub later_kept : (clock : ℕ) (seen : List (Option ℤ)) (best : ℤ × ℕ) (time : ℤ) → Best clock seen best.0 best.1 → best.0 ≤ℤ time → Best clock (seen ++ Some time ∷ []) best.0 best.1

@@ -1,5 +1,5 @@
 -- The text of the components, one further.
-use Rattle.std.proofs.Common.{◌≡◌, ◌<◌, ◌+◌, ℕ, suc, ℤ, Bool, Option, List, [], ◌∷◌, ◌++◌, length, get_or, take, refl, sym, ◌∙◌, ap, ap₂, arith, append_assoc, append-nil, length-take-le, string_bytes, String, Global}
+use Rattle.std.proofs.Common.{◌≡◌, ◌<◌, ◌+◌, ℕ, suc, ℤ, Option, List, [], ◌∷◌, ◌++◌, length, get_or, take, sym, ◌∙◌, ap, ap₂, arith, append_assoc, append-nil, length-take-le, string_bytes, String, Global}
 use Rattle.std.proofs.lemmas.List.{take_more}
 use Rattle.std.specs.Fmt.{signed_decimal}
 use Rattle.rp_body.specs.Store.{Store, int_value, bool_value}

@@ -1,5 +1,5 @@
 -- What is declared, and which declarations are right (the limits are this project's own).
-use Rattle.std.specs.Prelude.{◌≡◌, ℕ, zero, suc, ◌≤◌, nat_le, nat_eq, Bool, true, false, ◌&&◌, Option, Some, None, is_some, option_map, List, length, slice_get}
+use Rattle.std.specs.Prelude.{◌≡◌, ℕ, ◌≤◌, nat_le, nat_eq, Bool, true, false, ◌&&◌, Option, Some, None, is_some, option_map, length}
 use Rattle.std.specs.List.{All}
 use Rattle.std.specs.FinMap.{len}
 use Rattle.std.specs.Arc.{arc_value}
@@ -11,7 +11,6 @@ use Rattle.rp_entry.specs.declared.operations.Operations.{Operations}
 use Rattle.rp_entry.specs.Operations.{of_index, OperationsFit}
 use Rattle.rp_object.specs.declared.program.Handler.{Handler}
 use Rattle.rp_object.specs.declared.program.ObjectDeclaration.{ObjectDeclaration}
-use Rattle.rp_object.specs.declared.program.TimingEvent.{TimingEvent}
 use Rattle.rp_object.specs.declared.program.Declarations.{Declarations}
 
 -- the operations of an object

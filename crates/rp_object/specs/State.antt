@@ -1,8 +1,6 @@
 -- The state of a program: its protected objects, its timing events and the clock.
 use Rattle.std.specs.Prelude.{ℕ, ℤ, Option, None, List, [], map, refl}
 use Rattle.std.specs.Coded.{Coded, code_by, coded×, coded_ℕ, coded_ℤ, coded_list, coded_option}
-use Rattle.rp_body.specs.Store.{Store}
-use Rattle.rp_entry.specs.Queue.{State}
 use Rattle.rp_entry.specs.Protected.{Protected, protected_code}
 use Rattle.rp_machine.specs.Calls.{CallName}
 use Rattle.rp_entry.specs.declared.state.Waiting.{Waiting}

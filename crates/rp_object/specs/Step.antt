@@ -37,6 +37,7 @@ ends_with outcome after = record { caller = Some outcome; told = []; after = aft
 -- the state with one object replaced, and with one timing event set or not set
 abbrev pub with_object : ProgramState → ℕ → Protected → ProgramState
 with_object state number object = record state { objects = slice_set state.objects (number - 1) object }
+
 abbrev pub with_timer : ProgramState → ℕ → Option ℤ → ProgramState
 with_timer state number time = record state { timers = slice_set state.timers (number - 1) time }
 

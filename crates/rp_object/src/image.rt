@@ -109,11 +109,7 @@ fn write_object(
 }
 
 /// The line of a timing event.
-fn write_timer(
-    text: &mut String,
-    timer: &TimingEvent,
-    time: Option<i64>,
-) -> Result<(), AllocError>
+fn write_timer(text: &mut String, timer: &TimingEvent, time: Option<i64>) -> Result<(), AllocError>
     ensures { IfOk result (λ _. string_bytes text.new
         ≡ string_bytes text.old ++ timer_line timer.now time) }
 {

@@ -10,6 +10,8 @@
 mod image;
 mod objects;
 mod program;
+#[cfg(test)]
+mod tests;
 
 pub use objects::Objects;
 pub use program::{Declarations, Handler, ObjectDeclaration, Program, TimingEvent};

@@ -32,8 +32,8 @@ impl Model for Objects {
     ghost use Rattle.std.specs.Arc.{arc_value};
     ghost use Rattle.rp_object.specs.State.{Running, running_code};
     ghost use Rattle.rp_object.specs.Timers.{due_events};
-ghost use Rattle.rp_object.specs.Image.{objects_image};
-ghost use Rattle.rp_object.specs.Held.{IsHeld};
+    ghost use Rattle.rp_object.specs.Image.{objects_image};
+    ghost use Rattle.rp_object.specs.Held.{IsHeld};
 
     ghost Value = { Running };
 
@@ -310,10 +310,7 @@ impl Objects {
 }
 
 /// The objects as they are declared.
-fn first_objects(
-    alloc: Global,
-    declared: &[ObjectDeclaration],
-) -> Result<Vec<Object>, AllocError>
+fn first_objects(alloc: Global, declared: &[ObjectDeclaration]) -> Result<Vec<Object>, AllocError>
     requires { All DeclarationFits declared.now }
     ensures { IfOk result (λ objects. objects.items ≡ map first_object declared.now) }
 {

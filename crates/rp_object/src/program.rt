@@ -254,7 +254,10 @@ impl Declarations {
     pub(crate) fn is_within_ceiling(&self, task: TaskId, object: u8) -> bool
         ensures { result ≡ is_within_ceiling self.now task object }
     {
-        match (of_index(&self.priorities, task.get()), of_index(&self.objects, object)) {
+        match (
+            of_index(&self.priorities, task.get()),
+            of_index(&self.objects, object),
+        ) {
             (Some(priority), Some(declared)) => *priority <= declared.ceiling,
             _ => false,
         }

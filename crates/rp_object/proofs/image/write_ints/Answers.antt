@@ -1,5 +1,5 @@
 -- One name more.
-use Rattle.std.proofs.Common.{◌≡◌, ◌+◌, ◌<◌, ℕ, ℤ, Bool, List, [], ◌∷◌, ◌++◌, ◌∙◌, ap, append_assoc, string_bytes, w64}
+use Rattle.std.proofs.Common.{◌+◌, ℤ, ◌∷◌, ◌++◌, ◌∙◌, ap, string_bytes, w64}
 use Rattle.std.proofs.lemmas.Int.{to_z-of_z}
 use Rattle.std.specs.Fmt.{signed_decimal}
 use Rattle.rp_body.specs.Store.{int_value}

@@ -1,4 +1,4 @@
-use Rattle.std.proofs.Common.{ℕ, ◌≡◌, ◌<◌, true, get_or}
+use Rattle.std.proofs.Common.{ℕ, ◌<◌, get_or}
 use Rattle.rp_object.specs.Program.{IsPriority}
 use Rattle.rp_object.proofs.program.are_priorities.Given as goal
 

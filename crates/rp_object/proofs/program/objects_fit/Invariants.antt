@@ -1,4 +1,4 @@
-use Rattle.std.proofs.Common.{ℕ, ◌≡◌, ◌<◌, true, get_or}
+use Rattle.std.proofs.Common.{ℕ, ◌<◌, get_or}
 use Rattle.rp_object.specs.declared.program.ObjectDeclaration.{ObjectDeclaration}
 use Rattle.rp_object.specs.Program.{DeclarationFits}
 use Rattle.rp_object.proofs.program.objects_fit.Given as goal

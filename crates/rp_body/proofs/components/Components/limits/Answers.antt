@@ -1,6 +1,5 @@
 -- The counts are the numbers of names, and each number below them is one.
 use Rattle.std.proofs.Common.{refl, subst, take}
-use Rattle.rp_body.specs.Store.{Store}
 use Rattle.rp_body.specs.Ranges.{IsNumbered}
 use Rattle.rp_body.proofs.Places.{numbered}
 use Rattle.rp_body.proofs.Storing.{Holds, limits_told}

@@ -1,12 +1,11 @@
 -- The handler that runs is the timing event's.
-use Rattle.std.proofs.Common.{◌≡◌, ◌≤◌, ◌-◌, ℕ, ℤ, List, length, get_or, Option, None, Some, option_map, refl, sym, ◌∙◌, ap, subst, arith, length-set}
-use Rattle.rp_entry.specs.Operations.{of_index}
+use Rattle.std.proofs.Common.{◌≡◌, ◌≤◌, ◌-◌, ℕ, length, get_or, Option, None, Some, option_map, sym, ◌∙◌, ap, subst, arith, length-set}
 use Rattle.rp_entry.specs.Actions.{event}
 use Rattle.rp_object.specs.declared.program.TimingEvent.{TimingEvent}
 use Rattle.rp_object.specs.declared.program.Declarations.{Declarations}
-use Rattle.rp_object.specs.State.{ProgramState, Running}
+use Rattle.rp_object.specs.State.{Running}
 use Rattle.rp_object.specs.Program.{timer_handler}
-use Rattle.rp_object.specs.Step.{asks, fires, handled, with_timer}
+use Rattle.rp_object.specs.Step.{asks, handled, with_timer}
 use Rattle.rp_object.proofs.Asking.{of_number}
 use Rattle.rp_object.proofs.objects.Objects.fire.Goals as goal
 

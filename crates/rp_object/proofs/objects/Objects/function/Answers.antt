@@ -1,5 +1,5 @@
 -- The object's protected action is the program's.
-use Rattle.std.proofs.Common.{◌≡◌, List, [], Some, sym, ◌∙◌, ap, w64}
+use Rattle.std.proofs.Common.{List, [], Some, sym, ◌∙◌, ap, w64}
 use Rattle.std.proofs.lemmas.Int.{to_z-of_z}
 use Rattle.rp_base.specs.declared.reply.Answer.{Answer}
 use Rattle.rp_entry.specs.declared.state.CallOutcome.TheVariants.{Reply}

@@ -1,5 +1,5 @@
 -- The object's protected action is the program's.
-use Rattle.std.proofs.Common.{◌≡◌, ◌<◌, ◌-◌, None, refl, arith}
+use Rattle.std.proofs.Common.{◌-◌, refl}
 use Rattle.rp_object.proofs.Asking.{asks_at, held_after, place_below, events_count}
 use Rattle.rp_object.proofs.objects.Objects.handle.Goals as goal
 

@@ -1,9 +1,9 @@
 -- One timing event more.
-use Rattle.std.proofs.Common.{◌≡◌, ◌+◌, ◌<◌, ℕ, ℤ, List, length, take, Option, None, Some, rules, sym, ◌∙◌, ap, subst, arith, FitsSigned, w64}
+use Rattle.std.proofs.Common.{◌≡◌, ◌+◌, ◌<◌, ℕ, ℤ, List, length, take, Option, Some, rules, sym, ◌∙◌, ap, subst, arith, FitsSigned, w64}
 use Rattle.std.proofs.lemmas.Int.{to_z-of_z}
 use Rattle.std.proofs.lemmas.List.{take_all}
 use Rattle.rp_object.specs.State.{Running}
-use Rattle.rp_object.proofs.Timing.{IsBest, Best, step_unset, step_earlier, step_later, step_first, step_none, best_first, none_first, best_there}
+use Rattle.rp_object.proofs.Timing.{IsBest, Best, step_unset, step_earlier, step_later, step_first, step_none, best_first}
 use Rattle.rp_object.proofs.objects.Objects.next_due.Goals.{in-Some+then-is_next, in-Some-next, in-None, in-Some+else-is_next, in_default}
 use Rattle.rp_object.proofs.objects.Objects.next_due.Goals as goal
 

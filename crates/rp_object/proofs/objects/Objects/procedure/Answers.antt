@@ -1,5 +1,5 @@
 -- The object's protected action is the program's.
-use Rattle.std.proofs.Common.{◌≡◌, ◌<◌, ◌-◌, ℤ, Some, length, ap, arith, w64}
+use Rattle.std.proofs.Common.{◌-◌, ap, w64}
 use Rattle.std.proofs.lemmas.Int.{to_z-of_z}
 use Rattle.rp_entry.specs.Actions.{calls_procedure}
 use Rattle.rp_object.proofs.Asking.{asks_at, held_after, short_at, told_short, place_below}

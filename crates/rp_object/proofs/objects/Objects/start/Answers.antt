@@ -1,12 +1,11 @@
 -- The start is as declared.
-use Rattle.std.proofs.Common.{◌≡◌, List, length, map, Option, ℤ, ap, sym, subst, ◌∙◌}
+use Rattle.std.proofs.Common.{List, length, map, ap, sym, subst, ◌∙◌}
 use Rattle.std.proofs.lemmas.List.{length-map}
-use Rattle.rp_entry.specs.Protected.{Protected}
 use Rattle.rp_object.specs.declared.program.ObjectDeclaration.{ObjectDeclaration}
 use Rattle.rp_object.specs.declared.program.TimingEvent.{TimingEvent}
 use Rattle.rp_object.specs.declared.program.Declarations.{Declarations}
 use Rattle.rp_object.specs.Program.{IsProgram}
-use Rattle.rp_object.specs.State.{Running, first_object, unset, first_state}
+use Rattle.rp_object.specs.State.{first_object, unset}
 use Rattle.rp_object.proofs.Starting.{held_first, starts_so}
 use Rattle.rp_object.proofs.objects.Objects.start.Goals as goal
 

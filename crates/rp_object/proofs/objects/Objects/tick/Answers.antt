@@ -1,5 +1,5 @@
 -- Nothing has fired yet.
-use Rattle.std.proofs.Common.{◌≡◌, ◌≤◌, ◌+◌, max, [], List, length, sym, ◌∙◌, ap, arith}
+use Rattle.std.proofs.Common.{◌≡◌, max, [], List, length, ◌∙◌, ap, arith}
 use Rattle.rp_base.specs.declared.reply.Answer.{Answer}
 use Rattle.rp_object.specs.State.{ProgramState, Running}
 use Rattle.rp_object.specs.Timers.{due_events}

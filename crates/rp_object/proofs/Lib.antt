@@ -3,3 +3,5 @@ pub mod Timing
 pub mod Ticking
 pub mod Writing
 pub mod Starting
+pub mod Permuting
+pub mod Accounting

@@ -5,13 +5,16 @@
 //! - `program`: what is declared before anything runs
 //! - `image`: the text that shows the state of a program
 //! - `objects`: a program that runs
+//! - `laws`: what follows from the rules of a program alone
 #![tactic(auto)]
 
 mod image;
+mod laws;
 mod objects;
 mod program;
 #[cfg(test)]
 mod tests;
 
+pub use laws::actions_account_for_callers;
 pub use objects::Objects;
 pub use program::{Declarations, Handler, ObjectDeclaration, Program, TimingEvent};

@@ -1,0 +1,19 @@
+//! What follows from the rules of a program alone.
+
+ghost use Rattle.std.specs.Prelude.{◌≡◌, ◌++◌, length};
+ghost use Rattle.rp_base.specs.Sets.{IsSet};
+ghost use Rattle.rp_base.specs.declared.action.Action.{Action};
+ghost use Rattle.rp_machine.specs.Calls.{calls_of, AccountsFor};
+ghost use Rattle.rp_object.specs.State.{Running};
+ghost use Rattle.rp_object.specs.Step.{objects_next, objects_answers, objects_waiting};
+
+/// Nobody who waits is forgotten or answered twice: where each declared object is there and no call
+/// waits twice, the answers to an action are for distinct calls, its own or ones that waited, and exactly
+/// the others of these wait after it.
+pub fn actions_account_for_callers()
+    ensures { (running : Running) (action : Action)
+        → length running.program.objects.items ≡ length running.state.objects
+        → IsSet (calls_of action ++ objects_waiting running)
+        → AccountsFor (objects_waiting running) action (objects_answers running action)
+        (objects_waiting (objects_next running action)) }
+{}

@@ -1,7 +1,8 @@
 pub mod Asking
+pub mod Permuting
 pub mod Timing
 pub mod Ticking
 pub mod Writing
 pub mod Starting
-pub mod Permuting
 pub mod Accounting
+pub mod Due

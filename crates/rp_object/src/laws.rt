@@ -1,10 +1,12 @@
 //! What follows from the rules of a program alone.
 
-ghost use Rattle.std.specs.Prelude.{◌≡◌, ◌++◌, length};
-ghost use Rattle.rp_base.specs.Sets.{IsSet};
+ghost use Rattle.std.specs.Prelude.{◌≡◌, ◌↔◌, ◌++◌, ℕ, ℤ, pos, true, int_le, List, Option, Some, length};
+ghost use Rattle.rp_base.specs.Sets.{Has, IsSet};
 ghost use Rattle.rp_base.specs.declared.action.Action.{Action};
+ghost use Rattle.rp_entry.specs.Operations.{of_index};
 ghost use Rattle.rp_machine.specs.Calls.{calls_of, AccountsFor};
 ghost use Rattle.rp_object.specs.State.{Running};
+ghost use Rattle.rp_object.specs.Timers.{due_from, sorted};
 ghost use Rattle.rp_object.specs.Step.{objects_next, objects_answers, objects_waiting};
 
 /// Nobody who waits is forgotten or answered twice: where each declared object is there and no call
@@ -16,4 +18,12 @@ pub fn actions_account_for_callers()
         → IsSet (calls_of action ++ objects_waiting running)
         → AccountsFor (objects_waiting running) action (objects_answers running action)
         (objects_waiting (objects_next running action)) }
+{}
+
+/// Each tick's list of timing events is that of the events that are set for a time at or below the
+/// clock, none left out.
+pub fn due_events_are_due()
+    ensures { (clock : ℕ) (timers : List (Option ℤ)) (time : ℤ) (number : ℕ)
+        → Has (time, number) (sorted (due_from clock 1 timers))
+        ↔ ((of_index timers number ≡ Some (Some time)) × (int_le time (pos clock) ≡ true)) }
 {}

@@ -15,6 +15,6 @@ mod program;
 #[cfg(test)]
 mod tests;
 
-pub use laws::actions_account_for_callers;
+pub use laws::{actions_account_for_callers, due_events_are_due};
 pub use objects::Objects;
 pub use program::{Declarations, Handler, ObjectDeclaration, Program, TimingEvent};

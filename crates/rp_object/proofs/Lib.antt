@@ -6,3 +6,4 @@ pub mod Writing
 pub mod Starting
 pub mod Accounting
 pub mod Due
+pub mod Order

@@ -20,7 +20,7 @@ int_eq_same a b e = grind (arith, signed_Decides, e)
 int_eq_apart : (a b : ℤ) → b <ℤ a → int_eq a b ≡ false
 int_eq_apart a b h = grind (arith, ints, signed_Decides, h)
 
-before_true : (s x : Setting) → IsBefore s x → is_before s x ≡ true
+pub before_true : (s x : Setting) → IsBefore s x → is_before s x ≡ true
 before_true s x (inl less) =
     let test : int_lt s.0 x.0 ≡ true = grind (arith, ints, less) in
     ap (λ b. b || int_eq s.0 x.0 && nat_lt s.1 x.1) test
@@ -29,7 +29,7 @@ before_true s x (inr (same, below)) =
     let number : nat_lt s.1 x.1 ≡ true = grind (arith, nat_tests, below) in
     ap (λ b. b || int_eq s.0 x.0 && nat_lt s.1 x.1) test ∙ ap (λ b. b && nat_lt s.1 x.1) (int_eq_same s.0 x.0 same) ∙ number
 
-not_after : (s x : Setting) → IsBefore s x → is_before x s ≡ false
+pub not_after : (s x : Setting) → IsBefore s x → is_before x s ≡ false
 not_after s x (inl less) =
     let test : int_lt x.0 s.0 ≡ false = grind (arith, ints, less) in
     ap (λ b. b || int_eq x.0 s.0 && nat_lt x.1 s.1) test ∙ ap (λ b. b && nat_lt x.1 s.1) (int_eq_apart x.0 s.0 less)
@@ -38,7 +38,7 @@ not_after s x (inr (same, below)) =
     let number : nat_lt x.1 s.1 ≡ false = grind (arith, nat_tests, below) in
     ap (λ b. b || int_eq x.0 s.0 && nat_lt x.1 s.1) test ∙ ap (λ b. b && nat_lt x.1 s.1) (int_eq_same x.0 s.0 (sym same)) ∙ number
 
-antisymmetric : (a b : ℤ) → a ≤ℤ b → b ≤ℤ a → a ≡ b
+pub antisymmetric : (a b : ℤ) → a ≤ℤ b → b ≤ℤ a → a ≡ b
 antisymmetric a b h k = omega (arith, ints, h, k)
 
 -- before each of these

@@ -6,7 +6,7 @@ ghost use Rattle.rp_base.specs.declared.action.Action.{Action};
 ghost use Rattle.rp_entry.specs.Operations.{of_index};
 ghost use Rattle.rp_machine.specs.Calls.{calls_of, AccountsFor};
 ghost use Rattle.rp_object.specs.State.{Running};
-ghost use Rattle.rp_object.specs.Timers.{due_from, sorted};
+ghost use Rattle.rp_object.specs.Timers.{due_from, sorted, InOrder};
 ghost use Rattle.rp_object.specs.Step.{objects_next, objects_answers, objects_waiting};
 
 /// Nobody who waits is forgotten or answered twice: where each declared object is there and no call
@@ -21,9 +21,11 @@ pub fn actions_account_for_callers()
 {}
 
 /// Each tick's list of timing events is that of the events that are set for a time at or below the
-/// clock, none left out.
+/// clock, none left out, in order of time and number.
 pub fn due_events_are_due()
-    ensures { (clock : ℕ) (timers : List (Option ℤ)) (time : ℤ) (number : ℕ)
+    ensures order { (clock : ℕ) (timers : List (Option ℤ))
+        → InOrder (sorted (due_from clock 1 timers)) }
+    ensures due { (clock : ℕ) (timers : List (Option ℤ)) (time : ℤ) (number : ℕ)
         → Has (time, number) (sorted (due_from clock 1 timers))
         ↔ ((of_index timers number ≡ Some (Some time)) × (int_le time (pos clock) ≡ true)) }
 {}

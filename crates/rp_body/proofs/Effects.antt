@@ -1,5 +1,5 @@
 -- What an `if` does, where the code has run one of its arms.
-use Rattle.std.proofs.Common.{◌≡◌, ℤ, Bool, true, false, cond, List, Vec, Global, refl, sym, ◌∙◌, ap, ap₂, FitsSigned, w64, to_z, of_z}
+use Rattle.std.proofs.Common.{◌≡◌, ℤ, Bool, true, false, cond, List, Vec, Global, sym, ◌∙◌, ap, ap₂, FitsSigned, w64, to_z, of_z}
 use Rattle.std.proofs.lemmas.Int.{to_z-of_z}
 use Rattle.rp_body.specs.declared.expression.Cond.{Cond}
 use Rattle.rp_body.specs.declared.statement.Stmt.{Stmt}

@@ -2,3 +2,4 @@ pub mod Effects
 pub mod Places
 pub mod Storing
 pub mod Ranges
+pub mod Booleans

@@ -1,10 +1,11 @@
 -- A list as the map from its places to its elements.
-use Rattle.std.proofs.Common.{◌≡◌, ◌≢◌, ℕ, zero, suc, ◌+◌, ◌<◌, ◌≤◌, ◌==◌, Bool, true, false, cond, Option, Some, None, List, [], ◌∷◌, ◌++◌, length, take, set, get_or, refl, sym, ◌∙◌, ap, subst, arith, eq-eqb, length-take, get_or-take}
+use Rattle.std.proofs.Common.{◌≡◌, ℕ, zero, suc, ◌+◌, ◌<◌, ◌≤◌, ◌==◌, true, false, cond, Some, None, List, [], ◌∷◌, ◌++◌, length, take, set, get_or, refl, sym, ◌∙◌, ap, subst, arith, eq-eqb, length-take, get_or-take}
+use Rattle.std.specs.Prelude.{is_some, ◌↔◌}
 use Rattle.std.specs.List.{slice_get, enumerate_from}
 use Rattle.std.specs.Ordering.{nat_cmp, eq_by_cmp}
 use Rattle.std.specs.declared.cmp.Ordering.TheVariants.{Less}
 use Rattle.std.specs.Cmp.{unsigned_tied, nat_cmp_is}
-use Rattle.std.specs.FinMap.{FinMap, get, insert, len, entries, empty, from_entries, find, put, get-entries, len-entries, len-empty, entries-insert, get-insert, same_map, nat_cmp-IsAntisymmetric}
+use Rattle.std.specs.FinMap.{get, insert, len, entries, empty, from_entries, find, put, get-entries, len-entries, len-empty, entries-insert, get-insert, same_map, nat_cmp-IsAntisymmetric}
 use Rattle.std.specs.FinMap.Entries.{by_order}
 use Rattle.std.proofs.lemmas.Cmp.{nat_cmp_total}
 use Rattle.std.proofs.lemmas.Bool.Decides.{nat_tests}
@@ -88,6 +89,23 @@ module _ {X : Type 0} where
   -- an element that is added behind the others
   pub by_place-push : (xs : List X) (x : X) → by_place (xs ++ x ∷ []) ≡ insert (by_place xs) (length xs) x
   by_place-push xs x = inserted xs (xs ++ x ∷ []) (length xs) x (λ q. slice_get-push xs x q)
+
+  some_below : (xs : List X) (q : ℕ) → is_some (slice_get xs q) ≡ true → q < length xs
+  some_below [] q there = absurd (cc)
+  some_below (y ∷ ys) zero there = omega arith
+  some_below (y ∷ ys) (suc q) there = omega (arith, some_below ys q there)
+
+  below_some : (xs : List X) (q : ℕ) → q < length xs → is_some (slice_get xs q) ≡ true
+  below_some [] q below = absurd (omega (arith, below))
+  below_some (y ∷ ys) zero below = refl
+  below_some (y ∷ ys) (suc q) below = below_some ys q (omega (arith, below))
+
+  -- the names are the numbers below the count
+  pub numbered : (xs : List X) (q : ℕ) → is_some (get (by_place xs) q) ≡ true ↔ (q < len (by_place xs))
+  numbered xs q = (
+    (λ there. subst (λ (n : ℕ). q < n) (sym (len-by_place xs)) (some_below xs q (sym (ap is_some (get-by_place xs q)) ∙ there))),
+    (λ below. ap is_some (get-by_place xs q) ∙ below_some xs q (subst (λ (n : ℕ). q < n) (len-by_place xs) below)),
+  )
 
   -- ---- the first n of 8 elements
 

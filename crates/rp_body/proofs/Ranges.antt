@@ -10,13 +10,13 @@ use Rattle.std.proofs.Math.Logic.{⊎_elim}
 use Rattle.rp_body.specs.declared.components.Ranged.{Ranged}
 use Rattle.rp_body.specs.declared.statement.Stmt.{Stmt}
 use Rattle.rp_body.specs.declared.statement.Stmt.TheOpen.{Stmt-F}
-use Rattle.rp_body.specs.declared.statement.Stmt.TheFolds.{fold-Stmt, fold-roll-Stmt, ind-Stmt, map-Stmt}
+use Rattle.rp_body.specs.declared.statement.Stmt.TheFolds.{fold-roll-Stmt, ind-Stmt, map-Stmt}
 use Rattle.rp_body.specs.declared.statement.Outcome.{Outcome}
 use Rattle.rp_body.specs.declared.statement.Outcome.TheVariants.{Out, Raised}
 use Rattle.rp_body.specs.Store.{Store, is_within, with_found, with_int, with_bool}
-use Rattle.rp_body.specs.Expressions.{value_of, truth_of, fits_64}
+use Rattle.rp_body.specs.Expressions.{value_of, truth_of}
 use Rattle.rp_body.specs.Meaning.{Effect, then_do, in_order, assigned, effect_of_step, effect_of, effects_of, body_effect}
-use Rattle.rp_body.specs.Ranges.{range_of, HasRangesOf, IsInRange, KeepsRanges}
+use Rattle.rp_body.specs.Ranges.{range_of, KeepsRanges}
 
 pub keeps_same : (store : Store) → KeepsRanges store store
 keeps_same store = record { ranges = λ name. refl; values = λ inside. inside }

@@ -1,7 +1,8 @@
--- What no body changes: which whole numbers there are, and their ranges (this project's own).
-use Rattle.std.specs.Prelude.{◌≡◌, ℕ, ℤ, IsTrue, option_map, IfSome}
-use Rattle.std.specs.FinMap.{get}
+-- What no body changes: which components there are, and the ranges of whole numbers (this project's own).
+use Rattle.std.specs.Prelude.{◌≡◌, ℕ, ◌<◌, ◌↔◌, ℤ, IsTrue, true, is_some, option_map, IfSome}
+use Rattle.std.specs.FinMap.{get, len}
 use Rattle.rp_body.specs.declared.components.Ranged.{Ranged}
+use Rattle.rp_body.specs.declared.components.Limits.{Limits}
 use Rattle.rp_body.specs.Store.{Store, is_within}
 
 -- the range of a whole number
@@ -20,3 +21,16 @@ IsInRange store = (name : ℕ) → IfSome (get store.ints name) (λ component. I
 pub record KeepsRanges (old new : Store) : Type 0 where
   pub ranges : HasRangesOf old new
   pub values : IsInRange old → IsInRange new
+
+-- the components of each kind are named by the numbers below their count
+pub record IsNumbered (store : Store) : Type 0 where
+  pub ints : (name : ℕ) → is_some (get store.ints name) ≡ true ↔ (name < len store.ints)
+  pub bools : (name : ℕ) → is_some (get store.bools name) ≡ true ↔ (name < len store.bools)
+
+-- each Boolean that is counted is there
+abbrev pub HasBools : Limits → Store → Type 0
+HasBools limits store = (name : ℕ) → name < limits.bools → is_some (get store.bools name) ≡ true
+
+-- the same names stand for Booleans
+abbrev pub HasBoolsOf : Store → Store → Type 0
+HasBoolsOf old new = (name : ℕ) → is_some (get new.bools name) ≡ is_some (get old.bools name)

@@ -3,6 +3,7 @@
 ghost use Rattle.std.specs.Prelude.{◌≡◌, ◌<◌, IsTrue, SomeIff};
 ghost use Rattle.std.specs.FinMap.{get, insert, empty, len};
 ghost use Rattle.rp_body.specs.Store.{limits_of, is_within, int_value, bool_value, with_int, with_bool};
+ghost use Rattle.rp_body.specs.Ranges.{IsNumbered};
 
 use std::marker::Model;
 
@@ -114,7 +115,8 @@ impl Components {
 
     /// How many there are of each kind, at most 8.
     pub fn limits(&self) -> Limits
-        ensures { result ≡ limits_of self.now }
+        ensures counts { result ≡ limits_of self.now }
+        ensures numbered { IsNumbered self.now }
     {
         Limits {
             ints: self.int_count,

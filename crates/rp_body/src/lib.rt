@@ -14,5 +14,5 @@ mod statement;
 
 pub use components::{Components, Limits, Ranged};
 pub use expression::{Cond, Expr, truth, value};
-pub use laws::bodies_keep_ranges;
+pub use laws::{bodies_keep_booleans, bodies_keep_ranges};
 pub use statement::{Outcome, Stmt, check, run};

@@ -11,11 +11,11 @@ use Rattle.rp_entry.specs.declared.operations.Operations.{Operations}
 use Rattle.rp_entry.specs.declared.state.CallOutcome.{CallOutcome}
 use Rattle.rp_entry.specs.declared.state.CallOutcome.TheVariants.{Reply}
 use Rattle.rp_entry.specs.Operations.{OperationsFit}
-use Rattle.rp_entry.specs.Queue.{State, IsOpen}
+use Rattle.rp_entry.specs.Queue.{State, IsOpen, IsServiced}
 use Rattle.rp_entry.specs.Replies.{reply_of, function_reply}
 use Rattle.rp_entry.specs.Servicing.{Services}
 use Rattle.rp_entry.specs.Actions.{Request, Runs, Acts, function, procedure, open_entry, closed_entry, full_queue, handler, no_function, no_procedure, no_entry, no_handler}
-use Rattle.rp_entry.specs.Protected.{IsObject}
+use Rattle.rp_entry.specs.Protected.{Protected, IsObject}
 use Rattle.rp_entry.proofs.Chains.{is_serviced, no_more_wait, one_end}
 
 -- the same body with the same argument
@@ -36,6 +36,19 @@ is_object_after {operations} {body} {arg} {before} {after} object runs counts = 
   serviced = is_serviced runs.serviced;
   short = omega (arith, no_more_wait runs.serviced, object.short);
 }
+
+-- ---- operations that are shared
+
+-- the same object
+pub shared_is : {one other : Operations} {state : State} → one ≡ other → ◌≡◌ {A = Protected} (record { operations = one; state = state }) (record { operations = other; state = state })
+shared_is {state = state} same = ap (λ (o : Operations). record { operations = o; state = state }) same
+
+pub shared_runs : {one other : Operations} {body : List Stmt} {arg : ℤ} {before after : State} {outcome : CallOutcome} {served : List Answer} → one ≡ other → Runs one body arg before outcome served after → Runs other body arg before outcome served after
+shared_runs {body = body} {arg = arg} {before = before} {after = after} {outcome = outcome} {served = served} same runs =
+    subst (λ (o : Operations). Runs o body arg before outcome served after) same runs
+
+pub shared_serviced : {one other : Operations} (state : State) → one ≡ other → IsServiced one state → IsServiced other state
+shared_serviced state same serviced = subst (λ (o : Operations). IsServiced o state) same serviced
 
 -- ---- one end
 

@@ -4,3 +4,4 @@ pub mod Ending
 pub mod Results
 pub mod Accounting
 pub mod Keeping
+pub mod Naming

@@ -1,10 +1,10 @@
 -- The result of an action is the one that the relation holds of.
-use Rattle.std.proofs.Common.{◌≡◌, ◌<◌, ◌≤◌, ◌⊎◌, inl, inr, ℕ, ℤ, pos, Bool, true, false, cond, List, [], ◌∷◌, ◌++◌, length, Option, Some, None, Vec, Global, refl, sym, ◌∙◌, ap, subst, arith}
+use Rattle.std.proofs.Common.{◌≡◌, ◌<◌, ◌≤◌, ℕ, ℤ, pos, true, false, cond, List, [], ◌∷◌, ◌++◌, length, Option, Some, None, Vec, Global, refl, sym, ◌∙◌, ap, subst, arith}
 use Rattle.std.specs.Prelude.{nat_lt, ◌↔◌}
 use Rattle.std.proofs.lemmas.Bool.{false≢true, cases_lt}
 use Rattle.std.proofs.lemmas.Bool.Decides.{nat_tests}
 use Rattle.std.proofs.Math.Logic.{⊎_elim}
-use Rattle.rp_base.specs.declared.reply.Reply.TheVariants.{ProgramError, NoSuchOperation}
+use Rattle.rp_base.specs.declared.reply.Reply.TheVariants.{ProgramError}
 use Rattle.rp_base.specs.declared.reply.Answer.{Answer}
 use Rattle.rp_body.specs.declared.statement.Stmt.{Stmt}
 use Rattle.rp_body.specs.Store.{Store, bool_value}
@@ -13,11 +13,10 @@ use Rattle.rp_entry.specs.declared.operations.Function.{Function}
 use Rattle.rp_entry.specs.declared.operations.Entry.{Entry}
 use Rattle.rp_entry.specs.declared.operations.Operations.{Operations}
 use Rattle.rp_entry.specs.declared.state.Waiting.{Waiting}
-use Rattle.rp_entry.specs.declared.state.CallOutcome.{CallOutcome}
 use Rattle.rp_entry.specs.declared.state.CallOutcome.TheVariants.{Reply, Waits}
 use Rattle.rp_entry.specs.Operations.{of_index}
 use Rattle.rp_entry.specs.Queue.{State, IsOpen, longest_queue}
-use Rattle.rp_entry.specs.Replies.{reply_of, function_reply}
+use Rattle.rp_entry.specs.Replies.{reply_of}
 use Rattle.rp_entry.specs.Servicing.{Serves, Services, ends, goes_on}
 use Rattle.rp_entry.specs.Actions.{Request, Runs, Acts, calls_function, calls_procedure, calls_entry, event, function, procedure, open_entry, closed_entry, full_queue, handler, no_function, no_procedure, no_entry, no_handler}
 use Rattle.rp_entry.specs.Results.{Acted, tells, serviced_from, ran_for, function_called, procedure_called, entry_called, event_handled, acted}

@@ -1,6 +1,6 @@
 -- What a protected action comes to, as a function of the operations, the state and the request: the result of
 -- exactly the actions of Actions (this project's own way of saying it).
-use Rattle.std.specs.Prelude.{ℕ, ℤ, pos, ◌++◌, nat_lt, List, [], ◌∷◌, length, Option, Some, None, Vec, if◌then◌else◌}
+use Rattle.std.specs.Prelude.{ℤ, pos, ◌++◌, nat_lt, List, [], ◌∷◌, length, Option, Some, None, Vec, if◌then◌else◌}
 use Rattle.std.specs.declared.alloc.Global.{Global}
 use Rattle.rp_base.specs.declared.reply.Reply.TheVariants.{ProgramError, NoSuchOperation}
 use Rattle.rp_base.specs.declared.reply.Answer.{Answer}

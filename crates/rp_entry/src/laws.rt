@@ -2,7 +2,9 @@
 
 ghost use Rattle.std.specs.Prelude.{◌≡◌, ◌↔◌, List, ◌++◌, Option};
 ghost use Rattle.rp_base.specs.declared.reply.Answer.{Answer};
-ghost use Rattle.rp_body.specs.Ranges.{KeepsRanges};
+ghost use Rattle.rp_body.specs.declared.components.Limits.{Limits};
+ghost use Rattle.rp_body.specs.Ranges.{KeepsRanges, HasBools, HasBoolsOf};
+ghost use Rattle.rp_entry.specs.Operations.{OperationsFit};
 ghost use Rattle.rp_entry.specs.declared.operations.Operations.{Operations};
 ghost use Rattle.rp_entry.specs.declared.state.CallOutcome.{CallOutcome};
 ghost use Rattle.rp_entry.specs.Queue.{State};
@@ -49,6 +51,15 @@ pub fn actions_keep_ranges()
         (caller : Option CallOutcome) (told : List Answer)
         → Acts operations before request caller told after
         → KeepsRanges before.store after.store }
+{}
+
+/// No action of operations that fit their components changes which Booleans there are.
+pub fn actions_keep_booleans()
+    ensures { (limits : Limits) (operations : Operations) (before after : State)
+        (request : Request) (caller : Option CallOutcome) (told : List Answer)
+        → OperationsFit limits operations → HasBools limits before.store
+        → Acts operations before request caller told after
+        → HasBoolsOf before.store after.store }
 {}
 
 /// Nobody who waits is forgotten or passed by: those that an action answers, and behind them those

@@ -14,8 +14,8 @@ mod state;
 
 pub use laws::{
     actions_account_for_callers, actions_are_their_results, actions_have_one_end,
-    actions_keep_ranges, servicing_has_one_end,
+    actions_keep_booleans, actions_keep_ranges, servicing_has_one_end,
 };
 pub use object::Object;
-pub use operations::{Entry, Function, Operations};
+pub use operations::{Entry, Function, Operations, of_index};
 pub use state::{CallOutcome, Done, Waiting};

@@ -1,6 +1,7 @@
 //! A protected object.
 
 ghost use Rattle.std.specs.Prelude.{◌≡◌, [], option_to_list, Some, None, SomeIff};
+ghost use Rattle.std.specs.Arc.{arc_value};
 ghost use Rattle.rp_body.specs.Store.{limits_of};
 ghost use Rattle.rp_entry.specs.Operations.{OperationsFit};
 ghost use Rattle.rp_entry.specs.Queue.{IsServiced};
@@ -10,37 +11,43 @@ use crate::operations::{Operations, of_index};
 use crate::state::{CallOutcome, Done, State, Waiting};
 use rp_base::{Answers, Reply, TaskId};
 use rp_body::Components;
+use std::alloc::Global;
 use std::marker::Model;
+use std::sync::Arc;
 
 /// A protected object with functions, procedures and at most one entry. Each call is a whole protected
 /// action with the servicing of the entry queue, and takes no memory (Ada Reference Manual, sections
 /// 9.5.1 and 9.5.3).
 #[derive(Debug, Drop)]
 pub struct Object {
-    operations: Operations,
+    operations: Arc<Operations, Global>,
     state: State,
 }
 
 impl Model for Object {
     ghost use Rattle.rp_entry.specs.Protected.{Protected, protected_code, IsObject};
+    ghost use Rattle.std.specs.Arc.{arc_value};
 
     ghost Value = { Protected };
 
     ghost coded = { protected_code };
 
-    ghost view = { λ o. record { operations = o.operations; state = o.state } };
+    ghost view = { λ o. record {
+      operations = arc_value o.operations;
+      state = o.state;
+    } };
 
-    ghost invariant = { λ o. IsObject o.operations o.state };
+    ghost invariant = { λ o. IsObject (arc_value o.operations) o.state };
 }
 
 impl Object {
-    /// The object of these operations and components, with nobody waiting, or `None` where there are more
+    /// The object of these operations, which other objects may share, and components, with nobody waiting, or `None` where there are more
     /// than 8 functions or 8 procedures, an operation does not keep the limits of the language, or the
     /// barrier names no Boolean component. It takes no memory.
-    pub fn new(operations: Operations, components: Components) -> Option<Self>
-        ensures { SomeIff result (OperationsFit (limits_of components) operations)
+    pub fn new(operations: Arc<Operations, Global>, components: Components) -> Option<Self>
+        ensures { SomeIff result (OperationsFit (limits_of components) (arc_value operations))
             (record {
-              operations = operations;
+              operations = arc_value operations;
               state = record { store = components; queue = [] };
             }) }
     {
@@ -76,7 +83,8 @@ impl Object {
             (Some (CallOutcome.Reply result)) [] now }
         ensures serviced { IsServiced self.now.operations self.now.state }
     {
-        match of_index(&self.operations.functions, index) {
+        let operations: &Operations = &self.operations;
+        match of_index(&operations.functions, index) {
             Some(function) => function.reply(self.state.components(), arg),
             None => Reply::NoSuchOperation,
         }
@@ -90,7 +98,7 @@ impl Object {
         ensures serviced { IsServiced self.new.operations self.new.state }
         ensures operations { self.new.operations ≡ self.old.operations }
     {
-        let operations = &self.operations;
+        let operations: &Operations = &self.operations;
         match of_index(&operations.procedures, index) {
             Some(body) => self.state.run(operations, body, arg),
             None => Done::alone(CallOutcome::Reply(Reply::NoSuchOperation)),
@@ -107,7 +115,7 @@ impl Object {
         ensures serviced { IsServiced self.new.operations self.new.state }
         ensures operations { self.new.operations ≡ self.old.operations }
     {
-        let operations = &self.operations;
+        let operations: &Operations = &self.operations;
         let Some(entry) = &operations.entry else {
             return Done::alone(CallOutcome::Reply(Reply::NoSuchOperation));
         };
@@ -131,7 +139,7 @@ impl Object {
         ensures serviced { IsServiced self.new.operations self.new.state }
         ensures operations { self.new.operations ≡ self.old.operations }
     {
-        let operations = &self.operations;
+        let operations: &Operations = &self.operations;
         match of_index(&operations.procedures, index) {
             Some(body) => self.state.run(operations, body, 0).served,
             None => Answers::new(),

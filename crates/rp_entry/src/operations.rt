@@ -81,7 +81,7 @@ impl Entry {
 impl Operations {
     /// Whether there are at most 8 functions and 8 procedures, and each function, each body and the
     /// entry keep the limits.
-    pub(crate) fn fit(&self, limits: &Limits) -> bool
+    pub fn fit(&self, limits: &Limits) -> bool
         ensures { IsTrue result ↔ OperationsFit limits.now self.now }
     {
         let entry_fits = match &self.entry {
@@ -120,8 +120,8 @@ fn procedures_fit(procedures: &[Vec<Stmt>], limits: &Limits) -> bool
     true
 }
 
-/// The one of this index, counted from 1, or `None` where there is none.
-pub(crate) fn of_index<T>(items: &[T], index: u8) -> Option<&T>
+/// The one of this index, counted from 1, or `None` where there is none. Its cost is constant.
+pub fn of_index<T>(items: &[T], index: u8) -> Option<&T>
     ensures { option_copied result ≡ of_index items.now index }
 {
     items.get(usize::from(index.checked_sub(1)?))

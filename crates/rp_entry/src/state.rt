@@ -41,7 +41,7 @@ pub struct Done {
 
 impl Done {
     /// Nobody was served.
-    pub(crate) fn alone(outcome: CallOutcome) -> Self
+    pub fn alone(outcome: CallOutcome) -> Self
         ensures outcome { result.outcome ≡ outcome }
         ensures served { result.served ≡ [] }
     {

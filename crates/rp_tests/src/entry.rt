@@ -2,6 +2,7 @@ use rp_entry::*;
 use rp_base::{Answer, Reply, TaskId};
 use rp_body::{Components, Cond, Expr, Ranged, Stmt};
 use std::alloc::{AllocError, Global};
+use std::sync::Arc;
 use std::test::Fail;
 
 // The procedures of the gate by their indices, and an index that it does not have.
@@ -57,7 +58,11 @@ fn gate_operations(alloc: Global) -> Result<Operations, AllocError> {
 
 /// The gate with n at this value.
 fn gate(alloc: Global, n: i64, up: bool) -> Result<Object, Fail> {
-    Ok(Object::new(gate_operations(alloc)?, gate_components(n, up)).ok_or("a gate")?)
+    Ok(Object::new(
+        Arc::new(alloc, gate_operations(alloc)?)?,
+        gate_components(n, up),
+    )
+    .ok_or("a gate")?)
 }
 
 /// The values of n and up.
@@ -181,7 +186,9 @@ fn functions_and_absent_operations_reply_and_change_nothing(rt: HostRuntime) -> 
 fn an_object_without_an_entry_has_none_to_call(rt: HostRuntime) -> Result<(), Fail> {
     let mut operations = gate_operations(rt.alloc())?;
     operations.entry = None;
-    let mut gate = Object::new(operations, gate_components(0, true)).ok_or("a gate")?;
+    let mut gate = Object::new(Arc::new(rt.alloc(), operations)?, gate_components(0, true)).ok_or(
+        "a gate",
+    )?;
     let done = gate.entry(TaskId::first(), 1, 0);
     assert_eq!(rt; done.outcome, CallOutcome::Reply(Reply::NoSuchOperation));
     assert_eq!(rt; gate.waiting(), None);
@@ -191,23 +198,29 @@ fn an_object_without_an_entry_has_none_to_call(rt: HostRuntime) -> Result<(), Fa
 #[test]
 fn operations_that_do_not_fit_make_no_object(rt: HostRuntime) -> Result<(), Fail> {
     let alloc = rt.alloc();
-    assert!(rt; Object::new(gate_operations(alloc)?, gate_components(0, false)).is_some());
+    assert!(rt;
+        Object::new(
+            Arc::new(alloc, gate_operations(alloc)?)?,
+            gate_components(0, false)
+        )
+        .is_some()
+    );
 
     let mut unknown = gate_operations(alloc)?;
     unknown.functions.push(Function::Truth(Cond::Bool(1)))?;
-    assert!(rt; Object::new(unknown, gate_components(0, false)).is_none());
+    assert!(rt; Object::new(Arc::new(alloc, unknown)?, gate_components(0, false)).is_none());
 
     let mut wild = gate_operations(alloc)?;
     let mut body = Vec::new(alloc);
     body.push(Stmt::Set(1, Expr::Arg))?;
     wild.procedures.push(body)?;
-    assert!(rt; Object::new(wild, gate_components(0, false)).is_none());
+    assert!(rt; Object::new(Arc::new(alloc, wild)?, gate_components(0, false)).is_none());
 
     let mut barred = gate_operations(alloc)?;
     barred.entry = Some(Entry {
         barrier: 1,
         body: Vec::new(alloc),
     });
-    assert!(rt; Object::new(barred, gate_components(0, false)).is_none());
+    assert!(rt; Object::new(Arc::new(alloc, barred)?, gate_components(0, false)).is_none());
     Ok(())
 }

@@ -1,5 +1,5 @@
 -- The array changes where the map does.
-use Rattle.std.proofs.Common.{ap, set, arith, length-set, ◌∙◌}
+use Rattle.std.proofs.Common.{ap, set, arith, ◌∙◌}
 use Rattle.rp_body.proofs.Storing.{Holds, shown, bools_counted, bool_written, counts_after_bool}
 use Rattle.rp_body.proofs.components.Components.set_bool.Goals as goal
 

@@ -10,25 +10,27 @@ use Rattle.rp_entry.specs.Operations.{of_index}
 use Rattle.rp_entry.specs.Replies.{function_reply}
 use Rattle.rp_entry.specs.Actions.{Acts, calls_function, function, no_function}
 use Rattle.rp_entry.specs.Protected.{Protected}
-use Rattle.rp_entry.proofs.Acting.{acts_same}
+use Rattle.rp_entry.proofs.Acting.{acts_same, shared_is}
 use Rattle.rp_entry.proofs.object.Object.function.Goals as goal
 
 pub returns-in-Some-clause-action : goal.returns-in-Some-clause-action
 returns-in-Some-clause-action c =
     let inside = c.self.inside in
+    let operations = c.deref-operations.result.now in
     let called = c.in-Some.function.now in
-    let declared : of_index inside.operations.functions.items c.args.index ≡ Some called =
+    let declared : of_index operations.functions.items c.args.index ≡ Some called =
     sym (c.in-Some.ensures ∙ ap (λ (l : List Function). of_index l c.args.index) c.deref.ensures.value) in
     let reply : c.reply.result ≡ function_reply called inside.state.store c.args.arg =
     c.reply.ensures ∙ ap₂ (λ (s : Store) (a : ℤ). function_reply called s a) c.components.ensures (to_z-of_z w64 c.args.arg c.ranges.arg) in
-    let acts : Acts inside.operations inside.state (calls_function c.args.index c.args.arg) (Some (Reply c.reply.result)) [] inside.state =
+    let acts : Acts operations inside.state (calls_function c.args.index c.args.arg) (Some (Reply c.reply.result)) [] inside.state =
     acts_same (ap (λ (r : Told). Some (Reply r)) reply) refl refl (function declared) in
-    subst (λ (o : Protected). Acts o.operations o.state (calls_function c.args.index c.args.arg) (Some (Reply c.reply.result)) [] o.state) c.self.view_is acts
+    subst (λ (o : Protected). Acts o.operations o.state (calls_function c.args.index c.args.arg) (Some (Reply c.reply.result)) [] o.state) (shared_is c.deref-operations.ensures ∙ c.self.view_is) acts
 
 pub returns-in-None-clause-action : goal.returns-in-None-clause-action
 returns-in-None-clause-action c =
     let inside = c.self.inside in
-    let missing : of_index inside.operations.functions.items c.args.index ≡ None =
+    let operations = c.deref-operations.result.now in
+    let missing : of_index operations.functions.items c.args.index ≡ None =
     sym (c.in-None.ensures ∙ ap (λ (l : List Function). of_index l c.args.index) c.deref.ensures.value) in
-    let acts : Acts inside.operations inside.state (calls_function c.args.index c.args.arg) (Some (Reply NoSuchOperation)) [] inside.state = no_function missing in
-    subst (λ (o : Protected). Acts o.operations o.state (calls_function c.args.index c.args.arg) (Some (Reply NoSuchOperation)) [] o.state) c.self.view_is acts
+    let acts : Acts operations inside.state (calls_function c.args.index c.args.arg) (Some (Reply NoSuchOperation)) [] inside.state = no_function missing in
+    subst (λ (o : Protected). Acts o.operations o.state (calls_function c.args.index c.args.arg) (Some (Reply NoSuchOperation)) [] o.state) (shared_is c.deref-operations.ensures ∙ c.self.view_is) acts

@@ -1,0 +1,31 @@
+//! What follows from the rules of a program alone.
+
+ghost use Rattle.std.specs.Prelude.{◌≡◌, ◌↔◌, ◌++◌, ℕ, ℤ, pos, true, int_le, List, Option, Some, length};
+ghost use Rattle.rp_base.specs.Sets.{Has, IsSet};
+ghost use Rattle.rp_base.specs.declared.action.Action.{Action};
+ghost use Rattle.rp_entry.specs.Operations.{of_index};
+ghost use Rattle.rp_machine.specs.Calls.{calls_of, AccountsFor};
+ghost use Rattle.rp_object.specs.State.{Running};
+ghost use Rattle.rp_object.specs.Timers.{due_from, sorted, InOrder};
+ghost use Rattle.rp_object.specs.Step.{objects_next, objects_answers, objects_waiting};
+
+/// Nobody who waits is forgotten or answered twice: where each declared object is there and no call
+/// waits twice, the answers to an action are for distinct calls, its own or ones that waited, and exactly
+/// the others of these wait after it.
+pub fn actions_account_for_callers()
+    ensures { (running : Running) (action : Action)
+        → length running.program.objects.items ≡ length running.state.objects
+        → IsSet (calls_of action ++ objects_waiting running)
+        → AccountsFor (objects_waiting running) action (objects_answers running action)
+        (objects_waiting (objects_next running action)) }
+{}
+
+/// Each tick's list of timing events is that of the events that are set for a time at or below the
+/// clock, none left out, in order of time and number.
+pub fn due_events_are_due()
+    ensures order { (clock : ℕ) (timers : List (Option ℤ))
+        → InOrder (sorted (due_from clock 1 timers)) }
+    ensures due { (clock : ℕ) (timers : List (Option ℤ)) (time : ℤ) (number : ℕ)
+        → Has (time, number) (sorted (due_from clock 1 timers))
+        ↔ ((of_index timers number ≡ Some (Some time)) × (int_le time (pos clock) ≡ true)) }
+{}

@@ -1,0 +1,20 @@
+//! All protected objects of an Ada program, with their tasks, interrupts and timing events, as a
+//! machine that a log drives.
+//!
+//! In reading order:
+//! - `program`: what is declared before anything runs
+//! - `image`: the text that shows the state of a program
+//! - `objects`: a program that runs
+//! - `laws`: what follows from the rules of a program alone
+#![tactic(auto)]
+
+mod image;
+mod laws;
+mod objects;
+mod program;
+#[cfg(test)]
+mod tests;
+
+pub use laws::{actions_account_for_callers, due_events_are_due};
+pub use objects::Objects;
+pub use program::{Declarations, Handler, ObjectDeclaration, Program, TimingEvent};

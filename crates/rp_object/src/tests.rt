@@ -1,0 +1,234 @@
+use super::*;
+use rp_base::{Action, Answer, Operation, Reply, TaskId};
+use rp_body::{Components, Cond, Expr, Ranged, Stmt};
+use rp_entry::{Entry, Operations};
+use std::alloc::{AllocError, Global};
+use std::sync::Arc;
+use std::test::Fail;
+
+// The tasks by their numbers: of the gate's ceiling, above it, and not declared.
+const EQUAL: u8 = 1;
+
+const ABOVE: u8 = 2;
+
+const UNDECLARED: u8 = 3;
+
+// The objects by their numbers.
+const BOX: u8 = 1;
+
+const GATE: u8 = 2;
+
+/// A procedure that gives n the sum of two values.
+fn adding(alloc: Global, a: Expr, b: Expr) -> Result<Vec<Stmt>, AllocError> {
+    let mut body = Vec::new(alloc);
+    body.push(Stmt::Set(0, Expr::Add(Box::new(alloc, a)?, Box::new(alloc, b)?)))?;
+    Ok(body)
+}
+
+/// The number n, and the procedures inc, which adds 1 to it, and dbl, which doubles it.
+fn counter(alloc: Global) -> Result<ObjectDeclaration, AllocError> {
+    let mut ints = Vec::new(alloc);
+    ints.push(String::from_str(alloc, "n")?)?;
+    let mut components = Components::new();
+    components.add_int(Ranged {
+        low: 0,
+        high: 1000,
+        value: 0,
+    });
+    let mut procedures = Vec::new(alloc);
+    procedures.push(adding(alloc, Expr::Int(0), Expr::Number(1))?)?;
+    procedures.push(adding(alloc, Expr::Int(0), Expr::Int(0))?)?;
+    let operations = Operations {
+        functions: Vec::new(alloc),
+        procedures,
+        entry: None,
+    };
+    Ok(ObjectDeclaration {
+        name: String::from_str(alloc, "box")?,
+        ceiling: 30,
+        ints,
+        bools: Vec::new(alloc),
+        components,
+        operations: Arc::new(alloc, operations)?,
+    })
+}
+
+/// The Boolean up, the procedure lift, which puts it up, and the entry pass when up, which puts it down.
+fn gate(alloc: Global) -> Result<ObjectDeclaration, AllocError> {
+    let mut bools = Vec::new(alloc);
+    bools.push(String::from_str(alloc, "up")?)?;
+    let mut components = Components::new();
+    components.add_bool(false);
+    let mut lift = Vec::new(alloc);
+    lift.push(Stmt::Put(0, Cond::Constant(true)))?;
+    let mut procedures = Vec::new(alloc);
+    procedures.push(lift)?;
+    let mut pass = Vec::new(alloc);
+    pass.push(Stmt::Put(0, Cond::Constant(false)))?;
+    let operations = Operations {
+        functions: Vec::new(alloc),
+        procedures,
+        entry: Some(Entry {
+            barrier: 0,
+            body: pass,
+        }),
+    };
+    Ok(ObjectDeclaration {
+        name: String::from_str(alloc, "gate")?,
+        ceiling: 10,
+        ints: Vec::new(alloc),
+        bools,
+        components,
+        operations: Arc::new(alloc, operations)?,
+    })
+}
+
+/// The box and the gate, with timing events x for inc and y for dbl, and an interrupt for inc.
+fn program(alloc: Global) -> Result<Program, Fail> {
+    let inc = Handler {
+        object: BOX,
+        procedure: 1,
+    };
+    let dbl = Handler {
+        object: BOX,
+        procedure: 2,
+    };
+    let mut priorities = Vec::new(alloc);
+    priorities.push(10)?;
+    priorities.push(11)?;
+    let mut objects = Vec::new(alloc);
+    objects.push(counter(alloc)?)?;
+    objects.push(gate(alloc)?)?;
+    let mut interrupts = Vec::new(alloc);
+    interrupts.push(inc)?;
+    let mut timers = Vec::new(alloc);
+    for (name, handler) in [("x", inc), ("y", dbl)] {
+        timers.push(TimingEvent {
+            name: String::from_str(alloc, name)?,
+            handler,
+        })?;
+    }
+    let declarations = Declarations {
+        priorities,
+        objects,
+        interrupts,
+        timers,
+    };
+    Ok(Program::new(Arc::new(alloc, declarations)?).ok_or("a program")?)
+}
+
+/// A call of the task.
+fn call(task: u8, number: u32, object: u8, operation: Operation, arg: i64) -> Result<Action, Fail> {
+    Ok(Action::Call {
+        task: TaskId::new(task).ok_or("a task")?,
+        number,
+        object,
+        operation,
+        arg,
+    })
+}
+
+/// The answer to a call of the task.
+fn answer(task: u8, number: u32, reply: Reply) -> Result<Answer, Fail> {
+    Ok(Answer {
+        task: TaskId::new(task).ok_or("a task")?,
+        number,
+        reply,
+    })
+}
+
+#[test]
+fn events_that_are_due_together_fire_in_order_and_the_clock_stays(
+    rt: HostRuntime,
+) -> Result<(), Fail> {
+    let mut objects = Objects::start(rt.alloc(), &program(rt.alloc())?)?;
+    for (number, operation, arg, reply) in [
+        (1, Operation::SetTimer(2), 5, Reply::Value(0)),
+        (2, Operation::SetTimer(1), 9, Reply::Value(0)),
+        (3, Operation::SetTimer(1), 5, Reply::Value(0)),
+    ] {
+        let told = objects.apply(&call(EQUAL, number, BOX, operation, arg)?);
+        assert_eq!(rt; told.as_slice(), [answer(EQUAL, number, reply)?].as_slice());
+    }
+    assert!(rt; objects.apply(&Action::Tick { now: 7 }).is_empty());
+    assert!(rt; objects.apply(&Action::Tick { now: 3 }).is_empty());
+    let told = objects.apply(&call(EQUAL, 4, BOX, Operation::CancelTimer(1), 0)?);
+    assert_eq!(rt;
+        told.as_slice(),
+        [answer(EQUAL, 4, Reply::Truth(false))?].as_slice()
+    );
+    assert!(rt;
+        objects
+            .apply(&Action::Interrupt {
+                source: 2,
+                occurrence: 1
+            })
+            .is_empty()
+    );
+    let image = objects.image(rt.alloc())?;
+    let wanted =
+        "object box n=2\nobject gate up=false queue none\nclock 7\ntimer x off\ntimer y off\n";
+    assert_eq!(rt; image.as_slice(), wanted.as_bytes());
+    Ok(())
+}
+
+#[test]
+fn a_caller_waits_and_is_answered_by_who_opens(rt: HostRuntime) -> Result<(), Fail> {
+    let mut objects = Objects::start(rt.alloc(), &program(rt.alloc())?)?;
+    assert!(rt;
+        objects
+            .apply(&call(EQUAL, 1, GATE, Operation::Entry(1), 7)?)
+            .is_empty()
+    );
+    assert!(rt;
+        objects
+            .apply(&call(EQUAL, 1, BOX, Operation::SetTimer(2), 9)?)
+            .len()
+            == 1
+    );
+    assert!(rt;
+        objects
+            .apply(&Action::Interrupt {
+                source: 1,
+                occurrence: 1
+            })
+            .is_empty()
+    );
+    let image = objects.image(rt.alloc())?;
+    let wanted =
+        "object box n=1\nobject gate up=false queue task 1 call 1 arg 7\nclock 0\ntimer x off\ntimer y at 9\n";
+    assert_eq!(rt; image.as_slice(), wanted.as_bytes());
+    let told = objects.apply(&call(EQUAL, 2, GATE, Operation::Procedure(1), 0)?);
+    let wanted = [
+        answer(EQUAL, 2, Reply::Value(0))?,
+        answer(EQUAL, 1, Reply::Value(0))?,
+    ];
+    assert_eq!(rt; told.as_slice(), wanted.as_slice());
+    Ok(())
+}
+
+#[test]
+fn what_is_not_declared_is_refused_before_the_ceiling(rt: HostRuntime) -> Result<(), Fail> {
+    let mut objects = Objects::start(rt.alloc(), &program(rt.alloc())?)?;
+    for (task, object, operation, reply) in [
+        (ABOVE, GATE, Operation::Procedure(1), Reply::ProgramError),
+        (ABOVE, GATE, Operation::Procedure(2), Reply::NoSuchOperation),
+        (ABOVE, GATE, Operation::Function(1), Reply::NoSuchOperation),
+        (ABOVE, BOX, Operation::Procedure(1), Reply::Value(0)),
+        (ABOVE, BOX, Operation::Entry(1), Reply::NoSuchOperation),
+        (ABOVE, GATE, Operation::SetTimer(1), Reply::NoSuchOperation),
+        (ABOVE, BOX, Operation::SetTimer(3), Reply::NoSuchOperation),
+        (ABOVE, 3, Operation::Procedure(1), Reply::NoSuchOperation),
+        (
+            UNDECLARED,
+            BOX,
+            Operation::Procedure(1),
+            Reply::NoSuchOperation,
+        ),
+        (EQUAL, GATE, Operation::Procedure(1), Reply::Value(0)),
+    ] {
+        let told = objects.apply(&call(task, 1, object, operation, 0)?);
+        assert_eq!(rt; told.as_slice(), [answer(task, 1, reply)?].as_slice());
+    }
+    Ok(())
+}

@@ -1,0 +1,5 @@
+pub mod Notes
+pub mod Packets
+pub mod Held
+pub mod Tied
+pub mod Turning

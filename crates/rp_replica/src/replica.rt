@@ -1,0 +1,149 @@
+//! The replica, and how a record is kept.
+
+ghost use Rattle.std.specs.Prelude.{◌≡◌, ◌∷◌, ◌++◌, [], Some, OnOk, OnErr, IfErr, IfOk, IsOkUnless, true, false};
+ghost use Rattle.rp_base.specs.declared.fault.Fault.TheVariants as faults;
+ghost use Rattle.rp_base.specs.Right.{IsRightRecord};
+ghost use Rattle.rp_acceptor.specs.Noted.{HasRoom};
+ghost use Rattle.rp_codec.specs.Message.{MaySay};
+ghost use Rattle.rp_codec.specs.Record.{record_text, HasRecordRanges};
+ghost use Rattle.rp_codec.specs.declared.packet.Party.TheVariants.{Node};
+ghost use Rattle.rp_store.specs.Stored.{IsPut, IsNotPut};
+ghost use Rattle.rp_model.specs.Parts.{is_in_log};
+ghost use Rattle.rp_model.specs.Says.{says, writes};
+ghost use Rattle.rp_replica.specs.Held.{held_after};
+ghost use Rattle.rp_replica.specs.Packets.{run_of};
+ghost use Rattle.rp_replica.specs.Tied.{IsAnswer};
+ghost use Rattle.rp_replica.specs.Turning.{Stops};
+
+use crate::heard::Heard;
+use crate::pending::Pending;
+use crate::sent::Outbox;
+use rp_acceptor::Acceptor;
+use rp_base::{Config, Fault, NodeId, Rec};
+use rp_codec::{Body, Packet, Party};
+use rp_learner::Learner;
+use rp_log::Log;
+use rp_machine::{Machine, Numbered};
+use rp_proposer::Proposer;
+use rp_store::{Device, Store};
+use std::alloc::Global;
+use std::marker::Model;
+
+/// One node as it runs.
+#[derive(Drop)]
+pub struct Replica<M: Machine, D: Device> {
+    pub(crate) me: NodeId,
+    pub(crate) config: Config,
+    pub(crate) store: Store<D>,
+    pub(crate) acceptor: Acceptor,
+    pub(crate) proposer: Proposer,
+    pub(crate) learner: Learner,
+    pub(crate) heard: Heard,
+    pub(crate) log: Log,
+    pub(crate) machine: Numbered<M>,
+    pub(crate) pending: Pending,
+}
+
+impl<M: Machine, D: Device> Model for Replica<M, D> {
+    ghost use Rattle.rp_replica.specs.Held.{Held};
+    ghost use Rattle.rp_replica.specs.Tied.{Tied};
+
+    ghost Value = { Held M };
+
+    ghost view = { λ r. record {
+      me = r.me;
+      config = r.config;
+      begin = r.machine.begin;
+      records = r.acceptor.records;
+      running = record {
+        proposals = r.proposer.proposals;
+        heard = r.heard;
+        pending = r.pending;
+        refused = r.proposer.refused;
+      };
+      disk = D.disk r.store.device;
+      failed = r.store.failed;
+    } };
+
+    ghost invariant = { λ r. Tied r.me r.config (D.disk r.store.device) r.store.failed r.acceptor.records r.proposer r.learner r.heard r.log r.machine };
+}
+
+/// Shows that each position and each ballot of a record is within its range.
+fn record_in_range(rec: &Rec)
+    ensures { HasRecordRanges rec.now }
+{
+    match rec {
+        Rec::Started(ballot) => {
+            let _number = ballot.get();
+        }
+        Rec::Promised(position, ballot) => {
+            let _numbers = (position.get(), ballot.get());
+        }
+        Rec::Voted(position, ballot, _) => {
+            let _numbers = (position.get(), ballot.get());
+        }
+        Rec::Learned(position, _) => {
+            let _number = position.get();
+        }
+    }
+}
+
+/// Makes room to note the record.
+fn reserve(acceptor: &mut Acceptor, rec: &Rec) -> Result<(), Fault>
+    ensures room { OnOk result (HasRoom acceptor.new rec.now) }
+    ensures records { acceptor.new.records ≡ acceptor.old.records }
+    ensures only { IsOkUnless result faults.OutOfMemory }
+{
+    match *rec {
+        Rec::Promised(position, _) => acceptor.reserve(position),
+        Rec::Voted(position, _, _) => acceptor.reserve(position),
+        Rec::Started(_) | Rec::Learned(_, _) => Ok(()),
+    }
+}
+
+/// Writes the record, and notes it once it is stable.
+pub(crate) fn write<D: Device>(
+    store: &mut Store<D>,
+    acceptor: &mut Acceptor,
+    rec: &Rec,
+) -> Result<(), Fault>
+    requires right { IsRightRecord rec.now }
+    requires working { store.old.failed ≡ false }
+    ensures put { OnOk result (IsPut D.disk (record_text rec.now) store.old store.new) }
+    ensures noted { OnOk result (acceptor.new.records ≡ acceptor.old.records ++ rec.now ∷ []) }
+    ensures unchanged { OnErr result (acceptor.new.records ≡ acceptor.old.records) }
+    ensures err { IfErr result (λ fault.
+        IsNotPut D.disk (record_text rec.now) store.old fault store.new) }
+{
+    reserve(acceptor, rec)?;
+    store.put(rec)?;
+    acceptor.note(rec);
+    Ok(())
+}
+
+impl<M: Machine, D: Device> Replica<M, D> {
+    /// A packet to a node.
+    pub(crate) fn says(&self, alloc: Global, body: Body, to: NodeId) -> Result<Outbox, Fault>
+        requires { MaySay (Node self.now.me) (Node to) body }
+        ensures said { IfOk result (λ out. out ≡ run_of (says self.now.me body to ∷ [])) }
+        ensures only { IsOkUnless result faults.OutOfMemory }
+    {
+        let mut out = Outbox::new(alloc);
+        out.push(&Packet::new(Party::Node(self.me), Party::Node(to), body))?;
+        Ok(out)
+    }
+
+    /// Writes a promise or a vote.
+    pub(crate) fn keep(&mut self, rec: &Rec) -> Result<(), Fault>
+        requires working { self.old.failed ≡ false }
+        requires right { IsRightRecord rec.now }
+        requires place { is_in_log self.old.config.max_positions rec.now ≡ true }
+        requires answer { IsAnswer rec.now }
+        ensures ok { OnOk result (self.new ≡ held_after self.old
+            (writes rec.now self.old.running [])) }
+        ensures err { IfErr result (λ fault. Stops (Some rec.now) self.old self.new fault) }
+    {
+        record_in_range(rec);
+        write(&mut self.store, &mut self.acceptor, rec)
+    }
+}

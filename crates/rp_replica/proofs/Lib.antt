@@ -1,3 +1,6 @@
 pub mod Noting
 pub mod Keeping
 pub mod Answering
+pub mod Applied
+pub mod Saying
+pub mod Promising

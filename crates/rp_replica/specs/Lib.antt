@@ -3,3 +3,4 @@ pub mod Packets
 pub mod Held
 pub mod Tied
 pub mod Turning
+pub mod Proposed

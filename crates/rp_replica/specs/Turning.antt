@@ -1,5 +1,7 @@
 -- What a call of a replica comes to (this project's own).
-use Rattle.std.specs.Prelude.{◌≡◌, ◌⊎◌, Bool, true, false, Option, Some, Result, Ok, Err, length}
+use Rattle.std.specs.Prelude.{◌≡◌, ◌⊎◌, Bool, true, false, Option, Some, Result, Ok, Err, List, length}
+use Rattle.rp_base.specs.declared.action.Action.{Action}
+use Rattle.rp_base.specs.declared.reply.Answer.{Answer}
 use Rattle.rp_base.specs.declared.fault.Fault.{Fault}
 use Rattle.rp_base.specs.declared.fault.Fault.TheVariants.{OutOfMemory, Device, Failed}
 use Rattle.rp_base.specs.declared.record.Rec.{Rec}
@@ -8,7 +10,8 @@ use Rattle.rp_store.specs.Disk.{AppendFailed}
 use Rattle.rp_model.specs.declared.part.Turn.{Turn}
 use Rattle.rp_replica.specs.declared.sent.Sent.{Sent}
 use Rattle.rp_replica.specs.Packets.{texts_of}
-use Rattle.rp_replica.specs.Held.{Held, held_after}
+use Rattle.rp_model.specs.Effect.{NodeInput, running_effect}
+use Rattle.rp_replica.specs.Held.{Held, setting_of, held_after}
 
 -- The turn took effect: its record is written and stable, and the bytes are the texts of its packets.
 pub record Turns {S : Type 0} (turn : Turn) (old new : Held S) (sent : Sent) : Type 0 where
@@ -44,3 +47,7 @@ StopsIf (Err refusal) old new fault = IsRefused refusal old new fault
 abbrev pub TurnsIf : {S : Type 0} → Result Turn Fault → Held S → Held S → Sent → Type 0
 TurnsIf (Ok turn) old new sent = Turns turn old new sent × (old.failed ≡ false)
 TurnsIf (Err refusal) old new sent = ⊥
+
+-- what an input comes to for a replica, or its refusal
+abbrev pub effect_of : {S : Type 0} → (S → Action → S) → (S → Action → List Answer) → Held S → NodeInput → Result Turn Fault
+effect_of next answers held input = running_effect (setting_of next answers held) held.me held.records held.running input

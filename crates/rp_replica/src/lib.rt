@@ -10,7 +10,9 @@
 #![tactic(auto)]
 
 mod acceptor;
+mod arrivals;
 mod heard;
+mod leader;
 mod pending;
 mod replica;
 mod sent;

@@ -1,15 +1,20 @@
 //! The replica, and how a record is kept.
 
-ghost use Rattle.std.specs.Prelude.{◌≡◌, ◌∷◌, ◌++◌, [], Some, OnOk, OnErr, IfErr, IfOk, IsOkUnless, true, false};
+ghost use Rattle.std.specs.Prelude.{◌≡◌, ◌∷◌, ◌++◌, [], Some, OnOk, OnErr, IfErr, IfOk, IsOkUnless, length, true, false};
 ghost use Rattle.rp_base.specs.declared.fault.Fault.TheVariants as faults;
+ghost use Rattle.rp_base.specs.Action.{IsCount, IsIndex};
+ghost use Rattle.rp_base.specs.Records.{applied_of};
+ghost use Rattle.rp_machine.specs.Asked.{last_number, last_occurrence, kept_reply};
+ghost use Rattle.rp_machine.specs.Replay.{kept_of, replay_answers};
 ghost use Rattle.rp_base.specs.Right.{IsRightRecord};
 ghost use Rattle.rp_acceptor.specs.Noted.{HasRoom};
 ghost use Rattle.rp_codec.specs.Message.{MaySay};
 ghost use Rattle.rp_codec.specs.Record.{record_text, HasRecordRanges};
 ghost use Rattle.rp_codec.specs.declared.packet.Party.TheVariants.{Node};
+ghost use Rattle.rp_codec.specs.declared.packet.Body.TheVariants.{Reply as Answered};
 ghost use Rattle.rp_store.specs.Stored.{IsPut, IsNotPut};
 ghost use Rattle.rp_model.specs.Parts.{is_in_log};
-ghost use Rattle.rp_model.specs.Says.{says, writes};
+ghost use Rattle.rp_model.specs.Says.{says, says_to_task, writes};
 ghost use Rattle.rp_replica.specs.Held.{held_after};
 ghost use Rattle.rp_replica.specs.Packets.{run_of};
 ghost use Rattle.rp_replica.specs.Tied.{IsAnswer};
@@ -19,7 +24,7 @@ use crate::heard::Heard;
 use crate::pending::Pending;
 use crate::sent::Outbox;
 use rp_acceptor::Acceptor;
-use rp_base::{Config, Fault, NodeId, Rec};
+use rp_base::{Config, Fault, NodeId, Rec, Reply, TaskId};
 use rp_codec::{Body, Packet, Party};
 use rp_learner::Learner;
 use rp_log::Log;
@@ -131,6 +136,72 @@ impl<M: Machine, D: Device> Replica<M, D> {
         let mut out = Outbox::new(alloc);
         out.push(&Packet::new(Party::Node(self.me), Party::Node(to), body))?;
         Ok(out)
+    }
+
+    /// A reply to a task's call.
+    pub(crate) fn replies(
+        &self,
+        alloc: Global,
+        task: TaskId,
+        number: u32,
+        reply: Reply,
+    ) -> Result<Outbox, Fault>
+        requires { IsCount number }
+        ensures said { IfOk result (λ out. out
+            ≡ run_of (says_to_task self.now.me (Answered number reply) task ∷ [])) }
+        ensures only { IsOkUnless result faults.OutOfMemory }
+    {
+        let mut out = Outbox::new(alloc);
+        let body = Body::Reply { number, reply };
+        out.push(&Packet::new(Party::Node(self.me), Party::Task(task), body))?;
+        Ok(out)
+    }
+
+    /// Whether the device failed since it was opened: then each call is refused with 3.
+    pub fn has_failed(&self) -> bool
+        ensures { result ≡ self.now.failed }
+    {
+        self.store.has_failed()
+    }
+
+    /// How many bytes the device holds.
+    pub fn stored(&self) -> u64
+        ensures { result ≡ length self.now.disk.contents }
+    {
+        self.store.stored()
+    }
+
+    /// The device, as it stands.
+    pub fn close(self) -> D
+        ensures { D.disk result ≡ self.disk }
+    {
+        self.store.close()
+    }
+
+    /// The last occurrence of a source, 1 to 8, that counted, 0 where none did.
+    pub(crate) fn last_occurrence(&self, source: u8) -> u32
+        requires { IsIndex source }
+        ensures { result ≡ last_occurrence source
+            (kept_of M.next M.answers self.now.begin (applied_of self.now.records)) }
+    {
+        self.machine.last_occurrence(source)
+    }
+
+    /// The number of the task's last call that counted, 0 where none did.
+    pub(crate) fn last_number(&self, task: TaskId) -> u32
+        ensures { result ≡ last_number task
+            (kept_of M.next M.answers self.now.begin (applied_of self.now.records)) }
+    {
+        self.machine.last(task)
+    }
+
+    /// The reply that is kept for a call.
+    pub(crate) fn kept_reply(&self, task: TaskId, number: u32) -> Option<Reply>
+        ensures { let applied = applied_of self.now.records in result ≡ kept_reply task number
+            (kept_of M.next M.answers self.now.begin applied)
+            (replay_answers M.next M.answers self.now.begin applied) }
+    {
+        self.machine.kept(task, number)
     }
 
     /// Writes a promise or a vote.

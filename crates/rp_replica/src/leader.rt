@@ -1,0 +1,136 @@
+//! A replica that leads, and what it makes of promises and refusals (Lamport, "Paxos Made Simple",
+//! section 2.2).
+
+ghost use Rattle.std.specs.Prelude.{◌≡◌, ◌+◌, ◌<◌, ◌≤◌, IfOk, IfErr, IfSome, IsOkUnless, false};
+ghost use Rattle.rp_base.specs.Action.{IsRight};
+ghost use Rattle.rp_base.specs.Right.{IsRightVote};
+ghost use Rattle.rp_base.specs.Proposals.{proposal_at};
+ghost use Rattle.rp_base.specs.declared.fault.Fault.TheVariants as faults;
+ghost use Rattle.rp_codec.specs.declared.packet.Body.TheVariants as bodies;
+ghost use Rattle.rp_model.specs.Leader.{on_promise, on_nack};
+ghost use Rattle.rp_model.specs.Says.{says_to_all, notes};
+ghost use Rattle.rp_replica.specs.Held.{held_after};
+ghost use Rattle.rp_replica.specs.Packets.{run_of};
+ghost use Rattle.rp_replica.specs.Proposed.{promised_running};
+ghost use Rattle.rp_replica.specs.Turning.{Turns, Stops};
+
+use crate::replica::Replica;
+use crate::sent::{Outbox, Sent};
+use rp_base::{Action, Ballot, Fault, NodeId, Position, Vote};
+use rp_codec::{Body, Packet, Party};
+use rp_machine::Machine;
+use rp_model::Dropped;
+use rp_proposer::Progress;
+use rp_store::Device;
+use std::alloc::Global;
+
+impl<M: Machine, D: Device> Replica<M, D> {
+    /// A `Promise` comes from one of the nodes, with a right vote.
+    pub(crate) fn on_promise(
+        &mut self,
+        alloc: Global,
+        from: NodeId,
+        position: Position,
+        ballot: Ballot,
+        last: &Option<Vote>,
+    ) -> Result<Sent, Fault>
+        requires working { self.old.failed ≡ false }
+        requires sender { from ≤ self.old.config.nodes }
+        requires right { IfSome last.now IsRightVote }
+        ensures ok { IfOk result (λ sent. Turns (on_promise self.old.config.nodes
+            self.old.me self.old.running from position ballot last.now) self.old self.new sent) }
+        ensures err { IfErr result (λ fault. Stops (on_promise self.old.config.nodes
+            self.old.me self.old.running from position ballot last.now).written
+            self.old self.new fault) }
+    {
+        match self.proposer.promise(from, position, ballot, *last) {
+            Progress::Offer(action) => {
+                let out = self.accept_to_all(alloc, position, ballot, &action)?;
+                self.note_promise(from, position, ballot, last);
+                Ok(out.sent(Dropped::No))
+            }
+            Progress::Waiting => {
+                self.note_promise(from, position, ballot, last);
+                Ok(Outbox::new(alloc).sent(Dropped::No))
+            }
+            Progress::Stale => Ok(Outbox::new(alloc).sent(Dropped::No)),
+        }
+    }
+
+    /// A `Nack` comes.
+    pub(crate) fn on_nack(
+        &mut self,
+        alloc: Global,
+        position: Position,
+        ballot: Ballot,
+        bound: Ballot,
+    ) -> Sent
+        ensures { Turns (on_nack self.old.running position ballot bound) self.old self.new result }
+    {
+        self.note_refusal(position, ballot, bound);
+        Outbox::new(alloc).sent(Dropped::No)
+    }
+
+    /// Notes a refusal.
+    fn note_refusal(&mut self, position: Position, ballot: Ballot, bound: Ballot)
+        ensures { self.new ≡ held_after self.old
+            (on_nack self.old.running position ballot bound) }
+    {
+        self.proposer.nack(position, ballot, bound);
+    }
+
+    /// Notes a promise.
+    fn note_promise(
+        &mut self,
+        from: NodeId,
+        position: Position,
+        ballot: Ballot,
+        last: &Option<Vote>,
+    )
+        requires sender { from ≤ self.old.config.nodes }
+        requires right { IfSome last.now IsRightVote }
+        ensures { self.new ≡ held_after self.old (notes
+            (promised_running self.old.config.nodes self.old.running ballot (from, last.now)
+            (proposal_at self.old.running.proposals position))) }
+    {
+        self.proposer.note_promise(from, position, ballot, *last);
+    }
+
+    /// An `Accept` to each node.
+    fn accept_to_all(
+        &self,
+        alloc: Global,
+        position: Position,
+        ballot: Ballot,
+        action: &Action,
+    ) -> Result<Outbox, Fault>
+        requires right { IsRight action.now }
+        ensures said { IfOk result (λ out. out ≡ run_of
+            (says_to_all self.now.config.nodes self.now.me
+            (bodies.Accept position ballot action.now))) }
+        ensures only { IsOkUnless result faults.OutOfMemory }
+    {
+        let mut out = Outbox::new(alloc);
+        for place in 0..self.config.nodes {
+            let body = Body::Accept {
+                position,
+                ballot,
+                action: *action,
+            };
+            out.push(&Packet::new(
+                Party::Node(self.me),
+                Party::Node(node_after(place)),
+                body,
+            ))?;
+        }
+        Ok(out)
+    }
+}
+
+/// The node of the number that is one above `place`.
+fn node_after(place: u8) -> NodeId
+    requires { place < 7 }
+    ensures { result ≡ place + 1 }
+{
+    NodeId::new(place + 1).unwrap()
+}

@@ -4,3 +4,4 @@ pub mod Answering
 pub mod Applied
 pub mod Saying
 pub mod Promising
+pub mod Settling

@@ -6,10 +6,11 @@ use Rattle.rp_codec.specs.declared.packet.Body.{Body}
 use Rattle.rp_machine.specs.Replay.{one_to}
 use Rattle.rp_codec.specs.Message.{Message}
 use Rattle.rp_model.specs.declared.part.Dropped.TheVariants.{No}
-use Rattle.rp_model.specs.Says.{says, says_to_all, sends}
+use Rattle.rp_model.specs.Says.{says, says_to_all, sends, notes}
+use Rattle.rp_model.specs.declared.part.Running.{Running}
 use Rattle.rp_replica.specs.declared.sent.Sent.{Sent}
 use Rattle.rp_replica.specs.Packets.{Run, texts_of, run_of, with_packet}
-use Rattle.rp_replica.specs.Held.{Held}
+use Rattle.rp_replica.specs.Held.{Held, held_after}
 use Rattle.rp_replica.specs.Turning.{Turns}
 
 -- these packets are sent, and nothing else changes
@@ -42,3 +43,13 @@ one_node_more n me body out is =
     let longer : says_to_all (n + 1) me body ≡ says_to_all n me body ++ says me body (n + 1) ∷ [] =
     ap (λ (k : ℕ). says_to_all k me body) next ∙ map-append (says me body) (one_to n) (suc n ∷ []) ∙ ap (λ (k : ℕ). says_to_all n me body ++ says me body k ∷ []) (sym next) in
     ap (λ (r : Run). with_packet r (says me body (n + 1))) is ∙ run_then (says_to_all n me body) (says me body (n + 1)) ∙ sym (ap run_of longer)
+
+-- these packets are sent, and this is known now
+pub said_knowing : {S : Type 0} (old new : Held S) (known : Running) (packets : List Message) (out : Run) (sent : Sent) → new ≡ held_after old (notes known) → out ≡ run_of packets
+    → sent.bytes.items ≡ out.bytes → sent.packets ≡ out.packets → sent.dropped ≡ No → Turns (sends known packets) old new sent
+said_knowing old new known packets out sent goes is bytes count dropped = record {
+  goes = goes;
+  bytes = bytes ∙ ap (λ (r : Run). r.bytes) is;
+  packets = count ∙ ap (λ (r : Run). r.packets) is;
+  dropped = dropped;
+}

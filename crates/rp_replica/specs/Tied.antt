@@ -21,7 +21,7 @@ use Rattle.rp_learner.specs.Standings.{is_settled}
 use Rattle.rp_log.specs.Contents.{Contents, action_at, next_to_take, IsTakenInOrder}
 use Rattle.rp_log.specs.Recorded.{LearnedAlike}
 use Rattle.rp_machine.specs.Numbered.{Applied}
-use Rattle.rp_model.specs.Parts.{records_in_log}
+use Rattle.rp_model.specs.Parts.{is_in_log, records_in_log}
 
 -- The device holds all records of the node in order, of which those within the log count, and behind them
 -- what is torn: nothing, unless it has failed. All records are stable.
@@ -82,3 +82,7 @@ IsAnswer (Started ballot) = ⊥
 IsAnswer (Promised position ballot) = Unit {0}
 IsAnswer (Voted position ballot action) = Unit {0}
 IsAnswer (Learned position action) = ⊥
+
+-- every record is at a position of the log, or at none
+abbrev pub AllInLog : ℕ → List Rec → Type 0
+AllInLog most records = AllByRecursion (λ rec. is_in_log most rec ≡ true) records

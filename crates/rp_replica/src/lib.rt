@@ -13,6 +13,8 @@ mod acceptor;
 mod arrivals;
 mod heard;
 mod leader;
+mod learner;
+mod opening;
 mod pending;
 mod replica;
 mod sent;

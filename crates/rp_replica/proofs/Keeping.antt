@@ -26,7 +26,7 @@ use Rattle.rp_machine.specs.Numbered.{Applied}
 use Rattle.rp_model.specs.Parts.{is_in_log, records_in_log}
 use Rattle.rp_replica.specs.Tied.{IsOnDisk, IsProposer, IsLearner, IsApplied, Tied, IsAnswer}
 
-or_none : (o : Option Action) → or_else o None ≡ o
+pub or_none : (o : Option Action) → or_else o None ≡ o
 or_none None = refl
 or_none (Some v) = refl
 

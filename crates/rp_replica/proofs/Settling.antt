@@ -14,6 +14,12 @@ use Rattle.rp_base.proofs.Members.{found, finds, has_with, with_has, same_test, 
 use Rattle.rp_base.proofs.MoreRecords.{learned_push}
 use Rattle.rp_learner.specs.Learning.{Learning}
 use Rattle.rp_learner.specs.Standings.{SameLearning, Settles, is_settled}
+use Rattle.rp_log.specs.Contents.{Contents, empty_log, action_at, with_room}
+use Rattle.std.specs.FinMap.{get, insert, get-empty}
+use Rattle.std.specs.Prelude.{option_and_then}
+use Rattle.std.specs.Ordering.{nat_cmp}
+use Rattle.rp_log.specs.Recorded.{LearnedAlike}
+use Rattle.rp_replica.proofs.Keeping.{or_none}
 use Rattle.rp_replica.specs.Tied.{IsLearner}
 
 -- ---- a set with one member more
@@ -89,3 +95,24 @@ learns_none config records rec learner votes none l = record {
   settled = λ j within. l.settled j within
       ∙ sym (ap is_some (learned_push records rec j) ∙ ap (λ (o : Option Action). is_some (or_else (learned_at records j) o)) (none j) ∙ none_more (learned_at records j));
 }
+
+-- ---- a log, one record on
+
+-- another record tells a log nothing
+pub alike_none : (records : List Rec) (rec : Rec) (log : Contents) → ((j : ℕ) → learned_in j rec ≡ None) → LearnedAlike records log → LearnedAlike (records ++ rec ∷ []) log
+alike_none records rec log none alike = λ j. alike j ∙ sym (learned_push records rec j ∙ ap (λ (o : Option Action). or_else (learned_at records j) o) (none j) ∙ or_none (learned_at records j))
+
+-- a record that learns nothing
+pub tells_none : (rec : Rec) → ((i : ℕ) (v : Action) → rec ≡ Learned i v → ⊥) → (j : ℕ) → learned_in j rec ≡ None
+tells_none (Started ballot) other j = refl
+tells_none (Promised position ballot) other j = refl
+tells_none (Voted position ballot action) other j = refl
+tells_none (Learned position action) other j = absurd (other position action refl)
+
+-- making room takes nothing
+pub taken_same : (log : Contents) (i : ℕ) → (with_room log i).taken ≡ log.taken
+taken_same log i = elim (is_some (get log.places i)) as (λ b. (cond b log (record log { places = insert log.places i None })).taken ≡ log.taken) [ true ↦ refl | false ↦ refl ]
+
+-- an empty log learned nothing
+pub none_learned : (i : ℕ) → action_at empty_log i ≡ None
+none_learned i = ap (option_and_then (λ (o : Option Action). o)) (get-empty nat_cmp i)

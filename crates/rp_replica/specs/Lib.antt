@@ -4,3 +4,4 @@ pub mod Held
 pub mod Tied
 pub mod Turning
 pub mod Proposed
+pub mod Opening

@@ -1,15 +1,19 @@
 //! A replica that is opened over a device.
 
-ghost use Rattle.std.specs.Prelude.{◌≡◌, ◌≤◌, [], filter, IfOk, IfErr, IsOkUnless, is_some};
+ghost use Rattle.std.specs.Prelude.{◌≡◌, ◌≤◌, ℕ, Some, None, [], IfOk, IfErr, IsOkUnless};
 ghost use Rattle.rp_base.specs.Config.{IsRightConfig};
 ghost use Rattle.rp_base.specs.declared.fault.Fault.TheVariants as faults;
 ghost use Rattle.rp_model.specs.Parts.{is_in_log, records_in_log};
 ghost use Rattle.rp_log.specs.Recorded.{LearnedAlike};
+ghost use Rattle.rp_base.specs.Action.{IsRight};
+ghost use Rattle.rp_base.specs.declared.action.Action.{Action};
+ghost use Rattle.rp_log.specs.Contents.{IsTakenInOrder, action_at, next_to_take};
 ghost use Rattle.rp_replica.specs.Tied.{IsLearner, AllInLog};
 
 use rp_base::{Config, Fault, Rec};
 use rp_learner::Learner;
 use rp_log::Log;
+use rp_machine::{Machine, Numbered};
 use std::alloc::Global;
 
 /// Whether the record is at a position of the log, or at none.
@@ -61,4 +65,20 @@ pub(crate) fn log_of(alloc: Global, records: &[Rec]) -> Result<Log, Fault>
         }
     }
     Ok(log)
+}
+
+/// Applies all that is ready, in order.
+pub(crate) fn apply_ready<M: Machine>(machine: &mut Numbered<M>, log: &mut Log)
+    requires right { (i : ℕ) (v : Action) → action_at log.old i ≡ Some v → IsRight v }
+    requires taken { machine.old.actions ≡ log.old.taken }
+    ensures begin { machine.new.begin ≡ machine.old.begin }
+    ensures taken { machine.new.actions ≡ log.new.taken }
+    ensures places { log.new.places ≡ log.old.places }
+    ensures none { action_at log.new (next_to_take log.new) ≡ None }
+    ensures ordered { IsTakenInOrder log.new }
+{
+    while let Some((_, action)) = log.take_ready() {
+        machine.apply(&action);
+    }
+    log.applied();
 }

@@ -19,5 +19,6 @@ mod pending;
 mod replica;
 mod sent;
 
+pub use opening::Opening;
 pub use replica::Replica;
 pub use sent::Sent;

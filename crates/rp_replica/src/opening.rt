@@ -8,12 +8,22 @@ ghost use Rattle.rp_log.specs.Recorded.{LearnedAlike};
 ghost use Rattle.rp_base.specs.Action.{IsRight};
 ghost use Rattle.rp_base.specs.declared.action.Action.{Action};
 ghost use Rattle.rp_log.specs.Contents.{IsTakenInOrder, action_at, next_to_take};
-ghost use Rattle.rp_replica.specs.Tied.{IsLearner, AllInLog};
+ghost use Rattle.rp_replica.specs.Tied.{IsLearner, IsApplied, AllInLog};
+ghost use Rattle.std.specs.List.{AllByRecursion};
+ghost use Rattle.rp_base.specs.Right.{IsRightRecord};
+ghost use Rattle.rp_proposer.specs.Proposing as proposing;
+ghost use Rattle.rp_replica.specs.Opening.{Opens, IsRefusedOpening};
 
-use rp_base::{Config, Fault, Rec};
+use crate::heard::Heard;
+use crate::pending::Pending;
+use crate::replica::Replica;
+use rp_acceptor::Acceptor;
+use rp_base::{Config, Fault, NodeId, Rec};
 use rp_learner::Learner;
 use rp_log::Log;
 use rp_machine::{Machine, Numbered};
+use rp_proposer::Proposer;
+use rp_store::{Device, Opened, Store};
 use std::alloc::Global;
 
 /// Whether the record is at a position of the log, or at none.
@@ -81,4 +91,110 @@ pub(crate) fn apply_ready<M: Machine>(machine: &mut Numbered<M>, log: &mut Log)
         machine.apply(&action);
     }
     log.applied();
+}
+
+/// What the records of a node give it to run by.
+#[derive(Drop)]
+struct Parts<M: Machine> {
+    acceptor: Acceptor,
+    proposer: Proposer,
+    learner: Learner,
+    log: Log,
+    machine: Numbered<M>,
+    pending: Pending,
+}
+
+/// What these records, all of them within the log, give a node to run by.
+fn restored<M: Machine>(
+    alloc: Global,
+    node: NodeId,
+    config: Config,
+    program: &M::Program,
+    records: &[Rec],
+) -> Result<Parts<M>, Fault>
+    requires config { IsRightConfig config }
+    requires node { node ≤ config.nodes }
+    requires within { AllInLog config.max_positions records.now }
+    requires right { AllByRecursion IsRightRecord records.now }
+    ensures acceptor { IfOk result (λ r. r.acceptor.records ≡ records.now) }
+    ensures proposer { IfOk result (λ r. r.proposer
+      ≡ proposing.restored node config.nodes records.now) }
+    ensures learner { IfOk result (λ r. IsLearner config records.now r.learner []) }
+    ensures log { IfOk result (λ r. IsApplied records.now r.log r.machine) }
+    ensures machine { IfOk result (λ r. r.machine.begin ≡ M.begin program.now) }
+    ensures pending { IfOk result (λ r. r.pending ≡ []) }
+    ensures only { IsOkUnless result faults.OutOfMemory }
+{
+    let acceptor = Acceptor::restore(alloc, records)?;
+    let proposer = Proposer::restore(alloc, node, config.nodes, records)?;
+    let learner = learner_of(alloc, config, records)?;
+    let mut log = log_of(alloc, records)?;
+    let mut machine = Numbered::new(alloc, program)?;
+    let pending = Pending::new(alloc)?;
+    apply_ready(&mut machine, &mut log);
+    Ok(Parts {
+        acceptor,
+        proposer,
+        learner,
+        log,
+        machine,
+        pending,
+    })
+}
+
+/// What opening a device gives.
+#[derive(Drop)]
+pub struct Opening<M: Machine, D: Device> {
+    pub replica: Replica<M, D>,
+    /// How many records count.
+    pub records: u64,
+    /// How many bytes stood behind the records, and were cut off.
+    pub cut_bytes: u64,
+}
+
+impl<M: Machine, D: Device> Replica<M, D> {
+    /// Opens a device for a node of the configuration: it reads the records, cuts off what is torn
+    /// behind them, skips those above the log, and runs by the others. Nothing is proposed, heard or
+    /// pending. Refused with 1 where memory ran out, after which the device may be read, cut and
+    /// synced, or with 2 where the device failed.
+    pub fn open(
+        alloc: Global,
+        node: NodeId,
+        config: Config,
+        program: &M::Program,
+        device: D,
+    ) -> Result<Opening<M, D>, (Fault, D)>
+        requires config { IsRightConfig config }
+        requires node { node ≤ config.nodes }
+        ensures ok { IfOk result (λ opening. Opens node config (M.begin program.now)
+            (D.disk device) opening.replica opening.records opening.cut_bytes) }
+        ensures err { IfErr result (λ refused.
+            IsRefusedOpening (D.disk device) refused.0 (D.disk refused.1)) }
+    {
+        let Opened {
+            store,
+            mut records,
+            cut_bytes,
+        } = Store::open(alloc, device)?;
+        skip(&mut records, config.max_positions);
+        match restored::<M>(alloc, node, config, program, &records) {
+            Ok(parts) => Ok(Opening {
+                replica: Replica {
+                    me: node,
+                    config,
+                    store,
+                    acceptor: parts.acceptor,
+                    proposer: parts.proposer,
+                    learner: parts.learner,
+                    heard: Heard::new(),
+                    log: parts.log,
+                    machine: parts.machine,
+                    pending: parts.pending,
+                },
+                records: records.len() as u64,
+                cut_bytes,
+            }),
+            Err(fault) => Err((fault, store.close())),
+        }
+    }
 }

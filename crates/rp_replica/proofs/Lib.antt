@@ -5,3 +5,4 @@ pub mod Applied
 pub mod Saying
 pub mod Promising
 pub mod Settling
+pub mod Starting

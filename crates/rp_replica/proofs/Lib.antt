@@ -6,3 +6,4 @@ pub mod Saying
 pub mod Promising
 pub mod Settling
 pub mod Starting
+pub mod Hearing

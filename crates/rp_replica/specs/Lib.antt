@@ -5,3 +5,4 @@ pub mod Tied
 pub mod Turning
 pub mod Proposed
 pub mod Opening
+pub mod Standing

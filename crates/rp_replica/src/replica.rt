@@ -5,7 +5,7 @@ ghost use Rattle.rp_base.specs.declared.fault.Fault.TheVariants as faults;
 ghost use Rattle.rp_base.specs.Action.{IsCount, IsIndex};
 ghost use Rattle.rp_base.specs.Records.{applied_of};
 ghost use Rattle.rp_machine.specs.Asked.{last_number, last_occurrence, kept_reply};
-ghost use Rattle.rp_machine.specs.Replay.{kept_of, replay_answers};
+ghost use Rattle.rp_machine.specs.Replay.{kept_of, replay_answers, replay_state};
 ghost use Rattle.rp_base.specs.Right.{IsRightRecord};
 ghost use Rattle.rp_acceptor.specs.Noted.{HasRoom};
 ghost use Rattle.rp_codec.specs.Message.{MaySay};
@@ -169,6 +169,22 @@ impl<M: Machine, D: Device> Replica<M, D> {
         ensures { result ≡ length self.now.disk.contents }
     {
         self.store.stored()
+    }
+
+    /// How many actions are applied: those learned at the positions up to that number.
+    pub fn applied(&self) -> u32
+        ensures { result ≡ length (applied_of self.now.records) }
+    {
+        self.log.applied()
+    }
+
+    /// Lines that show the machine's state, each ended by a line feed.
+    pub fn image(&self, alloc: Global) -> Result<Vec<u8>, Fault>
+        ensures image { IfOk result (λ text. text.items ≡ M.image
+            (replay_state M.next M.answers self.now.begin (applied_of self.now.records))) }
+        ensures only { IsOkUnless result faults.OutOfMemory }
+    {
+        Ok(self.machine.machine().image(alloc)?)
     }
 
     /// The device, as it stands.

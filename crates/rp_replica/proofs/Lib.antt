@@ -7,3 +7,4 @@ pub mod Promising
 pub mod Settling
 pub mod Starting
 pub mod Hearing
+pub mod Beginning

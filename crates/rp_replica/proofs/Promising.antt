@@ -170,7 +170,7 @@ once_right nodes b p promise right last = by (nat_eq p.ballot b && is_preparing 
     by true false = promised_right p promise right last
     by false many = right
 
-put_right : (ps : List Proposal) (q : Proposal) → AllByRecursion IsRightProposal ps → IsRightProposal q → AllByRecursion IsRightProposal (with_proposal ps q)
+pub put_right : (ps : List Proposal) (q : Proposal) → AllByRecursion IsRightProposal ps → IsRightProposal q → AllByRecursion IsRightProposal (with_proposal ps q)
 put_right [] q all right = (right, tt)
 put_right (p ∷ rest) q all right =
     elim (nat_eq p.position q.position) as (λ t. AllByRecursion IsRightProposal (cond t (q ∷ rest) (p ∷ with_proposal rest q))) [
@@ -178,7 +178,7 @@ put_right (p ∷ rest) q all right =
       | false ↦ (all.0, put_right rest q all.1 right)
     ]
 
-abbrev places : List Proposal → List ℕ
+abbrev pub places : List Proposal → List ℕ
 places ps = map (λ p. p.position) ps
 
 put_places : (rest : List Proposal) (q p r : Proposal) (here : Bool) → nat_eq r.position q.position ≡ here → (proposal_at rest q.position ≡ Some p → places (with_proposal rest q) ≡ places rest)
@@ -186,7 +186,7 @@ put_places : (rest : List Proposal) (q p r : Proposal) (here : Bool) → nat_eq 
 put_places rest q p r true at later e = ap (λ (i : ℕ). i ∷ places rest) (sym (eqb-true r.position q.position at))
 put_places rest q p r false at later e = ap (λ (is : List ℕ). r.position ∷ is) (later e)
 
-same_places : (ps : List Proposal) (q p : Proposal) → proposal_at ps q.position ≡ Some p → places (with_proposal ps q) ≡ places ps
+pub same_places : (ps : List Proposal) (q p : Proposal) → proposal_at ps q.position ≡ Some p → places (with_proposal ps q) ≡ places ps
 same_places [] q p e = absurd (cc)
 same_places (r ∷ rest) q p e = put_places rest q p r (nat_eq r.position q.position) refl (same_places rest q p) e
 

@@ -1,22 +1,25 @@
 //! A replica that leads, and what it makes of promises and refusals (Lamport, "Paxos Made Simple",
 //! section 2.2).
 
-ghost use Rattle.std.specs.Prelude.{◌≡◌, ◌+◌, ◌<◌, ◌≤◌, IfOk, IfErr, IfSome, IsOkUnless, false};
+ghost use Rattle.std.specs.Prelude.{◌≡◌, ◌+◌, ◌<◌, ◌≤◌, [], Some, None, OnOk, IfOk, IfErr, IfSome, IsOkUnless, false};
 ghost use Rattle.rp_base.specs.Action.{IsRight};
 ghost use Rattle.rp_base.specs.Right.{IsRightVote};
+ghost use Rattle.rp_base.specs.Ballot.{IsAbove};
+ghost use Rattle.rp_base.specs.Records.{learned_at, first_unlearned};
+ghost use Rattle.rp_base.specs.declared.record.Rec.TheVariants.{Started};
 ghost use Rattle.rp_base.specs.Proposals.{proposal_at};
 ghost use Rattle.rp_base.specs.declared.fault.Fault.TheVariants as faults;
 ghost use Rattle.rp_codec.specs.declared.packet.Body.TheVariants as bodies;
-ghost use Rattle.rp_model.specs.Leader.{on_promise, on_nack};
-ghost use Rattle.rp_model.specs.Says.{says_to_all, notes};
+ghost use Rattle.rp_model.specs.Leader.{window, starts_above, on_promise, on_nack};
+ghost use Rattle.rp_model.specs.Says.{says_to_all, notes, writes};
 ghost use Rattle.rp_replica.specs.Held.{held_after};
 ghost use Rattle.rp_replica.specs.Packets.{run_of};
-ghost use Rattle.rp_replica.specs.Proposed.{promised_running};
+ghost use Rattle.rp_replica.specs.Proposed.{promised_running, started_running};
 ghost use Rattle.rp_replica.specs.Turning.{Turns, Stops};
 
-use crate::replica::Replica;
+use crate::replica::{Replica, write};
 use crate::sent::{Outbox, Sent};
-use rp_base::{Action, Ballot, Fault, NodeId, Position, Vote};
+use rp_base::{Action, Ballot, Fault, NodeId, Position, Rec, Vote};
 use rp_codec::{Body, Packet, Party};
 use rp_machine::Machine;
 use rp_model::Dropped;
@@ -77,6 +80,32 @@ impl<M: Machine, D: Device> Replica<M, D> {
             (on_nack self.old.running position ballot bound) }
     {
         self.proposer.nack(position, ballot, bound);
+    }
+
+    /// Begins a proposal at an unlearned position within reach, in place of another there: its ballot
+    /// is written first.
+    pub(crate) fn start(
+        &mut self,
+        position: Position,
+        ballot: Ballot,
+        own: &Action,
+    ) -> Result<(), Fault>
+        requires working { self.old.failed ≡ false }
+        requires right { IsRight own.now }
+        requires ballot { IsAbove self.old.me
+            (starts_above self.old.records self.old.running) ballot }
+        requires unlearned { learned_at self.old.records position ≡ None }
+        requires reach { position < first_unlearned self.old.records + window }
+        ensures ok { OnOk result (self.new ≡ held_after self.old (writes (Started ballot)
+            (started_running self.old.running position ballot own.now) [])) }
+        ensures err { IfErr result (λ fault.
+            Stops (Some (Started ballot)) self.old self.new fault) }
+    {
+        let rec = Rec::Started(ballot);
+        write(&mut self.store, &mut self.acceptor, &rec)?;
+        let _number = position.get();
+        self.proposer.begin(position, ballot, Some(*own));
+        Ok(())
     }
 
     /// Notes a promise.

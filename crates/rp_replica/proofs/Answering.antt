@@ -1,11 +1,11 @@
 -- What an acceptor's answers tell of the records.
-use Rattle.std.proofs.Common.{◌≡◌, ℕ, ◌<◌, ◌≤◌, Bool, true, false, cond, nat_eq, nat_lt, Option, Some, None, List, [], ◌∷◌, refl, sym, ap, subst, ◌∙◌, ltb-true}
-use Rattle.std.specs.Prelude.{IfSome, nat_le, filter}
+use Rattle.std.proofs.Common.{◌≡◌, ℕ, ◌<◌, Bool, true, false, cond, nat_eq, nat_lt, Option, Some, None, List, [], ◌∷◌, refl, sym, ap, ◌∙◌, ltb-true}
+use Rattle.std.specs.Prelude.{IfSome, filter}
 use Rattle.std.specs.List.{AllByRecursion}
 use Rattle.rp_base.specs.declared.action.Action.{Action}
 use Rattle.rp_base.specs.declared.record.Vote.{Vote}
 use Rattle.rp_base.specs.declared.record.Rec.{Rec}
-use Rattle.rp_base.specs.declared.record.Rec.TheVariants.{Started, Promised, Voted, Learned}
+use Rattle.rp_base.specs.declared.record.Rec.TheVariants.{Promised, Voted}
 use Rattle.rp_base.specs.declared.voting.PrepareAnswer.{PrepareAnswer}
 use Rattle.rp_base.specs.declared.voting.PrepareAnswer.TheVariants as prepares
 use Rattle.rp_base.specs.declared.voting.AcceptAnswer.{AcceptAnswer}
@@ -17,8 +17,6 @@ use Rattle.rp_base.specs.Voting.{prepare_answer, vote_answer, accept_answer}
 use Rattle.rp_base.proofs.MoreRecords.{last_below, last_right}
 use Rattle.rp_codec.specs.Message.{IsVoteBelow}
 use Rattle.rp_codec.specs.Record.{IsRecord}
-use Rattle.rp_model.specs.Parts.{is_in_log, records_in_log}
-use Rattle.rp_replica.specs.Tied.{IsAnswer}
 
 -- ---- a promise
 

@@ -1,5 +1,5 @@
 -- What is applied, and what is learned.
-use Rattle.std.proofs.Common.{◌≡◌, ℕ, ◌<◌, ◌≤◌, Bool, true, false, cond, nat_eq, Option, Some, None, List, [], ◌∷◌, refl, sym, ap, subst, ◌∙◌}
+use Rattle.std.proofs.Common.{◌≡◌, ℕ, ◌<◌, ◌≤◌, Bool, true, false, cond, nat_eq, Option, Some, None, List, [], ◌∷◌, sym, ap, subst, ◌∙◌}
 use Rattle.std.proofs.lemmas.Bool.{lt-ltb, le-ltb}
 use Rattle.std.specs.List.{AllByRecursion}
 use Rattle.rp_base.specs.declared.action.Action.TheVariants.{Interrupt}
@@ -16,7 +16,7 @@ use Rattle.rp_base.specs.declared.record.Rec.{Rec}
 use Rattle.rp_base.specs.declared.record.Rec.TheVariants.{Started, Promised, Voted, Learned}
 use Rattle.rp_base.specs.Action.{IsRight}
 use Rattle.rp_base.specs.Right.{IsRightRecord}
-use Rattle.rp_base.specs.Records.{or_else, learned_in, learned_at, applied_of}
+use Rattle.rp_base.specs.Records.{or_else, learned_at, applied_of}
 use Rattle.rp_log.specs.Contents.{Contents}
 use Rattle.rp_log.proofs.RecordedRuns.{all_taken}
 use Rattle.rp_machine.specs.Numbered.{Applied, outcome}

@@ -1,5 +1,5 @@
 -- A proposal that begins.
-use Rattle.std.proofs.Common.{◌≡◌, ℕ, suc, ◌+◌, ◌-◌, ◌<◌, ◌≤◌, max, Bool, true, false, cond, nat_eq, is_some, Option, Some, None, List, [], ◌∷◌, ◌++◌, length, map, ◌⊎◌, refl, sym, ap, subst, ◌∙◌, inl, inr, arith, eq-eqb}
+use Rattle.std.proofs.Common.{◌≡◌, ℕ, suc, ◌+◌, ◌-◌, ◌<◌, ◌≤◌, max, Bool, true, false, cond, nat_eq, is_some, Option, Some, None, List, [], ◌∷◌, ◌++◌, length, ◌⊎◌, refl, sym, ap, subst, ◌∙◌, inl, inr, arith, eq-eqb}
 use Rattle.std.specs.Prelude.{IsSome, slice_get}
 use Rattle.std.proofs.lemmas.Bool.{cases_lt}
 use Rattle.std.proofs.lemmas.List.{map-append}
@@ -36,7 +36,7 @@ absent_here rest q p true at later e = absurd (cc)
 absent_here rest q p false at later e =
     let more = later e in (
       ap (λ (ps : List Proposal). p ∷ ps) more.0,
-      λ h. elim h [ | inl same ↦ let yes : nat_eq p.position q.position ≡ true = eq-eqb p.position q.position (sym same) in absurd (cc) | inr rest ↦ more.1 rest ],
+      λ h. elim h [ inl same ↦ let yes : nat_eq p.position q.position ≡ true = eq-eqb p.position q.position (sym same) in absurd (cc) | inr rest ↦ more.1 rest ],
     )
 
 absent : (ps : List Proposal) (q : Proposal) → proposal_at ps q.position ≡ None → (with_proposal ps q ≡ ps ++ q ∷ []) × (¬ Has q.position (places ps))
@@ -57,7 +57,7 @@ window_more first ps q None at w inside =
       different = subst IsSet (sym longer) (set_more (places ps) q.position w.different more.1);
       inside = λ j h. elim (has_split j (places ps) (q.position ∷ []) (subst (λ (is : List ℕ). Has j is) longer h)) [
         | inl before ↦ w.inside j before
-        | inr last ↦ elim last [ | inl same ↦ subst (IsInWindow first) (sym same) inside | inr none ↦ absurd none ]
+        | inr last ↦ elim last [ inl same ↦ subst (IsInWindow first) (sym same) inside | inr none ↦ absurd none ]
       ];
     }
 
@@ -68,7 +68,7 @@ place_of_more ps q None j at h =
     let longer : places (with_proposal ps q) ≡ places ps ++ q.position ∷ [] = ap places more.0 ∙ map-append (λ (p : Proposal). p.position) ps (q ∷ []) in
     elim (has_split j (places ps) (q.position ∷ []) (subst (λ (is : List ℕ). Has j is) longer h)) [
       | inl before ↦ inl before
-      | inr last ↦ elim last [ | inl same ↦ inr same | inr none ↦ absurd none ]
+      | inr last ↦ elim last [ inl same ↦ inr same | inr none ↦ absurd none ]
     ]
 
 -- ---- the start of a ballot learns nothing

@@ -1,8 +1,8 @@
 -- A replica's parts once a promise or a vote is written, or was to be.
-use Rattle.std.proofs.Common.{◌≡◌, ℕ, ◌+◌, ◌≤◌, max, Bool, true, false, if◌then◌else◌, is_some, Option, Some, None, List, [], ◌∷◌, ◌++◌, length, take, refl, sym, ap, subst, ◌∙◌, arith, inl, inr}
+use Rattle.std.proofs.Common.{◌≡◌, ℕ, Bool, true, false, if◌then◌else◌, is_some, Option, Some, None, List, [], ◌∷◌, ◌++◌, length, take, refl, sym, ap, subst, ◌∙◌, arith, inl, inr}
 use Rattle.std.proofs.lemmas.List.{append-nil}
 use Rattle.std.proofs.lemmas.List.Elements.{filter-append}
-use Rattle.std.specs.Prelude.{filter, Result, Ok, Err, OnOk, OnErr, IfErr}
+use Rattle.std.specs.Prelude.{Result, Ok, Err, OnOk, OnErr, IfErr}
 use Rattle.rp_base.specs.declared.action.Action.{Action}
 use Rattle.rp_base.specs.declared.config.Config.{Config}
 use Rattle.rp_base.specs.declared.record.Rec.{Rec}
@@ -13,7 +13,7 @@ use Rattle.rp_base.specs.Sets.{Has}
 use Rattle.rp_base.specs.Promises.{HeardVote}
 use Rattle.rp_acceptor.specs.Noted.{Noted, places_in, HasRoom, reserves}
 use Rattle.rp_store.specs.Stored.{Stored, IsUnchanged, IsPut, FailsInPut, IsNotPut}
-use Rattle.rp_base.specs.Records.{or_else, started_in, started_of, learned_in, learned_at}
+use Rattle.rp_base.specs.Records.{or_else, started_of, learned_at}
 use Rattle.rp_base.proofs.MoreRecords.{started_push, learned_push}
 use Rattle.rp_codec.specs.Record.{record_text, IsRecord}
 use Rattle.rp_store.specs.Disk.{Disk, appended, synced, AppendFailed}
@@ -24,7 +24,7 @@ use Rattle.rp_learner.specs.Learning.{Learning}
 use Rattle.rp_log.specs.Contents.{Contents}
 use Rattle.rp_machine.specs.Numbered.{Applied}
 use Rattle.rp_model.specs.Parts.{is_in_log, records_in_log}
-use Rattle.rp_replica.specs.Tied.{IsOnDisk, IsProposer, IsLearner, IsApplied, Tied, IsAnswer}
+use Rattle.rp_replica.specs.Tied.{IsOnDisk, Tied, IsAnswer}
 
 pub or_none : (o : Option Action) → or_else o None ≡ o
 or_none None = refl

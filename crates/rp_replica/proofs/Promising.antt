@@ -1,5 +1,5 @@
 -- What a promise or a refusal makes of the proposals that run.
-use Rattle.std.proofs.Common.{◌≡◌, ℕ, Bool, true, false, ◌&&◌, cond, not, nat_eq, nat_lt, Option, Some, None, List, [], ◌∷◌, ◌++◌, length, map, refl, sym, ap, subst, ◌∙◌, eqb-true, inl, inr}
+use Rattle.std.proofs.Common.{◌≡◌, ℕ, Bool, true, false, ◌&&◌, cond, not, nat_eq, nat_lt, Option, Some, None, List, [], ◌∷◌, ◌++◌, length, map, refl, sym, ap, subst, ◌∙◌, eqb-true}
 use Rattle.std.specs.Prelude.{IfSome, filter, filter_map, unwrap_or}
 use Rattle.std.specs.List.{AllByRecursion, cons_option, list_any}
 use Rattle.rp_base.specs.declared.action.Action.{Action}
@@ -24,7 +24,7 @@ use Rattle.rp_proposer.specs.declared.proposal.Progress.TheVariants.{Waiting, Of
 use Rattle.rp_model.specs.declared.part.Running.{Running}
 use Rattle.rp_model.specs.declared.part.Turn.{Turn}
 use Rattle.rp_model.specs.Says.{says_to_all, sends, notes}
-use Rattle.rp_model.specs.Leader.{on_promise_to, on_nack}
+use Rattle.rp_model.specs.Leader.{on_promise_to}
 use Rattle.rp_replica.specs.Proposed.{promised_running}
 use Rattle.rp_replica.specs.Tied.{IsRightPromise, IsRightProposal, IsProposer, Tied}
 use Rattle.rp_store.specs.Disk.{Disk}

@@ -1,5 +1,5 @@
 -- A learner and a log, one record on.
-use Rattle.std.proofs.Common.{◌≡◌, ◌≢◌, ℕ, ◌≤◌, Bool, true, false, ◌||◌, cond, nat_eq, not, is_some, Option, Some, None, List, [], ◌∷◌, ◌++◌, refl, sym, ap, ◌∙◌, inl, inr, eq-eqb}
+use Rattle.std.proofs.Common.{◌≡◌, ◌≢◌, ℕ, Bool, true, false, cond, nat_eq, not, is_some, Option, Some, None, List, [], ◌∷◌, ◌++◌, refl, sym, ap, ◌∙◌, inl, inr, eq-eqb}
 use Rattle.std.specs.List.{list_any}
 use Rattle.std.proofs.lemmas.Bool.{ne_eqb}
 use Rattle.std.proofs.lemmas.Bool.Decides.{Decides-eqb, eqb_tells}
@@ -7,13 +7,13 @@ use Rattle.rp_base.specs.declared.action.Action.{Action}
 use Rattle.rp_base.specs.declared.config.Config.{Config}
 use Rattle.rp_base.specs.declared.record.Rec.{Rec}
 use Rattle.rp_base.specs.declared.record.Rec.TheVariants.{Started, Promised, Voted, Learned}
-use Rattle.rp_base.specs.Sets.{Has, with_member}
+use Rattle.rp_base.specs.Sets.{with_member}
 use Rattle.rp_base.specs.Promises.{HeardVote, heard_elsewhere}
 use Rattle.rp_base.specs.Records.{or_else, learned_in, learned_at}
 use Rattle.rp_base.proofs.Members.{found, finds, has_with, with_has, same_test, same_passing}
 use Rattle.rp_base.proofs.MoreRecords.{learned_push}
 use Rattle.rp_learner.specs.Learning.{Learning}
-use Rattle.rp_learner.specs.Standings.{SameLearning, Settles, is_settled}
+use Rattle.rp_learner.specs.Standings.{Settles, is_settled}
 use Rattle.rp_log.specs.Contents.{Contents, empty_log, action_at, with_room}
 use Rattle.std.specs.FinMap.{get, insert, get-empty}
 use Rattle.std.specs.Prelude.{option_and_then}

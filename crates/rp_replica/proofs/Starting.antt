@@ -1,24 +1,22 @@
 -- A replica that begins by its records.
-use Rattle.std.proofs.Common.{◌≡◌, ℕ, ◌≤◌, Bool, true, false, cond, Option, Some, None, List, [], ◌∷◌, ◌++◌, length, refl, sym, ap, subst, ◌∙◌, arith}
+use Rattle.std.proofs.Common.{◌≡◌, ℕ, ◌≤◌, Bool, true, false, cond, Option, List, [], ◌∷◌, length, refl, sym, ap, subst, ◌∙◌, arith}
 use Rattle.std.specs.Prelude.{option_and_then}
 use Rattle.std.specs.FinMap.{get}
-use Rattle.std.specs.List.{AllByRecursion}
 use Rattle.std.proofs.lemmas.List.{append-nil}
 use Rattle.rp_base.specs.declared.action.Action.{Action}
 use Rattle.rp_base.specs.declared.config.Config.{Config}
 use Rattle.rp_base.specs.declared.record.Rec.{Rec}
 use Rattle.rp_base.specs.Config.{IsRightConfig}
-use Rattle.rp_base.specs.Right.{IsRightRecord}
 use Rattle.rp_store.specs.Disk.{Disk}
 use Rattle.rp_store.specs.Records.{records_text}
 use Rattle.rp_store.specs.Opening.{IsOpened}
 use Rattle.rp_proposer.specs.Proposing.{ProposerPart, restored}
 use Rattle.rp_learner.specs.Learning.{Learning}
-use Rattle.rp_log.specs.Contents.{Contents, Places, action_at}
+use Rattle.rp_log.specs.Contents.{Contents, Places}
 use Rattle.rp_log.specs.Recorded.{LearnedAlike}
 use Rattle.rp_machine.specs.Numbered.{Applied}
 use Rattle.rp_model.specs.Parts.{is_in_log, records_in_log}
-use Rattle.rp_replica.specs.Tied.{IsOnDisk, IsProposer, IsLearner, IsApplied, Tied, AllInLog}
+use Rattle.rp_replica.specs.Tied.{IsProposer, IsLearner, IsApplied, Tied, AllInLog}
 
 -- a log with the same places learned the same
 pub same_learned : (records : List Rec) (log after : Contents) → after.places ≡ log.places → LearnedAlike records log → LearnedAlike records after

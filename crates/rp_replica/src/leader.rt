@@ -146,11 +146,7 @@ impl<M: Machine, D: Device> Replica<M, D> {
                 ballot,
                 action: *action,
             };
-            out.push(&Packet::new(
-                Party::Node(self.me),
-                Party::Node(node_after(place)),
-                body,
-            ))?;
+            out.push(&Packet::new(Party::Node(self.me), Party::Node(node_after(place)), body))?;
         }
         Ok(out)
     }

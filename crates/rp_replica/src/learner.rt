@@ -77,8 +77,10 @@ impl<M: Machine, D: Device> Replica<M, D> {
         requires counting { standing_of self.old.config.nodes self.old.records
             self.old.running.heard from position (vote_for ballot action.now) ≡ Counting }
         ensures ok { OnOk result (self.new ≡ held_after self.old (notes
-            (record self.old.running { heard = with_member same_heard self.old.running.heard
-            (from, position, vote_for ballot action.now) }))) }
+            (record self.old.running {
+              heard = with_member same_heard self.old.running.heard
+                  (from, position, vote_for ballot action.now);
+            }))) }
         ensures err { OnErr result (self.new ≡ self.old) }
         ensures only { IsOkUnless result faults.OutOfMemory }
     {

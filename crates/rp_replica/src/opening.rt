@@ -118,7 +118,7 @@ fn restored<M: Machine>(
     requires right { AllByRecursion IsRightRecord records.now }
     ensures acceptor { IfOk result (λ r. r.acceptor.records ≡ records.now) }
     ensures proposer { IfOk result (λ r. r.proposer
-      ≡ proposing.restored node config.nodes records.now) }
+        ≡ proposing.restored node config.nodes records.now) }
     ensures learner { IfOk result (λ r. IsLearner config records.now r.learner []) }
     ensures log { IfOk result (λ r. IsApplied records.now r.log r.machine) }
     ensures machine { IfOk result (λ r. r.machine.begin ≡ M.begin program.now) }

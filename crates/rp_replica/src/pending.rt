@@ -48,9 +48,7 @@ impl Pending {
     pub(crate) fn has(&self, item: Action) -> bool
         ensures { result ≡ list_any (equal_items item) self.now }
     {
-        self.items
-            .iter()
-            .any(|other| is_equal(item, other.get()))
+        self.items.iter().any(|other| is_equal(item, other.get()))
     }
 
     /// Whether a place is left.

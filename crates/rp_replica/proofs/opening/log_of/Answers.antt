@@ -1,4 +1,4 @@
-use Rattle.std.proofs.Common.{◌≡◌, ◌+◌, List, [], ◌∷◌, ◌++◌, take, refl, sym, ap, subst, ◌∙◌}
+use Rattle.std.proofs.Common.{◌≡◌, ◌+◌, List, [], ◌∷◌, ◌++◌, take, sym, ap, subst, ◌∙◌}
 use Rattle.std.proofs.lemmas.List.{take_more}
 use Rattle.rp_base.specs.declared.record.Rec.{Rec}
 use Rattle.rp_base.specs.declared.record.Rec.TheVariants.{Learned}
@@ -26,17 +26,15 @@ loop-rec-preserved c =
           let grown : c.match-rec.log ≡ with_action (with_room c.loop-rec.log i) i v =
           w.log-is ∙ w.learn.ensures ∙ ap (λ (l : Contents). with_action l i v) w.in_ok-reserve.ensures.ok in
           let more : LearnedAlike (take k records ++ Learned i v ∷ []) (with_action (with_room c.loop-rec.log i) i v) =
-          learned_with (take k records) (with_room c.loop-rec.log i) i v (reserved_alike (take k records) c.loop-rec.log i c.loop-rec.invariant.0) in
-          (
+          learned_with (take k records) (with_room c.loop-rec.log i) i v (reserved_alike (take k records) c.loop-rec.log i c.loop-rec.invariant.0) in (
             subst (λ (l : Contents). LearnedAlike (take (k + 1) records) l) (sym grown)
                 (subst (λ (rs : List Rec). LearnedAlike rs (with_action (with_room c.loop-rec.log i) i v)) (sym (longer ∙ ap (λ (r : Rec). take k records ++ r ∷ []) w.in-Learned.is)) more),
             ap (λ (l : Contents). l.taken) grown ∙ taken_same c.loop-rec.log i ∙ c.loop-rec.invariant.1,
           )
-      | in_default w ↦
-          (
-            subst (λ (l : Contents). LearnedAlike (take (k + 1) records) l) (sym w.log-is)
-                (subst (λ (rs : List Rec). LearnedAlike rs c.loop-rec.log) (sym longer)
-                (alike_none (take k records) rec c.loop-rec.log (tells_none rec w.in_default.not-Learned) c.loop-rec.invariant.0)),
-            ap (λ (l : Contents). l.taken) w.log-is ∙ c.loop-rec.invariant.1,
-          )
+      | in_default w ↦ (
+        subst (λ (l : Contents). LearnedAlike (take (k + 1) records) l) (sym w.log-is)
+            (subst (λ (rs : List Rec). LearnedAlike rs c.loop-rec.log) (sym longer)
+            (alike_none (take k records) rec c.loop-rec.log (tells_none rec w.in_default.not-Learned) c.loop-rec.invariant.0)),
+        ap (λ (l : Contents). l.taken) w.log-is ∙ c.loop-rec.invariant.1,
+      )
     ]

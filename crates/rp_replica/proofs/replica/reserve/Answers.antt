@@ -1,4 +1,4 @@
-use Rattle.std.proofs.Common.{refl, sym, ap}
+use Rattle.std.proofs.Common.{ap}
 use Rattle.rp_acceptor.specs.Noted.{places_in}
 use Rattle.rp_replica.proofs.Keeping.{room_made}
 use Rattle.rp_replica.proofs.replica.reserve.Goals as goal

@@ -12,8 +12,7 @@ pub returns-then-last_occurrence-occurrence-clause-ok : goal.returns-then-last_o
 returns-then-last_occurrence-occurrence-clause-ok g c =
     let h = c.args.self.now in
     let kept = kept_of g.M.Machine.next g.M.Machine.answers h.begin (applied_of h.records) in
-    let is = interrupt_ahead kept h.running c.args.source c.args.occurrence c.last_occurrence.result c.last_occurrence.ensures c.if-last_occurrence-occurrence.true in
-    (
+    let is = interrupt_ahead kept h.running c.args.source c.args.occurrence c.last_occurrence.result c.last_occurrence.ensures c.if-last_occurrence-occurrence.true in (
       subst (λ (t : Turn). Turns t h c.add.new.self c.add.result) (ap (adds_pending h.running) c.new-item.ensures ∙ is) c.add.ensures,
       sym c.has_failed.ensures ∙ c.if-has_failed.false,
     )
@@ -22,8 +21,7 @@ pub returns-else-last_occurrence-occurrence-clause-ok : goal.returns-else-last_o
 returns-else-last_occurrence-occurrence-clause-ok g c =
     let h = c.args.self.now in
     let kept = kept_of g.M.Machine.next g.M.Machine.answers h.begin (applied_of h.records) in
-    let is = interrupt_past kept h.running c.args.source c.args.occurrence c.last_occurrence.result c.last_occurrence.ensures c.if-last_occurrence-occurrence.false in
-    (
+    let is = interrupt_past kept h.running c.args.source c.args.occurrence c.last_occurrence.result c.last_occurrence.ensures c.if-last_occurrence-occurrence.false in (
       subst (λ (t : Turn). Turns t h h c.sent.result) is (only_said h [] c.new.result c.sent.result c.new.ensures c.sent.ensures.bytes c.sent.ensures.packets c.sent.ensures.dropped),
       sym c.has_failed.ensures ∙ c.if-has_failed.false,
     )

@@ -1,6 +1,5 @@
-use Rattle.std.proofs.Common.{◌≡◌, true, sym, ap, subst, ◌∙◌}
+use Rattle.std.proofs.Common.{◌≡◌, ap, ◌∙◌}
 use Rattle.std.proofs.lemmas.Bool.{le-leb}
-use Rattle.rp_base.specs.declared.record.Rec.{Rec}
 use Rattle.rp_base.specs.declared.record.Rec.TheVariants.{Voted}
 use Rattle.rp_model.specs.Parts.{is_in_log}
 use Rattle.rp_replica.proofs.Answering.{voted}

@@ -1,6 +1,4 @@
-use Rattle.std.proofs.Common.{◌≡◌, Option, Some, None, [], ◌∷◌, ap, subst, sym, ◌∙◌}
-use Rattle.rp_base.specs.declared.reply.Reply.{Reply}
-use Rattle.rp_base.specs.declared.action.Action.{Action}
+use Rattle.std.proofs.Common.{◌≡◌, Some, None, [], ◌∷◌, ap, subst, sym, ◌∙◌}
 use Rattle.rp_base.specs.declared.action.Action.TheVariants.{Call}
 use Rattle.rp_base.specs.Records.{applied_of}
 use Rattle.rp_codec.specs.declared.packet.Body.TheVariants as bodies

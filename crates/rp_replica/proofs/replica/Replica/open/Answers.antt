@@ -1,8 +1,8 @@
-use Rattle.std.proofs.Common.{◌≡◌, List, sym, ap, subst, ◌∙◌}
+use Rattle.std.proofs.Common.{List, sym, subst, ◌∙◌}
 use Rattle.std.specs.List.{AllByRecursion}
 use Rattle.rp_base.specs.declared.record.Rec.{Rec}
 use Rattle.rp_base.specs.Right.{IsRightRecord}
-use Rattle.rp_model.specs.Parts.{is_in_log, records_in_log}
+use Rattle.rp_model.specs.Parts.{is_in_log}
 use Rattle.rp_replica.specs.Tied.{AllInLog}
 use Rattle.rp_replica.proofs.Answering.{right_records}
 use Rattle.rp_replica.proofs.Starting.{all_in_log}

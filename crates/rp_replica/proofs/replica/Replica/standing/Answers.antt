@@ -1,4 +1,4 @@
-use Rattle.std.proofs.Common.{◌≡◌, ℕ, ◌≤◌, ap, subst, sym, ◌∙◌}
+use Rattle.std.proofs.Common.{◌≤◌, ap, subst, sym, ◌∙◌}
 use Rattle.rp_learner.specs.Standings.{vote_for}
 use Rattle.rp_replica.specs.Held.{Held}
 use Rattle.rp_replica.specs.Standing.{standing_of}

@@ -1,6 +1,5 @@
-use Rattle.std.proofs.Common.{◌≡◌, ℕ, suc, ◌+◌, ◌<◌, ◌≤◌, None, length, subst, sym, ap, ◌∙◌}
+use Rattle.std.proofs.Common.{◌≡◌, suc, ◌+◌, ◌<◌, ◌≤◌, None, length, subst, sym}
 use Rattle.rp_base.specs.Records.{learned_at, first_unlearned}
-use Rattle.rp_proposer.specs.Proposing.{IsInWindow}
 use Rattle.rp_proposer.proofs.Windows.{window_has_room}
 use Rattle.rp_replica.specs.Held.{Held}
 use Rattle.rp_replica.proofs.Beginning.{in_reach, tied_started}

@@ -8,3 +8,4 @@ pub mod Settling
 pub mod Starting
 pub mod Hearing
 pub mod Beginning
+pub mod Choosing

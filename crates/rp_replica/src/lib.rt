@@ -15,6 +15,7 @@ mod heard;
 mod leader;
 mod learner;
 mod opening;
+mod own_action;
 mod pending;
 mod replica;
 mod sent;

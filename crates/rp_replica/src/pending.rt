@@ -58,6 +58,13 @@ impl Pending {
         self.items.len() < MOST_PENDING
     }
 
+    /// The items in order, in two runs.
+    pub(crate) fn as_slices(&self) -> (&[RightAction], &[RightAction])
+        ensures { result.0.now ++ result.1.now ≡ self.now }
+    {
+        self.items.as_slices()
+    }
+
     /// Adds an item behind the others.
     pub(crate) fn push(&mut self, item: RightAction)
         requires { length self.old < most_pending }

@@ -1,7 +1,7 @@
 -- A proposal that begins.
-use Rattle.std.proofs.Common.{◌≡◌, ℕ, suc, ◌+◌, ◌-◌, ◌<◌, ◌≤◌, max, Bool, true, false, cond, nat_eq, is_some, Option, Some, None, List, [], ◌∷◌, ◌++◌, length, ◌⊎◌, refl, sym, ap, subst, ◌∙◌, inl, inr, arith, eq-eqb}
-use Rattle.std.specs.Prelude.{IsSome, slice_get}
-use Rattle.std.proofs.lemmas.Bool.{cases_lt}
+use Rattle.std.proofs.Common.{◌||◌, ◌≡◌, ℕ, suc, ◌+◌, ◌-◌, ◌<◌, ◌≤◌, max, Bool, true, false, cond, nat_eq, is_some, Option, Some, None, List, [], ◌∷◌, ◌++◌, length, ◌⊎◌, refl, sym, ap, subst, ◌∙◌, inl, inr, arith, eq-eqb}
+use Rattle.std.specs.Prelude.{IsSome, slice_get, nat_le}
+use Rattle.std.proofs.lemmas.Bool.{cases_lt, le-ltb}
 use Rattle.std.proofs.lemmas.List.{map-append}
 use Rattle.rp_base.specs.declared.action.Action.{Action}
 use Rattle.rp_base.specs.declared.config.Config.{Config}
@@ -20,7 +20,8 @@ use Rattle.rp_store.specs.Disk.{Disk}
 use Rattle.rp_store.specs.Stored.{Stored, IsPut}
 use Rattle.rp_proposer.specs.Proposing.{ProposerPart, AreInWindow, IsInWindow, begins}
 use Rattle.rp_learner.specs.Learning.{Learning}
-use Rattle.rp_log.specs.Contents.{Contents, action_at}
+use Rattle.rp_log.specs.Contents.{Contents, action_at, next_to_take}
+use Rattle.rp_model.specs.Leader.{is_out_of_reach}
 use Rattle.rp_log.proofs.Places.{front_within}
 use Rattle.rp_log.proofs.RecordedRuns.{all_taken}
 use Rattle.rp_machine.specs.Numbered.{Applied}
@@ -141,3 +142,17 @@ module _ {S D : Type 0} (disk : D → Disk) (me : ℕ) (config : Config) (learne
       subst (λ (rs : List Rec). Tied me config (disk new.device) new.failed rs leading learner votes log applied) (sym noted)
       (subst (λ (p : ProposerPart). Tied me config (disk new.device) new.failed (records ++ Started b ∷ []) p learner votes log applied) (sym begun)
       (subst (λ (f : Bool). Tied me config (disk new.device) f (records ++ Started b ∷ []) (begins proposer i b (Some own)) learner votes log applied) (sym put.working) fresh))
+
+-- ---- what a leader looks at
+
+-- the first unlearned position is the next that the log takes
+pub next_is : {S : Type 0} (records : List Rec) (log : Contents) (applied : Applied S) (n : ℕ) → IsApplied records log applied → n ≡ next_to_take log → n ≡ first_unlearned records
+next_is records log applied n a is =
+    let long : length log.taken ≡ length (applied_of records) = ap length (all_taken records log a.learned a.ordered a.none) in
+    omega (arith, long, is)
+
+-- a position of the log is out of reach where it is far above that
+pub far_is : (most n i : ℕ) (records : List Rec) → i ≤ most → n ≡ first_unlearned records → nat_le (n + 64) i ≡ is_out_of_reach most records i
+far_is most n i records within next =
+    ap (λ (k : ℕ). nat_le (k + 64) i) next
+    ∙ sym (ap (λ (b : Bool). b || nat_le (first_unlearned records + 64) i) (le-ltb most i within))

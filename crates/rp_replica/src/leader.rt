@@ -1,21 +1,22 @@
 //! A replica that leads, and what it makes of promises and refusals (Lamport, "Paxos Made Simple",
 //! section 2.2).
 
-ghost use Rattle.std.specs.Prelude.{◌≡◌, ◌+◌, ◌<◌, ◌≤◌, [], Some, None, OnOk, IfOk, IfErr, IfSome, IsOkUnless, false};
+ghost use Rattle.std.specs.Prelude.{◌≡◌, ◌+◌, ◌^◌, ◌<◌, ◌≤◌, [], Some, None, is_some, IfNone, OnOk, IfOk, IfErr, IfSome, IsOkUnless, false};
 ghost use Rattle.rp_base.specs.Action.{IsRight};
 ghost use Rattle.rp_base.specs.Right.{IsRightVote};
-ghost use Rattle.rp_base.specs.Ballot.{IsAbove};
+ghost use Rattle.rp_base.specs.Ballot.{IsAbove, next_ballot, round_of};
 ghost use Rattle.rp_base.specs.Records.{learned_at, first_unlearned};
 ghost use Rattle.rp_base.specs.declared.record.Rec.TheVariants.{Started};
 ghost use Rattle.rp_base.specs.Proposals.{proposal_at};
 ghost use Rattle.rp_base.specs.declared.fault.Fault.TheVariants as faults;
 ghost use Rattle.rp_codec.specs.declared.packet.Body.TheVariants as bodies;
-ghost use Rattle.rp_model.specs.Leader.{window, starts_above, on_promise, on_nack};
+ghost use Rattle.rp_model.specs.Leader.{window, is_out_of_reach, starts_above, on_promise, on_nack};
 ghost use Rattle.rp_model.specs.Says.{says_to_all, notes, writes};
 ghost use Rattle.rp_replica.specs.Held.{held_after};
 ghost use Rattle.rp_replica.specs.Packets.{run_of};
 ghost use Rattle.rp_replica.specs.Proposed.{promised_running, started_running};
-ghost use Rattle.rp_replica.specs.Turning.{Turns, Stops};
+ghost use Rattle.rp_replica.specs.Turning.{Turns, TurnsIf, Stops, StopsIf, effect_of};
+ghost use Rattle.rp_model.specs.Effect as inputs;
 
 use crate::replica::{Replica, write};
 use crate::sent::{Outbox, Sent};
@@ -28,6 +29,66 @@ use rp_store::Device;
 use std::alloc::Global;
 
 impl<M: Machine, D: Device> Replica<M, D> {
+    /// The word to lead at a position. Where it is learned nothing happens. It is refused with
+    /// `LogFull` above the log or 64 positions above the first unlearned one, with `BallotsSpent`
+    /// where the node has no ballot left, and then with 1, 2 or 3.
+    pub fn lead_at(&mut self, alloc: Global, position: Position) -> Result<Sent, Fault>
+        ensures ok { IfOk result (λ sent. TurnsIf
+            (effect_of M.next M.answers self.old (inputs.NodeInput.Lead (Some position)))
+            self.old self.new sent) }
+        ensures err { IfErr result (λ fault. StopsIf
+            (effect_of M.next M.answers self.old (inputs.NodeInput.Lead (Some position)))
+            self.old self.new fault) }
+    {
+        if self.has_failed() {
+            return Err(Fault::Failed);
+        }
+        if self.is_learned(position) {
+            return Ok(Outbox::new(alloc).sent(Dropped::No));
+        }
+        if self.is_out_of_reach(position) {
+            return Err(Fault::LogFull);
+        }
+        let Some(ballot) = self.next_ballot() else {
+            return Err(Fault::BallotsSpent);
+        };
+        let own = self.own_action(position).get();
+        let out = self.prepare_to_all(alloc, position, ballot)?;
+        self.start(position, ballot, &own)?;
+        Ok(out.sent(Dropped::No))
+    }
+
+    /// Whether an action is learned at the position.
+    fn is_learned(&self, position: Position) -> bool
+        ensures { result ≡ is_some (learned_at self.now.records position) }
+    {
+        self.log.get(position).is_some()
+    }
+
+    /// Whether the position is above the log, or too far above the first unlearned one.
+    fn is_out_of_reach(&self, position: Position) -> bool
+        ensures { result
+            ≡ is_out_of_reach self.now.config.max_positions self.now.records position }
+    {
+        let number = u32::from(position.get());
+        self.config.max_positions < position.get() || self.log.next_unlearned() + 64 <= number
+    }
+
+    /// The ballot to lead in next, if there is one.
+    fn next_ballot(&self) -> Option<Ballot>
+        ensures some { IfSome result (λ b. IsAbove self.now.me
+            (starts_above self.now.records self.now.running) b) }
+        ensures value { IfSome result (λ b. b
+            ≡ next_ballot self.now.me (starts_above self.now.records self.now.running)) }
+        ensures spent { IfNone result (2 ^ 32 ≤ round_of
+            (next_ballot self.now.me (starts_above self.now.records self.now.running))) }
+    {
+        match self.proposer.ballot() {
+            Ok(ballot) => Some(ballot),
+            Err(_) => None,
+        }
+    }
+
     /// A `Promise` comes from one of the nodes, with a right vote.
     pub(crate) fn on_promise(
         &mut self,
@@ -123,6 +184,25 @@ impl<M: Machine, D: Device> Replica<M, D> {
             (proposal_at self.old.running.proposals position))) }
     {
         self.proposer.note_promise(from, position, ballot, *last);
+    }
+
+    /// A `Prepare` to each node.
+    fn prepare_to_all(
+        &self,
+        alloc: Global,
+        position: Position,
+        ballot: Ballot,
+    ) -> Result<Outbox, Fault>
+        ensures said { IfOk result (λ out. out ≡ run_of
+            (says_to_all self.now.config.nodes self.now.me (bodies.Prepare position ballot))) }
+        ensures only { IsOkUnless result faults.OutOfMemory }
+    {
+        let mut out = Outbox::new(alloc);
+        for place in 0..self.config.nodes {
+            let body = Body::Prepare { position, ballot };
+            out.push(&Packet::new(Party::Node(self.me), Party::Node(node_after(place)), body))?;
+        }
+        Ok(out)
     }
 
     /// An `Accept` to each node.

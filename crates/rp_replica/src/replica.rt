@@ -34,7 +34,12 @@ use rp_store::{Device, Store};
 use std::alloc::Global;
 use std::marker::Model;
 
-/// One node as it runs.
+/// One node as it runs, over a device of its own (Lamport, "Paxos Made Simple", sections 2.2, 2.3 and
+/// 3). A call writes at most one record, and that before any packet of it is given out. Refused with
+/// 1, 6 or 7 it changes nothing; after 2 each call is refused with 3, until the device is opened anew.
+///
+/// To a contract it is its node, the configuration and the machine's start, its records, what it
+/// knows while it runs, what its device holds, and whether that has failed.
 #[derive(Drop)]
 pub struct Replica<M: Machine, D: Device> {
     pub(crate) me: NodeId,

@@ -30,6 +30,3 @@ pub use laws::turns_are_effects;
 pub use opening::Opening;
 pub use replica::Replica;
 pub use sent::Sent;
-
-#[cfg(test)]
-mod tests;

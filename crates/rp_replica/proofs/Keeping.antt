@@ -1,0 +1,183 @@
+-- A replica's parts once a promise or a vote is written, or was to be.
+use Rattle.std.proofs.Common.{◌≡◌, ℕ, Bool, true, false, if◌then◌else◌, is_some, Option, Some, None, List, [], ◌∷◌, ◌++◌, length, take, refl, sym, ap, subst, ◌∙◌, arith, inl, inr}
+use Rattle.std.proofs.lemmas.List.{append-nil}
+use Rattle.std.proofs.lemmas.List.Elements.{filter-append}
+use Rattle.std.specs.Prelude.{Result, Ok, Err, OnOk, OnErr, IfErr}
+use Rattle.rp_base.specs.declared.action.Action.{Action}
+use Rattle.rp_base.specs.declared.config.Config.{Config}
+use Rattle.rp_base.specs.declared.record.Rec.{Rec}
+use Rattle.rp_base.specs.declared.record.Rec.TheVariants.{Started, Promised, Voted, Learned}
+use Rattle.rp_base.specs.declared.fault.Fault.{Fault}
+use Rattle.rp_base.specs.declared.fault.Fault.TheVariants.{OutOfMemory, Device, Failed}
+use Rattle.rp_base.specs.Sets.{Has}
+use Rattle.rp_base.specs.Promises.{HeardVote}
+use Rattle.rp_acceptor.specs.Noted.{Noted, places_in, HasRoom, reserves}
+use Rattle.rp_store.specs.Stored.{Stored, IsUnchanged, IsPut, FailsInPut, IsNotPut}
+use Rattle.rp_base.specs.Records.{or_else, started_of, learned_at}
+use Rattle.rp_base.proofs.MoreRecords.{started_push, learned_push}
+use Rattle.rp_codec.specs.Record.{record_text, IsRecord}
+use Rattle.rp_store.specs.Disk.{Disk, appended, synced, AppendFailed}
+use Rattle.rp_store.specs.Records.{records_text}
+use Rattle.rp_store.proofs.Whole.{text-end, all_end}
+use Rattle.rp_proposer.specs.Proposing.{ProposerPart}
+use Rattle.rp_learner.specs.Learning.{Learning}
+use Rattle.rp_log.specs.Contents.{Contents}
+use Rattle.rp_machine.specs.Numbered.{Applied}
+use Rattle.rp_model.specs.Parts.{is_in_log, records_in_log}
+use Rattle.rp_replica.specs.Tied.{IsOnDisk, Tied, IsAnswer}
+
+pub or_none : (o : Option Action) → or_else o None ≡ o
+or_none None = refl
+or_none (Some v) = refl
+
+-- ---- on the device
+
+-- a record more counts where it is within the log
+counts_more : (most : ℕ) (all : List Rec) (rec : Rec) → is_in_log most rec ≡ true → records_in_log most all ++ rec ∷ [] ≡ records_in_log most (all ++ rec ∷ [])
+counts_more most all rec in_log =
+    sym (filter-append (is_in_log most) all (rec ∷ []) ∙ ap (λ (b : Bool). records_in_log most all ++ (if b then rec ∷ [] else [])) in_log)
+
+-- a record more is written
+pub disk_more : (most : ℕ) (disk after : Disk) (records : List Rec) (rec : Rec) → IsOnDisk most disk false records → IsRecord rec → is_in_log most rec ≡ true
+    → after ≡ synced (appended (record_text rec) disk) → IsOnDisk most after false (records ++ rec ∷ [])
+disk_more most disk after records rec d right in_log is =
+    let text : disk.contents ≡ records_text d.all = d.contents ∙ ap (λ (t : List ℕ). records_text d.all ++ t) (d.whole refl) ∙ append-nil (records_text d.all) in
+    let whole : after.contents ≡ records_text (d.all ++ rec ∷ []) =
+    ap (λ (k : Disk). k.contents) is ∙ ap (λ (t : List ℕ). t ++ record_text rec) text ∙ sym (text-end d.all rec) in
+    let long : length after.contents ≡ length (records_text (d.all ++ rec ∷ [])) = ap length whole in
+    let stable : after.stable ≡ length after.contents = ap (λ (k : Disk). k.stable) is ∙ sym (ap (λ (k : Disk). length k.contents) is) in
+    record {
+      all = d.all ++ rec ∷ [];
+      torn = [];
+      contents = whole ∙ sym (append-nil (records_text (d.all ++ rec ∷ [])));
+      counted = ap (λ (rs : List Rec). rs ++ rec ∷ []) d.counted ∙ counts_more most d.all rec in_log;
+      each = all_end d.all rec d.each right;
+      kept = omega (arith, long, stable);
+      whole = λ e. refl;
+    }
+
+-- a record was to be written, and the device failed
+pub disk_failed : (most : ℕ) (disk after : Disk) (records : List Rec) (bytes : List ℕ) → IsOnDisk most disk false records → AppendFailed bytes disk after → IsOnDisk most after true records
+disk_failed most disk after records bytes d failed =
+    let text : disk.contents ≡ records_text d.all = d.contents ∙ ap (λ (t : List ℕ). records_text d.all ++ t) (d.whole refl) ∙ append-nil (records_text d.all) in
+    record {
+      all = d.all;
+      torn = take failed.contents.0 bytes;
+      contents = failed.contents.1 ∙ ap (λ (t : List ℕ). t ++ take failed.contents.0 bytes) text;
+      counted = d.counted;
+      each = d.each;
+      kept = omega (arith, d.kept, failed.stable);
+      whole = λ e. absurd (cc);
+    }
+
+-- ---- an answer tells nothing of what is started or learned
+
+pub started_same : (records : List Rec) (rec : Rec) → IsAnswer rec → started_of (records ++ rec ∷ []) ≡ started_of records
+started_same records (Started ballot) is = absurd is
+started_same records (Promised position ballot) is = started_push records (Promised position ballot) ∙ omega arith
+started_same records (Voted position ballot action) is = started_push records (Voted position ballot action) ∙ omega arith
+started_same records (Learned position action) is = absurd is
+
+pub learned_same : (records : List Rec) (rec : Rec) (i : ℕ) → IsAnswer rec → learned_at (records ++ rec ∷ []) i ≡ learned_at records i
+learned_same records (Started ballot) i is = absurd is
+learned_same records (Promised position ballot) i is = learned_push records (Promised position ballot) i ∙ or_none (learned_at records i)
+learned_same records (Voted position ballot action) i is = learned_push records (Voted position ballot action) i ∙ or_none (learned_at records i)
+learned_same records (Learned position action) i is = absurd is
+
+-- ---- all parts
+
+module _ {S : Type 0} (me : ℕ) (config : Config) (disk after : Disk) (records : List Rec) (proposer : ProposerPart) (learner : Learning) (votes : List HeardVote) (log : Contents) (applied : Applied S) where
+  -- an answer is written
+  pub tied_answer : (rec : Rec) → Tied me config disk false records proposer learner votes log applied → IsAnswer rec → IsRecord rec → is_in_log config.max_positions rec ≡ true
+      → after ≡ synced (appended (record_text rec) disk) → Tied me config after false (records ++ rec ∷ []) proposer learner votes log applied
+  tied_answer rec t answer right in_log is = record {
+    sizes = t.sizes;
+    member = t.member;
+    stands = disk_more config.max_positions disk after records rec t.stands right in_log is;
+    leads = record {
+      node = t.leads.node;
+      nodes = t.leads.nodes;
+      started = t.leads.started ∙ sym (started_same records rec answer);
+      window = t.leads.window;
+      unlearned = λ i h. learned_same records rec i answer ∙ t.leads.unlearned i h;
+      right = t.leads.right;
+    };
+    learns = record {
+      nodes = t.learns.nodes;
+      positions = t.learns.positions;
+      heard = t.learns.heard;
+      settled = λ i within. t.learns.settled i within ∙ ap is_some (sym (learned_same records rec i answer));
+    };
+    applies = record {
+      learned = λ i. t.applies.learned i ∙ sym (learned_same records rec i answer);
+      ordered = t.applies.ordered;
+      none = t.applies.none;
+      taken = t.applies.taken;
+    };
+  }
+
+  -- the device failed
+  pub tied_failed : (bytes : List ℕ) → Tied me config disk false records proposer learner votes log applied → AppendFailed bytes disk after
+      → Tied me config after true records proposer learner votes log applied
+  tied_failed bytes t failed = record {
+    sizes = t.sizes;
+    member = t.member;
+    stands = disk_failed config.max_positions disk after records bytes t.stands failed;
+    leads = t.leads;
+    learns = t.learns;
+    applies = t.applies;
+  }
+
+-- ---- room
+
+has_last : (i : ℕ) (xs : List ℕ) → Has i (xs ++ i ∷ [])
+has_last i [] = inl refl
+has_last i (x ∷ xs) = inr (has_last i xs)
+
+-- room is made where the record counts
+pub room_made : {T E : Type 0} (r : Result T E) (old new : Noted) (p : ℕ) (rec : Rec) → OnOk r (new ≡ reserves old p) → places_in rec ≡ p ∷ [] → OnOk r (HasRoom new rec)
+room_made (Err e) old new p rec ok at = tt
+room_made (Ok v) old new p rec ok at = λ i h.
+    let here : i ≡ p = by_one i p (subst (λ (l : List ℕ). Has i l) at h) in
+    subst (λ (n : Noted). Has i n.reserved) (sym ok) (subst (λ (j : ℕ). Has i (old.reserved ++ j ∷ [])) here (has_last i old.reserved))
+  where
+    by_one : (i p : ℕ) → Has i (p ∷ []) → i ≡ p
+    by_one i p (inl e) = e
+    by_one i p (inr none) = absurd none
+
+-- ---- by what a write answers
+
+module _ {S D : Type 0} (disk : D → Disk) (me : ℕ) (config : Config) (proposer : ProposerPart) (learner : Learning) (votes : List HeardVote) (log : Contents) (applied : Applied S) where
+  -- the parts with this store and these records
+  abbrev pub TiedWith : Stored D → List Rec → Type 0
+  TiedWith store records = Tied me config (disk store.device) store.failed records proposer learner votes log applied
+
+  unchanged : (old new : Stored D) (records after : List Rec) → TiedWith old records → IsUnchanged disk old new → after ≡ records → TiedWith new after
+  unchanged old new records after t u same =
+      subst (λ (rs : List Rec). TiedWith new rs) (sym same)
+      (subst (λ (f : Bool). Tied me config (disk new.device) f records proposer learner votes log applied) (sym u.failed)
+      (subst (λ (d : Disk). Tied me config d old.failed records proposer learner votes log applied) (sym u.disk_same) t))
+
+  fails : (bytes : List ℕ) (old new : Stored D) (records after : List Rec) → TiedWith old records → FailsInPut disk bytes old new → after ≡ records → TiedWith new after
+  fails bytes old new records after t f same =
+      subst (λ (rs : List Rec). TiedWith new rs) (sym same)
+      (subst (λ (b : Bool). Tied me config (disk new.device) b records proposer learner votes log applied) (sym f.failed)
+      (tied_failed me config (disk old.device) (disk new.device) records proposer learner votes log applied bytes
+      (subst (λ (b : Bool). Tied me config (disk old.device) b records proposer learner votes log applied) f.worked t) f.disk_is))
+
+  -- where a write is refused the parts still hang together
+  pub tied_refused : (bytes : List ℕ) (old new : Stored D) (records after : List Rec) (fault : Fault) → TiedWith old records → IsNotPut disk bytes old fault new → after ≡ records → TiedWith new after
+  tied_refused bytes old new records after OutOfMemory t not same = unchanged old new records after t not.0 same
+  tied_refused bytes old new records after Device t not same = fails bytes old new records after t not same
+  tied_refused bytes old new records after Failed t not same = unchanged old new records after t not.0 same
+  tied_refused bytes old new records after _ t not same = absurd not
+
+  pub tied_write : {T : Type 0} (r : Result T Fault) (rec : Rec) (old new : Stored D) (records after : List Rec)
+      → OnOk r (IsPut disk (record_text rec) old new) → OnOk r (after ≡ records ++ rec ∷ []) → OnErr r (after ≡ records) → IfErr r (λ fault. IsNotPut disk (record_text rec) old fault new)
+      → TiedWith old records → IsAnswer rec → IsRecord rec → is_in_log config.max_positions rec ≡ true → TiedWith new after
+  tied_write (Ok v) rec old new records after put noted same err t answer right in_log =
+      subst (λ (rs : List Rec). TiedWith new rs) (sym noted)
+      (subst (λ (b : Bool). Tied me config (disk new.device) b (records ++ rec ∷ []) proposer learner votes log applied) (sym put.working)
+      (tied_answer me config (disk old.device) (disk new.device) records proposer learner votes log applied rec
+      (subst (λ (b : Bool). Tied me config (disk old.device) b records proposer learner votes log applied) put.worked t) answer right in_log put.disk_is))
+  tied_write (Err fault) rec old new records after put noted same err t answer right in_log = tied_refused (record_text rec) old new records after fault t err same

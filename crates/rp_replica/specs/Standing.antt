@@ -1,0 +1,16 @@
+-- What a vote comes to at a node (this project's own; no public clause names it).
+use Rattle.std.specs.Prelude.{ℕ, is_some, List, if◌then◌else◌}
+use Rattle.rp_base.specs.declared.record.Vote.{Vote}
+use Rattle.rp_base.specs.declared.record.Rec.{Rec}
+use Rattle.rp_base.specs.Sets.{with_member}
+use Rattle.rp_base.specs.Records.{learned_at}
+use Rattle.rp_base.specs.Promises.{HeardVote, same_heard, makes_majority}
+use Rattle.rp_learner.specs.declared.learner.Standing.{Standing}
+use Rattle.rp_learner.specs.declared.learner.Standing.TheVariants.{Counting, Learned, Known}
+
+-- known where the position is learned, learned where those who cast this vote are a majority, else counted
+abbrev pub standing_of : ℕ → List Rec → List HeardVote → ℕ → ℕ → Vote → Standing
+standing_of nodes records heard from i vote =
+    if is_some (learned_at records i) then Known
+    else if makes_majority nodes i vote (with_member same_heard heard (from, i, vote)) then Learned
+    else Counting

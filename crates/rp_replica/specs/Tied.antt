@@ -1,0 +1,87 @@
+-- How a replica's parts hang together (no public clause names it).
+use Rattle.std.specs.Prelude.{◌≡◌, ℕ, suc, ◌≤◌, Bool, true, false, is_some, None, IfSome, List, [], ◌++◌, length, map}
+use Rattle.std.specs.List.{AllByRecursion}
+use Rattle.rp_base.specs.declared.config.Config.{Config}
+use Rattle.rp_base.specs.declared.record.Rec.{Rec}
+use Rattle.rp_base.specs.declared.record.Rec.TheVariants.{Started, Promised, Voted, Learned}
+use Rattle.rp_base.specs.Action.{IsRight}
+use Rattle.rp_base.specs.Config.{IsRightConfig}
+use Rattle.rp_base.specs.Right.{IsRightVote}
+use Rattle.rp_base.specs.Sets.{Has, SameMembers}
+use Rattle.rp_base.specs.Records.{started_of, learned_at}
+use Rattle.rp_base.specs.Promises.{Promise, HeardVote}
+use Rattle.rp_base.specs.Proposals.{Proposal}
+use Rattle.rp_codec.specs.Record.{IsRecord}
+use Rattle.rp_store.specs.Disk.{Disk}
+use Rattle.rp_store.specs.Records.{records_text}
+use Rattle.rp_proposer.specs.Proposing.{ProposerPart, AreInWindow}
+use Rattle.rp_learner.specs.Learning.{Learning}
+use Rattle.rp_learner.specs.Standings.{is_settled}
+use Rattle.rp_log.specs.Contents.{Contents, action_at, next_to_take, IsTakenInOrder}
+use Rattle.rp_log.specs.Recorded.{LearnedAlike}
+use Rattle.rp_machine.specs.Numbered.{Applied}
+use Rattle.rp_model.specs.Parts.{is_in_log, records_in_log}
+
+-- The device holds all records of the node in order, of which those within the log count, and behind them
+-- what is torn: nothing, unless it has failed. All records are stable.
+pub record IsOnDisk (most : ℕ) (disk : Disk) (failed : Bool) (records : List Rec) : Type 0 where
+  pub all : List Rec
+  pub torn : List ℕ
+  pub contents : disk.contents ≡ records_text all ++ torn
+  pub counted : records ≡ records_in_log most all
+  pub each : AllByRecursion IsRecord all
+  pub kept : length (records_text all) ≤ disk.stable
+  pub whole : failed ≡ false → torn ≡ []
+
+-- a promise that reports a right vote, or none
+abbrev pub IsRightPromise : Promise → Type 0
+IsRightPromise promise = IfSome promise.1 IsRightVote
+
+-- what a proposal may offer is right
+pub record IsRightProposal (p : Proposal) : Type 0 where
+  pub own : IfSome p.own IsRight
+  pub promises : AllByRecursion IsRightPromise p.promises
+
+-- The proposer is that of the node and its records. Its proposals run at different unlearned positions of the
+-- window above the applied list.
+pub record IsProposer (me : ℕ) (config : Config) (records : List Rec) (taken : ℕ) (proposer : ProposerPart) : Type 0 where
+  pub node : proposer.node ≡ me
+  pub nodes : proposer.nodes ≡ config.nodes
+  pub started : proposer.started ≡ started_of records
+  pub window : AreInWindow (suc taken) proposer.proposals
+  pub unlearned : (i : ℕ) → Has i (map (λ p. p.position) proposer.proposals) → learned_at records i ≡ None
+  pub right : AllByRecursion IsRightProposal proposer.proposals
+
+-- the learner heard these votes, as a set, and settled what the records learn
+pub record IsLearner (config : Config) (records : List Rec) (learner : Learning) (votes : List HeardVote) : Type 0 where
+  pub nodes : learner.nodes ≡ config.nodes
+  pub positions : learner.max_positions ≡ config.max_positions
+  pub heard : SameMembers learner.heard votes
+  pub settled : (i : ℕ) → i ≤ config.max_positions → is_settled learner i ≡ is_some (learned_at records i)
+
+-- the log learned what the records say, nothing is ready, and what was taken is applied
+pub record IsApplied {S : Type 0} (records : List Rec) (log : Contents) (applied : Applied S) : Type 0 where
+  pub learned : LearnedAlike records log
+  pub ordered : IsTakenInOrder log
+  pub none : action_at log (next_to_take log) ≡ None
+  pub taken : applied.actions ≡ log.taken
+
+-- what holds of a replica's parts between its calls
+pub record Tied {S : Type 0} (me : ℕ) (config : Config) (disk : Disk) (failed : Bool) (records : List Rec) (proposer : ProposerPart) (learner : Learning) (votes : List HeardVote) (log : Contents) (applied : Applied S) : Type 0 where
+  pub sizes : IsRightConfig config
+  pub member : me ≤ config.nodes
+  pub stands : IsOnDisk config.max_positions disk failed records
+  pub leads : IsProposer me config records (length log.taken) proposer
+  pub learns : IsLearner config records learner votes
+  pub applies : IsApplied records log applied
+
+-- the record is a promise or a vote
+abbrev pub IsAnswer : Rec → Type 0
+IsAnswer (Started ballot) = ⊥
+IsAnswer (Promised position ballot) = Unit {0}
+IsAnswer (Voted position ballot action) = Unit {0}
+IsAnswer (Learned position action) = ⊥
+
+-- every record is at a position of the log, or at none
+abbrev pub AllInLog : ℕ → List Rec → Type 0
+AllInLog most records = AllByRecursion (λ rec. is_in_log most rec ≡ true) records

@@ -1,0 +1,53 @@
+-- What a call of a replica comes to (this project's own).
+use Rattle.std.specs.Prelude.{◌≡◌, ◌⊎◌, true, false, Option, Some, Result, Ok, Err, List, length}
+use Rattle.rp_base.specs.declared.action.Action.{Action}
+use Rattle.rp_base.specs.declared.reply.Answer.{Answer}
+use Rattle.rp_base.specs.declared.fault.Fault.{Fault}
+use Rattle.rp_base.specs.declared.fault.Fault.TheVariants.{OutOfMemory, Device, Failed}
+use Rattle.rp_base.specs.declared.record.Rec.{Rec}
+use Rattle.rp_codec.specs.Record.{record_text}
+use Rattle.rp_store.specs.Disk.{AppendFailed}
+use Rattle.rp_model.specs.declared.part.Turn.{Turn}
+use Rattle.rp_replica.specs.declared.sent.Sent.{Sent}
+use Rattle.rp_replica.specs.Packets.{texts_of}
+use Rattle.rp_model.specs.Effect.{NodeInput, running_effect}
+use Rattle.rp_replica.specs.Held.{Held, setting_of, held_after}
+
+-- The turn took effect: its record is written and stable, and the bytes are the texts of its packets.
+pub record Turns {S : Type 0} (turn : Turn) (old new : Held S) (sent : Sent) : Type 0 where
+  pub goes : new ≡ held_after old turn
+  pub bytes : sent.bytes.items ≡ texts_of turn.sent
+  pub packets : sent.packets ≡ length turn.sent
+  pub dropped : sent.dropped ≡ turn.dropped
+
+-- the device failed while this record was written: some beginning of its text may stand behind the others
+pub record FailsAt {S : Type 0} (written : Option Rec) (old new : Held S) : Type 0 where
+  pub rec : Rec
+  pub is : written ≡ Some rec
+  pub disk : AppendFailed (record_text rec) old.disk new.disk
+  pub goes : new ≡ record old { disk = new.disk; failed = true }
+
+-- why a turn did not take effect, and what that leaves; there is no other reason
+abbrev pub Stops : {S : Type 0} → Option Rec → Held S → Held S → Fault → Type 0
+Stops written old new OutOfMemory = (new ≡ old) × (old.failed ≡ false)
+Stops written old new Device = FailsAt written old new × (old.failed ≡ false)
+Stops written old new Failed = (new ≡ old) × (old.failed ≡ true)
+Stops written old new _ = ⊥
+
+-- a refusal changes nothing; after a failure it is told in its place
+abbrev pub IsRefused : {S : Type 0} → Fault → Held S → Held S → Fault → Type 0
+IsRefused refusal old new fault = (new ≡ old) × (((fault ≡ refusal) × (old.failed ≡ false)) ⊎ ((fault ≡ Failed) × (old.failed ≡ true)))
+
+-- why what an input comes to did not take effect
+abbrev pub StopsIf : {S : Type 0} → Result Turn Fault → Held S → Held S → Fault → Type 0
+StopsIf (Ok turn) old new fault = Stops turn.written old new fault
+StopsIf (Err refusal) old new fault = IsRefused refusal old new fault
+
+-- it took effect
+abbrev pub TurnsIf : {S : Type 0} → Result Turn Fault → Held S → Held S → Sent → Type 0
+TurnsIf (Ok turn) old new sent = Turns turn old new sent × (old.failed ≡ false)
+TurnsIf (Err refusal) old new sent = ⊥
+
+-- what an input comes to for a replica, or its refusal
+abbrev pub effect_of : {S : Type 0} → (S → Action → S) → (S → Action → List Answer) → Held S → NodeInput → Result Turn Fault
+effect_of next answers held input = running_effect (setting_of next answers held) held.me held.records held.running input

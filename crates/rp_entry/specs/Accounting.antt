@@ -12,12 +12,12 @@ abbrev pub name_of : Waiting → ℕ × ℕ
 name_of call = (call.task, call.number)
 
 -- the call that an answer is for
-abbrev pub call_of : Answer → ℕ × ℕ
-call_of answer = (answer.task, answer.number)
+abbrev pub answered_caller : Answer → ℕ × ℕ
+answered_caller answer = (answer.task, answer.number)
 
 -- those that were answered, and behind them those that wait still, are those that waited, in the same order
-abbrev pub AccountsFor : List Waiting → List Answer → List Waiting → Type 0
-AccountsFor waited told waiting = map call_of told ++ map name_of waiting ≡ map name_of waited
+abbrev pub KeepsCallers : List Waiting → List Answer → List Waiting → Type 0
+KeepsCallers waited told waiting = map answered_caller told ++ map name_of waiting ≡ map name_of waited
 
 -- what a request puts into the queue: its call, if the outcome is that it waits
 abbrev pub joins : Request → Option CallOutcome → List Waiting

@@ -11,7 +11,7 @@ ghost use Rattle.rp_entry.specs.Queue.{State};
 ghost use Rattle.rp_entry.specs.Servicing.{Services};
 ghost use Rattle.rp_entry.specs.Actions.{Request, Acts};
 ghost use Rattle.rp_entry.specs.Results.{Acted, acted};
-ghost use Rattle.rp_entry.specs.Accounting.{AccountsFor, joins};
+ghost use Rattle.rp_entry.specs.Accounting.{KeepsCallers, joins};
 
 /// Servicing has an end from every state, and one alone, with the same answers told on the way.
 pub fn servicing_has_one_end()
@@ -68,5 +68,5 @@ pub fn actions_account_for_callers()
     ensures { (operations : Operations) (before after : State) (request : Request)
         (caller : Option CallOutcome) (told : List Answer)
         → Acts operations before request caller told after
-        → AccountsFor (before.queue ++ joins request caller) told after.queue }
+        → KeepsCallers (before.queue ++ joins request caller) told after.queue }
 {}

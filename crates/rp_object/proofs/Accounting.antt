@@ -46,7 +46,7 @@ names_same : (calls : List Waiting) → map named (map entry.name_of calls) ≡ 
 names_same [] = refl
 names_same (call ∷ rest) = ap (λ (l : List CallName). name_of call ∷ l) (names_same rest)
 
-answers_same : (told : List Answer) → map named (map entry.call_of told) ≡ map call_of told
+answers_same : (told : List Answer) → map named (map entry.answered_caller told) ≡ map call_of told
 answers_same [] = refl
 answers_same (answer ∷ rest) = ap (λ (l : List CallName). call_of answer ∷ l) (answers_same rest)
 
@@ -61,7 +61,7 @@ one_accounts object request =
     let did = acted object.operations object.state request in
     let pairs = acts_account (is_acted object.operations object.state request) in
     sym (map_append name_of object.state.queue (joins request did.caller)) ∙ sym (names_same (object.state.queue ++ joins request did.caller)) ∙ sym (ap (map named) pairs)
-    ∙ map_append named (map entry.call_of did.told) (map entry.name_of did.after.queue)
+    ∙ map_append named (map entry.answered_caller did.told) (map entry.name_of did.after.queue)
     ∙ ap (λ (l : List CallName). l ++ map named (map entry.name_of did.after.queue)) (answers_same did.told) ∙ ap (λ (l : List CallName). map call_of did.told ++ l) (names_same did.after.queue)
 
 abbrev all_waiting : List Protected → List CallName

@@ -13,7 +13,7 @@ use Rattle.rp_entry.specs.Protected.{Protected}
 use Rattle.rp_entry.specs.Servicing.{Services, ends, goes_on}
 use Rattle.rp_entry.specs.Actions.{Request, Acts, event, function, procedure, open_entry, closed_entry, full_queue, handler, no_function, no_procedure, no_entry, no_handler}
 use Rattle.rp_entry.specs.Results.{Acted}
-use Rattle.rp_entry.specs.Accounting.{name_of, call_of, joins}
+use Rattle.rp_entry.specs.Accounting.{name_of, answered_caller, joins}
 use Rattle.rp_entry.proofs.Results.{acts_acted}
 use Rattle.rp_entry.proofs.Accounting.{acts_account}
 use Rattle.rp_entry.proofs.Chains.{no_more_wait}
@@ -29,7 +29,7 @@ pub acts_length : {operations : Operations} {before after : State} {request : Re
     → Acts operations before request caller told after → length told + length after.queue ≡ length before.queue + length (joins request caller)
 acts_length {before = before} {after = after} {request = request} {caller = caller} {told = told} acts =
     let same = ap length (acts_account acts) in
-    let left : length (map call_of told ++ map name_of after.queue) ≡ length told + length after.queue = omega (arith, length-append (map call_of told) (map name_of after.queue), length-map told call_of, length-map after.queue name_of) in
+    let left : length (map answered_caller told ++ map name_of after.queue) ≡ length told + length after.queue = omega (arith, length-append (map answered_caller told) (map name_of after.queue), length-map told answered_caller, length-map after.queue name_of) in
     let right : length (map name_of (before.queue ++ joins request caller)) ≡ length before.queue + length (joins request caller) = omega (arith, length-map (before.queue ++ joins request caller) name_of, length-append before.queue (joins request caller)) in
     omega (arith, same, left, right)
 

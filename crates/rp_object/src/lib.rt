@@ -12,8 +12,6 @@ mod image;
 mod laws;
 mod objects;
 mod program;
-#[cfg(test)]
-mod tests;
 
 pub use laws::{actions_account_for_callers, due_events_are_due};
 pub use objects::Objects;

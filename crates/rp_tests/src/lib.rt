@@ -17,6 +17,8 @@ mod log;
 #[cfg(test)]
 mod machine;
 #[cfg(test)]
+mod object;
+#[cfg(test)]
 mod proposer;
 #[cfg(test)]
 mod tasks;

@@ -1,4 +1,4 @@
-use super::*;
+use rp_object::*;
 use rp_base::{Action, Answer, Operation, Reply, TaskId};
 use rp_body::{Components, Cond, Expr, Ranged, Stmt};
 use rp_entry::{Entry, Operations};

@@ -31,3 +31,5 @@ pub mod KeptWorlds
 pub mod Places
 pub mod InLog
 pub mod LogKeeping
+pub mod FewSends
+pub mod FewPackets

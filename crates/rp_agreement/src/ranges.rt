@@ -31,8 +31,8 @@ pub fn records_stay_in_the_log<M: Machine>()
 {}
 
 /// Behind any history an event sends fewer than 2^32 - 1 packets, so that a `u32` numbers them: a
-/// task sends one at most, and a node one to each node, one question, and at most as many answers as
-/// it has applied actions.
+/// task sends one at most, a node at most one to each node, one question, and as many answers as it
+/// has applied actions.
 pub fn few_packets_are_sent<M: Machine>()
     ensures { (config : Config) (program : M.Program) (events : List Event) (world : World)
         (event : Event) (happening : Happening)

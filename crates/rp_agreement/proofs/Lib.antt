@@ -29,3 +29,7 @@ pub mod TaskTelling
 pub mod TaskKeeping
 pub mod KeptWorlds
 pub mod Places
+pub mod InLog
+pub mod LogKeeping
+pub mod FewSends
+pub mod FewPackets

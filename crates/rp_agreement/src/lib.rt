@@ -13,6 +13,7 @@
 //! - `keeping`: each event keeps it
 //! - `histories`: nodes agree in every history
 //! - `replies`: what tasks are told
+//! - `ranges`: numbers stay within their ranges
 #![tactic(auto)]
 
 mod decisions;
@@ -22,6 +23,7 @@ mod offers;
 mod opening;
 mod order;
 mod packets;
+mod ranges;
 mod replies;
 
 pub use decisions::{
@@ -37,6 +39,7 @@ pub use order::{
     states_are_alike, the_order_exists, the_order_grows, the_order_is_one,
 };
 pub use packets::packets_say_so;
+pub use ranges::{few_packets_are_sent, records_stay_in_the_log};
 pub use replies::{
     answers_are_one, calls_count_where_they_first_stand, events_keep_replies,
     node_events_keep_replies, replies_tell_the_order, task_events_keep_replies,

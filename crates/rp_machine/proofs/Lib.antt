@@ -7,3 +7,4 @@ pub mod Numbering
 pub mod Asking
 pub mod Holding
 pub mod Placing
+pub mod Few

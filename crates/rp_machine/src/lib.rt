@@ -4,16 +4,19 @@
 //! - `machine`: what a machine owes to the log that drives it
 //! - `replay`: what a log of actions leads to, at any machine
 //! - `places`: where a call stands in a log, and what it was answered
+//! - `counting`: how many answers a log leads to
 //! - `numbered`: a machine behind a log: each call counts once
 //! - `tally`: the least machine: a sum for each object
 #![tactic(auto)]
 
+mod counting;
 mod machine;
 mod numbered;
 mod places;
 mod replay;
 mod tally;
 
+pub use counting::answers_are_few;
 pub use machine::Machine;
 pub use numbered::{Numbered, calls_count_once};
 pub use places::{a_call_has_one_answer, a_call_has_one_place};

@@ -1,0 +1,46 @@
+//! Numbers stay within their ranges in every history.
+
+ghost use Rattle.std.specs.Prelude.{◌≡◌, ℕ, ◌-◌, ◌^◌, ◌≤◌, ◌<◌, true, Some, Ok, List, length};
+ghost use Rattle.rp_base.specs.Records.{applied_of};
+ghost use Rattle.rp_base.specs.Sets.{Has};
+ghost use Rattle.rp_base.specs.declared.config.Config.{Config};
+ghost use Rattle.rp_base.specs.declared.record.Rec.{Rec};
+ghost use Rattle.rp_model.specs.Effect.{Setting};
+ghost use Rattle.rp_model.specs.Events.{Event, IsEvent};
+ghost use Rattle.rp_model.specs.Parts.{is_in_log};
+ghost use Rattle.rp_model.specs.World.{World, Happening, part_at, event_effect};
+ghost use Rattle.rp_model.specs.declared.part.NodePart.{NodePart};
+ghost use Rattle.rp_agreement.specs.Answered.{setting_for};
+ghost use Rattle.rp_agreement.specs.History.{IsHistory};
+
+use crate::opening::the_opening_is_sound;
+use rp_machine::{Machine, answers_are_few};
+
+/// In every history each record of a node is at a position of the log, or at none; so no node has
+/// applied more actions than the log has positions.
+pub fn records_stay_in_the_log<M: Machine>()
+    ensures records { (setting : Setting M) (events : List Event) (world : World)
+        → IsHistory setting events world
+        → (x : ℕ) (part : NodePart) → part_at world.nodes x ≡ Some part
+        → (rec : Rec) → Has rec part.records
+        → is_in_log setting.config.max_positions rec ≡ true }
+    ensures applied { (setting : Setting M) (events : List Event) (world : World)
+        → IsHistory setting events world
+        → (x : ℕ) (part : NodePart) → part_at world.nodes x ≡ Some part
+        → length (applied_of part.records) ≤ setting.config.max_positions }
+{}
+
+/// Behind any history an event sends fewer than 2^32 - 1 packets, so that a `u32` numbers them: a
+/// task sends one at most, a node at most one to each node, one question, and as many answers as it
+/// has applied actions.
+pub fn few_packets_are_sent<M: Machine>()
+    ensures { (config : Config) (program : M.Program) (events : List Event) (world : World)
+        (event : Event) (happening : Happening)
+        → let setting = setting_for M.next M.answers M.begin config program in
+        IsHistory setting events world → IsEvent event
+        → event_effect setting world event ≡ Ok happening
+        → length happening.sends < 2 ^ 32 - 1 }
+{
+    the_opening_is_sound();
+    answers_are_few::<M>();
+}

@@ -1,5 +1,5 @@
 -- The first standing of a call in the order is its place: there it counts.
-use Rattle.std.proofs.Common.{◌≡◌, ℕ, zero, suc, ◌-◌, ◌<◌, ◌≤◌, Bool, true, Some, None, List, [], ◌∷◌, ◌++◌, length, map, take, drop, ◌⊎◌, inl, inr, refl, sym, ap, subst, ◌∙◌, arith}
+use Rattle.std.proofs.Common.{◌≡◌, ℕ, zero, suc, ◌<◌, ◌≤◌, Bool, true, Some, None, List, [], ◌∷◌, ◌++◌, length, map, take, drop, ◌⊎◌, inl, inr, refl, sym, ap, subst, ◌∙◌, arith}
 use Rattle.std.specs.Prelude.{nat_eq, slice_get, ◌&&◌}
 use Rattle.std.specs.List.{list_all}
 use Rattle.std.specs.Cmp.Lexicographic.{pointwise, bytes_decides}
@@ -13,7 +13,7 @@ use Rattle.rp_base.specs.Action.{IsRight}
 use Rattle.rp_base.specs.Sets.{Has}
 use Rattle.rp_base.proofs.Members.{has_split, has_left, has_mapped, mapped_has}
 use Rattle.rp_machine.specs.Calls.{CallName, calls_of, calls_made, call_of}
-use Rattle.rp_machine.specs.Replay.{number_for, one_to, is_for, numbers_of, is_next_number, is_answered, all_answered, counts, Replayed, unmoved, replay_step, replay_from, replay_of, kept_of}
+use Rattle.rp_machine.specs.Replay.{number_for, one_to, is_for, numbers_of, is_next_number, is_answered, all_answered, counts, Replayed, unmoved, replay_step, replay_from, kept_of}
 use Rattle.rp_machine.specs.Asked.{last_number}
 use Rattle.rp_machine.proofs.Calling.{made_number, one_to_bound}
 use Rattle.rp_machine.proofs.Numbering.{IsCounted, counted}

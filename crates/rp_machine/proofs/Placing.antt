@@ -1,12 +1,12 @@
 -- A call counts at one place, and is answered once.
-use Rattle.std.proofs.Common.{◌≡◌, ℕ, zero, suc, ◌<◌, ◌⊎◌, true, List, [], ◌∷◌, ◌++◌, length, map, if◌then◌else◌, refl, sym, ap, subst, ◌∙◌, inl, inr, arith, append_assoc}
+use Rattle.std.proofs.Common.{◌≡◌, ℕ, ◌<◌, true, List, [], ◌∷◌, ◌++◌, length, map, if◌then◌else◌, refl, sym, ap, subst, ◌∙◌, inl, inr, arith}
 use Rattle.std.proofs.lemmas.Bool.{cases_lt}
 use Rattle.rp_base.specs.Sets.{Has, IsSet}
 use Rattle.rp_base.specs.declared.action.Action.{Action}
 use Rattle.rp_base.specs.declared.reply.Answer.{Answer}
-use Rattle.rp_machine.specs.Calls.{CallName, calls_of, calls_made, call_of}
-use Rattle.rp_machine.specs.Replay.{counts, Replayed, unmoved, replay_step, replay_from, replay_of}
-use Rattle.rp_machine.specs.Places.{IsPlace, IsAnswerOf}
+use Rattle.rp_machine.specs.Calls.{CallName, calls_of, calls_made}
+use Rattle.rp_machine.specs.Replay.{counts, Replayed, unmoved, replay_from, replay_of}
+use Rattle.rp_machine.specs.Places.{IsPlace}
 use Rattle.rp_machine.proofs.Calling.{has_left, has_right, calls_made-append, is_new}
 use Rattle.rp_machine.proofs.Replaying.{replay_from-append, goes_on_from}
 

@@ -1,8 +1,8 @@
 ghost use Rattle.std.specs.Prelude.{◌≡◌, ◌≤◌, IfOk};
 ghost use Rattle.rp_learner.specs.Standings.{fresh};
 
-use rp_learner::*;
 use rp_base::{Action, Ballot, NodeId, Position};
+use rp_learner::*;
 use std::alloc::Global;
 use std::process::Abort;
 use std::test::Fail;

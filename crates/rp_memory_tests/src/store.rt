@@ -1,8 +1,8 @@
 ghost use Rattle.std.specs.Prelude.{IfOk};
 ghost use Rattle.rp_base.specs.Right.{IsRightRecord};
 
-use rp_store::*;
 use rp_base::{Action, Ballot, Fault, Operation, Position, Rec, TaskId};
+use rp_store::*;
 use std::alloc::Global;
 use std::process::Abort;
 use std::test::*;

@@ -16,7 +16,7 @@ use Rattle.rp_base.specs.declared.voting.PrepareAnswer.TheVariants as prepares
 use Rattle.rp_base.specs.declared.voting.AcceptAnswer.{AcceptAnswer}
 use Rattle.rp_base.specs.declared.voting.AcceptAnswer.TheVariants as accepts
 use Rattle.rp_base.specs.Majority.{is_majority}
-use Rattle.rp_base.specs.Promises.{Promise, HeardVote, offer_of, same_vote, same_heard, voters_of, makes_majority, heard_elsewhere}
+use Rattle.rp_base.specs.Promises.{Promise, HeardVote, offer_of, same_vote, same_heard, makes_majority}
 use Rattle.rp_base.specs.Records.{or_else, learned_in, learned_at, applied_of}
 use Rattle.rp_base.specs.Sets.{with_member, with_members}
 use Rattle.rp_codec.specs.Message.{Message}
@@ -35,7 +35,7 @@ use Rattle.rp_codec.specs.declared.packet.Body.{Body}
 use Rattle.rp_codec.specs.declared.packet.Body.TheVariants as bodies
 use Rattle.rp_machine.specs.Asked.{last_number, last_occurrence, kept_reply}
 use Rattle.rp_machine.specs.Replay.{kept_of, replay_answers}
-use Rattle.rp_model.specs.Says.{says, says_to_all, says_to_others, says_to_task, sends, notes, writes, drops_foreign, drops_full}
+use Rattle.rp_model.specs.Says.{says, says_to_all, says_to_others, says_to_task, sends, notes, drops_foreign, drops_full}
 use Rattle.rp_model.specs.Acceptor.{tells_promise, tells_vote}
 use Rattle.rp_model.specs.Pending.{most_pending, adds_pending, on_numbered, on_call, on_interrupt}
 use Rattle.rp_model.specs.Leader.{chosen_position, is_out_of_reach, starts_above, begins, on_lead, counts_promise, on_promise_to, on_nack}
@@ -203,13 +203,13 @@ module _ (grown : (records : List Rec) (rec : Rec) (i : ℕ) → learned_at (rec
         let known : Running = record one { pending = one.pending ++ item ∷ [] } in
         elim (list_any (equal_items item) one.pending)
         as (λ t. AreAlikeTurns records (if t then notes one else if nat_lt (length one.pending) most_pending then notes known else drops_full one)
-          (if t then notes other else if nat_lt (length one.pending) most_pending then notes (record known { heard = heard }) else drops_full other)) [
+        (if t then notes other else if nat_lt (length one.pending) most_pending then notes (record known { heard = heard }) else drops_full other)) [
           | true ↦ nothing
           | false ↦ elim (nat_lt (length one.pending) most_pending)
-            as (λ t. AreAlikeTurns records (if t then notes known else drops_full one) (if t then notes (record known { heard = heard }) else drops_full other)) [
-              | true ↦ quiet None [] No known refl
-              | false ↦ quiet None [] Full one refl
-            ]
+              as (λ t. AreAlikeTurns records (if t then notes known else drops_full one) (if t then notes (record known { heard = heard }) else drops_full other)) [
+                | true ↦ quiet None [] No known refl
+                | false ↦ quiet None [] Full one refl
+              ]
         ]
 
     numbered_alike : (me task number : ℕ) (kept : List Action) (call : Action) (reply : Option Reply)
@@ -329,18 +329,18 @@ module _ (grown : (records : List Rec) (rec : Rec) (i : ℕ) → learned_at (rec
           let Answered : Result Turn Fault → Result Turn Fault → Type 0 = AreAlikeAnswers records in
           elim (is_some (learned_at records i))
           as (λ t. Answered (if t then Ok (notes one) else if is_out_of_reach config.max_positions records i then Err LogFull else if nat_le (2 ^ 32) (round_of b) then Err BallotsSpent else Ok (led one))
-            (if t then Ok (notes other) else if is_out_of_reach config.max_positions records i then Err LogFull else if nat_le (2 ^ 32) (round_of b) then Err BallotsSpent else Ok (led other))) [
+          (if t then Ok (notes other) else if is_out_of_reach config.max_positions records i then Err LogFull else if nat_le (2 ^ 32) (round_of b) then Err BallotsSpent else Ok (led other))) [
             | true ↦ nothing
             | false ↦ elim (is_out_of_reach config.max_positions records i)
-              as (λ t. Answered (if t then Err LogFull else if nat_le (2 ^ 32) (round_of b) then Err BallotsSpent else Ok (led one))
+                as (λ t. Answered (if t then Err LogFull else if nat_le (2 ^ 32) (round_of b) then Err BallotsSpent else Ok (led one))
                 (if t then Err LogFull else if nat_le (2 ^ 32) (round_of b) then Err BallotsSpent else Ok (led other))) [
-                | true ↦ refl
-                | false ↦ elim (nat_le (2 ^ 32) (round_of b))
-                  as (λ t. Answered (if t then Err BallotsSpent else Ok (led one)) (if t then Err BallotsSpent else Ok (led other))) [
-                    | true ↦ refl
-                    | false ↦ quiet (Some (Started b)) (says_to_all config.nodes me (bodies.Prepare i b)) No (led one).running refl
-                  ]
-              ]
+                  | true ↦ refl
+                  | false ↦ elim (nat_le (2 ^ 32) (round_of b))
+                      as (λ t. Answered (if t then Err BallotsSpent else Ok (led one)) (if t then Err BallotsSpent else Ok (led other))) [
+                        | true ↦ refl
+                        | false ↦ quiet (Some (Started b)) (says_to_all config.nodes me (bodies.Prepare i b)) No (led one).running refl
+                      ]
+                ]
           ]
 
       receive_alike : (config : Config) (me : ℕ) (message : Message)
@@ -349,7 +349,7 @@ module _ (grown : (records : List Rec) (rec : Rec) (i : ℕ) → learned_at (rec
           let from = party_number message.from in
           elim (is_for_node config me message)
           as (λ t. AreAlikeTurns records (if t then on_body next answers begin config.nodes me records one from message.body else drops_foreign one)
-            (if t then on_body next answers begin config.nodes me records other from message.body else drops_foreign other)) [
+          (if t then on_body next answers begin config.nodes me records other from message.body else drops_foreign other)) [
             | true ↦ body_alike config.nodes me from message.body
             | false ↦ quiet None [] Foreign one refl
           ]

@@ -1,5 +1,5 @@
 -- What may happen in a world: a step of one actor, or a stop or a restart of one (this project's own).
-use Rattle.std.specs.Prelude.{ℕ, ◌<◌, ◌≤◌, ◌^◌, ℤ, FitsSigned, Option, IfSome}
+use Rattle.std.specs.Prelude.{ℕ, ◌<◌, ◌^◌, ℤ, FitsSigned, Option, IfSome}
 use Rattle.std.specs.Int.{w64}
 use Rattle.rp_base.specs.Number.{IsNode, IsTask, IsPosition}
 use Rattle.rp_base.specs.Action.{IsIndex, IsCount}

@@ -89,5 +89,4 @@ fn index_of(operation: Operation) -> u8
 fn call_keeps_ranges(object: u8, arg: i64)
     ensures object { object < 2 ^ 8 }
     ensures arg { FitsSigned w64 arg }
-{
-}
+{}

@@ -41,9 +41,7 @@ mod sequence;
 
 pub use effect::Effect;
 pub use event::{Event, Step};
-pub use laws::{
-    applied_grows, nothing_is_decided_at_first, old_votes_change_nothing, worlds_grow,
-};
+pub use laws::{applied_grows, nothing_is_decided_at_first, old_votes_change_nothing, worlds_grow};
 pub use leader::on_lead;
 pub use looking::{applied_count, applied_of};
 pub use part::{Dropped, NodePart, Running, TaskPart, Turn};

@@ -1,7 +1,7 @@
-use rp_codec::*;
 use rp_base::{
     Action, Ballot, NodeId, Operation, PacketReason, Position, Rec, Reply, TaskId, Vote,
 };
+use rp_codec::*;
 use std::alloc::Global;
 use std::process::Abort;
 use std::test::*;

@@ -1,6 +1,6 @@
-use rp_entry::*;
 use rp_base::{Answer, Reply, TaskId};
 use rp_body::{Components, Cond, Expr, Ranged, Stmt};
+use rp_entry::*;
 use std::alloc::{AllocError, Global};
 use std::sync::Arc;
 use std::test::Fail;

@@ -1,5 +1,5 @@
-use rp_log::*;
 use rp_base::{Action, Fault, Position};
+use rp_log::*;
 use std::alloc::Global;
 use std::test::Fail;
 

@@ -1,8 +1,8 @@
 ghost use Rattle.rp_base.specs.Action.{IsRight};
 ghost use Rattle.rp_machine.specs.Calls.{MayApply};
 
-use rp_machine::*;
 use rp_base::{Action, Answers, Operation, Reply, TaskId};
+use rp_machine::*;
 use std::alloc::Global;
 use std::test::*;
 

@@ -1,7 +1,7 @@
-use rp_object::*;
 use rp_base::{Action, Answer, Operation, Reply, TaskId};
 use rp_body::{Components, Cond, Expr, Ranged, Stmt};
 use rp_entry::{Entry, Operations};
+use rp_object::*;
 use std::alloc::{AllocError, Global};
 use std::sync::Arc;
 use std::test::Fail;

@@ -1,6 +1,6 @@
-use rp_tasks::*;
 use rp_base::{Action, Fault, NodeId, Operation, Reply, TaskId};
 use rp_codec::{Body, Packet, Party, decode, encode};
+use rp_tasks::*;
 use std::alloc::Global;
 use std::test::*;
 

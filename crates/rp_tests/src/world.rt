@@ -1,6 +1,6 @@
-use rp_world::*;
 use rp_base::{Config, Fault, NodeId, Operation, Position, Reply, TaskId};
 use rp_machine::{Machine, Tally, TallyProgram};
+use rp_world::*;
 use std::alloc::Global;
 use std::process::Abort;
 use std::test::Fail;

@@ -1,9 +1,8 @@
 -- A part that is put back as it was.
-use Rattle.std.proofs.Common.{◌≡◌, ℕ, zero, suc, ◌+◌, Bool, true, false, Some, None, Option, Result, Ok, Err, List, [], ◌∷◌, ◌++◌, length, refl, sym, ap, subst, ◌∙◌}
+use Rattle.std.proofs.Common.{◌≡◌, ℕ, zero, suc, ◌+◌, false, Some, None, Option, Result, Ok, List, [], ◌∷◌, ◌++◌, length, refl, sym, ap, subst, ◌∙◌}
 use Rattle.std.specs.Prelude.{slice_get, slice_set, IsSomeAnd}
 use Rattle.std.proofs.lemmas.List.{append-nil}
 use Rattle.rp_base.specs.declared.reply.Reply.{Reply}
-use Rattle.rp_base.specs.declared.config.Config.{Config}
 use Rattle.rp_base.specs.declared.fault.Fault.{Fault}
 use Rattle.rp_codec.specs.Message.{Message}
 use Rattle.rp_codec.specs.declared.packet.Party.TheVariants.{Task}

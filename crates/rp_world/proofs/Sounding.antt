@@ -1,5 +1,5 @@
 -- The world of a cluster meets the invariant after each step.
-use Rattle.std.proofs.Common.{◌≡◌, ℕ, Option, Some, None, Result, Ok, Err, List, [], ◌∷◌, ◌++◌, length, inl, inr, refl, sym, ap, subst, ◌∙◌}
+use Rattle.std.proofs.Common.{◌≡◌, ℕ, Option, Some, Result, Ok, Err, List, [], ◌∷◌, ◌++◌, length, inl, inr, refl, sym, ap, subst, ◌∙◌}
 use Rattle.rp_base.specs.Config.{IsRightConfig}
 use Rattle.rp_base.specs.Sets.{Has}
 use Rattle.rp_base.specs.declared.fault.Fault.{Fault}
@@ -83,10 +83,10 @@ module _ {S : Type 0} (s : Setting S) (grows : (before : World) (event : Event) 
 -- nodes of worlds that meet the invariant agree
 module _ {S : Type 0} (next : S → Action → S) (answers : S → Action → List Answer) (begin : S) (nodes : ℕ)
     (alike : (n : ℕ) (node after : ℕ → NodePart) (sent later : List Message) → IsSound n node sent → IsSound n after later → AllSent sent later
-      → (x y : ℕ) → AreAlike (applied_of (node x).records) (applied_of (after y).records))
+    → (x y : ℕ) → AreAlike (applied_of (node x).records) (applied_of (after y).records))
     (states : (n : ℕ) (node after : ℕ → NodePart) (sent later : List Message) → IsSound n node sent → IsSound n after later → AllSent sent later
-      → (x y : ℕ) → length (applied_of (node x).records) ≡ length (applied_of (after y).records)
-      → replay_of next answers begin (applied_of (node x).records) ≡ replay_of next answers begin (applied_of (after y).records)) where
+    → (x y : ℕ) → length (applied_of (node x).records) ≡ length (applied_of (after y).records)
+    → replay_of next answers begin (applied_of (node x).records) ≡ replay_of next answers begin (applied_of (after y).records)) where
   here : (w : World) (x : ℕ) (part : NodePart) → part_at w.nodes x ≡ Some part → node_in w.nodes x ≡ part
   here w x part is = ap (λ (o : Option NodePart). unwrap_or o fresh_node) is
 
@@ -98,7 +98,7 @@ module _ {S : Type 0} (next : S → Action → S) (answers : S → Action → Li
         (alike nodes (node_in now.nodes) (node_in later.nodes) now.sent later.sent sound after sent x y));
     states = λ x y one other p q.
         let P : NodePart → NodePart → Type 0 = λ a b. length (applied_of a.records) ≡ length (applied_of b.records)
-            → replay_of next answers begin (applied_of a.records) ≡ replay_of next answers begin (applied_of b.records) in
+        → replay_of next answers begin (applied_of a.records) ≡ replay_of next answers begin (applied_of b.records) in
         subst (λ (b : NodePart). P one b) (here later y other q)
         (subst (λ (a : NodePart). P a (node_in later.nodes y)) (here now x one p)
         (states nodes (node_in now.nodes) (node_in later.nodes) now.sent later.sent sound after sent x y));
@@ -109,7 +109,7 @@ module _ {S : Type 0} (s : Setting S)
     (exists : (n : ℕ) (sent : List Message) → IsOrder n sent (order_of n sent))
     (begins : (n : ℕ) (node : ℕ → NodePart) (sent : List Message) → IsSound n node sent → (order : List Action) → IsOrder n sent order → (x : ℕ) → Begins (applied_of (node x).records) order)
     (tells : (node : ℕ → NodePart) (task : ℕ → TaskPart) (sent : List Message) → IsKept s node task sent → (t k : ℕ) (answer : Answer) → slice_get (task t).replies k ≡ Some answer
-      → IsAnswerOf s.next s.answers s.begin (order_of s.config.nodes sent) (named t (suc k)) answer)
+    → IsAnswerOf s.next s.answers s.begin (order_of s.config.nodes sent) (named t (suc k)) answer)
     (once : (actions : List Action) (call : CallName) (one other : ℕ) → IsPlace s.next s.answers s.begin actions call one → IsPlace s.next s.answers s.begin actions call other → one ≡ other) where
   pub ordered : (w : World) → IsKeptWorld s w → IsOrdered s.next s.answers s.begin s.config.nodes w
   ordered w kept =

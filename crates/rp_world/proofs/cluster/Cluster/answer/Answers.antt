@@ -2,7 +2,7 @@
 use Rattle.std.proofs.Common.{ℤ, w64, subst}
 use Rattle.std.proofs.lemmas.Int.{to_z-of_z}
 use Rattle.rp_model.specs.declared.event.Event.{Event}
-use Rattle.rp_model.specs.Events.{Submit, Makes, Deliver, Lead, IsEvent, event_of}
+use Rattle.rp_model.specs.Events.{Submit, IsEvent, event_of}
 use Rattle.rp_model.specs.World.{event_effect}
 use Rattle.rp_world.specs.Steps.{setting_of, AnswersBy}
 use Rattle.rp_world.proofs.Sounding.{stays_cluster}

@@ -5,7 +5,7 @@ use Rattle.rp_model.specs.declared.event.Event.{Event as PlainEvent}
 use Rattle.rp_model.specs.Effect.{Setting}
 use Rattle.rp_model.specs.Events.{Event, event_of}
 use Rattle.rp_model.specs.Answers.{Steps, Happen}
-use Rattle.rp_world.specs.Steps.{IsSameSetup, setting_of}
+use Rattle.rp_world.specs.Steps.{setting_of}
 use Rattle.rp_world.specs.Runs.{LeadsTo}
 use Rattle.rp_world.proofs.Answering.{happen_more, same_setting}
 use Rattle.rp_world.proofs.Sounding.{sent_stays}

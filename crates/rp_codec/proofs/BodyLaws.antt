@@ -12,7 +12,8 @@ use Rattle.rp_codec.specs.declared.packet.Body.{Body}
 use Rattle.rp_codec.specs.declared.packet.Body.TheVariants as bodies
 use Rattle.rp_codec.specs.declared.kind.Kind.{Kind}
 use Rattle.rp_codec.specs.declared.kind.Kind.TheVariants.{Call, Prepare, Promise, Accept, Accepted, Decided, Ask, Nack, Reply as Answer, Report}
-use Rattle.rp_codec.specs.Message.{IsReply, IsBody, IsNodeParty, IsTaskParty, IsAudit, IsVoteBelow, MaySay, report_len}
+use Rattle.rp_base.specs.Right.{IsReply}
+use Rattle.rp_codec.specs.Message.{IsBody, IsNodeParty, IsTaskParty, IsAudit, IsVoteBelow, MaySay, report_len}
 use Rattle.rp_codec.specs.Text.{number_text, position_text, ballot_text, action_text, reply_text, last_text, kind_number, body_text}
 use Rattle.rp_codec.specs.Reading.{value_at, truth_at, reply_at, lower_ballot_at, higher_ballot_at, vote_at, last_at, prepare_at, promise_at, accept_at, accepted_at, decided_at, ask_at, nack_at, answer_at, report_at, task_call_at, body_at}
 use Rattle.rp_codec.proofs.Steps.{IsBytes, Yields, Took, then, when, keeps, guarded}

@@ -4,10 +4,10 @@ use Rattle.std.specs.Int.{w64}
 use Rattle.rp_base.specs.Number.{IsNode, IsTask, IsPosition}
 use Rattle.rp_base.specs.Ballot.{IsBallot}
 use Rattle.rp_base.specs.Action.{IsRight, IsCount}
+use Rattle.rp_base.specs.Right.{IsReply}
 use Rattle.rp_base.specs.declared.action.Action.{Action}
 use Rattle.rp_base.specs.declared.action.Action.TheVariants as actions
 use Rattle.rp_base.specs.declared.reply.Reply.{Reply}
-use Rattle.rp_base.specs.declared.reply.Reply.TheVariants as replies
 use Rattle.rp_base.specs.declared.record.Vote.{Vote}
 use Rattle.rp_codec.specs.declared.packet.Party.{Party}
 use Rattle.rp_codec.specs.declared.packet.Party.TheVariants.{Node, Task, Audit}
@@ -25,13 +25,6 @@ abbrev pub IsParty : Party → Type 0
 IsParty (Node n) = IsNode n
 IsParty (Task t) = IsTask t
 IsParty Audit = Unit {0}
-
-abbrev pub IsReply : Reply → Type 0
-IsReply (replies.Value z) = FitsSigned w64 z
-IsReply (replies.Truth b) = Unit {0}
-IsReply replies.ConstraintError = Unit {0}
-IsReply replies.ProgramError = Unit {0}
-IsReply replies.NoSuchOperation = Unit {0}
 
 -- each position and each ballot is one
 abbrev pub IsBody : Body → Type 0

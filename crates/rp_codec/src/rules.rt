@@ -2,7 +2,8 @@
 
 ghost use Rattle.std.specs.Prelude.{◌≡◌, ◌↔◌, ◌<◌, ◌^◌, IfSome, IsTrue};
 ghost use Rattle.rp_base.specs.Action.{IsRight};
-ghost use Rattle.rp_codec.specs.Message.{IsParty, IsReply, IsBody, IsNodeParty, IsTaskParty, IsAudit, IsCallBy, IsCallOf, BetweenNodes, IsVoteBelow, IsReport, MayCall, MaySay, report_len};
+ghost use Rattle.rp_base.specs.Right.{IsReply};
+ghost use Rattle.rp_codec.specs.Message.{IsParty, IsBody, IsNodeParty, IsTaskParty, IsAudit, IsCallBy, IsCallOf, BetweenNodes, IsVoteBelow, IsReport, MayCall, MaySay, report_len};
 
 use crate::packet::{Body, Party};
 use rp_base::{Action, Ballot, Position, Reply, TaskId, Vote};

@@ -48,11 +48,11 @@ module _ {S P : Type 0} (next : S → Action → S) (answers : S → Action → 
     may_apply program r (Tick now) fine e own other h w same = h
 
     -- the replay with an action that counts
-    abbrev taken : Replayed S → Action → Replayed S
+    abbrev pub taken : Replayed S → Action → Replayed S
     taken r action = record { state = next r.state action; kept = r.kept ++ action ∷ []; given = r.given ++ answers r.state action }
 
     -- this holds at the start, after each action that counts, and so behind any actions
-    accounted_start : (program : P) → IsAccounted program (unmoved (begin program))
+    pub accounted_start : (program : P) → IsAccounted program (unmoved (begin program))
     accounted_start program = record {
       inside = starts program;
       waits = λ call. (λ w. absurd (subst (λ (calls : List CallName). Has call calls) (none_waits program) w), λ h. absurd h.0);
@@ -130,7 +130,7 @@ module _ {S P : Type 0} (next : S → Action → S) (answers : S → Action → 
               subst (λ (calls : List CallName). IsSet calls) (sym (replied_more r action)) (set_append (replied r.given) (replied (answers r.state action)) fine.once account.distinct apart);
         }
 
-    accounted_if : (program : P) (r : Replayed S) (action : Action) (b : Bool) → counts r.kept r.given action ≡ b → IsAccounted program r → IsRight action → IsAccounted program (if b then taken r action else r)
+    pub accounted_if : (program : P) (r : Replayed S) (action : Action) (b : Bool) → counts r.kept r.given action ≡ b → IsAccounted program r → IsRight action → IsAccounted program (if b then taken r action else r)
     accounted_if program r action true e fine right = accounted_step program r action fine right e
     accounted_if program r action false e fine right = fine
 

@@ -8,3 +8,4 @@ pub mod Asking
 pub mod Holding
 pub mod Placing
 pub mod Few
+pub mod Replying

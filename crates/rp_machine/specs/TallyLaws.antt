@@ -1,5 +1,5 @@
 -- The tally's rule keeps the laws of a machine.
-use Rattle.std.proofs.Common.{◌≡◌, ◌≢◌, ℕ, suc, ◌<◌, ◌^◌, ◌-◌, ℤ, pos, negsuc, ◌+ℤ◌, Bool, true, false, Option, Some, None, List, [], ◌∷◌, ◌++◌, length, replicate, codes, decimal, if◌then◌else◌, option_and_then, refl, sym, ◌∙◌, ap, subst, arith, length-set, ltb-true}
+use Rattle.std.proofs.Common.{◌≡◌, ◌≢◌, ℕ, suc, ◌<◌, ◌^◌, ◌-◌, ℤ, pos, negsuc, ◌+ℤ◌, Bool, true, false, Option, Some, None, List, [], ◌∷◌, ◌++◌, length, replicate, codes, decimal, if◌then◌else◌, option_and_then, refl, sym, ◌∙◌, ap, subst, inl, inr, FitsSigned, w64, arith, length-set, ltb-true}
 use Rattle.std.proofs.lemmas.List.{append_assoc, append_cancel_left, append_cancel_right, length-replicate, get_or-replicate}
 use Rattle.std.proofs.lemmas.List.Elements.{All-set, recursion_from_All}
 use Rattle.std.proofs.lemmas.Fmt.{decimal_is_IsNumeral, signed_decimal_injective}
@@ -9,10 +9,15 @@ use Rattle.std.specs.Str.Parse.{AllDigits}
 use Rattle.std.specs.Fmt.{signed_decimal}
 use lib.Signed.{mag}
 use Rattle.rp_base.specs.Action.{IsRight}
+use Rattle.rp_base.specs.Right.{IsReply}
+use Rattle.rp_base.specs.Sets.{Has}
+use Rattle.rp_base.specs.declared.reply.Answer.{Answer}
+use Rattle.rp_base.specs.declared.reply.Reply.{Reply}
+use Rattle.rp_base.specs.declared.reply.Reply.TheVariants.{Value, ConstraintError, NoSuchOperation}
 use Rattle.rp_base.specs.declared.action.Action.{Action}
 use Rattle.rp_base.specs.declared.action.Action.TheVariants.{Noop, Call, Interrupt, Tick}
 use Rattle.rp_machine.specs.Calls.{MayApply, AccountsFor}
-use Rattle.rp_machine.specs.TallyRule.{fits_i64, HasSums, is_add, sum_of, added, new_sum, with_sum, tally_next, tally_answers, sums_text, tally_image}
+use Rattle.rp_machine.specs.TallyRule.{fits_i64, HasSums, is_add, sum_of, added, new_sum, with_sum, reply_to_add, tally_next, tally_answers, sums_text, tally_image}
 
 -- ---- the sums stay in range
 
@@ -136,3 +141,29 @@ tally_accounts objects sums (Call task number object operation arg) has right ma
     record { distinct = (λ h. h, tt); known = λ call h. h; waits = λ call. (λ h. absurd h, λ h. absurd (h.1 h.0)) }
 tally_accounts objects sums (Interrupt source occurrence) has right may = record { distinct = tt; known = λ call h. h; waits = λ call. (λ h. absurd h, λ h. h.0) }
 tally_accounts objects sums (Tick now) has right may = record { distinct = tt; known = λ call h. h; waits = λ call. (λ h. absurd h, λ h. h.0) }
+
+-- ---- a reply fits
+
+sum_reply : (sum : ℤ) (b : Bool) → fits_i64 sum ≡ b → IsReply (let reply : Reply = if b then Value sum else ConstraintError in reply)
+sum_reply sum true fits = record { sfits = mag_fits sum fits }
+sum_reply sum false fits = tt
+
+add_reply : (found : Option ℤ) (arg : ℤ) → IsReply (reply_to_add found arg)
+add_reply None arg = tt
+add_reply (Some sum) arg = sum_reply (sum +ℤ arg) (fits_i64 (sum +ℤ arg)) refl
+
+call_reply : (adds : Bool) (found : Option ℤ) (arg : ℤ) → IsReply (let reply : Reply = if adds then reply_to_add found arg else NoSuchOperation in reply)
+call_reply true found arg = add_reply found arg
+call_reply false found arg = tt
+
+-- the sum that a reply tells fits
+pub tally_replies : (objects : ℕ) (sums : List ℤ) (action : Action) → HasSums objects sums → IsRight action → MayApply [] action
+    → (answer : Answer) → Has answer (tally_answers sums action) → IsReply answer.reply
+tally_replies objects sums Noop has right may answer h = absurd h
+tally_replies objects sums (Call task number object operation arg) has right may answer h =
+    elim h [
+      | inl same ↦ subst (λ (a : Answer). IsReply a.reply) (sym same) (call_reply (is_add operation) (sum_of sums object) arg)
+      | inr none ↦ absurd none
+    ]
+tally_replies objects sums (Interrupt source occurrence) has right may answer h = absurd h
+tally_replies objects sums (Tick now) has right may answer h = absurd h

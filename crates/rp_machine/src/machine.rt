@@ -4,6 +4,8 @@ ghost use Rattle.std.specs.Prelude.{◌≡◌, ℕ, List, [], IfOk};
 ghost use Rattle.rp_base.specs.declared.action.Action.{Action};
 ghost use Rattle.rp_base.specs.declared.reply.Answer.{Answer};
 ghost use Rattle.rp_base.specs.Action.{IsRight};
+ghost use Rattle.rp_base.specs.Right.{IsReply};
+ghost use Rattle.rp_base.specs.Sets.{Has};
 ghost use Rattle.rp_machine.specs.Calls.{CallName, MayApply, AccountsFor};
 
 use rp_base::{Action, Answers};
@@ -70,4 +72,9 @@ pub trait Machine: Drop {
     ghost accounts: { (program : Self.Program) (s : Self) (action : Action)
         → runs program s → IsRight action → MayApply (waiting s) action
         → AccountsFor (waiting s) action (answers s action) (waiting (next s action)) };
+
+    /// The value of each reply has 64 signed bits.
+    ghost replies: { (program : Self.Program) (s : Self) (action : Action)
+        → runs program s → IsRight action → MayApply (waiting s) action
+        → (answer : Answer) → Has answer (answers s action) → IsReply answer.reply };
 }

@@ -2,10 +2,12 @@
 
 ghost use Rattle.std.specs.Prelude.{◌≡◌, List, ◌++◌, IsTrue};
 ghost use Rattle.rp_base.specs.Action.{IsRight};
+ghost use Rattle.rp_base.specs.Right.{IsReply};
 ghost use Rattle.rp_base.specs.Sets.{Has};
 ghost use Rattle.rp_base.specs.declared.action.Action.{Action};
+ghost use Rattle.rp_base.specs.declared.reply.Answer.{Answer};
 ghost use Rattle.rp_machine.specs.Calls.{MayApply};
-ghost use Rattle.rp_machine.specs.Replay.{counts, Replayed, replay_from, replay_of, replay_state, GoesOn};
+ghost use Rattle.rp_machine.specs.Replay.{counts, Replayed, replay_from, replay_of, replay_state, replay_answers, GoesOn};
 
 use crate::machine::Machine;
 
@@ -30,4 +32,12 @@ pub fn replay_may_go_on<M: Machine>()
         → let before = replay_of M.next M.answers (M.begin program) actions in
         IsTrue (counts before.kept before.given further)
         → MayApply (M.waiting before.state) further }
+{}
+
+/// The value of each reply that right actions lead to has 64 signed bits.
+pub fn replies_fit<M: Machine>()
+    ensures { (program : M.Program) (actions : List Action)
+        → ((action : Action) → Has action actions → IsRight action)
+        → (answer : Answer) → Has answer (replay_answers M.next M.answers (M.begin program) actions)
+        → IsReply answer.reply }
 {}

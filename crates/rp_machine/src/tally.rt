@@ -2,7 +2,7 @@
 
 ghost use Rattle.std.specs.Prelude.{◌≡◌, ◌↔◌, ◌≤◌, pos, [], replicate, IsSome, IfSome, refl};
 ghost use Rattle.rp_machine.specs.TallyRule.{HasSums, sum_of, new_sum, with_sum, reply_to_add, tally_next, tally_answers, tally_image};
-ghost use Rattle.rp_machine.specs.TallyLaws.{HasSums-start, HasSums-next, tally_image-injective, tally_accounts};
+ghost use Rattle.rp_machine.specs.TallyLaws.{HasSums-start, HasSums-next, tally_image-injective, tally_accounts, tally_replies};
 
 use crate::machine::Machine;
 use rp_base::{Action, Answer, Answers, Operation, Reply};
@@ -108,6 +108,8 @@ impl Machine for Tally {
     ghost shows = { tally_image-injective };
 
     ghost accounts = { tally_accounts };
+
+    ghost replies = { tally_replies };
 
     fn start(alloc: Global, program: &TallyProgram) -> Result<Self, AllocError> {
         Ok(Tally {

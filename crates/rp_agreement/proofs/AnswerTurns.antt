@@ -71,7 +71,7 @@ reply_by task number given (Some answer) reply is e =
     let same_reply : answer.reply ≡ reply = some_same e in
     subst (λ (p : ℕ × ℕ × Reply). Has (record { task = p.0; number = p.1; reply = p.2 }) given) (λ i. (same_task i, same_number i, same_reply i)) found.0
 
-kept_is_given : (task number : ℕ) (kept : List Action) (given : List Answer) (reply : Reply) → kept_reply task number kept given ≡ Some reply
+pub kept_is_given : (task number : ℕ) (kept : List Action) (given : List Answer) (reply : Reply) → kept_reply task number kept given ≡ Some reply
     → Has (record { task = task; number = number; reply = reply }) given
 kept_is_given task number kept given reply e =
     let test = nat_lt 0 number && nat_eq number (last_number task kept) in
@@ -81,7 +81,7 @@ kept_is_given task number kept given reply e =
       | inr miss ↦ let none : None ≡ Some reply = sym (cond-false test answer None miss) ∙ e in absurd (cc)
     ]
 
-has_dropped : {A : Type 0} (n : ℕ) (x : A) (xs : List A) → Has x (drop n xs) → Has x xs
+pub has_dropped : {A : Type 0} (n : ℕ) (x : A) (xs : List A) → Has x (drop n xs) → Has x xs
 has_dropped {A} n x xs h = subst (λ (list : List A). Has x list) (take-append-drop n xs) (has_right x (take n xs) (drop n xs) h)
 
 replies_are : (me : ℕ) (given all : List Answer) (pending : List Action) → ((answer : Answer) → Has answer given → Has answer all) → AreAnswers all (replies_to me pending given)

@@ -88,10 +88,10 @@ module _ {S : Type 0} (s : Setting S) (P : World → Type 0) (kept_by : IsKeptBy
 
   step_keeps : (w : World) (step : Step) → P w → IsStep step → MeetsAfter P (step_effect s w step)
   step_keeps w (Deliver number) meets is = delivery_keeps w number (part_at w.sent number) meets refl
-  step_keeps w (Lead me choice) meets is = takes_keep w me (nodes.Lead choice) (part_at w.nodes me) meets tt refl
+  step_keeps w (Lead me choice) meets is = takes_keep w me (nodes.Lead choice) (part_at w.nodes me) meets is.1 refl
   step_keeps w (Interrupt me source occurrence) meets is = takes_keep w me (nodes.Interrupt source occurrence) (part_at w.nodes me) meets (is.1, is.2) refl
   step_keeps w (Tick me now) meets is = takes_keep w me (nodes.Tick now) (part_at w.nodes me) meets is.1 refl
-  step_keeps w (Report me first) meets is = takes_keep w me (nodes.Report first) (part_at w.nodes me) meets tt refl
+  step_keeps w (Report me first) meets is = takes_keep w me (nodes.Report first) (part_at w.nodes me) meets is.1 refl
 
   -- ---- steps that are cut
 
@@ -117,10 +117,10 @@ module _ {S : Type 0} (s : Setting S) (P : World → Type 0) (kept_by : IsKeptBy
 
   cut_step_keeps : (w : World) (step : Step) (kept : ℕ) → P w → IsStep step → MeetsAfter P (cut_step s w step kept)
   cut_step_keeps w (Deliver number) kept meets is = delivery_cut_keeps w number (part_at w.sent number) kept meets refl
-  cut_step_keeps w (Lead me choice) kept meets is = cuts_keep w me (nodes.Lead choice) kept (part_at w.nodes me) meets tt refl
+  cut_step_keeps w (Lead me choice) kept meets is = cuts_keep w me (nodes.Lead choice) kept (part_at w.nodes me) meets is.1 refl
   cut_step_keeps w (Interrupt me source occurrence) kept meets is = cuts_keep w me (nodes.Interrupt source occurrence) kept (part_at w.nodes me) meets (is.1, is.2) refl
   cut_step_keeps w (Tick me now) kept meets is = cuts_keep w me (nodes.Tick now) kept (part_at w.nodes me) meets is.1 refl
-  cut_step_keeps w (Report me first) kept meets is = cuts_keep w me (nodes.Report first) kept (part_at w.nodes me) meets tt refl
+  cut_step_keeps w (Report me first) kept meets is = cuts_keep w me (nodes.Report first) kept (part_at w.nodes me) meets is.1 refl
 
   -- ---- events
 
@@ -133,8 +133,8 @@ module _ {S : Type 0} (s : Setting S) (P : World → Type 0) (kept_by : IsKeptBy
   restarts_keep w me (Some part) meets here = kept_by.restart w me part meets here
 
   pub event_keeps : (w : World) (event : Event) → P w → IsEvent event → MeetsAfter P (event_effect s w event)
-  event_keeps w (Submit t node object operation arg) meets is = task_takes_keep w t (tasks.Submit node object operation arg) (part_at w.tasks t) meets is.4 refl
-  event_keeps w (Again t node) meets is = task_takes_keep w t (tasks.Again node) (part_at w.tasks t) meets tt refl
+  event_keeps w (Submit t node object operation arg) meets is = task_takes_keep w t (tasks.Submit node object operation arg) (part_at w.tasks t) meets (is.1, is.4) refl
+  event_keeps w (Again t node) meets is = task_takes_keep w t (tasks.Again node) (part_at w.tasks t) meets is.1 refl
   event_keeps w (Makes step) meets is = step_keeps w step meets is
   event_keeps w (Cut step kept) meets is = cut_step_keeps w step kept meets is.0
   event_keeps w (Stop me) meets is = stops_keep w me (part_at w.nodes me) meets refl

@@ -197,7 +197,7 @@ nack_sound nodes x records sent running i b bound runs =
 -- ---- Lead
 
 -- the next ballot is the node's own, and above
-next_owned : (x floor : ℕ) → x < 8 → owner_of (next_ballot x floor) ≡ x
+pub next_owned : (x floor : ℕ) → x < 8 → owner_of (next_ballot x floor) ≡ x
 next_owned x floor small =
     let round = max 1 ((floor + 8 - x) / 8) in
     mul-add-mod_self_left 8 round x ∙ mod-eq_of_lt small

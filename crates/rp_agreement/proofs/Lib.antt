@@ -33,3 +33,6 @@ pub mod InLog
 pub mod LogKeeping
 pub mod FewSends
 pub mod FewPackets
+pub mod RangedParts
+pub mod RangedTurns
+pub mod RangedNodes

@@ -130,7 +130,7 @@ or_neither : (a b : Bool) → (a || b) ≡ false → b ≡ false
 or_neither true b e = absurd (both_ways true e refl)
 or_neither false b e = e
 
-leb_not : (a b : ℕ) → nat_le a b ≡ false → b < a
+pub leb_not : (a b : ℕ) → nat_le a b ≡ false → b < a
 leb_not a b e = elim (leb_tells a b) [ inl yes_le ↦ absurd (both_ways (nat_le a b) e yes_le.0) | inr not_le ↦ not_le.1 ]
 
 call_made : (config : Config) (t node : ℕ) (part : TaskPart) (object : ℕ) (operation : Operation) (arg : ℤ) (waiting : Option Action) → FitsSigned w64 arg
@@ -184,7 +184,7 @@ done_if t false fault done is = is
 pub task_sound : (config : Config) (sent : List Message) (t : ℕ) (part : TaskPart) (input : TaskInput) → WaitsForOwn t part → IsTaskInput sent t input → IsTaskDoneIf t (task_effect config t part input)
 task_sound config sent t part (Submit node object operation arg) waits fits =
     calls_done t node part (may_call config node part (next_call t part object operation arg) part.outstanding)
-    (call_made config t node part object operation arg part.outstanding fits)
+    (call_made config t node part object operation arg part.outstanding fits.1)
 task_sound config sent t part (Again node) waits fits =
     done_if t (nat_lt config.nodes node) BadConfig (asks_again t node part part.outstanding) (again_done t node part part.outstanding waits refl)
 task_sound config sent t part (Take message) waits fits = hears_done t part message.body waits

@@ -1,6 +1,7 @@
 -- What an actor may be given, and what its step comes to for all who look (this project's own).
-use Rattle.std.specs.Prelude.{◌≡◌, ◌≢◌, ℕ, ◌<◌, ◌^◌, FitsSigned, Some, List}
+use Rattle.std.specs.Prelude.{◌≡◌, ◌≢◌, ℕ, ◌<◌, ◌^◌, FitsSigned, Some, IfSome, List}
 use Rattle.std.specs.Int.{w64}
+use Rattle.rp_base.specs.Number.{IsNode, IsPosition}
 use Rattle.rp_base.specs.Action.{IsIndex, IsCount}
 use Rattle.rp_base.specs.Sets.{Has}
 use Rattle.rp_base.specs.declared.action.Action.{Action}
@@ -17,15 +18,15 @@ use Rattle.rp_agreement.specs.Steps.{SentToo}
 -- the packet was sent, and the numbers are within the ranges of their types
 abbrev pub IsInput : List Message → NodeInput → Type 0
 IsInput sent (Receive message) = Has message sent
-IsInput sent (Lead choice) = Unit {0}
+IsInput sent (Lead choice) = IfSome choice IsPosition
 IsInput sent (Interrupt source occurrence) = IsIndex source × IsCount occurrence
 IsInput sent (Tick now) = now < 2 ^ 32
-IsInput sent (Report first) = Unit {0}
+IsInput sent (Report first) = IsPosition first
 
--- the argument of a call is within the range of its type, and a packet was sent to the task
+-- the numbers are within the ranges of their types, and a packet was sent to the task
 abbrev pub IsTaskInput : List Message → ℕ → TaskInput → Type 0
-IsTaskInput sent t (Submit node object operation arg) = FitsSigned w64 arg
-IsTaskInput sent t (Again node) = Unit {0}
+IsTaskInput sent t (Submit node object operation arg) = IsNode node × FitsSigned w64 arg
+IsTaskInput sent t (Again node) = IsNode node
 IsTaskInput sent t (Take message) = Has message sent × (message.to ≡ Task t)
 
 -- The node x has come to this part and sent these packets; every other node stays as it was.

@@ -3,6 +3,7 @@ pub mod Founded
 pub mod Sound
 pub mod Steps
 pub mod Inputs
+pub mod Ranges
 pub mod Worlds
 pub mod Decided
 pub mod Order

@@ -36,3 +36,4 @@ pub mod FewPackets
 pub mod RangedParts
 pub mod RangedTurns
 pub mod RangedNodes
+pub mod RangeKeeping

@@ -95,7 +95,7 @@ set_or_new (y ∷ ys) (suc place) a x h =
       | inr later ↦ elim (set_or_new ys place a x later) [ inl old ↦ inl (inr old) | inr new ↦ inr new ]
     ]
 
-part_or_new : {A : Type 0} (parts : List A) (place : ℕ) (a x : A) → Has x (with_part parts place a) → Has x parts ⊎ (x ≡ a)
+pub part_or_new : {A : Type 0} (parts : List A) (place : ℕ) (a x : A) → Has x (with_part parts place a) → Has x parts ⊎ (x ≡ a)
 part_or_new parts zero a x h = inl h
 part_or_new parts (suc place) a x h = set_or_new parts place a x h
 
@@ -125,7 +125,7 @@ module _ {S : Type 0} (s : Setting S) where
     task = λ w t part input done all here is came. all;
   }
 
-same_everywhere : {A : Type 0} (n : ℕ) (a x : A) → Has x (replicate n a) → x ≡ a
+pub same_everywhere : {A : Type 0} (n : ℕ) (a x : A) → Has x (replicate n a) → x ≡ a
 same_everywhere zero a x h = absurd h
 same_everywhere (suc n) a x h = elim h [ inl same ↦ same | inr later ↦ same_everywhere n a x later ]
 

@@ -1,8 +1,8 @@
 -- What any input comes to at a node is in range.
-use Rattle.std.proofs.Common.{◌≡◌, ℕ, zero, suc, ◌+◌, ◌-◌, ◌<◌, ◌≤◌, max, min, Bool, true, false, if◌then◌else◌, Result, Ok, Err, Option, Some, None, List, [], ◌∷◌, ◌++◌, length, take, drop, ◌⊎◌, inl, inr, refl, sym, ap, subst, ◌∙◌, arith}
-use Rattle.std.specs.Prelude.{nat_lt, nat_le, is_some, IfSome, find, filter, unwrap_or, All, ◌^◌, ◌/◌, ◌||◌}
+use Rattle.std.proofs.Common.{◌≡◌, ℕ, zero, suc, ◌+◌, ◌-◌, ◌<◌, ◌≤◌, min, Bool, true, false, if◌then◌else◌, Result, Ok, Err, Option, Some, None, List, [], ◌∷◌, ◌++◌, length, take, drop, inl, inr, refl, sym, subst, arith}
+use Rattle.std.specs.Prelude.{nat_lt, nat_le, is_some, IfSome, find, unwrap_or, ◌^◌, ◌||◌}
 use Rattle.std.specs.List.{AllByRecursion, list_any}
-use Rattle.std.proofs.lemmas.Bool.{cases_Bool, cond-true, cond-false, or_cases, ltb-true, ltb-false, leb-true, lt-ltb, le-leb, both_ways}
+use Rattle.std.proofs.lemmas.Bool.{or_cases, ltb-true, ltb-false, le-leb, both_ways}
 use Rattle.std.proofs.lemmas.List.{length-take, length-drop}
 use Rattle.std.proofs.lemmas.List.Elements.{All-from_recursion}
 use Rattle.rp_base.specs.declared.action.Action.{Action}
@@ -13,16 +13,16 @@ use Rattle.rp_base.specs.declared.config.Config.{Config}
 use Rattle.rp_base.specs.declared.record.Vote.{Vote}
 use Rattle.rp_base.specs.declared.record.Rec.{Rec}
 use Rattle.rp_base.specs.declared.record.Rec.TheVariants.{Started, Promised, Voted, Learned}
-use Rattle.rp_base.specs.Action.{IsRight, IsIndex, IsCount}
-use Rattle.rp_base.specs.Ballot.{IsBallot, round_of, owner_of, next_ballot}
+use Rattle.rp_base.specs.Action.{IsRight}
+use Rattle.rp_base.specs.Ballot.{IsBallot, round_of, next_ballot}
 use Rattle.rp_base.specs.Config.{IsRightConfig}
 use Rattle.rp_base.specs.Number.{IsNode, IsPosition}
 use Rattle.rp_base.specs.Promises.{same_heard, makes_majority}
-use Rattle.rp_base.specs.Proposals.{Proposal, new_proposal, with_proposal, without_proposal}
+use Rattle.rp_base.specs.Proposals.{Proposal, new_proposal, without_proposal}
 use Rattle.rp_base.specs.Records.{learned_at, learned_run, unless_missing, applied_of, first_unlearned}
 use Rattle.rp_base.specs.Right.{IsRightVote}
 use Rattle.rp_base.specs.Sets.{Has, with_member}
-use Rattle.rp_base.proofs.Members.{has_split, has_passing}
+use Rattle.rp_base.proofs.Members.{has_passing}
 use Rattle.rp_codec.specs.Message.{Message, IsPacket, IsBody, MaySay, IsVoteBelow, report_len}
 use Rattle.rp_codec.specs.Record.{IsRecord}
 use Rattle.rp_codec.specs.declared.packet.Party.{Party}
@@ -34,9 +34,9 @@ use Rattle.rp_machine.specs.Replay.{kept_of, replay_answers}
 use Rattle.rp_model.specs.declared.part.Running.{Running}
 use Rattle.rp_model.specs.declared.part.Turn.{Turn}
 use Rattle.rp_model.specs.Parts.{is_in_log}
-use Rattle.rp_model.specs.Says.{says, says_to_all, says_to_others, notes, sends, writes, drops_foreign}
-use Rattle.rp_model.specs.Pending.{is_free_item, own_action, adds_pending}
-use Rattle.rp_model.specs.Leader.{is_free_position, free_from, least_free, chosen_position, is_out_of_reach, starts_above, begins, on_lead}
+use Rattle.rp_model.specs.Says.{says_to_all, says_to_others, notes, drops_foreign}
+use Rattle.rp_model.specs.Pending.{is_free_item, own_action}
+use Rattle.rp_model.specs.Leader.{is_free_position, free_from, chosen_position, is_out_of_reach, starts_above, begins, on_lead}
 use Rattle.rp_model.specs.Learner.{learns_above, missing_position, asks_for, learns, on_vote, on_decision}
 use Rattle.rp_model.specs.Receiving.{is_for_node, party_number, on_body, receives}
 use Rattle.rp_model.specs.Effect.{Setting, NodeInput, Receive, Lead, Interrupt, Tick, Report, report_of, running_effect}
@@ -96,7 +96,7 @@ has_taken (suc n) x (y ∷ ys) h = elim h [ inl same ↦ inl same | inr later �
 report_length : (first : ℕ) (actions : List Action) → IsPosition first → length (take (report_len first (length actions)) (drop (first - 1) actions)) ≡ report_len first (length actions)
 report_length first actions place =
     let taken : length (take (report_len first (length actions)) (drop (first - 1) actions)) ≡ min (report_len first (length actions)) (length (drop (first - 1) actions)) =
-        length-take (report_len first (length actions)) (drop (first - 1) actions) in
+    length-take (report_len first (length actions)) (drop (first - 1) actions) in
     let dropped : length (drop (first - 1) actions) ≡ length actions - (first - 1) = length-drop (first - 1) actions in
     omega (arith, taken, dropped, place.0)
 
@@ -106,11 +106,15 @@ report_packet me first records mine place all =
     let told = take (report_len first (length (applied_of records))) (drop (first - 1) (applied_of records)) in
     record {
       ranges = record { from = mine; to = tt; body = (place, omega (arith, few)) };
-      rules = (tt, tt, record {
-        len = report_length first (applied_of records) place;
-        right = All-from_recursion IsRight told (each_right told (λ action h.
-            applied_right records all action (has_dropped (first - 1) action (applied_of records) (has_taken (report_len first (length (applied_of records))) action _ h))));
-      });
+      rules = (
+        tt,
+        tt,
+        record {
+          len = report_length first (applied_of records) place;
+          right = All-from_recursion IsRight told (each_right told (λ action h.
+              applied_right records all action (has_dropped (first - 1) action (applied_of records) (has_taken (report_len first (length (applied_of records))) action _ h))));
+        },
+      );
     }
 
 -- ---- a ballot and a position to lead in

@@ -1,6 +1,6 @@
 -- What is in range of a node's records and proposals.
-use Rattle.std.proofs.Common.{◌≡◌, ℕ, ◌<◌, ◌≤◌, max, Bool, true, false, if◌then◌else◌, Option, Some, None, List, [], ◌∷◌, ◌++◌, ◌⊎◌, inl, inr, refl, sym, ap, subst, arith}
-use Rattle.std.specs.Prelude.{nat_eq, IfSome, filter, filter_map, find, unwrap_or}
+use Rattle.std.proofs.Common.{◌≡◌, ℕ, ◌<◌, max, Bool, true, false, if◌then◌else◌, Option, Some, None, List, [], ◌∷◌, ◌⊎◌, inl, inr, refl, sym, ap, subst, arith}
+use Rattle.std.specs.Prelude.{nat_eq, IfSome, unwrap_or}
 use Rattle.std.proofs.lemmas.Bool.{cases_Bool, cond-true, cond-false}
 use Rattle.rp_base.specs.declared.action.Action.{Action}
 use Rattle.rp_base.specs.declared.action.Action.TheVariants.{Noop}
@@ -12,14 +12,14 @@ use Rattle.rp_base.specs.Action.{IsRight}
 use Rattle.rp_base.specs.Ballot.{IsBallot}
 use Rattle.rp_base.specs.Promises.{Promise, same_promise, action_or, highest_vote, offer_of}
 use Rattle.rp_base.specs.Proposals.{Proposal, with_proposal, without_proposal, with_promise, is_promised, after_promise}
-use Rattle.rp_base.specs.Records.{bound_in, bound_at, learned_at, last_vote_at, applied_of, first_unlearned}
+use Rattle.rp_base.specs.Records.{bound_in, bound_at, learned_at, last_vote_at}
 use Rattle.rp_base.specs.Right.{IsRightVote}
 use Rattle.rp_base.specs.Sets.{Has}
 use Rattle.rp_base.proofs.Members.{has_split, has_passing}
 use Rattle.rp_codec.specs.Record.{IsRecord}
 use Rattle.rp_model.specs.Parts.{with_record}
 use Rattle.rp_agreement.specs.Ranges.{IsRangedProposal}
-use Rattle.rp_agreement.proofs.Lists.{some_same, has_picked, highest_has, found_has}
+use Rattle.rp_agreement.proofs.Lists.{has_picked, highest_has}
 use Rattle.rp_agreement.proofs.Proposing.{member_or_new}
 use Rattle.rp_agreement.proofs.RecordGrowth.{last_cast, learned_has}
 

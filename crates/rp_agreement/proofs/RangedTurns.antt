@@ -1,15 +1,15 @@
 -- What a node's turn writes, knows and sends is in range.
-use Rattle.std.proofs.Common.{◌≡◌, ℕ, zero, suc, ◌+◌, ◌-◌, ◌<◌, ◌≤◌, max, Bool, true, false, if◌then◌else◌, Result, Ok, Err, Option, Some, None, List, [], ◌∷◌, ◌++◌, map, length, take, drop, ◌⊎◌, inl, inr, refl, sym, ap, subst, ◌∙◌, arith}
-use Rattle.std.specs.Prelude.{nat_eq, nat_lt, nat_le, not, is_some, IfSome, filter, find, unwrap_or, ◌^◌, ◌&&◌}
+use Rattle.std.proofs.Common.{◌≡◌, ℕ, zero, suc, ◌<◌, ◌≤◌, Bool, true, false, if◌then◌else◌, Option, Some, None, List, [], ◌∷◌, ◌++◌, map, length, inl, inr, refl, sym, subst, arith}
+use Rattle.std.specs.Prelude.{nat_eq, nat_lt, IfSome, filter}
 use Rattle.std.specs.List.{list_any}
-use Rattle.std.proofs.lemmas.Bool.{cases_Bool, cond-true, cond-false, and_parts, or_cases, ltb-true, eqb-true}
+use Rattle.std.proofs.lemmas.Bool.{and_parts, or_cases, ltb-true, eqb-true}
 use Rattle.rp_base.specs.declared.action.Action.{Action}
 use Rattle.rp_base.specs.declared.action.Action.TheVariants as actions
 use Rattle.rp_base.specs.declared.reply.Answer.{Answer}
 use Rattle.rp_base.specs.declared.reply.Reply.{Reply}
 use Rattle.rp_base.specs.declared.record.Vote.{Vote}
 use Rattle.rp_base.specs.declared.record.Rec.{Rec}
-use Rattle.rp_base.specs.declared.record.Rec.TheVariants.{Started, Promised, Voted, Learned}
+use Rattle.rp_base.specs.declared.record.Rec.TheVariants.{Promised, Voted}
 use Rattle.rp_base.specs.declared.voting.PrepareAnswer.{PrepareAnswer}
 use Rattle.rp_base.specs.declared.voting.PrepareAnswer.TheVariants as prepares
 use Rattle.rp_base.specs.declared.voting.AcceptAnswer.{AcceptAnswer}
@@ -17,16 +17,16 @@ use Rattle.rp_base.specs.declared.voting.AcceptAnswer.TheVariants as accepts
 use Rattle.rp_base.specs.Action.{IsRight, IsCount, equal_items, same_action}
 use Rattle.rp_base.specs.Ballot.{IsBallot}
 use Rattle.rp_base.specs.Number.{IsNode, IsTask, IsPosition}
-use Rattle.rp_base.specs.Promises.{Promise, offer_of, same_heard, makes_majority}
-use Rattle.rp_base.specs.Proposals.{Proposal, proposal_at, with_proposal, without_proposal, is_in, takes_promise, with_promise, is_promised, after_promise}
-use Rattle.rp_base.specs.Records.{bound_at, last_vote_at, learned_at}
+use Rattle.rp_base.specs.Promises.{Promise, offer_of}
+use Rattle.rp_base.specs.Proposals.{Proposal, proposal_at, with_proposal, is_in, takes_promise, with_promise, is_promised, after_promise}
+use Rattle.rp_base.specs.Records.{bound_at, last_vote_at}
 use Rattle.rp_base.specs.Right.{IsReply, IsRightVote}
-use Rattle.rp_base.specs.Sets.{Has, with_member}
+use Rattle.rp_base.specs.Sets.{Has}
 use Rattle.rp_base.specs.Voting.{prepare_answer, vote_answer, accept_answer}
 use Rattle.rp_base.proofs.Members.{has_split, has_passing, mapped_has}
 use Rattle.rp_base.proofs.MoreRecords.{last_below}
 use Rattle.rp_codec.specs.Message.{Message, IsBody, IsPacket, IsVoteBelow, MaySay}
-use Rattle.rp_codec.specs.declared.packet.Party.TheVariants.{Node, Task}
+use Rattle.rp_codec.specs.declared.packet.Party.TheVariants.{Node}
 use Rattle.rp_codec.specs.declared.packet.Body.{Body}
 use Rattle.rp_codec.specs.declared.packet.Body.TheVariants as bodies
 use Rattle.rp_codec.specs.Record.{IsRecord}
@@ -42,7 +42,7 @@ use Rattle.rp_model.specs.Pending.{most_pending, adds_pending, on_numbered, on_c
 use Rattle.rp_agreement.specs.Ranges.{IsRangedProposal, IsRangedRunning}
 use Rattle.rp_agreement.proofs.AnswerTurns.{kept_is_given}
 use Rattle.rp_agreement.proofs.Lists.{found_has}
-use Rattle.rp_agreement.proofs.RangedParts.{AreRecords, bound_ballot, last_ranged, learned_ranged, AreProposals, with_ranged, without_ranged, promise_ranged, after_ranged, offer_ranged}
+use Rattle.rp_agreement.proofs.RangedParts.{AreRecords, bound_ballot, last_ranged, with_ranged, without_ranged, promise_ranged, after_ranged, offer_ranged}
 
 -- each packet is one
 abbrev pub ArePackets : List Message → Type 0

@@ -1,5 +1,5 @@
 -- A world whose numbers are within the ranges of their types: each packet of it is one (this project's own).
-use Rattle.std.specs.Prelude.{◌≡◌, ℕ, Some, IfSome, List, length}
+use Rattle.std.specs.Prelude.{◌≡◌, ℕ, Some, IfSome, length}
 use Rattle.rp_base.specs.Action.{IsRight}
 use Rattle.rp_base.specs.Ballot.{IsBallot}
 use Rattle.rp_base.specs.Number.{IsPosition}

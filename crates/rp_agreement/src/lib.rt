@@ -39,7 +39,9 @@ pub use order::{
     states_are_alike, the_order_exists, the_order_grows, the_order_is_one,
 };
 pub use packets::packets_say_so;
-pub use ranges::{few_packets_are_sent, records_stay_in_the_log};
+pub use ranges::{
+    events_keep_ranges, few_packets_are_sent, packets_are_right, records_stay_in_the_log,
+};
 pub use replies::{
     answers_are_one, calls_count_where_they_first_stand, events_keep_replies,
     node_events_keep_replies, replies_tell_the_order, task_events_keep_replies,

@@ -1,20 +1,26 @@
-//! Numbers stay within their ranges in every history.
+//! Numbers stay within their ranges in every history, and each packet is a right one.
 
-ghost use Rattle.std.specs.Prelude.{◌≡◌, ℕ, ◌-◌, ◌^◌, ◌≤◌, ◌<◌, true, Some, Ok, List, length};
+ghost use Rattle.std.specs.Prelude.{◌≡◌, ℕ, ◌-◌, ◌^◌, ◌≤◌, ◌<◌, true, Some, Result, Ok, List, length};
+ghost use Rattle.rp_base.specs.Config.{IsRightConfig};
 ghost use Rattle.rp_base.specs.Records.{applied_of};
 ghost use Rattle.rp_base.specs.Sets.{Has};
 ghost use Rattle.rp_base.specs.declared.config.Config.{Config};
+ghost use Rattle.rp_base.specs.declared.fault.Fault.{Fault};
 ghost use Rattle.rp_base.specs.declared.record.Rec.{Rec};
+ghost use Rattle.rp_codec.specs.Message.{Message, IsPacket};
+ghost use Rattle.rp_model.specs.Answers.{Steps};
+ghost use Rattle.rp_model.specs.declared.effect.Effect.{Effect};
 ghost use Rattle.rp_model.specs.Effect.{Setting};
 ghost use Rattle.rp_model.specs.Events.{Event, IsEvent};
 ghost use Rattle.rp_model.specs.Parts.{is_in_log};
-ghost use Rattle.rp_model.specs.World.{World, Happening, part_at, event_effect};
+ghost use Rattle.rp_model.specs.World.{World, Happening, opening_world, part_at, event_effect};
 ghost use Rattle.rp_model.specs.declared.part.NodePart.{NodePart};
 ghost use Rattle.rp_agreement.specs.Answered.{setting_for};
 ghost use Rattle.rp_agreement.specs.History.{IsHistory};
+ghost use Rattle.rp_agreement.specs.Ranges.{IsRangedWorld};
 
 use crate::opening::the_opening_is_sound;
-use rp_machine::{Machine, answers_are_few};
+use rp_machine::{Machine, answers_are_few, replies_fit};
 
 /// In every history each record of a node is at a position of the log, or at none; so no node has
 /// applied more actions than the log has positions.
@@ -43,4 +49,37 @@ pub fn few_packets_are_sent<M: Machine>()
 {
     the_opening_is_sound();
     answers_are_few::<M>();
+}
+
+/// Every packet that is sent in a history is a right one: its numbers are within their ranges, and
+/// its sender may say it to its receiver.
+pub fn packets_are_right<M: Machine>()
+    ensures { (config : Config) (program : M.Program) (events : List Event) (world : World)
+        → let setting = setting_for M.next M.answers M.begin config program in
+        IsHistory setting events world
+        → (m : Message) → Has m world.sent → IsPacket m }
+{
+    the_opening_is_sound();
+    replies_fit::<M>();
+}
+
+/// What an event of a world leads to keeps every number within its range, and so does the world that
+/// a step leaves whatever it answers. The opening world does.
+pub fn events_keep_ranges<M: Machine>()
+    ensures opening { (nodes : ℕ) → IsRangedWorld nodes (opening_world nodes) }
+    ensures effect { (config : Config) (program : M.Program) (world : World) (event : Event)
+        (happening : Happening)
+        → let setting = setting_for M.next M.answers M.begin config program in
+        IsRightConfig config → IsRangedWorld config.nodes world → IsEvent event
+        → event_effect setting world event ≡ Ok happening
+        → IsRangedWorld config.nodes happening.world }
+    ensures answer { (config : Config) (program : M.Program) (world after : World) (event : Event)
+        (answer : Result Effect Fault)
+        → let setting = setting_for M.next M.answers M.begin config program in
+        IsRightConfig config → IsRangedWorld config.nodes world → IsEvent event
+        → Steps setting world event after answer
+        → IsRangedWorld config.nodes after }
+{
+    the_opening_is_sound();
+    replies_fit::<M>();
 }

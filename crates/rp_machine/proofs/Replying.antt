@@ -1,5 +1,5 @@
 -- The replies of a replay of right actions fit their type, as the machine's do.
-use Rattle.std.proofs.Common.{◌≡◌, Bool, true, false, ◌⊎◌, List, [], ◌∷◌, ◌++◌, if◌then◌else◌, refl, inl, inr}
+use Rattle.std.proofs.Common.{◌≡◌, Bool, true, false, List, [], ◌∷◌, ◌++◌, if◌then◌else◌, refl, inl, inr}
 use Rattle.rp_base.specs.Sets.{Has}
 use Rattle.rp_base.specs.Action.{IsRight}
 use Rattle.rp_base.specs.Right.{IsReply}

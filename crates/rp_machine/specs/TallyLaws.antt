@@ -1,5 +1,5 @@
 -- The tally's rule keeps the laws of a machine.
-use Rattle.std.proofs.Common.{◌≡◌, ◌≢◌, ℕ, suc, ◌<◌, ◌^◌, ◌-◌, ℤ, pos, negsuc, ◌+ℤ◌, Bool, true, false, Option, Some, None, List, [], ◌∷◌, ◌++◌, length, replicate, codes, decimal, if◌then◌else◌, option_and_then, refl, sym, ◌∙◌, ap, subst, inl, inr, FitsSigned, w64, arith, length-set, ltb-true}
+use Rattle.std.proofs.Common.{◌≡◌, ◌≢◌, ℕ, suc, ◌<◌, ◌^◌, ◌-◌, ℤ, pos, negsuc, ◌+ℤ◌, Bool, true, false, Option, Some, None, List, [], ◌∷◌, ◌++◌, length, replicate, codes, decimal, if◌then◌else◌, option_and_then, refl, sym, ◌∙◌, ap, subst, inl, inr, arith, length-set, ltb-true}
 use Rattle.std.proofs.lemmas.List.{append_assoc, append_cancel_left, append_cancel_right, length-replicate, get_or-replicate}
 use Rattle.std.proofs.lemmas.List.Elements.{All-set, recursion_from_All}
 use Rattle.std.proofs.lemmas.Fmt.{decimal_is_IsNumeral, signed_decimal_injective}

@@ -74,6 +74,7 @@ impl Learner {
 
     /// What holds at the position once this vote of `from`, one of the nodes, for the action in the
     /// ballot is counted. Nothing changes: `note_vote` counts it.
+    #[inline(always)]
     pub fn vote(
         &self,
         from: NodeId,
@@ -101,6 +102,7 @@ impl Learner {
 
     /// Counts a vote of one of the nodes, at a position up to `max_positions`. Where `vote` answers
     /// `Learned` for it, the position is settled. `OutOfMemory` leaves the learner as it was.
+    #[inline(always)]
     pub fn note_vote(
         &mut self,
         alloc: Global,

@@ -19,6 +19,7 @@ pub enum Place {
 }
 
 /// The place of a position, `None` above `max_positions`.
+#[inline(always)]
 pub fn place_at(places: &[Place], position: Position) -> Option<&Place>
     ensures { option_copied result ≡ place_at places.now position }
 {
@@ -26,6 +27,7 @@ pub fn place_at(places: &[Place], position: Position) -> Option<&Place>
 }
 
 /// Whether the position is settled.
+#[inline(always)]
 pub fn is_settled_at(places: &[Place], position: Position) -> bool
     ensures { result ≡ is_settled_at places.now position }
 {
@@ -36,6 +38,7 @@ pub fn is_settled_at(places: &[Place], position: Position) -> bool
 }
 
 /// How many of the nodes 1 to `nodes` have cast the vote at the position, once this one has.
+#[inline(always)]
 pub fn count_with(
     places: &[Place],
     position: Position,
@@ -55,6 +58,7 @@ pub fn count_with(
 
 /// Adds a vote unless it was heard before, or the position is settled. Refused for memory, the
 /// place stays.
+#[inline(always)]
 pub fn hear(alloc: Global, place: &mut Place, from: NodeId, vote: &Vote) -> Result<(), AllocError>
     ensures ok { OnOk result (IsWithCast place.old
         (record { from = from; vote = vote.now }) place.new) }

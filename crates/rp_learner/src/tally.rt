@@ -38,6 +38,7 @@ impl Model for Tallies {
 
 impl Tally {
     /// A vote that one node cast.
+    #[inline(always)]
     fn new(from: NodeId, vote: Vote) -> Tally
         ensures vote { result.vote ≡ vote }
         ensures senders { SameMembers result.senders (from ∷ []) }
@@ -48,6 +49,7 @@ impl Tally {
     }
 
     /// Whether it counts this vote.
+    #[inline(always)]
     fn is_of(&self, vote: &Vote) -> bool
         ensures { result ≡ same_vote self.now.vote vote.now }
     {
@@ -67,6 +69,7 @@ impl Tallies {
     }
 
     /// How many of the nodes 1 to `nodes` have cast the vote, once this one has.
+    #[inline(always)]
     pub fn count_with(&self, nodes: u8, from: NodeId, vote: &Vote) -> usize
         requires { nodes ≤ 7 }
         ensures { result ≡ length (nodes_among nodes (voters_with self.now from vote.now)) }
@@ -82,6 +85,7 @@ impl Tallies {
 
     /// Adds a vote, unless it was heard before. `AllocError` comes only where it was not, and leaves
     /// the tallies as they were.
+    #[inline(always)]
     pub fn hear(&mut self, from: NodeId, vote: &Vote) -> Result<(), AllocError>
         ensures ok { OnOk result (SameMembers self.new (with_member same_cast self.old
             (record { from = from; vote = vote.now }))) }

@@ -6,6 +6,8 @@ pub mod Queues
 pub mod Keeping
 pub mod First
 pub mod Words
+pub mod Stores
+pub mod Showing
 use Rattle.std.specs.Prelude.{◌≡◌, []}
 use Rattle.rp_base.specs.Action.{IsRight}
 use Rattle.rp_base.specs.declared.action.Action.{Action}
@@ -15,6 +17,8 @@ use Rattle.rp_object.specs.Program.{IsProgram}
 use Rattle.rp_object.specs.State.{Running, first_state}
 use Rattle.rp_object.specs.Step.{objects_next, objects_answers, objects_waiting}
 use Rattle.rp_object.specs.Reached.{IsStateOf}
+use Rattle.rp_object.specs.Image.{objects_image}
+use Rattle.rp_object.specs.MachineLaws.Showing.{image_shows}
 use Rattle.rp_object.specs.MachineLaws.First.{nobody_first, first_is_state, state_accounts}
 use Rattle.rp_object.specs.MachineLaws.Keeping.{next_is_state}
 
@@ -31,6 +35,11 @@ pub keeps : (program : Declarations) → IsProgram program → (running : Runnin
     → IsStateOf program running → IsRight action → MayApply (objects_waiting running) action
     → IsStateOf program (objects_next running action)
 keeps program right running action is fits may = next_is_state program running action right is fits may
+
+-- two states of one program that look the same are the same
+pub shows : (program : Declarations) → IsProgram program → (one other : Running)
+    → IsStateOf program one → IsStateOf program other → objects_image one ≡ objects_image other → one ≡ other
+shows = image_shows
 
 -- who is answered and who waits
 pub accounts : (program : Declarations) (running : Running) (action : Action)

@@ -35,7 +35,7 @@ impl Machine for Objects {
 
     ghost keeps = { λ program. laws.keeps (arc_value program.declarations) program.right };
 
-    ghost shows = { ? };
+    ghost shows = { λ program. laws.shows (arc_value program.declarations) program.right };
 
     ghost accounts = { λ program. laws.accounts (arc_value program.declarations) };
 

@@ -9,24 +9,28 @@ use Rattle.std.specs.Fmt.{signed_decimal}
 use lib.Signed.{mag}
 
 -- a blank or a line feed
-abbrev IsGap : ℕ → Type 0
+abbrev pub IsGap : ℕ → Type 0
 IsGap c = (c ≡ 32) ⊎ (c ≡ 10)
 
--- the text is empty, or begins with a blank or a line feed
-abbrev pub Ends : List ℕ → Type 0
-Ends [] = Unit {0}
-Ends (c ∷ cs) = IsGap c
+-- the text begins with a blank or a line feed
+abbrev pub EndsWord : List ℕ → Type 0
+EndsWord [] = ⊥
+EndsWord (c ∷ cs) = IsGap c
+
+pub ends_before : (s t : List ℕ) → EndsWord s → EndsWord (s ++ t)
+ends_before [] t gap = absurd gap
+ends_before (c ∷ s) t gap = gap
 
 -- no character of the text is a blank or a line feed
 abbrev IsWord : List ℕ → Type 0
 IsWord text = AllByRecursion (λ c. ¬ IsGap c) text
 
 -- where words end, equal texts have equal first words
-split_word : (xs ys s t : List ℕ) → IsWord xs → IsWord ys → Ends s → Ends t → xs ++ s ≡ ys ++ t → (xs ≡ ys) × (s ≡ t)
+split_word : (xs ys s t : List ℕ) → IsWord xs → IsWord ys → EndsWord s → EndsWord t → xs ++ s ≡ ys ++ t → (xs ≡ ys) × (s ≡ t)
 split_word [] [] s t p q u v e = (refl, e)
-split_word [] (y ∷ ys) [] t p q u v e = absurd (cc)
+split_word [] (y ∷ ys) [] t p q u v e = absurd u
 split_word [] (y ∷ ys) (c ∷ s) t p q u v e = let is : c ≡ y = cc in absurd (q.0 (subst IsGap is u))
-split_word (x ∷ xs) [] s [] p q u v e = absurd (cc)
+split_word (x ∷ xs) [] s [] p q u v e = absurd v
 split_word (x ∷ xs) [] s (c ∷ t) p q u v e = let is : c ≡ x = cc in absurd (p.0 (subst IsGap is v))
 split_word (x ∷ xs) (y ∷ ys) s t p q u v e =
     let rest : xs ++ s ≡ ys ++ t = cc in
@@ -54,13 +58,13 @@ signed_word (pos n) small = decimal_word n (omega (arith, small))
 signed_word (negsuc n) small = (minus_no_gap, decimal_word (suc n) (omega (arith, small)))
 
 -- a number that fits 64 signed bits
-pub read_signed : (x y : ℤ) (s t : List ℕ) → FitsSigned w64 x → FitsSigned w64 y → Ends s → Ends t → signed_decimal x ++ s ≡ signed_decimal y ++ t → (x ≡ y) × (s ≡ t)
+pub read_signed : (x y : ℤ) (s t : List ℕ) → FitsSigned w64 x → FitsSigned w64 y → EndsWord s → EndsWord t → signed_decimal x ++ s ≡ signed_decimal y ++ t → (x ≡ y) × (s ≡ t)
 read_signed x y s t p q u v e =
     let both = split_word (signed_decimal x) (signed_decimal y) s t (signed_word x p.sfits) (signed_word y q.sfits) u v e in
     (signed_decimal_injective x y p.sfits q.sfits both.0, both.1)
 
 -- one that fits 32 bits
-pub read_count : (m n : ℕ) (s t : List ℕ) → m < 2 ^ 32 → n < 2 ^ 32 → Ends s → Ends t → decimal m ++ s ≡ decimal n ++ t → (m ≡ n) × (s ≡ t)
+pub read_count : (m n : ℕ) (s t : List ℕ) → m < 2 ^ 32 → n < 2 ^ 32 → EndsWord s → EndsWord t → decimal m ++ s ≡ decimal n ++ t → (m ≡ n) × (s ≡ t)
 read_count m n s t p q u v e =
     let small : m < 2 ^ 64 = omega (arith, p) in
     let too : n < 2 ^ 64 = omega (arith, q) in

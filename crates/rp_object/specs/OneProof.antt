@@ -11,5 +11,5 @@ FunctionFits-prop : (limits : Limits) (function : Function) → IsProp (Function
 FunctionFits-prop limits (Value expr) = hlevel props
 FunctionFits-prop limits (Truth test) = hlevel props
 
-pub IsProgram-prop : (program : Declarations) → IsProp (IsProgram program)
-IsProgram-prop program = hlevel (props, FunctionFits-prop)
+pub one_proof : (program : Declarations) → IsProp (IsProgram program)
+one_proof program = hlevel (props, FunctionFits-prop)

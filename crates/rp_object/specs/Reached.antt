@@ -1,4 +1,5 @@
--- The states that a program reaches: what its start has and every action keeps (this project's own).
+-- The states that a program reaches: what its start has and every action keeps (Ada Reference Manual, section 9.5.3; the limits are
+-- this project's own).
 use Rattle.std.specs.Prelude.{◌≡◌, ℕ, ◌<◌, ◌≤◌, ◌^◌, FitsSigned, IfSome, None, List, [], length, map}
 use Rattle.std.specs.Int.{w64}
 use Rattle.std.specs.List.{All, AllZip}
@@ -7,7 +8,7 @@ use Rattle.rp_base.specs.Action.{IsCount}
 use Rattle.rp_base.specs.Sets.{IsSet}
 use Rattle.rp_body.specs.Ranges.{HasRangesOf, HasBoolsOf, IsInRange}
 use Rattle.rp_entry.specs.declared.state.Waiting.{Waiting}
-use Rattle.rp_entry.specs.Queue.{longest_queue}
+use Rattle.rp_entry.specs.Queue.{longest_queue, IsServiced}
 use Rattle.rp_entry.specs.Protected.{Protected}
 use Rattle.rp_machine.specs.Calls.{CallName}
 use Rattle.rp_object.specs.declared.program.ObjectDeclaration.{ObjectDeclaration}
@@ -23,7 +24,7 @@ pub record IsCall (call : Waiting) : Type 0 where
   pub arg : FitsSigned w64 call.arg
 
 -- the object is the declared one: its operations, its components' names and their ranges are those declared, the values lie in
--- their ranges, and one call at most waits, where there is an entry
+-- their ranges, and one call at most waits, where there is an entry and its barrier is closed (section 9.5.3)
 pub record IsObjectOf (declared : ObjectDeclaration) (object : Protected) : Type 0 where
   pub operations : object.operations ≡ operations_of declared
   pub ranges : HasRangesOf declared.components object.state.store
@@ -32,6 +33,7 @@ pub record IsObjectOf (declared : ObjectDeclaration) (object : Protected) : Type
   pub calls : All IsCall object.state.queue
   pub short : length object.state.queue ≤ longest_queue
   pub no_entry : (operations_of declared).entry ≡ None → object.state.queue ≡ []
+  pub serviced : IsServiced (operations_of declared) object.state
 
 -- the tasks of the calls that wait
 abbrev pub tasks_waiting : Running → List ℕ

@@ -51,7 +51,8 @@ impl Model for Objects {
 impl Objects {
     /// The start of the program: each object as it is declared, no time set, and the clock at 0.
     pub fn start(alloc: Global, program: &Program) -> Result<Self, AllocError>
-        ensures { IfOk result (λ objects. objects ≡ first_state (arc_value program.now.declarations)) }
+        ensures { IfOk result (λ objects. objects
+            ≡ first_state (arc_value program.now.declarations)) }
     {
         let declarations = program.share()?;
         let objects = first_objects(alloc, &declarations.objects)?;

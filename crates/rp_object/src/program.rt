@@ -4,7 +4,7 @@ ghost use Rattle.std.specs.Prelude.{◌≡◌, ◌↔◌, true, IsTrue, IsSome, 
 ghost use Rattle.std.specs.Arc.{arc_value};
 ghost use Rattle.std.specs.List.{All};
 ghost use Rattle.rp_object.specs.Program.{has_operation, object_has, is_offered, is_declared, is_within_ceiling, is_handler, IsPriority, EndsFit, DeclarationFits, IsProgram};
-ghost use Rattle.rp_object.specs.OneProof.{IsProgram-prop};
+ghost use Rattle.rp_object.specs.OneProof.{one_proof};
 ghost use Rattle.rp_body.specs.Ranges.{IsInRange};
 
 use rp_base::{Operation, TaskId};
@@ -61,7 +61,7 @@ pub struct Declarations {
 #[derive(Debug, Drop)]
 pub struct Program {
     declarations: Arc<Declarations, Global>,
-    pub ghost right: { IsProgram (arc_value declarations) } by { IsProgram-prop (arc_value declarations) },
+    ghost right: { IsProgram (arc_value declarations) } by { one_proof (arc_value declarations) },
 }
 
 impl Program {

@@ -1,11 +1,11 @@
 -- Calls of distinct tasks.
-use Rattle.std.proofs.Common.{inl, ℕ, List, [], ◌∷◌, ◌++◌, map, refl}
-use Rattle.rp_base.specs.Sets.{Has, IsSet}
+use Rattle.std.proofs.Common.{inl, List, [], ◌∷◌, ◌++◌, map, refl}
+use Rattle.rp_base.specs.Sets.{IsSet}
 use Rattle.rp_base.specs.declared.action.Action.{Action}
 use Rattle.rp_base.specs.declared.action.Action.TheVariants.{Noop, Call, Interrupt, Tick}
 use Rattle.rp_base.proofs.Members.{has_mapped, mapped_has}
 use Rattle.rp_machine.specs.Calls.{CallName, calls_of, MayApply}
-use Rattle.rp_object.specs.MachineLaws.Permuting.{Perm, same, behind, swap, chain, set_permuted}
+use Rattle.rp_object.specs.MachineLaws.Permuting.{Perm, same, behind, swap, chain}
 
 -- what is made of each, in another order
 pub mapped_permuted : {A B : Type 0} (f : A → B) {xs ys : List A} → Perm xs ys → Perm (map f xs) (map f ys)

@@ -1,5 +1,5 @@
 -- The start of a program is one of its states.
-use Rattle.std.proofs.Common.{◌≡◌, ◌≤◌, ℕ, List, [], ◌∷◌, ◌++◌, length, map, All, IfSome, FitsSigned, w64, Option, None, refl, sym, ap, subst, arith}
+use Rattle.std.proofs.Common.{◌≡◌, ℕ, List, [], ◌∷◌, ◌++◌, map, IfSome, FitsSigned, w64, refl, sym, subst, arith}
 use Rattle.std.specs.Prelude.{flat_map}
 use Rattle.std.specs.List.{AllZip, AllByRecursion}
 use Rattle.std.proofs.lemmas.List.{length-map}
@@ -35,6 +35,7 @@ first_one declared fits = record {
   calls = All-nil IsCall;
   short = omega arith;
   no_entry = λ none. refl;
+  serviced = λ gate there up. refl;
 }
 
 first_ones : (declared : List ObjectDeclaration) → AllByRecursion DeclarationFits declared → AllZip IsObjectOf declared (map first_object declared)

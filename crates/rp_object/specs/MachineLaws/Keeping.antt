@@ -1,17 +1,14 @@
 -- Every action leads from a state of the program to one.
-use Rattle.std.proofs.Common.{◌≡◌, ◌≤◌, ◌<◌, ◌-◌, ◌^◌, ℕ, zero, suc, ℤ, max, Bool, true, false, cond, List, [], ◌∷◌, ◌++◌, length, set, map, Option, Some, None, All, IfSome, FitsSigned, w64, refl, sym, ◌∙◌, ap, subst, arith}
-use Rattle.std.specs.Prelude.{is_some, slice_get, slice_set, flat_map}
+use Rattle.std.proofs.Common.{◌≡◌, ◌<◌, ◌-◌, ◌^◌, ℕ, zero, suc, ℤ, max, true, false, cond, List, [], ◌∷◌, length, set, map, Option, Some, None, All, IfSome, FitsSigned, w64, refl, sym, ◌∙◌, ap, subst, arith}
+use Rattle.std.specs.Prelude.{slice_get}
 use Rattle.std.specs.List.{AllZip, AllByRecursion}
-use Rattle.std.specs.FinMap.{get, len}
 use Rattle.std.proofs.lemmas.List.{length-set}
 use Rattle.std.proofs.lemmas.List.Elements.{All-set, recursion_from_All}
 use Rattle.rp_base.specs.Action.{IsRight}
-use Rattle.rp_base.specs.Sets.{IsSet}
 use Rattle.rp_base.specs.declared.action.Action.{Action}
 use Rattle.rp_base.specs.declared.action.Action.TheVariants.{Noop, Call, Interrupt, Tick}
 use Rattle.rp_base.specs.declared.action.Operation.{Operation}
 use Rattle.rp_base.specs.declared.action.Operation.TheVariants.{Function, Procedure, Entry, SetTimer, CancelTimer}
-use Rattle.rp_base.specs.declared.reply.Answer.{Answer}
 use Rattle.rp_base.specs.declared.reply.Reply.TheVariants.{ProgramError, NoSuchOperation}
 use Rattle.rp_body.specs.Store.{limits_of}
 use Rattle.rp_body.specs.Ranges.{HasBools}
@@ -19,26 +16,26 @@ use Rattle.rp_entry.specs.declared.operations.Operations.{Operations}
 use Rattle.rp_entry.specs.declared.state.Waiting.{Waiting}
 use Rattle.rp_entry.specs.declared.state.CallOutcome.TheVariants.{Reply}
 use Rattle.rp_entry.specs.Operations.{of_index, OperationsFit}
+use Rattle.rp_entry.specs.Queue.{IsServiced}
 use Rattle.rp_entry.specs.Protected.{Protected}
 use Rattle.rp_entry.specs.Actions.{Request, calls_function, calls_procedure, calls_entry, event}
 use Rattle.rp_entry.specs.Results.{acted}
 use Rattle.rp_entry.proofs.Results.{is_acted}
 use Rattle.rp_entry.proofs.Keeping.{acts_keep}
 use Rattle.rp_entry.proofs.Naming.{acts_keep_booleans}
-use Rattle.rp_machine.specs.Calls.{CallName, call_of, calls_of, MayApply}
+use Rattle.rp_machine.specs.Calls.{CallName, call_of, MayApply}
 use Rattle.rp_object.specs.declared.program.Handler.{Handler}
 use Rattle.rp_object.specs.declared.program.ObjectDeclaration.{ObjectDeclaration}
 use Rattle.rp_object.specs.declared.program.Declarations.{Declarations}
 use Rattle.rp_object.specs.Program.{operations_of, is_declared, is_within_ceiling, interrupt_handler, timer_handler, DeclarationFits, IsProgram}
 use Rattle.rp_object.specs.State.{ProgramState, Running}
 use Rattle.rp_object.specs.Timers.{due_events}
-use Rattle.rp_object.specs.Step.{object_acts, asks, ends_with, asks_within, allowed, called, handled, fires, fire, with_timer, program_step, answers_of, objects_next, objects_answers, waiting_at, objects_waiting}
+use Rattle.rp_object.specs.Step.{object_acts, asks, ends_with, asks_within, allowed, called, handled, fires, fire, with_timer, program_step, objects_next, objects_answers, objects_waiting}
 use Rattle.rp_object.specs.Reached.{IsCall, IsObjectOf, IsStateOf}
-use Rattle.rp_object.specs.MachineLaws.Permuting.{Perm}
 use Rattle.rp_object.specs.MachineLaws.Accounting.{step_leaves}
 use Rattle.rp_object.specs.MachineLaws.Distinct.{mapped_permuted, set_right, tasks_apart}
 use Rattle.rp_object.specs.MachineLaws.Permuting.{set_permuted}
-use Rattle.rp_object.specs.MachineLaws.Queues.{IsRightRequest, acts_go, short_still, calls_still, none_still}
+use Rattle.rp_object.specs.MachineLaws.Queues.{IsRightRequest, acts_go, short_still, calls_still, none_still, acts_serviced}
 
 -- ---- one object
 
@@ -50,6 +47,9 @@ object_kept declared object request fits right is =
     let operations : OperationsFit limits object.operations = subst (OperationsFit limits) (sym is.operations) fits.operations in
     let has : HasBools limits object.state.store = λ name below. is.bools name ∙ (fits.numbered.bools name).1 below in
     let goes = acts_go acts in
+    let after = (acted object.operations object.state request).after in
+    let before : IsServiced object.operations object.state = subst (λ (o : Operations). IsServiced o object.state) (sym is.operations) is.serviced in
+    let serviced : IsServiced (operations_of declared) after = subst (λ (o : Operations). IsServiced o after) is.operations (acts_serviced acts before) in
     record {
       operations = is.operations;
       ranges = λ name. (acts_keep acts).ranges name ∙ is.ranges name;
@@ -58,6 +58,7 @@ object_kept declared object request fits right is =
       calls = calls_still goes right is.calls;
       short = short_still goes is.short;
       no_entry = λ none. none_still goes (ap (λ (o : Operations). o.entry) is.operations ∙ none) (is.no_entry none);
+      serviced = serviced;
     }
 
 -- ---- all objects

@@ -1,5 +1,5 @@
 -- What an action does to the queue of its object.
-use Rattle.std.proofs.Common.{◌≡◌, ◌≤◌, ◌<◌, ◌+◌, ℕ, zero, suc, ℤ, List, [], ◌∷◌, ◌++◌, length, Option, Some, None, Vec, Global, All, refl, sym, ◌∙◌, ap, subst, arith}
+use Rattle.std.proofs.Common.{◌≡◌, ◌≤◌, ◌<◌, ℤ, List, [], ◌∷◌, ◌++◌, length, Option, Some, None, All, refl, sym, ◌∙◌, ap, subst, arith}
 use Rattle.std.proofs.lemmas.List.{length-append}
 use Rattle.std.proofs.lemmas.List.Elements.{All-tail, All-push}
 use Rattle.rp_base.specs.declared.reply.Answer.{Answer}
@@ -8,9 +8,10 @@ use Rattle.rp_entry.specs.declared.operations.Entry.{Entry}
 use Rattle.rp_entry.specs.declared.operations.Operations.{Operations}
 use Rattle.rp_entry.specs.declared.state.Waiting.{Waiting}
 use Rattle.rp_entry.specs.declared.state.CallOutcome.{CallOutcome}
-use Rattle.rp_entry.specs.Queue.{State, longest_queue}
+use Rattle.rp_entry.specs.Queue.{State, longest_queue, IsOpen, IsServiced}
 use Rattle.rp_entry.specs.Servicing.{Services, ends, goes_on}
 use Rattle.rp_entry.specs.Actions.{Request, Runs, Acts, calls_function, calls_procedure, calls_entry, event, function, procedure, open_entry, closed_entry, full_queue, handler, no_function, no_procedure, no_entry, no_handler}
+use Rattle.rp_entry.proofs.Acting.{one_item}
 use Rattle.rp_object.specs.Reached.{IsCall}
 
 -- the first calls leave the queue, or the request's call joins it
@@ -72,3 +73,23 @@ none_left (call ∷ served) rest e = absurd (cc)
 pub none_still : {entry : Option Entry} {request : Request} {old new : List Waiting} → Goes entry request old new → entry ≡ None → old ≡ [] → new ≡ []
 none_still {new = new} (leave served is) none nobody = none_left served new (sym is ∙ nobody)
 none_still (join there room) none nobody = absurd (cc)
+
+-- ---- nobody waits at an open barrier
+
+services_end : {operations : Operations} {before after : State} {told : List Answer} → Services operations before told after → IsServiced operations after
+services_end (ends serviced) = serviced
+services_end (goes_on step rest) = services_end rest
+
+pub acts_serviced : {operations : Operations} {before after : State} {request : Request} {caller : Option CallOutcome} {told : List Answer}
+    → Acts operations before request caller told after → IsServiced operations before → IsServiced operations after
+acts_serviced (function there) serviced = serviced
+acts_serviced (procedure there ran) serviced = services_end ran.serviced
+acts_serviced (open_entry there up ran) serviced = services_end ran.serviced
+acts_serviced {before = before} (closed_entry there shut room) serviced =
+    λ other also up. absurd (shut (subst (λ (e : Entry). IsOpen e before.store) (one_item also there) up))
+acts_serviced (full_queue there shut full) serviced = serviced
+acts_serviced (handler there ran) serviced = services_end ran.serviced
+acts_serviced (no_function none) serviced = serviced
+acts_serviced (no_procedure none) serviced = serviced
+acts_serviced (no_entry none) serviced = serviced
+acts_serviced (no_handler none) serviced = serviced

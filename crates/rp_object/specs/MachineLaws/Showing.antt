@@ -1,5 +1,5 @@
 -- The image shows the state: each part of it can be read off, and what comes behind it.
-use Rattle.std.proofs.Common.{◌≡◌, ◌≢◌, ◌≤◌, ◌<◌, ◌+◌, ◌⊎◌, inl, inr, ℕ, zero, suc, ◌^◌, ℤ, Bool, true, false, cond, List, [], ◌∷◌, ◌++◌, length, get_or, codes, decimal, Option, Some, None, All, String, Global, string_bytes, FitsSigned, w64, refl, sym, ◌∙◌, ap, subst, arith}
+use Rattle.std.proofs.Common.{◌≡◌, ◌≢◌, ◌≤◌, ◌<◌, ◌+◌, inl, inr, ℕ, suc, ℤ, Bool, true, false, cond, List, [], ◌∷◌, ◌++◌, length, get_or, codes, decimal, Option, Some, None, String, Global, string_bytes, FitsSigned, w64, refl, sym, ◌∙◌, ap, subst, arith}
 use Rattle.std.specs.Prelude.{IfSome, is_some}
 use Rattle.std.specs.Fmt.{signed_decimal}
 use Rattle.std.specs.List.{AllZip, AllByRecursion}
@@ -9,7 +9,6 @@ use Rattle.std.proofs.lemmas.List.Elements.{recursion_from_All}
 use Rattle.std.proofs.Math.Logic.{⊎_elim}
 use Rattle.rp_body.specs.Store.{Store, int_value, bool_value}
 use Rattle.rp_entry.specs.declared.operations.Entry.{Entry}
-use Rattle.rp_entry.specs.declared.operations.Operations.{Operations}
 use Rattle.rp_entry.specs.declared.state.Waiting.{Waiting}
 use Rattle.rp_entry.specs.Queue.{longest_queue}
 use Rattle.rp_entry.specs.Protected.{Protected}
@@ -18,7 +17,7 @@ use Rattle.rp_object.specs.declared.program.TimingEvent.{TimingEvent}
 use Rattle.rp_object.specs.declared.program.Declarations.{Declarations}
 use Rattle.rp_object.specs.Program.{operations_of, DeclarationFits, IsProgram}
 use Rattle.rp_object.specs.State.{ProgramState, Running}
-use Rattle.rp_object.specs.Image.{ints_text, truth_text, bools_text, queue_text, entry_text, object_line, object_lines, time_text, timer_line, timer_lines, objects_image}
+use Rattle.rp_object.specs.Image.{ints_text, truth_text, bools_text, queue_text, object_line, object_lines, time_text, timer_line, timer_lines, objects_image}
 use Rattle.rp_object.specs.Reached.{IsCall, IsObjectOf, IsStateOf}
 use Rattle.rp_object.specs.MachineLaws.Words.{EndsWord, ends_before, read_signed, read_count, regroup}
 use Rattle.rp_object.specs.MachineLaws.Stores.{values_fit, same_ints, same_bools}
@@ -43,8 +42,7 @@ read_ints (name ∷ names) one other place s t p q u v e =
     let named = append_cancel_left word ((codes "=" ++ (x ++ left)) ++ s) ((codes "=" ++ (y ++ right)) ++ t) (regroup word (codes "=" ++ (x ++ left)) s word (codes "=" ++ (y ++ right)) t first) in
     let value = append_cancel_left (codes "=") ((x ++ left) ++ s) ((y ++ right) ++ t) named in
     let here = read_signed (int_value one place) (int_value other place) (left ++ s) (right ++ t) (p place) (q place) (ints_end one (suc place) names s u) (ints_end other (suc place) names t v) (regroup x left s y right t value) in
-    let rest = read_ints names one other (suc place) s t p q u v here.1 in
-    (
+    let rest = read_ints names one other (suc place) s t p q u v here.1 in (
       (λ k low high. ⊎_elim
           (λ (is : k ≡ place). subst (λ n. int_value one n ≡ int_value other n) (sym is) here.0)
           (λ (apart : k ≢ place). let past : suc place ≤ k = omega (arith, low, apart) in rest.0 k past (omega (arith, high)))
@@ -75,8 +73,7 @@ read_bools (name ∷ names) one other place s t e =
     let named = append_cancel_left word ((codes "=" ++ (x ++ left)) ++ s) ((codes "=" ++ (y ++ right)) ++ t) (regroup word (codes "=" ++ (x ++ left)) s word (codes "=" ++ (y ++ right)) t first) in
     let value = append_cancel_left (codes "=") ((x ++ left) ++ s) ((y ++ right) ++ t) named in
     let here = read_truth (bool_value one place) (bool_value other place) (left ++ s) (right ++ t) (regroup x left s y right t value) in
-    let rest = read_bools names one other (suc place) s t here.1 in
-    (
+    let rest = read_bools names one other (suc place) s t here.1 in (
       (λ k low high. ⊎_elim
           (λ (is : k ≡ place). subst (λ n. bool_value one n ≡ bool_value other n) (sym is) here.0)
           (λ (apart : k ≢ place). let past : suc place ≤ k = omega (arith, low, apart) in rest.0 k past (omega (arith, high)))
@@ -160,12 +157,11 @@ module _ (declared : ObjectDeclaration) (fits : DeclarationFits declared) where
       (regroup (bools_text one.state.store 0 declared.bools.items) (behind_bools one) s (bools_text other.state.store 0 declared.bools.items) (behind_bools other) t ints.1) in
       let queue = read_gate entry_of one.state.queue other.state.queue (codes "\n" ++ s) (codes "\n" ++ t)
       (recursion_from_All IsCall one.state.queue p.calls) (recursion_from_All IsCall other.state.queue q.calls) p.short q.short p.no_entry q.no_entry (inr refl) (inr refl)
-      (regroup (gate_text entry_of one.state.queue) (codes "\n") s (gate_text entry_of other.state.queue) (codes "\n") t bools.1) in
-      (
+      (regroup (gate_text entry_of one.state.queue) (codes "\n") s (gate_text entry_of other.state.queue) (codes "\n") t bools.1) in (
         same_object one other (p.operations ∙ sym q.operations)
-        (same_ints declared fits one.state.store other.state.store p.ranges q.ranges (λ k below. ints.0 k (omega arith) (omega (arith, below))))
-        (same_bools declared fits one.state.store other.state.store p.bools q.bools (λ k below. bools.0 k (omega arith) (omega (arith, below))))
-        queue.0,
+            (same_ints declared fits one.state.store other.state.store p.ranges q.ranges (λ k below. ints.0 k (omega arith) (omega (arith, below))))
+            (same_bools declared fits one.state.store other.state.store p.bools q.bools (λ k below. bools.0 k (omega arith) (omega (arith, below))))
+            queue.0,
         append_cancel_left (codes "\n") s t queue.1,
       )
 

@@ -1,8 +1,7 @@
 -- Two states of the components of one object in which each value is the same are the same.
-use Rattle.std.proofs.Common.{◌≡◌, ◌≤◌, ◌<◌, ℕ, ◌^◌, ℤ, pos, negsuc, Bool, true, false, ◌&&◌, List, length, Option, Some, None, FitsSigned, w64, IsTrue, refl, sym, ◌∙◌, ap, subst, arith, leb-true}
+use Rattle.std.proofs.Common.{◌≡◌, ◌≤◌, ◌<◌, ℕ, ◌^◌, ℤ, pos, negsuc, Bool, true, false, ◌&&◌, length, Option, Some, None, FitsSigned, w64, IsTrue, refl, sym, ◌∙◌, ap, subst, arith, leb-true}
 use Rattle.std.specs.Prelude.{is_some, option_map, unwrap_or, IfSome, int_le}
-use Rattle.std.specs.Ordering.{nat_cmp}
-use Rattle.std.specs.FinMap.{FinMap, get, len, same_map, nat_cmp-IsAntisymmetric}
+use Rattle.std.specs.FinMap.{get, len, same_map, nat_cmp-IsAntisymmetric}
 use Rattle.std.proofs.lemmas.Cmp.{nat_cmp_total}
 use Rattle.std.proofs.lemmas.Bool.{cases_lt}
 use Rattle.std.proofs.lemmas.Option.{same_Some}
@@ -94,11 +93,11 @@ module _ (declared : ObjectDeclaration) (fits : DeclarationFits declared) (one o
       let count = len declared.components.ints in
       ⊎_elim
       (λ (below : name < count).
-          same_found (get one.ints name) (get other.ints name) (first name ∙ sym (second name)) (values name (omega (arith, below, fits.ints))))
+      same_found (get one.ints name) (get other.ints name) (first name ∙ sym (second name)) (values name (omega (arith, below, fits.ints))))
       (λ (past : count ≤ name).
-          let none = not_there (is_some (get declared.components.ints name)) name count (fits.numbered.ints name).0 past in
-          mapped_none (get declared.components.ints name) (get one.ints name) none (first name)
-          ∙ sym (mapped_none (get declared.components.ints name) (get other.ints name) none (second name)))
+      let none = not_there (is_some (get declared.components.ints name)) name count (fits.numbered.ints name).0 past in
+      mapped_none (get declared.components.ints name) (get one.ints name) none (first name)
+      ∙ sym (mapped_none (get declared.components.ints name) (get other.ints name) none (second name)))
       (cases_lt name count))
 
   pub same_bools : HasBoolsOf declared.components one → HasBoolsOf declared.components other
@@ -107,8 +106,8 @@ module _ (declared : ObjectDeclaration) (fits : DeclarationFits declared) (one o
       let count = len declared.components.bools in
       ⊎_elim
       (λ (below : name < count).
-          same_truth (get one.bools name) (get other.bools name) (first name ∙ sym (second name)) (values name (omega (arith, below, fits.bools))))
+      same_truth (get one.bools name) (get other.bools name) (first name ∙ sym (second name)) (values name (omega (arith, below, fits.bools))))
       (λ (past : count ≤ name).
-          let none = not_there (is_some (get declared.components.bools name)) name count (fits.numbered.bools name).0 past in
-          truth_none (get one.bools name) (first name ∙ none) ∙ sym (truth_none (get other.bools name) (second name ∙ none)))
+      let none = not_there (is_some (get declared.components.bools name)) name count (fits.numbered.bools name).0 past in
+      truth_none (get one.bools name) (first name ∙ none) ∙ sym (truth_none (get other.bools name) (second name ∙ none)))
       (cases_lt name count))

@@ -1,6 +1,9 @@
 pub mod Program
+pub mod OneProof
 pub mod State
 pub mod Held
 pub mod Timers
 pub mod Step
 pub mod Image
+pub mod Reached
+pub mod MachineLaws

@@ -1,12 +1,13 @@
 -- What is declared, and which declarations are right (the limits are this project's own).
-use Rattle.std.specs.Prelude.{◌≡◌, ℕ, ◌≤◌, nat_le, nat_eq, Bool, true, false, ◌&&◌, Option, Some, None, is_some, option_map, length}
+use Rattle.std.specs.Prelude.{◌≡◌, ℕ, ◌≤◌, nat_le, nat_eq, Bool, true, false, ◌&&◌, Option, Some, None, is_some, option_map, IfSome, FitsSigned, length}
+use Rattle.std.specs.Int.{w64}
 use Rattle.std.specs.List.{All}
-use Rattle.std.specs.FinMap.{len}
+use Rattle.std.specs.FinMap.{get, len}
 use Rattle.std.specs.Arc.{arc_value}
 use Rattle.rp_base.specs.declared.action.Operation.{Operation}
 use Rattle.rp_base.specs.declared.action.Operation.TheVariants.{Function, Procedure, Entry, SetTimer, CancelTimer}
-use Rattle.rp_body.specs.Store.{limits_of}
-use Rattle.rp_body.specs.Ranges.{IsInRange}
+use Rattle.rp_body.specs.Store.{Store, limits_of}
+use Rattle.rp_body.specs.Ranges.{IsInRange, IsNumbered}
 use Rattle.rp_entry.specs.declared.operations.Operations.{Operations}
 use Rattle.rp_entry.specs.Operations.{of_index, OperationsFit}
 use Rattle.rp_object.specs.declared.program.Handler.{Handler}
@@ -71,13 +72,19 @@ IsPriority n = (1 ≤ n) × (n ≤ 30)
 abbrev pub most_declared : ℕ
 most_declared = 8
 
--- an object has its ceiling, at most 8 components of each kind, a name for each component, first values in their ranges, and operations that fit the components
+-- both ends of each range fit 64 signed bits
+abbrev pub EndsFit : Store → Type 0
+EndsFit store = (name : ℕ) → IfSome (get store.ints name) (λ component. FitsSigned w64 component.low × FitsSigned w64 component.high)
+
+-- an object has its ceiling, at most 8 components of each kind, named by the numbers from 0, a name for each component, ranges of 64 bits, first values in their ranges, and operations that fit the components
 pub record DeclarationFits (declared : ObjectDeclaration) : Type 0 where
   pub ceiling : IsPriority declared.ceiling
   pub few_ints : length declared.ints.items ≤ most_declared
   pub few_bools : length declared.bools.items ≤ most_declared
   pub ints : length declared.ints.items ≡ len declared.components.ints
   pub bools : length declared.bools.items ≡ len declared.components.bools
+  pub numbered : IsNumbered declared.components
+  pub ends : EndsFit declared.components
   pub in_range : IsInRange declared.components
   pub operations : OperationsFit (limits_of declared.components) (operations_of declared)
 

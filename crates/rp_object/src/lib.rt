@@ -5,11 +5,13 @@
 //! - `program`: what is declared before anything runs
 //! - `image`: the text that shows the state of a program
 //! - `objects`: a program that runs
+//! - `machine`: a program that runs, as a machine that a log drives
 //! - `laws`: what follows from the rules of a program alone
 #![tactic(auto)]
 
 mod image;
 mod laws;
+mod machine;
 mod objects;
 mod program;
 

@@ -4,6 +4,7 @@ ghost use Rattle.std.specs.Prelude.{◌≡◌, ◌↔◌, ◌≤◌, max, IsTrue
 ghost use Rattle.rp_base.specs.declared.reply.Answer.{Answer};
 ghost use Rattle.rp_entry.specs.Actions.{calls_function, calls_procedure, calls_entry, event};
 ghost use Rattle.rp_object.specs.State.{Running, unset, first_object, first_state};
+ghost use Rattle.std.specs.Arc.{arc_value};
 ghost use Rattle.std.specs.List.{All};
 ghost use Rattle.rp_object.specs.Program.{is_declared, interrupt_handler, DeclarationFits};
 ghost use Rattle.rp_object.specs.Step.{Result, asks, is_set, with_timer, called, allowed, handled, fires, ticked, own_answer, objects_next, objects_answers};
@@ -50,7 +51,8 @@ impl Model for Objects {
 impl Objects {
     /// The start of the program: each object as it is declared, no time set, and the clock at 0.
     pub fn start(alloc: Global, program: &Program) -> Result<Self, AllocError>
-        ensures { IfOk result (λ objects. objects ≡ first_state program.now) }
+        ensures { IfOk result (λ objects. objects
+            ≡ first_state (arc_value program.now.declarations)) }
     {
         let declarations = program.share()?;
         let objects = first_objects(alloc, &declarations.objects)?;

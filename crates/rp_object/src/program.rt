@@ -1,16 +1,16 @@
 //! What is declared before anything runs.
 
-ghost use Rattle.std.specs.Prelude.{◌≡◌, ◌↔◌, true, IsTrue, IfOk, SomeIff};
+ghost use Rattle.std.specs.Prelude.{◌≡◌, ◌↔◌, true, IsTrue, IsSome, IfSome, IfOk};
 ghost use Rattle.std.specs.Arc.{arc_value};
 ghost use Rattle.std.specs.List.{All};
-ghost use Rattle.rp_object.specs.Program.{has_operation, object_has, is_offered, is_declared, is_within_ceiling, is_handler, IsPriority, DeclarationFits, IsProgram};
+ghost use Rattle.rp_object.specs.Program.{has_operation, object_has, is_offered, is_declared, is_within_ceiling, is_handler, IsPriority, EndsFit, DeclarationFits, IsProgram};
+ghost use Rattle.rp_object.specs.OneProof.{one_proof};
 ghost use Rattle.rp_body.specs.Ranges.{IsInRange};
 
 use rp_base::{Operation, TaskId};
 use rp_body::Components;
 use rp_entry::{Operations, of_index};
 use std::alloc::{AllocError, Global};
-use std::marker::Model;
 use std::sync::Arc;
 
 /// The most tasks, objects, interrupts or timing events, and the most components of a kind.
@@ -61,21 +61,7 @@ pub struct Declarations {
 #[derive(Debug, Drop)]
 pub struct Program {
     declarations: Arc<Declarations, Global>,
-}
-
-impl Model for Program {
-    ghost use Rattle.std.specs.Arc.{arc_value};
-    ghost use Rattle.rp_object.specs.declared.program.Declarations.{Declarations};
-    ghost use Rattle.rp_object.specs.contracts.program.Declarations as declared;
-    ghost use Rattle.rp_object.specs.Program.{IsProgram};
-
-    ghost Value = { Declarations };
-
-    ghost coded = { declared.the_row.coded };
-
-    ghost view = { λ p. arc_value p.declarations };
-
-    ghost invariant = { λ p. IsProgram (arc_value p.declarations) };
+    ghost right: { IsProgram (arc_value declarations) } by { one_proof (arc_value declarations) },
 }
 
 impl Program {
@@ -83,7 +69,8 @@ impl Program {
     /// kind, priorities and ceilings 1 to 30, a name for each component, first values in their ranges,
     /// operations that fit the components, and handlers that are there. It takes no memory.
     pub fn new(declarations: Arc<Declarations, Global>) -> Option<Self>
-        ensures { SomeIff result (IsProgram (arc_value declarations)) (arc_value declarations) }
+        ensures right { IsSome result ↔ IsProgram (arc_value declarations) }
+        ensures same { IfSome result (λ program. program.declarations ≡ declarations) }
     {
         if declarations.is_program() {
             Some(Program { declarations })
@@ -94,15 +81,15 @@ impl Program {
 
     /// What is declared, shared with whoever runs the program.
     pub(crate) fn share(&self) -> Result<Arc<Declarations, Global>, AllocError>
-        ensures shared { IfOk result (λ declarations. arc_value declarations ≡ self.now) }
-        ensures right { IsProgram self.now }
+        ensures shared { IfOk result (λ declarations. arc_value declarations
+            ≡ arc_value self.now.declarations) }
     {
         self.declarations.clone()
     }
 
     /// What is declared.
     pub fn declarations(&self) -> &Declarations
-        ensures { result.now ≡ self.now }
+        ensures { result.now ≡ arc_value self.now.declarations }
     {
         &self.declarations
     }
@@ -133,7 +120,8 @@ fn is_priority(number: u8) -> bool
 
 /// Whether each whole number lies in its range.
 fn is_in_range(components: &Components) -> bool
-    ensures { IsTrue result ↔ IsInRange components.now }
+    ensures in_range { IsTrue result ↔ IsInRange components.now }
+    ensures ends { IsTrue result → EndsFit components.now }
 {
     for name in 0..components.limits().ints {
         if let Some(component) = components.int(name) {

@@ -1,17 +1,20 @@
 use rp_base::{Action, Answer, Operation, Reply, TaskId};
 use rp_body::{Components, Cond, Expr, Ranged, Stmt};
 use rp_entry::{Entry, Operations};
+use rp_machine::Numbered;
 use rp_object::*;
 use std::alloc::{AllocError, Global};
 use std::sync::Arc;
 use std::test::Fail;
 
-// The tasks by their numbers: of the gate's ceiling, above it, and not declared.
+// The tasks by their numbers: of the gate's ceiling, above it, of its ceiling too, and not declared.
 const EQUAL: u8 = 1;
 
 const ABOVE: u8 = 2;
 
-const UNDECLARED: u8 = 3;
+const OTHER: u8 = 3;
+
+const UNDECLARED: u8 = 4;
 
 // The objects by their numbers.
 const BOX: u8 = 1;
@@ -96,6 +99,7 @@ fn program(alloc: Global) -> Result<Program, Fail> {
     let mut priorities = Vec::new(alloc);
     priorities.push(10)?;
     priorities.push(11)?;
+    priorities.push(10)?;
     let mut objects = Vec::new(alloc);
     objects.push(counter(alloc)?)?;
     objects.push(gate(alloc)?)?;
@@ -230,5 +234,46 @@ fn what_is_not_declared_is_refused_before_the_ceiling(rt: HostRuntime) -> Result
         let told = objects.apply(&call(task, 1, object, operation, 0)?);
         assert_eq!(rt; told.as_slice(), [answer(task, 1, reply)?].as_slice());
     }
+    Ok(())
+}
+
+#[test]
+fn a_caller_that_waits_in_a_log_is_served_by_another_call(rt: HostRuntime) -> Result<(), Fail> {
+    let waiter = TaskId::new(EQUAL).ok_or("a task")?;
+    let passes = call(EQUAL, 1, GATE, Operation::Entry(1), 7)?;
+    let counts = call(EQUAL, 2, BOX, Operation::Procedure(1), 0)?;
+    let lifts = call(OTHER, 1, GATE, Operation::Procedure(1), 0)?;
+    let lifted = Some(answer(OTHER, 1, Reply::Value(0))?);
+    let passed = Some(answer(EQUAL, 1, Reply::Value(0))?);
+    let counted = Some(answer(EQUAL, 2, Reply::Value(0))?);
+    let mut log: Numbered<Objects> = Numbered::new(rt.alloc(), &program(rt.alloc())?)?;
+    for (action, waits, last, first_answer, second_answer) in [
+        (passes, true, 1, None, None),
+        (counts, true, 1, None, None),
+        (lifts, false, 1, lifted, passed),
+        (lifts, false, 1, None, None),
+        (counts, false, 2, counted, None),
+        (passes, false, 2, None, None),
+    ] {
+        assert!(rt; action.is_right());
+        let told = log.apply(&action);
+        assert_eq!(rt;
+            told.as_slice().first().copied(),
+            first_answer,
+            "{action:?}"
+        );
+        assert_eq!(rt;
+            told.as_slice().get(1).copied(),
+            second_answer,
+            "{action:?}"
+        );
+        assert_eq!(rt; log.waits(waiter), waits, "{action:?}");
+        assert_eq!(rt; log.last(waiter), last, "{action:?}");
+    }
+    assert_eq!(rt; log.kept(waiter, 2), Some(Reply::Value(0)));
+    let image = log.machine().image(rt.alloc())?;
+    let wanted =
+        "object box n=1\nobject gate up=false queue none\nclock 0\ntimer x off\ntimer y off\n";
+    assert_eq!(rt; image.as_slice(), wanted.as_bytes());
     Ok(())
 }

@@ -14,7 +14,7 @@ invariant_of-result c =
     let shared = c.in_ok-declarations.ensures.shared in
     let first = c.in_ok-objects.ensures ∙ ap (λ (l : List ObjectDeclaration). map first_object l) (c.deref-2.ensures.value ∙ ap (λ (p : Declarations). p.objects.items) c.deref.ensures) in
     let times = c.in_ok-timers.ensures ∙ ap (λ (l : List TimingEvent). map unset l) (c.deref-4.ensures.value ∙ ap (λ (p : Declarations). p.timers.items) c.deref-3.ensures) in
-    held_first _ _ _ (subst IsProgram (sym shared) c.share.ensures.right) first (ap length times ∙ length-map _ unset)
+    held_first _ _ _ (subst IsProgram (sym shared) c.args.program.now.right) first (ap length times ∙ length-map _ unset)
 
 pub returns : goal.returns
 returns c =

@@ -36,7 +36,7 @@ use Rattle.rp_object.specs.declared.program.Declarations.{Declarations}
 use Rattle.rp_object.specs.Program.{operations_of, has_operation, is_some_and, object_has, is_offered, is_declared, is_within_ceiling, interrupt_handler, timer_handler}
 use Rattle.rp_object.specs.Timers.{due_events}
 use Rattle.rp_object.specs.Step.{Result, waiting_at, object_acts, asks, ends_with, asks_within, allowed, called, handled, fires, fire, with_timer, program_step, own_answer, answers_of}
-use Rattle.rp_object.proofs.Permuting.{Perm, same, behind, chain, permuted, in_front, some_first, back, has_permuted, set_permuted, has_left, has_right, has_either, set_left, apart}
+use Rattle.rp_object.specs.MachineLaws.Permuting.{Perm, same, behind, chain, permuted, in_front, some_first, back, has_permuted, set_permuted, has_left, has_right, has_either, set_left, apart}
 
 -- a call by its task and number
 abbrev named : ℕ × ℕ → CallName

@@ -3,3 +3,4 @@ pub mod Places
 pub mod Storing
 pub mod Ranges
 pub mod Booleans
+pub mod Outs

@@ -5,3 +5,4 @@ pub mod Results
 pub mod Accounting
 pub mod Keeping
 pub mod Naming
+pub mod Telling

@@ -8,9 +8,13 @@ pub mod First
 pub mod Words
 pub mod Stores
 pub mod Showing
+pub mod Replying
 use Rattle.std.specs.Prelude.{◌≡◌, []}
 use Rattle.rp_base.specs.Action.{IsRight}
+use Rattle.rp_base.specs.Right.{IsReply}
+use Rattle.rp_base.specs.Sets.{Has}
 use Rattle.rp_base.specs.declared.action.Action.{Action}
+use Rattle.rp_base.specs.declared.reply.Answer.{Answer}
 use Rattle.rp_machine.specs.Calls.{MayApply, AccountsFor}
 use Rattle.rp_object.specs.declared.program.Declarations.{Declarations}
 use Rattle.rp_object.specs.Program.{IsProgram}
@@ -21,6 +25,7 @@ use Rattle.rp_object.specs.Image.{objects_image}
 use Rattle.rp_object.specs.MachineLaws.Showing.{image_shows}
 use Rattle.rp_object.specs.MachineLaws.First.{nobody_first, first_is_state, state_accounts}
 use Rattle.rp_object.specs.MachineLaws.Keeping.{next_is_state}
+use Rattle.rp_object.specs.MachineLaws.Replying.{step_replies}
 
 -- nobody waits at the start
 pub none_waits : (program : Declarations) → objects_waiting (first_state program) ≡ []
@@ -46,3 +51,9 @@ pub accounts : (program : Declarations) (running : Running) (action : Action)
     → IsStateOf program running → IsRight action → MayApply (objects_waiting running) action
     → AccountsFor (objects_waiting running) action (objects_answers running action) (objects_waiting (objects_next running action))
 accounts program running action is fits may = state_accounts program running action is may
+
+-- each reply's value has 64 signed bits
+pub replies : (program : Declarations) (running : Running) (action : Action)
+    → IsStateOf program running → IsRight action → MayApply (objects_waiting running) action
+    → (answer : Answer) → Has answer (objects_answers running action) → IsReply answer.reply
+replies program running action is fits may = step_replies running.program running.state action

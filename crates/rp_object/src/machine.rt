@@ -39,6 +39,8 @@ impl Machine for Objects {
 
     ghost accounts = { λ program. laws.accounts (arc_value program.declarations) };
 
+    ghost replies = { λ program. laws.replies (arc_value program.declarations) };
+
     fn start(alloc: Global, program: &Program) -> Result<Self, AllocError> {
         Objects::start(alloc, program)
     }

@@ -1,0 +1,121 @@
+-- The replies that a protected action tells have values of 64 signed bits.
+use Rattle.std.proofs.Common.{◌≡◌, ℤ, pos, Bool, true, false, if◌then◌else◌, Option, Some, None, List, [], ◌∷◌, Vec, Global, inl, inr, refl, sym, subst}
+use Rattle.std.specs.Prelude.{IfSome, nat_lt, length, ◌++◌}
+use Rattle.rp_base.specs.Right.{IsReply}
+use Rattle.rp_base.specs.Sets.{Has}
+use Rattle.rp_base.specs.declared.reply.Answer.{Answer}
+use Rattle.rp_base.specs.declared.reply.Reply.{Reply as Told}
+use Rattle.rp_base.specs.declared.reply.Reply.TheVariants.{Value, ConstraintError, ProgramError}
+use Rattle.rp_body.specs.declared.statement.Outcome.{Outcome}
+use Rattle.rp_body.specs.declared.statement.Outcome.TheVariants.{Out, Raised}
+use Rattle.rp_body.specs.declared.statement.Stmt.{Stmt}
+use Rattle.rp_body.specs.Expressions.{value_of, fits_64}
+use Rattle.rp_body.specs.Meaning.{body_effect}
+use Rattle.rp_body.specs.Store.{Store, bool_value}
+use Rattle.rp_body.proofs.Outs.{OutFits, fits_signed, out_fits}
+use Rattle.rp_entry.specs.declared.operations.Function.{Function}
+use Rattle.rp_entry.specs.declared.operations.Function.TheVariants.{Value as Whole, Truth as Condition}
+use Rattle.rp_entry.specs.declared.operations.Entry.{Entry}
+use Rattle.rp_entry.specs.declared.operations.Operations.{Operations}
+use Rattle.rp_entry.specs.declared.state.Waiting.{Waiting}
+use Rattle.rp_entry.specs.declared.state.CallOutcome.{CallOutcome}
+use Rattle.rp_entry.specs.declared.state.CallOutcome.TheVariants.{Reply, Waits}
+use Rattle.rp_entry.specs.Operations.{of_index}
+use Rattle.rp_entry.specs.Queue.{State, longest_queue}
+use Rattle.rp_entry.specs.Replies.{reply_of, function_reply}
+use Rattle.rp_entry.specs.Actions.{Request, calls_function, calls_procedure, calls_entry, event}
+use Rattle.rp_entry.specs.Results.{Acted, tells, serviced_from, ran_for, function_called, procedure_called, entry_called, event_handled, acted}
+
+-- each of these replies fits
+abbrev pub AreReplies : List Answer → Type 0
+AreReplies told = (answer : Answer) → Has answer told → IsReply answer.reply
+
+-- what a caller is told fits, if it does not wait
+abbrev pub OutcomeFits : CallOutcome → Type 0
+OutcomeFits (Reply reply) = IsReply reply
+OutcomeFits Waits = Unit {0}
+
+-- all that an action tells fits
+pub record TellsFitting (caller : Option CallOutcome) (told : List Answer) : Type 0 where
+  pub own : IfSome caller OutcomeFits
+  pub served : AreReplies told
+
+ended_fits : (ended : Outcome) → OutFits ended → IsReply (reply_of ended)
+ended_fits (Out out) fits = fits
+ended_fits Raised fits = tt
+
+body_reply_fits : (body : List Stmt) (arg : ℤ) (store : Store) → IsReply (reply_of (body_effect body arg store).1)
+body_reply_fits body arg store = ended_fits (body_effect body arg store).1 (out_fits body arg store)
+
+nobody : AreReplies []
+nobody answer h = absurd h
+
+one_more : (answer : Answer) (rest : List Answer) → IsReply answer.reply → AreReplies rest → AreReplies (answer ∷ rest)
+one_more answer rest one others other h = elim h [ inl same ↦ subst (λ (a : Answer). IsReply a.reply) (sym same) one | inr later ↦ others other later ]
+
+serviced_fits : (entry : Option Entry) (queue : List Waiting) (store : Store) → AreReplies (serviced_from entry queue store).0
+serviced_fits entry [] store = nobody
+serviced_fits None (call ∷ rest) store = nobody
+serviced_fits (Some entry) (call ∷ rest) store =
+    let ran = body_effect entry.body.items call.arg store in
+    let later = serviced_from (Some entry) rest ran.0 in
+    let answer : Answer = record { task = call.task; number = call.number; reply = reply_of ran.1 } in
+    let stays : State = record { store = store; queue = call ∷ rest } in
+    elim (bool_value store entry.barrier) as (λ b. let left : List Answer × State = if b then (answer ∷ later.0, later.1) else ([], stays) in AreReplies left.0) [
+      | true ↦ one_more answer later.0 (body_reply_fits entry.body.items call.arg store) (serviced_fits (Some entry) rest ran.0)
+      | false ↦ nobody
+    ]
+
+ran_fits : (caller : CallOutcome → Option CallOutcome) (operations : Operations) (body : List Stmt) (arg : ℤ) (before : State)
+    → ((outcome : CallOutcome) → OutcomeFits outcome → IfSome (caller outcome) OutcomeFits)
+    → (let did = ran_for caller operations body arg before in TellsFitting did.caller did.told)
+ran_fits caller operations body arg before passes = record {
+  own = passes (Reply (reply_of (body_effect body arg before.store).1)) (body_reply_fits body arg before.store);
+  served = serviced_fits operations.entry before.queue (body_effect body arg before.store).0;
+}
+
+abbrev Fits : Acted → Type 0
+Fits did = TellsFitting did.caller did.told
+
+told_fits : (reply : Told) (state : State) → IsReply reply → Fits (tells (Reply reply) state)
+told_fits reply state fits = record { own = fits; served = nobody }
+
+value_fits : (value : ℤ) (b : Bool) → fits_64 value ≡ b → IsReply (let reply : Told = if b then Value value else ConstraintError in reply)
+value_fits value true e = fits_signed value e
+value_fits value false e = tt
+
+function_fits : (called : Function) (store : Store) (arg : ℤ) → IsReply (function_reply called store arg)
+function_fits (Whole expr) store arg = value_fits (value_of expr store arg (pos 0)) (fits_64 (value_of expr store arg (pos 0))) refl
+function_fits (Condition test) store arg = tt
+
+function_call_fits : (called : Option Function) (arg : ℤ) (before : State) → Fits (function_called called arg before)
+function_call_fits None arg before = told_fits _ before tt
+function_call_fits (Some called) arg before = told_fits (function_reply called before.store arg) before (function_fits called before.store arg)
+
+procedure_call_fits : (operations : Operations) (body : Option (Vec Stmt Global)) (arg : ℤ) (before : State) → Fits (procedure_called operations body arg before)
+procedure_call_fits operations None arg before = told_fits _ before tt
+procedure_call_fits operations (Some body) arg before = ran_fits (λ outcome. Some outcome) operations body.items arg before (λ outcome fits. fits)
+
+waits_fits : (state : State) → Fits (tells Waits state)
+waits_fits state = record { own = tt; served = nobody }
+
+either_fits : (test : Bool) (one other : Acted) → Fits one → Fits other → Fits (if test then one else other)
+either_fits true one other left right = left
+either_fits false one other left right = right
+
+entry_call_fits : (operations : Operations) (entry : Option Entry) (call : Waiting) (before : State) → Fits (entry_called operations entry call before)
+entry_call_fits operations None call before = told_fits _ before tt
+entry_call_fits operations (Some entry) call before =
+    either_fits (bool_value before.store entry.barrier) _ _
+    (ran_fits (λ outcome. Some outcome) operations entry.body.items call.arg before (λ outcome fits. fits))
+    (either_fits (nat_lt (length before.queue) longest_queue) _ _ (waits_fits (record before { queue = before.queue ++ call ∷ [] })) (told_fits ProgramError before tt))
+
+event_fits : (operations : Operations) (body : Option (Vec Stmt Global)) (before : State) → Fits (event_handled operations body before)
+event_fits operations None before = record { own = tt; served = nobody }
+event_fits operations (Some body) before = ran_fits (λ outcome. None) operations body.items (pos 0) before (λ outcome fits. tt)
+
+pub acted_fits : (operations : Operations) (before : State) (request : Request) → (let did = acted operations before request in TellsFitting did.caller did.told)
+acted_fits operations before (calls_function index arg) = function_call_fits (of_index operations.functions.items index) arg before
+acted_fits operations before (calls_procedure index arg) = procedure_call_fits operations (of_index operations.procedures.items index) arg before
+acted_fits operations before (calls_entry call) = entry_call_fits operations operations.entry call before
+acted_fits operations before (event index) = event_fits operations (of_index operations.procedures.items index) before

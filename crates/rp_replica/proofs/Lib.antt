@@ -9,3 +9,4 @@ pub mod Starting
 pub mod Hearing
 pub mod Beginning
 pub mod Choosing
+pub mod Replying

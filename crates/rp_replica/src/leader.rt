@@ -233,7 +233,7 @@ impl<M: Machine, D: Device> Replica<M, D> {
 }
 
 /// The node of the number that is one above `place`.
-fn node_after(place: u8) -> NodeId
+pub(crate) fn node_after(place: u8) -> NodeId
     requires { place < 7 }
     ensures { result ≡ place + 1 }
 {

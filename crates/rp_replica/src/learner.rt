@@ -118,7 +118,7 @@ impl<M: Machine, D: Device> Replica<M, D> {
                     position,
                     action: *action,
                 };
-                out.push(&Packet::new(Party::Node(self.me), Party::Node(to), body))?;
+                out.say(self.me, to, body)?;
             }
         }
         Ok(out)

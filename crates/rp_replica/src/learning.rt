@@ -42,14 +42,25 @@ impl<M: Machine, D: Device> Replica<M, D> {
             Stops (Some (Learned position action.now)) self.old self.new fault) }
     {
         self.log.reserve(position)?;
-        write(&mut self.store, &mut self.acceptor, &Rec::Learned(position, *action))?;
+        write(
+            &mut self.store,
+            &mut self.acceptor,
+            &Rec::Learned(position, *action),
+        )?;
         self.proposer.settled(position);
         self.learner.settled(position);
         self.heard.settle(position, *action);
         self.log.learn(position, *action);
         let before = self.log.applied();
-        apply_and_reply(&mut self.machine, &mut self.log, self.me, &self.pending, out);
-        self.pending.settle(&self.machine, taken_since(&self.log, before));
+        apply_and_reply(
+            &mut self.machine,
+            &mut self.log,
+            self.me,
+            &self.pending,
+            out,
+        );
+        self.pending
+            .settle(&self.machine, taken_since(&self.log, before));
         Ok(())
     }
 

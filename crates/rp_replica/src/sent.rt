@@ -3,10 +3,11 @@
 ghost use Rattle.std.specs.Prelude.{◌≡◌, ◌+◌, ◌≤◌, [], ◌∷◌, ◌++◌, length, IfOk, OnOk};
 ghost use Rattle.rp_base.specs.Action.{IsCount};
 ghost use Rattle.rp_codec.specs.declared.packet.Body.TheVariants.{Reply as Answered};
-ghost use Rattle.rp_model.specs.Says.{says_to_all, says_to_task};
+ghost use Rattle.rp_model.specs.Says.{says, says_to_task};
 ghost use Rattle.rp_codec.specs.Decoding.{IsReportBody};
 ghost use Rattle.rp_replica.specs.Packets.{run_of, with_packet, longest_text};
-ghost use Rattle.rp_codec.specs.Message.{Message};
+ghost use Rattle.rp_codec.specs.Message.{MaySay};
+ghost use Rattle.rp_codec.specs.declared.packet.Party.TheVariants.{Node};
 
 use rp_base::{Answer, NodeId};
 use rp_codec::{Body, Packet, Party, encode_onto, text_of_packet};
@@ -63,6 +64,14 @@ impl Outbox {
         encode_onto(packet, &mut self.bytes)?;
         self.packets += 1;
         Ok(())
+    }
+
+    /// One packet more, from node to node.
+    pub(crate) fn say(&mut self, me: NodeId, to: NodeId, body: Body) -> Result<(), AllocError>
+        requires { MaySay (Node me) (Node to) body }
+        ensures { OnOk result (self.new ≡ with_packet self.old (says me body to)) }
+    {
+        self.push(&Packet::new(Party::Node(me), Party::Node(to), body))
     }
 
     /// The same packets, with room for so many bytes more.

@@ -1,4 +1,4 @@
-use Rattle.std.proofs.Common.{◌≡◌, ◌-◌, length}
+use Rattle.std.proofs.Common.{◌-◌, length}
 use Rattle.rp_replica.specs.Applying.{HasReplied}
 use Rattle.rp_replica.proofs.applying.apply_and_reply.Given as goal
 

@@ -162,6 +162,13 @@ impl Log {
         Some((Position::new(self.taken)?, action))
     }
 
+    /// The actions that were taken, in the order of their positions.
+    pub fn taken(&self) -> &[Action]
+        ensures { result.now ≡ self.now.taken }
+    {
+        &self.front[..usize::from(self.taken)]
+    }
+
     /// How many actions were taken, at most 65,535: those learned at the positions up to that number.
     pub fn applied(&self) -> u32
         ensures count { result ≡ length self.now.taken }

@@ -9,3 +9,8 @@ pub mod Starting
 pub mod Hearing
 pub mod Beginning
 pub mod Choosing
+pub mod Replying
+pub mod Learned
+pub mod Staying
+pub mod Missing
+pub mod Accepted

@@ -6,3 +6,4 @@ pub mod Turning
 pub mod Proposed
 pub mod Opening
 pub mod Standing
+pub mod Applying

@@ -7,6 +7,8 @@
 //! - `leader`: a replica that leads, and what it makes of promises and refusals
 //! - `own_action`: what a proposal takes as its own action
 //! - `learner`: a replica that is asked what was decided, and hears of votes
+//! - `learning`: an action that is learned
+//! - `applying`: what is learned is applied in order, and answered
 //! - `arrivals`: calls, interrupts and ticks that come, and become pending
 //! - `pending`: the items that wait to be proposed
 //! - `heard`: the votes that were heard, which memory does not hold
@@ -15,11 +17,13 @@
 #![tactic(auto)]
 
 mod acceptor;
+mod applying;
 mod arrivals;
 mod heard;
 mod laws;
 mod leader;
 mod learner;
+mod learning;
 mod opening;
 mod own_action;
 mod pending;

@@ -78,9 +78,9 @@ pub enum Body {
 }
 
 /// A body with who says it and who hears it, by the rules: a task calls a node, in a call of its
-/// own; a node replies to a task and reports to the audit; all else goes from node to node. Actions are right, a promise's
-/// vote is in a lower ballot, the bound of a `Nack` is above its ballot, and a report has as many
-/// actions as `report_len` says.
+/// own; a node replies to a task and reports to the audit; all else goes from node to node. Actions
+/// are right, a promise's vote is in a lower ballot, the bound of a `Nack` is above its ballot, and a
+/// report has as many actions as `report_len` says.
 #[derive(Debug, PartialEq, Eq, Drop)]
 pub struct Packet {
     from: Party,

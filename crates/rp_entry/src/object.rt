@@ -41,9 +41,9 @@ impl Model for Object {
 }
 
 impl Object {
-    /// The object of these operations, which other objects may share, and components, with nobody waiting, or `None` where there are more
-    /// than 8 functions or 8 procedures, an operation does not keep the limits of the language, or the
-    /// barrier names no Boolean component. It takes no memory.
+    /// The object of these operations, which other objects may share, and components, with nobody
+    /// waiting, or `None` where there are more than 8 functions or 8 procedures, an operation does not
+    /// keep the limits of the language, or the barrier names no Boolean component. It takes no memory.
     pub fn new(operations: Arc<Operations, Global>, components: Components) -> Option<Self>
         ensures { SomeIff result (OperationsFit (limits_of components) (arc_value operations))
             (record {

@@ -42,7 +42,8 @@ impl Model for Log {
       taken = take l.taken l.front.items;
     } };
 
-    ghost invariant = { λ l. Fits l.front.items l.next_reserved l.ahead.entries (vec_capacity l.front) l.taken l.top };
+    ghost invariant = { λ l. Fits l.front.items l.next_reserved l.ahead.entries
+        (vec_capacity l.front) l.taken l.top };
 }
 
 impl Log {

@@ -56,7 +56,9 @@ impl<M: Machine> Model for Numbered<M> {
 
     ghost view = { λ n. record { begin = M.begin n.program.value; actions = n.actions } };
 
-    ghost invariant = { λ n. IsHeld (replay_of M.next M.answers (M.begin n.program.value) n.actions) n.actions n.machine n.callers n.occurrences };
+    ghost invariant = { λ n. IsHeld
+        (replay_of M.next M.answers (M.begin n.program.value) n.actions)
+        n.actions n.machine n.callers n.occurrences };
 }
 
 impl<M: Machine> Numbered<M> {

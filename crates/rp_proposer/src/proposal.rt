@@ -51,7 +51,8 @@ impl Model for Proposal {
       promises = set_of p.heard;
     } };
 
-    ghost invariant = { λ p. SameMembers p.senders (promisers_of (set_of p.heard)) × (p.last ≡ highest_vote (set_of p.heard)) };
+    ghost invariant = { λ p. SameMembers p.senders (promisers_of (set_of p.heard))
+        × (p.last ≡ highest_vote (set_of p.heard)) };
 }
 
 impl Proposal {

@@ -45,7 +45,8 @@ impl Model for Proposer {
 
     ghost use Rattle.rp_proposer.specs.Room.{IsWithin};
 
-    ghost invariant = { λ p. IsWithin p.nodes (length p.proposals.items) (vec_capacity p.proposals) };
+    ghost invariant = { λ p.
+        IsWithin p.nodes (length p.proposals.items) (vec_capacity p.proposals) };
 }
 
 impl Proposer {
@@ -246,7 +247,8 @@ fn index_of(proposals: &[Proposal], position: Position) -> Option<usize>
 
 /// Puts a proposal in place of the one at its position, or behind the others.
 fn put(proposals: &mut Vec<Proposal>, proposal: Proposal)
-    requires { length (without_proposal proposals.old.items proposal.position) < vec_capacity proposals.old }
+    requires { length (without_proposal proposals.old.items proposal.position)
+        < vec_capacity proposals.old }
     ensures items { proposals.new.items ≡ with_proposal proposals.old.items proposal }
     ensures length { length proposals.new.items ≤ max (length proposals.old.items) (length
         (without_proposal proposals.old.items proposal.position) + 1) }

@@ -122,10 +122,10 @@ impl<D: Device> Store<D> {
     }
 
     /// Appends the record's text and syncs. It never cuts, and reads nothing. It takes no memory but
-    /// the device's, and costs what the text is long, whatever the device holds. The record is a right one: opening would cut off any
-    /// other, and all records behind it. Refused with 3 where the device failed since it was opened,
-    /// with 1 where memory ran out: then nothing has changed. After 2, some beginning of the text may
-    /// stand at the end.
+    /// the device's, and costs what the text is long, whatever the device holds. The record is a right
+    /// one: opening would cut off any other, and all records behind it. Refused with 3 where the device
+    /// failed since it was opened, with 1 where memory ran out: then nothing has changed. After 2, some
+    /// beginning of the text may stand at the end.
     pub fn put(&mut self, rec: &Rec) -> Result<(), Fault>
         requires { IsRightRecord rec.now }
         ensures ok { OnOk result (IsPut D.disk (record_text rec.now) self.old self.new) }

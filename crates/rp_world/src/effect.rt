@@ -17,7 +17,8 @@ pub struct Refused {
 
 /// Nothing was sent, dropped or taken.
 pub(crate) fn nothing(first: u64) -> Effect
-    ensures { result ≡ record { first = first; sent = 0; dropped = No; taken = None; opened = None } }
+    ensures { result
+        ≡ record { first = first; sent = 0; dropped = No; taken = None; opened = None } }
 {
     Effect {
         first,
@@ -30,7 +31,8 @@ pub(crate) fn nothing(first: u64) -> Effect
 
 /// One message was sent.
 pub(crate) fn one_message(first: u64) -> Effect
-    ensures { result ≡ record { first = first; sent = 1; dropped = No; taken = None; opened = None } }
+    ensures { result
+        ≡ record { first = first; sent = 1; dropped = No; taken = None; opened = None } }
 {
     Effect {
         sent: 1,
@@ -40,7 +42,13 @@ pub(crate) fn one_message(first: u64) -> Effect
 
 /// A reply was taken.
 pub(crate) fn one_reply(first: u64, answer: &Answer) -> Effect
-    ensures { result ≡ record { first = first; sent = 0; dropped = No; taken = Some answer.now; opened = None } }
+    ensures { result ≡ record {
+      first = first;
+      sent = 0;
+      dropped = No;
+      taken = Some answer.now;
+      opened = None;
+    } }
 {
     Effect {
         taken: Some(*answer),

@@ -21,8 +21,10 @@ pub(crate) fn take_effect(
     sent: &mut Vec<Packet>,
     turn: Turn,
 ) -> Result<(), AllocError>
-    ensures part { OnOk result (part.new
-        ≡ record part.old { records = with_record part.old.records turn.written; running = Some turn.running }) }
+    ensures part { OnOk result (part.new ≡ record part.old {
+      records = with_record part.old.records turn.written;
+      running = Some turn.running;
+    }) }
     ensures sent { OnOk result (sent.new.items ≡ sent.old.items ++ turn.sent) }
     ensures err { OnErr result (part.new ≡ part.old) }
     ensures err_sent { OnErr result (sent.new.items ≡ sent.old.items) }

@@ -29,7 +29,11 @@ impl Model for World {
 
     ghost Value = { worlds.World };
 
-    ghost view = { λ w. record { nodes = w.nodes.items; tasks = w.tasks.items; sent = w.sent.items } };
+    ghost view = { λ w. record {
+      nodes = w.nodes.items;
+      tasks = w.tasks.items;
+      sent = w.sent.items;
+    } };
 
     ghost invariant = { λ w. length w.tasks.items ≡ 8 };
 }

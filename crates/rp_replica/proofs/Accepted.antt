@@ -24,6 +24,7 @@ use Rattle.rp_model.specs.declared.part.Turn.{Turn}
 use Rattle.rp_model.specs.Learner.{learns, on_vote, on_accepted}
 use Rattle.rp_model.specs.Says.{says, says_to_others, notes}
 use Rattle.rp_replica.specs.declared.sent.Sent.{Sent}
+use Rattle.rp_replica.specs.Applying.{learns_alone}
 use Rattle.rp_replica.specs.Held.{Held, held_after}
 use Rattle.rp_replica.specs.Packets.{Run, run_of, with_packet, with_packets}
 use Rattle.rp_replica.specs.Standing.{standing_of}
@@ -81,8 +82,8 @@ module _ {S : Type 0} (next : S → Action → S) (answers : S → Action → Li
 
 -- an action is learned, and these packets stand before and behind the replies
 pub learned_turns : {S : Type 0} (next : S → Action → S) (answers : S → Action → List Answer) (old new : Held S) (i : ℕ) (v : Action) (packets behind : List Message) (start out : Run) (sent : Sent)
-    → new ≡ held_after old (learns next answers old.begin old.me old.records old.running i v [] []) → start ≡ run_of packets
-    → out ≡ with_packets (with_packets start (learns next answers old.begin old.me old.records old.running i v [] []).sent) behind
+    → new ≡ held_after old (learns_alone next answers old i v) → start ≡ run_of packets
+    → out ≡ with_packets (with_packets start (learns_alone next answers old i v).sent) behind
     → sent.bytes.items ≡ out.bytes → sent.packets ≡ out.packets → sent.dropped ≡ No
     → Turns (learns next answers old.begin old.me old.records old.running i v packets behind) old new sent
 learned_turns next answers old new i v packets behind start out sent goes begins is bytes count dropped =
@@ -90,7 +91,7 @@ learned_turns next answers old new i v packets behind start out sent goes begins
     let before = replay_answers next answers old.begin (applied_of old.records) in
     let later = replay_answers next answers old.begin (applied_of (old.records ++ records.Learned i v ∷ [])) in
     let replies : List Message = replies_to old.me old.running.pending (drop (length before) later) in
-    let front : with_packets start (learns next answers old.begin old.me old.records old.running i v [] []).sent ≡ run_of (packets ++ replies) =
+    let front : with_packets start (learns_alone next answers old i v).sent ≡ run_of (packets ++ replies) =
     ap (λ (r : Run). with_packets r (replies ++ [])) begins ∙ ap (with_packets (run_of packets)) (append-nil replies) ∙ packets_behind packets replies in
     let whole : out ≡ run_of turn.sent = is ∙ ap (λ (r : Run). with_packets r behind) front ∙ packets_behind (packets ++ replies) behind in
     record {

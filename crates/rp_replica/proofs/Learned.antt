@@ -32,9 +32,8 @@ use Rattle.rp_machine.specs.Numbered.{Applied, outcome}
 use Rattle.rp_machine.specs.Replay.{Replayed, replay_of, kept_of, replay_answers}
 use Rattle.rp_model.specs.Parts.{is_in_log}
 use Rattle.rp_model.specs.Pending.{stays, replies_to}
-use Rattle.rp_replica.specs.Applying.{HasReplied}
+use Rattle.rp_replica.specs.Applying.{learns_alone, HasReplied}
 use Rattle.rp_replica.specs.Packets.{RoomyRun, with_packets}
-use Rattle.rp_model.specs.Learner.{learns}
 use Rattle.rp_replica.specs.Held.{Held, held_after}
 use Rattle.rp_replica.specs.Tied.{IsOnDisk, IsProposer, IsApplied, Tied}
 use Rattle.rp_replica.proofs.Answering.{right_records}
@@ -240,7 +239,7 @@ module _ {S D : Type 0} (next : S → Action → S) (answers : S → Action → 
         disk = disk new.device;
         failed = new.failed;
       } in
-      now ≡ held_after h (learns next answers h.begin h.me h.records h.running i v [] []))
+      now ≡ held_after h (learns_alone next answers h i v))
   held_learned left newly before count behind kept =
       let staying = stays_learned left newly before count behind kept in
       let failing : new.failed ≡ old.failed = put.working ∙ sym put.worked in

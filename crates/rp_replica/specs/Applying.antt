@@ -1,13 +1,20 @@
--- What applying comes to for a replica's parts (no public clause names it).
-use Rattle.std.specs.Prelude.{◌≡◌, ℕ, ◌+◌, ◌*◌, ◌≤◌, List, ◌++◌, length}
+-- What learning and applying come to for a replica (no public clause names it).
+use Rattle.std.specs.Prelude.{◌≡◌, ℕ, ◌+◌, ◌*◌, ◌≤◌, List, [], ◌++◌, length}
 use Rattle.rp_base.specs.declared.action.Action.{Action}
 use Rattle.rp_base.specs.declared.reply.Answer.{Answer}
 use Rattle.rp_log.specs.Contents.{Contents}
 use Rattle.rp_machine.specs.Numbered.{Applied, outcome}
+use Rattle.rp_model.specs.declared.part.Turn.{Turn}
+use Rattle.rp_model.specs.Learner.{learns}
 use Rattle.rp_model.specs.Pending.{replies_to}
+use Rattle.rp_replica.specs.Held.{Held}
 use Rattle.rp_replica.specs.Packets.{RoomyRun, longest_text, with_packets}
 
 module _ {S : Type 0} (next : S → Action → S) (answers : S → Action → List Answer) where
+  -- the turn of a replica that learns an action at a position, with no packet but the replies
+  abbrev pub learns_alone : Held S → ℕ → Action → Turn
+  learns_alone held i v = learns next answers held.begin held.me held.records held.running i v [] []
+
   -- what the log took is applied, and nothing is learned; these answers came of it
   pub record AppliesMore (before after : Contents) (old new : Applied S) (more : List Answer) : Type 0 where
     pub begin : new.begin ≡ old.begin

@@ -1,14 +1,22 @@
 //! A replica that is asked for a promise or a vote (Lamport, "Paxos Made Simple", section 2.2).
 
-ghost use Rattle.std.specs.Prelude.{◌≡◌, ◌≤◌, IfOk, IfErr, false};
+ghost use Rattle.std.specs.Prelude.{◌≡◌, ◌<◌, ◌≤◌, [], ◌∷◌, Some, IfOk, IfErr, IsOkUnless, true, false};
 ghost use Rattle.rp_base.specs.Action.{IsRight};
+ghost use Rattle.rp_base.specs.Right.{IsRightRecord};
+ghost use Rattle.rp_base.specs.declared.fault.Fault.TheVariants as faults;
+ghost use Rattle.rp_codec.specs.Message.{MaySay};
+ghost use Rattle.rp_codec.specs.declared.packet.Party.TheVariants.{Node};
+ghost use Rattle.rp_codec.specs.declared.packet.Body.TheVariants.{Nack};
 ghost use Rattle.rp_model.specs.Acceptor.{on_prepare, on_accept};
+ghost use Rattle.rp_model.specs.Parts.{is_in_log};
+ghost use Rattle.rp_model.specs.Says.{says, sends, writes};
+ghost use Rattle.rp_replica.specs.Tied.{IsAnswer};
 ghost use Rattle.rp_replica.specs.Turning.{Turns, Stops};
 
 use crate::replica::Replica;
 use crate::sent::{Outbox, Sent};
 use rp_acceptor::{AcceptAnswer, PrepareAnswer};
-use rp_base::{Action, Ballot, Fault, NodeId, Position, last_votes_lie_below};
+use rp_base::{Action, Ballot, Fault, NodeId, Position, Rec, last_votes_lie_below};
 use rp_codec::Body;
 use rp_machine::Machine;
 use rp_model::Dropped;
@@ -41,18 +49,9 @@ impl<M: Machine, D: Device> Replica<M, D> {
                     ballot,
                     last,
                 };
-                let out = self.says(alloc, promise, from)?;
-                self.keep(&rec)?;
-                Ok(out.sent(Dropped::No))
+                self.keep_and_tell(alloc, &rec, promise, from)
             }
-            PrepareAnswer::Nack(bound) => {
-                let refusal = Body::Nack {
-                    position,
-                    ballot,
-                    bound,
-                };
-                Ok(self.says(alloc, refusal, from)?.sent(Dropped::No))
-            }
+            PrepareAnswer::Nack(bound) => self.refuse(alloc, position, ballot, bound, from),
             PrepareAnswer::Silent => Ok(Outbox::new(alloc).sent(Dropped::No)),
         }
     }
@@ -82,21 +81,55 @@ impl<M: Machine, D: Device> Replica<M, D> {
             action,
         };
         match self.acceptor.accept(position, ballot, &action) {
-            AcceptAnswer::Vote { rec } => {
-                let out = self.says(alloc, told, from)?;
-                self.keep(&rec)?;
-                Ok(out.sent(Dropped::No))
-            }
+            AcceptAnswer::Vote { rec } => self.keep_and_tell(alloc, &rec, told, from),
             AcceptAnswer::Again => Ok(self.says(alloc, told, from)?.sent(Dropped::No)),
-            AcceptAnswer::Nack(bound) => {
-                let refusal = Body::Nack {
-                    position,
-                    ballot,
-                    bound,
-                };
-                Ok(self.says(alloc, refusal, from)?.sent(Dropped::No))
-            }
+            AcceptAnswer::Nack(bound) => self.refuse(alloc, position, ballot, bound, from),
             AcceptAnswer::Silent => Ok(Outbox::new(alloc).sent(Dropped::No)),
         }
+    }
+
+    /// Writes a promise or a vote, and tells it to a node.
+    fn keep_and_tell(
+        &mut self,
+        alloc: Global,
+        rec: &Rec,
+        told: Body,
+        to: NodeId,
+    ) -> Result<Sent, Fault>
+        requires working { self.old.failed ≡ false }
+        requires right { IsRightRecord rec.now }
+        requires place { is_in_log self.old.config.max_positions rec.now ≡ true }
+        requires answer { IsAnswer rec.now }
+        requires may { MaySay (Node self.old.me) (Node to) told }
+        ensures ok { IfOk result (λ sent. Turns
+            (writes rec.now self.old.running (says self.old.me told to ∷ []))
+            self.old self.new sent) }
+        ensures err { IfErr result (λ fault. Stops (Some rec.now) self.old self.new fault) }
+    {
+        let out = self.says(alloc, told, to)?;
+        self.keep(rec)?;
+        Ok(out.sent(Dropped::No))
+    }
+
+    /// Tells a node that its ballot lies below the bound.
+    fn refuse(
+        &self,
+        alloc: Global,
+        position: Position,
+        ballot: Ballot,
+        bound: Ballot,
+        to: NodeId,
+    ) -> Result<Sent, Fault>
+        requires { ballot < bound }
+        ensures ok { IfOk result (λ sent. Turns (sends self.now.running
+            (says self.now.me (Nack position ballot bound) to ∷ [])) self.now self.now sent) }
+        ensures only { IsOkUnless result faults.OutOfMemory }
+    {
+        let refusal = Body::Nack {
+            position,
+            ballot,
+            bound,
+        };
+        Ok(self.says(alloc, refusal, to)?.sent(Dropped::No))
     }
 }

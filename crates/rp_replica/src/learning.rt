@@ -1,10 +1,11 @@
 //! An action that is learned (Lamport, "Paxos Made Simple", section 2.3).
 
-ghost use Rattle.std.specs.Prelude.{◌≡◌, ◌+◌, ◌*◌, ◌≤◌, [], Some, length, drop, OnOk, IfErr, false};
+ghost use Rattle.std.specs.Prelude.{◌≡◌, ◌+◌, ◌*◌, ◌≤◌, Some, length, drop, OnOk, IfErr, false};
 ghost use Rattle.rp_base.specs.Action.{IsRight};
 ghost use Rattle.rp_base.specs.declared.action.Action.{Action};
 ghost use Rattle.rp_base.specs.declared.record.Rec.TheVariants.{Learned};
-ghost use Rattle.rp_model.specs.Learner.{learns, missing_position};
+ghost use Rattle.rp_model.specs.Learner.{missing_position};
+ghost use Rattle.rp_replica.specs.Applying.{learns_alone};
 ghost use Rattle.rp_replica.specs.Held.{held_after};
 ghost use Rattle.rp_replica.specs.Packets.{longest_text, with_packets};
 ghost use Rattle.rp_replica.specs.Turning.{Stops};
@@ -31,11 +32,9 @@ impl<M: Machine, D: Device> Replica<M, D> {
         requires right { IsRight action.now }
         requires room { longest_text * length self.old.running.pending ≤ out.old.room }
         ensures learned { OnOk result (self.new ≡ held_after self.old
-            (learns M.next M.answers self.old.begin self.old.me self.old.records self.old.running
-            position action.now [] [])) }
+            (learns_alone M.next M.answers self.old position action.now)) }
         ensures replied { OnOk result (out.new.run ≡ with_packets out.old.run
-            (learns M.next M.answers self.old.begin self.old.me self.old.records self.old.running
-            position action.now [] []).sent) }
+            (learns_alone M.next M.answers self.old position action.now).sent) }
         ensures room { OnOk result (out.old.room
             ≤ out.new.room + longest_text * length self.old.running.pending) }
         ensures err { IfErr result (λ fault.

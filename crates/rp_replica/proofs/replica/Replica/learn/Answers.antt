@@ -1,8 +1,8 @@
-use Rattle.std.proofs.Common.{◌≤◌, [], ap, subst, sym, ◌∙◌}
+use Rattle.std.proofs.Common.{◌≤◌, ap, subst, sym, ◌∙◌}
 use Rattle.std.proofs.lemmas.Bool.{le-leb}
 use Rattle.rp_base.specs.declared.record.Rec.TheVariants.{Learned}
 use Rattle.rp_codec.specs.Record.{record_text}
-use Rattle.rp_model.specs.Learner.{learns}
+use Rattle.rp_replica.specs.Applying.{learns_alone}
 use Rattle.rp_replica.specs.Held.{Held, held_after}
 use Rattle.rp_replica.specs.Packets.{with_packets}
 use Rattle.rp_replica.proofs.Keeping.{tied_refused}
@@ -47,7 +47,7 @@ returns-clause-learned g c =
     c.self.invariant c.in_ok-write.ensures.put c.in_ok-write.ensures.noted c.settled.ensures c.settled-2.ensures.settled c.settle.ensures
     c.in_ok-reserve.ensures.ok c.learn.ensures c.apply_and_reply.ensures.replied c.apply_and_reply.ensures.ordered c.apply_and_reply.ensures.none
     c.settle-2.new.self c.taken_since.result.now c.applied-before.result c.applied-before.ensures.count c.taken_since.ensures c.settle-2.ensures
-    ∙ ap (λ (h : Held g.row.M.Denot). held_after h (learns m.next m.answers h.begin h.me h.records h.running i v [] [])) c.self.view_is
+    ∙ ap (λ (h : Held g.row.M.Denot). held_after h (learns_alone m.next m.answers h i v)) c.self.view_is
 
 pub returns-clause-replied : goal.returns-clause-replied
 returns-clause-replied g c =
@@ -59,4 +59,4 @@ returns-clause-replied g c =
     r.learner c.settled-2.new.self r.heard c.settle.new.self r.log c.reserve.new.self c.learn.new.self c.apply_and_reply.new.log r.machine c.apply_and_reply.new.machine r.pending c.args.out.now c.apply_and_reply.new.out i v
     c.self.invariant c.in_ok-write.ensures.put c.in_ok-write.ensures.noted c.settled.ensures c.settled-2.ensures.settled c.settle.ensures
     c.in_ok-reserve.ensures.ok c.learn.ensures c.apply_and_reply.ensures.replied c.apply_and_reply.ensures.ordered c.apply_and_reply.ensures.none
-    ∙ ap (λ (h : Held g.row.M.Denot). with_packets c.args.out.now.run (learns m.next m.answers h.begin h.me h.records h.running i v [] []).sent) c.self.view_is
+    ∙ ap (λ (h : Held g.row.M.Denot). with_packets c.args.out.now.run (learns_alone m.next m.answers h i v).sent) c.self.view_is

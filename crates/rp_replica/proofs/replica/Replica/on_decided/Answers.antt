@@ -2,7 +2,8 @@ use Rattle.std.proofs.Common.{◌≡◌, None, [], ◌∷◌, ◌++◌, sym, ap,
 use Rattle.rp_base.specs.declared.record.Rec.TheVariants.{Learned}
 use Rattle.rp_base.specs.Records.{learned_at}
 use Rattle.rp_model.specs.declared.part.Turn.{Turn}
-use Rattle.rp_model.specs.Learner.{learns, on_decision, asks_for, missing_position}
+use Rattle.rp_model.specs.Learner.{on_decision, asks_for, missing_position}
+use Rattle.rp_replica.specs.Applying.{learns_alone}
 use Rattle.rp_replica.specs.Held.{Held}
 use Rattle.rp_replica.specs.Packets.{Run, with_packets}
 use Rattle.rp_replica.specs.Turning.{Turns}
@@ -16,7 +17,7 @@ returns-in_ok-learn-in-None-clause-ok g c =
     let i = c.args.position in
     let v = c.args.action in
     let r = c.self.inside in
-    let plain = learns m.next m.answers h.begin h.me h.records h.running i v [] [] in
+    let plain = learns_alone m.next m.answers h i v in
     let unlearned : learned_at h.records i ≡ None =
     ap (λ (k : Held g.row.M.Denot). learned_at k.records i) (sym c.self.view_is) ∙ sym (c.self.invariant.applies.learned i) ∙ sym c.get.ensures ∙ c.in-None.is in
     let behind = asks_for h.me c.args.from (missing_position (h.records ++ Learned i v ∷ [])) in

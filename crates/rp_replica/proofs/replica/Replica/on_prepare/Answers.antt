@@ -6,8 +6,8 @@ use Rattle.rp_model.specs.Parts.{is_in_log}
 use Rattle.rp_replica.proofs.Answering.{IsPromise, promised, right_records, may_report}
 use Rattle.rp_replica.proofs.replica.Replica.on_prepare.Goals as goal
 
-pub says-requires : goal.says-requires
-says-requires g c =
+pub keep_and_tell-requires-clause-may : goal.keep_and_tell-requires-clause-may
+keep_and_tell-requires-clause-may g c =
     let r = c.self.inside in
     let told : IsPromise r.acceptor.records c.args.position c.args.ballot c.in-Promise.last c.in-Promise.rec =
     promised r.acceptor.records c.args.position c.args.ballot c.in-Promise.last c.in-Promise.rec c.in-Promise.ensures.answer in

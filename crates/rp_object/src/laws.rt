@@ -2,10 +2,15 @@
 
 ghost use Rattle.std.specs.Prelude.{◌≡◌, ◌↔◌, ◌++◌, ℕ, ℤ, pos, true, int_le, List, Option, Some, length};
 ghost use Rattle.rp_base.specs.Sets.{Has, IsSet};
+ghost use Rattle.rp_base.specs.Action.{IsRight};
 ghost use Rattle.rp_base.specs.declared.action.Action.{Action};
 ghost use Rattle.rp_entry.specs.Operations.{of_index};
 ghost use Rattle.rp_machine.specs.Calls.{calls_of, AccountsFor};
-ghost use Rattle.rp_object.specs.State.{Running};
+ghost use Rattle.rp_machine.specs.Replay.{replay_state};
+ghost use Rattle.rp_object.specs.declared.program.Declarations.{Declarations};
+ghost use Rattle.rp_object.specs.Program.{IsProgram};
+ghost use Rattle.rp_object.specs.Reached.{IsStateOf};
+ghost use Rattle.rp_object.specs.State.{Running, first_state};
 ghost use Rattle.rp_object.specs.Timers.{due_from, sorted, InOrder};
 ghost use Rattle.rp_object.specs.Step.{objects_next, objects_answers, objects_waiting};
 
@@ -28,4 +33,15 @@ pub fn due_events_are_due()
     ensures due { (clock : ℕ) (timers : List (Option ℤ)) (time : ℤ) (number : ℕ)
         → Has (time, number) (sorted (due_from clock 1 timers))
         ↔ ((of_index timers number ≡ Some (Some time)) × (int_le time (pos clock) ≡ true)) }
+{}
+
+/// Every log of right actions leads to a state of the program: each object has its operations, its
+/// components and their ranges as declared, each value lies in its range, nobody waits at an open
+/// barrier, and no task waits twice.
+pub fn logs_lead_to_states_of_the_program()
+    ensures { (program : Declarations) (actions : List Action)
+        → IsProgram program
+        → ((action : Action) → Has action actions → IsRight action)
+        → IsStateOf program
+        (replay_state objects_next objects_answers (first_state program) actions) }
 {}

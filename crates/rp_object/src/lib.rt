@@ -15,6 +15,8 @@ mod machine;
 mod objects;
 mod program;
 
-pub use laws::{actions_account_for_callers, due_events_are_due};
+pub use laws::{
+    actions_account_for_callers, due_events_are_due, logs_lead_to_states_of_the_program,
+};
 pub use objects::Objects;
 pub use program::{Declarations, Handler, ObjectDeclaration, Program, TimingEvent};

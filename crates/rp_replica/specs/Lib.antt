@@ -6,3 +6,5 @@ pub mod Turning
 pub mod Proposed
 pub mod Opening
 pub mod Standing
+pub mod Inputs
+pub mod Cutting

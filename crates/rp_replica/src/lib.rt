@@ -9,6 +9,9 @@
 //! - `learner`: a replica that is asked what was decided, and hears of votes
 //! - `arrivals`: calls, interrupts and ticks that come, and become pending
 //! - `pending`: the items that wait to be proposed
+//! - `input`: what a replica may be given
+//! - `turn`: a replica that is given any input
+//! - `cut`: a node that stops within a step
 //! - `heard`: the votes that were heard, which memory does not hold
 //! - `sent`: the packets of one step
 //! - `laws`: how the calls stand to the definitions of worlds
@@ -16,7 +19,9 @@
 
 mod acceptor;
 mod arrivals;
+mod cut;
 mod heard;
+mod input;
 mod laws;
 mod leader;
 mod learner;
@@ -25,7 +30,10 @@ mod own_action;
 mod pending;
 mod replica;
 mod sent;
+mod turn;
 
+pub use cut::NotCut;
+pub use input::Input;
 pub use laws::turns_are_effects;
 pub use opening::Opening;
 pub use replica::Replica;

@@ -1,0 +1,59 @@
+-- What a device holds of a node's part, and what a stop within a step leaves of both (this project's own).
+use Rattle.std.specs.Prelude.{◌≡◌, ℕ, false, Option, Some, None, Result, Ok, Err, List, length}
+use Rattle.rp_base.specs.declared.fault.Fault.{Fault}
+use Rattle.rp_base.specs.declared.record.Rec.{Rec}
+use Rattle.rp_codec.specs.Record.{record_text}
+use Rattle.rp_store.specs.Disk.{Disk, appended, stopped, AppendFailed}
+use Rattle.rp_store.specs.Records.{AreRecordsOf}
+use Rattle.rp_model.specs.declared.part.NodePart.{NodePart}
+use Rattle.rp_model.specs.declared.part.Turn.{Turn}
+use Rattle.rp_model.specs.Effect.{cut_part}
+use Rattle.rp_model.specs.Parts.{records_in_log}
+use Rattle.rp_replica.specs.declared.cut.NotCut.{NotCut}
+use Rattle.rp_replica.specs.declared.cut.NotCut.TheVariants.{Failed as DeviceFailed, Refused}
+use Rattle.rp_replica.specs.Held.{Held, part_of}
+use Rattle.rp_replica.specs.Turning.{StopsIf}
+
+-- The device holds the records of the part, and those above the log, which do not count; the torn bytes
+-- stand behind them.
+pub record HoldsPart (most : ℕ) (disk : Disk) (part : NodePart) : Type 0 where
+  pub all : List Rec
+  pub torn : List ℕ
+  pub found : AreRecordsOf disk.contents all torn
+  pub records : part.records ≡ records_in_log most all
+  pub bytes : part.torn ≡ length torn
+
+-- what a device holds that stopped within the write of a record, or of none
+abbrev pub cut_disk : ℕ → Disk → Option Rec → Disk
+cut_disk kept disk None = disk
+cut_disk kept disk (Some rec) = stopped kept (appended (record_text rec) disk)
+
+-- The node stopped within the turn: its device holds so many bytes of the record, if one is written, and so
+-- what a cut leaves of the node's part.
+pub record Cuts {S : Type 0} (turn : Turn) (kept : ℕ) (old : Held S) (disk : Disk) : Type 0 where
+  pub disk_is : disk ≡ cut_disk kept old.disk turn.written
+  pub holds : HoldsPart old.config.max_positions disk (cut_part kept (part_of old) turn.written)
+  pub working : old.failed ≡ false
+
+-- the device failed while the record was written: it holds some cut of the turn
+pub record FailsInCut {S : Type 0} (written : Option Rec) (old : Held S) (disk : Disk) : Type 0 where
+  pub rec : Rec
+  pub is : written ≡ Some rec
+  pub disk_is : AppendFailed (record_text rec) old.disk disk
+  pub holds : (kept : ℕ) × HoldsPart old.config.max_positions disk (cut_part kept (part_of old) written)
+  pub working : old.failed ≡ false
+
+-- the node stopped within what an input comes to
+abbrev pub CutsIf : {S : Type 0} → Result Turn Fault → ℕ → Held S → Disk → Type 0
+CutsIf (Ok turn) kept old disk = Cuts turn kept old disk
+CutsIf (Err refusal) kept old disk = ⊥
+
+abbrev pub FailsInCutIf : {S : Type 0} → Result Turn Fault → Held S → Disk → Type 0
+FailsInCutIf (Ok turn) old disk = FailsInCut turn.written old disk
+FailsInCutIf (Err refusal) old disk = ⊥
+
+-- why it is not cut, and what that leaves: the device alone where it failed, else the replica as it was,
+-- for the reasons of a turn
+abbrev pub IsNotCut : {S D P : Type 0} → (D → Disk) → Result Turn Fault → Held S → NotCut S D P → Type 0
+IsNotCut disk effect old (DeviceFailed device) = FailsInCutIf effect old (disk device)
+IsNotCut disk effect old (Refused fault new) = StopsIf effect old new fault × (new ≡ old)

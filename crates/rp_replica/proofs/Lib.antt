@@ -9,3 +9,6 @@ pub mod Starting
 pub mod Hearing
 pub mod Beginning
 pub mod Choosing
+pub mod FreePlaces
+pub mod Leading
+pub mod Reporting

@@ -59,7 +59,7 @@ impl<M: Machine, D: Device> Replica<M, D> {
     }
 
     /// Whether an action is learned at the position.
-    fn is_learned(&self, position: Position) -> bool
+    pub(crate) fn is_learned(&self, position: Position) -> bool
         ensures { result ≡ is_some (learned_at self.now.records position) }
     {
         self.log.get(position).is_some()

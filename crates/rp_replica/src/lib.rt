@@ -5,12 +5,14 @@
 //! - `opening`: a replica that is opened over a device
 //! - `acceptor`: a replica that is asked for a promise or a vote
 //! - `leader`: a replica that leads, and what it makes of promises and refusals
+//! - `lead`: the word to lead, at a position or at the least free one
 //! - `own_action`: what a proposal takes as its own action
 //! - `learner`: a replica that is asked what was decided, and hears of votes
 //! - `arrivals`: calls, interrupts and ticks that come, and become pending
 //! - `pending`: the items that wait to be proposed
 //! - `input`: what a replica may be given
 //! - `turn`: a replica that is given any input
+//! - `report`: a replica that tells the audit what it has applied
 //! - `cut`: a node that stops within a step
 //! - `heard`: the votes that were heard, which memory does not hold
 //! - `sent`: the packets of one step
@@ -23,12 +25,14 @@ mod cut;
 mod heard;
 mod input;
 mod laws;
+mod lead;
 mod leader;
 mod learner;
 mod opening;
 mod own_action;
 mod pending;
 mod replica;
+mod report;
 mod sent;
 mod turn;
 

@@ -12,3 +12,4 @@ pub mod Choosing
 pub mod FreePlaces
 pub mod Leading
 pub mod Reporting
+pub mod Wanting

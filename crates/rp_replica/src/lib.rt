@@ -13,6 +13,7 @@
 //! - `input`: what a replica may be given
 //! - `turn`: a replica that is given any input
 //! - `report`: a replica that tells the audit what it has applied
+//! - `receiving`: a replica that is given the text of a packet
 //! - `cut`: a node that stops within a step
 //! - `heard`: the votes that were heard, which memory does not hold
 //! - `sent`: the packets of one step
@@ -28,9 +29,11 @@ mod laws;
 mod lead;
 mod leader;
 mod learner;
+mod learning_stub;
 mod opening;
 mod own_action;
 mod pending;
+mod receiving;
 mod replica;
 mod report;
 mod sent;

@@ -13,15 +13,23 @@ use rp_store::Device;
 use std::alloc::Global;
 
 impl<M: Machine, D: Device> Replica<M, D> {
-    /// One step of the node, by an input.
+    /// One step of the node: at most one record is written, and the packets are given out once it is
+    /// stable. Refused with 4 where the bytes of a packet are none's text, with 6 or 7 where the node
+    /// cannot lead, with 1 where memory ran out: then nothing has changed. After 2 the device failed,
+    /// and each further step is refused with 3.
     pub fn turn(&mut self, alloc: Global, input: &Input) -> Result<Sent, Fault>
-        requires stub { ⊥ }
         requires right { IsRightInput input.now }
         ensures ok { IfOk result (λ sent. TurnsIf
             (input_effect M.next M.answers self.old input.now) self.old self.new sent) }
         ensures err { IfErr result (λ fault. StopsIf
             (input_effect M.next M.answers self.old input.now) self.old self.new fault) }
     {
-        Err(Fault::Failed)
+        match *input {
+            Input::Receive(bytes) => self.receive(alloc, bytes),
+            Input::Lead(choice) => self.lead(alloc, choice),
+            Input::Interrupt { source, occurrence } => self.interrupt(alloc, source, occurrence),
+            Input::Tick { now } => self.tick(alloc, now),
+            Input::Report(first) => self.report(alloc, first),
+        }
     }
 }

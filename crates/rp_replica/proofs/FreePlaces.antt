@@ -139,10 +139,13 @@ module _ (records : List Rec) (proposals : List Proposal) where
           → (is_free_position records proposals (cond b i (free_from records proposals most (suc i))) ≡ true) ⊎ ((cond b i (free_from records proposals most (suc i)) ≡ i + suc most) × NoneFree records proposals i (i + suc most))
       by true free rest = inl free
       by false taken (inl free) = inl free
-      by false taken (inr (at, none)) = inr (omega (arith, at), λ j low high. elim (cases_lt i j) [
-        | inl above ↦ none j (omega arith) (omega arith)
-        | inr past ↦ let same : i ≡ j = omega arith in subst (λ (p : ℕ). is_free_position records proposals p ≡ false) same taken
-      ])
+      by false taken (inr (at, none)) = inr (
+        omega (arith, at),
+        λ j low high. elim (cases_lt i j) [
+          | inl above ↦ none j (omega arith) (omega arith)
+          | inr past ↦ let same : i ≡ j = omega arith in subst (λ (p : ℕ). is_free_position records proposals p ≡ false) same taken
+        ],
+      )
 
   -- the least free position is free
   pub least_free_is_free : is_free_position records proposals (least_free records proposals) ≡ true

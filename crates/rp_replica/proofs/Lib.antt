@@ -13,3 +13,4 @@ pub mod FreePlaces
 pub mod Leading
 pub mod Reporting
 pub mod Wanting
+pub mod Cuts

@@ -1,14 +1,14 @@
 -- What a device holds of a node's part, and what a stop within a step leaves of both (this project's own).
-use Rattle.std.specs.Prelude.{◌≡◌, ℕ, false, Option, Some, None, Result, Ok, Err, List, length}
+use Rattle.std.specs.Prelude.{◌≡◌, ℕ, false, true, IfSome, Option, Some, None, Result, Ok, Err, List, length}
 use Rattle.rp_base.specs.declared.fault.Fault.{Fault}
 use Rattle.rp_base.specs.declared.record.Rec.{Rec}
-use Rattle.rp_codec.specs.Record.{record_text}
+use Rattle.rp_codec.specs.Record.{IsRecord, record_text}
 use Rattle.rp_store.specs.Disk.{Disk, appended, stopped, AppendFailed}
 use Rattle.rp_store.specs.Records.{AreRecordsOf}
 use Rattle.rp_model.specs.declared.part.NodePart.{NodePart}
 use Rattle.rp_model.specs.declared.part.Turn.{Turn}
 use Rattle.rp_model.specs.Effect.{cut_part}
-use Rattle.rp_model.specs.Parts.{records_in_log}
+use Rattle.rp_model.specs.Parts.{is_in_log, records_in_log}
 use Rattle.rp_replica.specs.declared.cut.NotCut.{NotCut}
 use Rattle.rp_replica.specs.declared.cut.NotCut.TheVariants.{Failed as DeviceFailed, Refused}
 use Rattle.rp_replica.specs.Held.{Held, part_of}
@@ -22,6 +22,15 @@ pub record HoldsPart (most : ℕ) (disk : Disk) (part : NodePart) : Type 0 where
   pub found : AreRecordsOf disk.contents all torn
   pub records : part.records ≡ records_in_log most all
   pub bytes : part.torn ≡ length torn
+
+-- the record that a turn writes first, or why there is no turn
+abbrev pub written_if : Result Turn Fault → Result (Option Rec) Fault
+written_if (Ok turn) = Ok turn.written
+written_if (Err refusal) = Err refusal
+
+-- no record, or one that is within its ranges and at a position of the log or at none
+abbrev pub MayWrite : ℕ → Option Rec → Type 0
+MayWrite most written = IfSome written (λ rec. IsRecord rec × (is_in_log most rec ≡ true))
 
 -- what a device holds that stopped within the write of a record, or of none
 abbrev pub cut_disk : ℕ → Disk → Option Rec → Disk

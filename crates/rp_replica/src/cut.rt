@@ -1,14 +1,20 @@
 //! A node that stops within a step.
 
-ghost use Rattle.std.specs.Prelude.{◌≡◌, IfOk, IfErr};
-ghost use Rattle.rp_replica.specs.Cutting.{CutsIf, IsNotCut};
+ghost use Rattle.std.specs.Prelude.{◌≡◌, Ok, Some, IfOk, IfErr, IfSome, false, true};
+ghost use Rattle.rp_base.specs.Right.{IsRightRecord};
+ghost use Rattle.rp_codec.specs.Record.{IsRecord, record_text};
+ghost use Rattle.rp_model.specs.Effect.{cut_part};
+ghost use Rattle.rp_model.specs.Parts.{is_in_log};
+ghost use Rattle.rp_replica.specs.Cutting.{CutsIf, HoldsPart, IsNotCut, cut_disk, written_if};
+ghost use Rattle.rp_replica.specs.Held.{part_of};
 ghost use Rattle.rp_replica.specs.Inputs.{IsRightInput, input_effect};
+ghost use Rattle.rp_replica.specs.Turning.{StopsIf};
 
 use crate::input::Input;
 use crate::replica::Replica;
-use rp_base::Fault;
+use rp_base::{Fault, Rec};
 use rp_machine::Machine;
-use rp_store::{CutDevice, Device};
+use rp_store::{CutDevice, Device, NotTorn};
 use std::alloc::Global;
 
 /// A step that was not cut short.
@@ -25,13 +31,61 @@ impl<M: Machine, D: CutDevice> Replica<M, D> {
     /// the device stops with the first `kept` bytes of it, or all if there are no more. Nothing is
     /// sent. A step that writes no record leaves the device as it is.
     pub fn torn(self, alloc: Global, input: &Input, kept: u64) -> Result<D, NotCut<M, D>>
-        requires stub { ⊥ }
         requires right { IsRightInput input.now }
         ensures ok { IfOk result (λ device. CutsIf
             (input_effect M.next M.answers self input.now) kept self (D.disk device)) }
         ensures err { IfErr result (λ refused. IsNotCut D.disk
             (input_effect M.next M.answers self input.now) self refused) }
     {
-        Err(NotCut::Refused(Fault::Failed, self))
+        match self.record_of(alloc, input) {
+            Ok(Some(rec)) => self.tear(&rec, kept),
+            Ok(None) => Ok(self.close()),
+            Err(fault) => Err(NotCut::Refused(fault, self)),
+        }
+    }
+}
+
+impl<M: Machine, D: CutDevice> Replica<M, D> {
+    /// The node stops within the write of this record.
+    fn tear(self, rec: &Rec, kept: u64) -> Result<D, NotCut<M, D>>
+        requires working { self.failed ≡ false }
+        requires right { MayWrite self.config.max_positions (Some rec.now) }
+        ensures disk { IfOk result (λ device. D.disk device
+            ≡ cut_disk kept self.disk (Some rec.now)) }
+        ensures holds { IfOk result (λ device. HoldsPart self.config.max_positions (D.disk device)
+            (cut_part kept (part_of self) (Some rec.now))) }
+        ensures err { IfErr result (λ refused. IsNotTorn D.disk rec.now self refused) }
+    {
+        let Replica {
+            me,
+            config,
+            store,
+            acceptor,
+            proposer,
+            learner,
+            heard,
+            log,
+            machine,
+            pending,
+        } = self;
+        match store.tear(rec, kept) {
+            Ok(device) => Ok(device),
+            Err(NotTorn::Failed(device)) => Err(NotCut::Failed(device)),
+            Err(NotTorn::Refused(fault, store)) => Err(NotCut::Refused(
+                fault,
+                Replica {
+                    me,
+                    config,
+                    store,
+                    acceptor,
+                    proposer,
+                    learner,
+                    heard,
+                    log,
+                    machine,
+                    pending,
+                },
+            )),
+        }
     }
 }

@@ -54,7 +54,7 @@ impl<M: Machine, D: Device> Replica<M, D> {
 
     /// The least free position, where it is within reach. It looks at 64 positions at most: below the
     /// first unlearned one none is free.
-    fn least_free(&self) -> Option<Position>
+    pub(crate) fn least_free(&self) -> Option<Position>
         ensures some { IfSome result (λ position. position
             ≡ least_free self.now.records self.now.running.proposals) }
         ensures none { IfNone result (is_out_of_reach self.now.config.max_positions self.now.records

@@ -14,6 +14,7 @@
 //! - `turn`: a replica that is given any input
 //! - `report`: a replica that tells the audit what it has applied
 //! - `receiving`: a replica that is given the text of a packet
+//! - `written`: the record that a step writes, asked for without taking the step
 //! - `cut`: a node that stops within a step
 //! - `heard`: the votes that were heard, which memory does not hold
 //! - `sent`: the packets of one step
@@ -38,6 +39,7 @@ mod replica;
 mod report;
 mod sent;
 mod turn;
+mod written;
 
 pub use cut::NotCut;
 pub use input::Input;

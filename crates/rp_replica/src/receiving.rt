@@ -177,7 +177,7 @@ fn owns(party: Party, ballot: Ballot) -> bool
 }
 
 /// Whether the packet is for this node, and keeps to the configuration.
-fn is_for_node(config: Config, me: NodeId, packet: &Packet) -> bool
+pub(crate) fn is_for_node(config: Config, me: NodeId, packet: &Packet) -> bool
     ensures { result ≡ is_for_node config me packet.now }
 {
     is_node(me, packet.to())

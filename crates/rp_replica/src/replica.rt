@@ -79,7 +79,7 @@ impl<M: Machine, D: Device> Model for Replica<M, D> {
 }
 
 /// Shows that each position and each ballot of a record is within its range.
-fn record_in_range(rec: &Rec)
+pub(crate) fn record_in_range(rec: &Rec)
     ensures { HasRecordRanges rec.now }
 {
     match rec {

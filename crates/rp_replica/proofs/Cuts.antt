@@ -1,0 +1,81 @@
+-- What a stop within the write of a record leaves.
+use Rattle.std.proofs.Common.{◌≡◌, ℕ, zero, suc, ◌+◌, ◌<◌, ◌≤◌, Bool, true, false, if◌then◌else◌, cond, Option, Some, None, List, [], ◌∷◌, ◌++◌, length, take, refl, sym, ap, subst, ◌∙◌, arith, inl, inr}
+use Rattle.std.specs.Prelude.{nat_le}
+use Rattle.std.specs.List.{AllByRecursion}
+use Rattle.std.proofs.lemmas.Bool.{cases_lt, le-leb, lt-leb}
+use Rattle.std.proofs.lemmas.List.{append-nil}
+use Rattle.rp_base.specs.declared.record.Rec.{Rec}
+use Rattle.rp_codec.specs.Record.{record_text, IsRecord}
+use Rattle.rp_store.specs.Disk.{Disk, appended, stopped, AppendFailed}
+use Rattle.rp_store.specs.Records.{records_text, AreRecordsOf}
+use Rattle.rp_store.proofs.Whole.{before_put, after_put, only_records}
+use Rattle.rp_model.specs.declared.part.NodePart.{NodePart}
+use Rattle.rp_model.specs.declared.part.Running.{Running}
+use Rattle.rp_model.specs.Effect.{cut_part}
+use Rattle.rp_model.specs.Parts.{is_in_log, records_in_log}
+use Rattle.rp_replica.specs.Tied.{IsOnDisk}
+use Rattle.rp_replica.specs.Cutting.{HoldsPart}
+use Rattle.rp_replica.proofs.Keeping.{counts_more}
+
+no_bytes : (torn : List ℕ) → 0 ≡ length torn → torn ≡ []
+no_bytes [] e = refl
+no_bytes (b ∷ torn) e = absurd (omega (arith, e))
+
+taken_all : (n : ℕ) (bytes : List ℕ) → n ≤ length bytes → length (take n bytes) ≡ n
+taken_all zero bytes within = refl
+taken_all (suc n) [] within = absurd (omega arith)
+taken_all (suc n) (b ∷ bytes) within = ap suc (taken_all n bytes (omega arith))
+
+-- the device of a replica that works holds its part
+pub holds_now : (most : ℕ) (disk : Disk) (records : List Rec) (running : Option Running) → IsOnDisk most disk false records
+    → HoldsPart most disk (record { records = records; torn = 0; running = running })
+holds_now most disk records running d =
+    let text : disk.contents ≡ records_text d.all = d.contents ∙ ap (λ (t : List ℕ). records_text d.all ++ t) (d.whole refl) ∙ append-nil (records_text d.all) in
+    record {
+      all = d.all;
+      torn = [];
+      found = subst (λ (contents : List ℕ). AreRecordsOf contents d.all []) (sym text) (only_records d.all d.each);
+      records = d.counted;
+      bytes = refl;
+    }
+
+module _ (most kept : ℕ) (part : NodePart) (rec : Rec) where
+  cut_by : (b : Bool) → nat_le (length (record_text rec)) kept ≡ b → cut_part kept part (Some rec) ≡ cond b (record part { records = part.records ++ rec ∷ []; running = None }) (record part { torn = kept; running = None })
+  cut_by true whole = ap (λ (b : Bool). cond b (record part { records = part.records ++ rec ∷ []; running = None }) (record part { torn = kept; running = None })) whole
+  cut_by false part-of = ap (λ (b : Bool). cond b (record part { records = part.records ++ rec ∷ []; running = None }) (record part { torn = kept; running = None })) part-of
+
+  -- some bytes of the record stand behind the others
+  pub cut_holds : (disk after : Disk) → HoldsPart most disk part → part.torn ≡ 0 → IsRecord rec → is_in_log most rec ≡ true → after.contents ≡ disk.contents ++ take kept (record_text rec)
+      → HoldsPart most after (cut_part kept part (Some rec))
+  cut_holds disk after h untorn right in_log is =
+      let none : h.torn ≡ [] = no_bytes h.torn (sym untorn ∙ h.bytes) in
+      let text : disk.contents ≡ records_text h.all = h.found.whole ∙ ap (λ (t : List ℕ). records_text h.all ++ t) none ∙ append-nil (records_text h.all) in
+      let contents : after.contents ≡ records_text h.all ++ take kept (record_text rec) = is ∙ ap (λ (t : List ℕ). t ++ take kept (record_text rec)) text in
+      elim (cases_lt kept (length (record_text rec))) [
+        | inl less ↦
+            subst (HoldsPart most after) (sym (cut_by false (lt-leb (length (record_text rec)) kept less)))
+            (record {
+              all = h.all;
+              torn = take kept (record_text rec);
+              found = subst (λ (t : List ℕ). AreRecordsOf t h.all (take kept (record_text rec))) (sym contents) (before_put h.all rec kept h.found.each right less);
+              records = h.records;
+              bytes = sym (taken_all kept (record_text rec) (omega arith));
+            })
+        | inr whole ↦
+            subst (HoldsPart most after) (sym (cut_by true (le-leb (length (record_text rec)) kept whole)))
+            (record {
+              all = h.all ++ rec ∷ [];
+              torn = [];
+              found = subst (λ (t : List ℕ). AreRecordsOf t (h.all ++ rec ∷ []) []) (sym contents) (after_put h.all rec kept h.found.each right whole);
+              records = ap (λ (rs : List Rec). rs ++ rec ∷ []) h.records ∙ counts_more most h.all rec in_log;
+              bytes = untorn;
+            })
+      ]
+
+-- what a stop leaves of contents that were all stable
+pub stopped_contents : (kept : ℕ) (text : List ℕ) (disk : Disk) → disk.stable ≡ length disk.contents → (stopped kept (appended text disk)).contents ≡ disk.contents ++ take kept text
+stopped_contents kept text disk stable = ap (λ (n : ℕ). take (n + kept) (disk.contents ++ text)) stable ∙ passed disk.contents
+  where
+    passed : (xs : List ℕ) → take (length xs + kept) (xs ++ text) ≡ xs ++ take kept text
+    passed [] = refl
+    passed (x ∷ xs) = ap (λ (ys : List ℕ). x ∷ ys) (passed xs)

@@ -11,10 +11,11 @@ use Rattle.rp_store.specs.Records.{records_text, AreRecordsOf}
 use Rattle.rp_store.proofs.Whole.{before_put, after_put, only_records}
 use Rattle.rp_model.specs.declared.part.NodePart.{NodePart}
 use Rattle.rp_model.specs.declared.part.Running.{Running}
-use Rattle.rp_model.specs.Effect.{cut_part}
+use Rattle.rp_model.specs.Effect.{cut_part, stop_part}
 use Rattle.rp_model.specs.Parts.{is_in_log, records_in_log}
 use Rattle.rp_replica.specs.Tied.{IsOnDisk}
-use Rattle.rp_replica.specs.Cutting.{HoldsPart}
+use Rattle.rp_replica.specs.Held.{Held, part_of}
+use Rattle.rp_replica.specs.Cutting.{HoldsPart, MayWrite, Cuts, FailsInCut}
 use Rattle.rp_replica.proofs.Keeping.{counts_more}
 
 no_bytes : (torn : List ℕ) → 0 ≡ length torn → torn ≡ []
@@ -77,5 +78,51 @@ pub stopped_contents : (kept : ℕ) (text : List ℕ) (disk : Disk) → disk.sta
 stopped_contents kept text disk stable = ap (λ (n : ℕ). take (n + kept) (disk.contents ++ text)) stable ∙ passed disk.contents
   where
     passed : (xs : List ℕ) → take (length xs + kept) (xs ++ text) ≡ xs ++ take kept text
-    passed [] = refl
-    passed (x ∷ xs) = ap (λ (ys : List ℕ). x ∷ ys) (passed xs)
+    passed [] = let here : 0 + kept ≡ kept = omega arith in ap (λ (n : ℕ). take n text) here
+    passed (x ∷ xs) =
+        let more : length (x ∷ xs) + kept ≡ suc (length xs + kept) = omega arith in
+        ap (λ (n : ℕ). take n (x ∷ xs ++ text)) more ∙ ap (λ (ys : List ℕ). x ∷ ys) (passed xs)
+
+-- ---- a replica
+
+module _ {S : Type 0} (held : Held S) (stands : IsOnDisk held.config.max_positions held.disk held.failed held.records) (working : held.failed ≡ false) where
+  works : IsOnDisk held.config.max_positions held.disk false held.records
+  works = subst (λ (f : Bool). IsOnDisk held.config.max_positions held.disk f held.records) working stands
+
+  pub held_now : HoldsPart held.config.max_positions held.disk (part_of held)
+  held_now = holds_now held.config.max_positions held.disk held.records (Some held.running) works
+
+  -- it stops within the write of a record
+  pub torn_cuts : (kept : ℕ) (rec : Rec) (after : Disk) → MayWrite held.config.max_positions (Some rec) → after ≡ stopped kept (appended (record_text rec) held.disk) → Cuts (Some rec) kept held after
+  torn_cuts kept rec after may is = record {
+    disk_is = is;
+    holds = cut_holds held.config.max_positions kept (part_of held) rec held.disk after held_now refl may.0 may.1
+        (ap (λ (d : Disk). d.contents) is ∙ stopped_contents kept (record_text rec) held.disk (works.stable refl));
+    working = working;
+  }
+
+  -- its device fails there
+  pub failure_cuts : (rec : Rec) (after : Disk) → MayWrite held.config.max_positions (Some rec) → AppendFailed (record_text rec) held.disk after
+      → (kept : ℕ) × HoldsPart held.config.max_positions after (cut_part kept (part_of held) (Some rec))
+  failure_cuts rec after may failed =
+      let kept = failed.contents.0 in
+      (kept, cut_holds held.config.max_positions kept (part_of held) rec held.disk after held_now refl may.0 may.1 failed.contents.1)
+
+  pub torn_fails : (rec : Rec) (after : Disk) → MayWrite held.config.max_positions (Some rec) → AppendFailed (record_text rec) held.disk after → FailsInCut (Some rec) held after
+  torn_fails rec after may failed = record {
+    rec = rec;
+    is = refl;
+    disk_is = failed;
+    holds = failure_cuts rec after may failed;
+    working = working;
+  }
+
+-- a stop leaves what the device holds
+pub stop_holds : (most : ℕ) (disk : Disk) (part : NodePart) → HoldsPart most disk part → HoldsPart most disk (stop_part part)
+stop_holds most disk part h = record {
+  all = h.all;
+  torn = h.torn;
+  found = h.found;
+  records = h.records;
+  bytes = h.bytes;
+}

@@ -12,7 +12,7 @@ use Rattle.rp_model.specs.Parts.{is_in_log, records_in_log}
 use Rattle.rp_replica.specs.declared.cut.NotCut.{NotCut}
 use Rattle.rp_replica.specs.declared.cut.NotCut.TheVariants.{Failed as DeviceFailed, Refused}
 use Rattle.rp_replica.specs.Held.{Held, part_of}
-use Rattle.rp_replica.specs.Turning.{StopsIf}
+use Rattle.rp_replica.specs.Turning.{Stops, IsRefused}
 
 -- The device holds the records of the part, and those above the log, which do not count; the torn bytes
 -- stand behind them.
@@ -37,11 +37,11 @@ abbrev pub cut_disk : ℕ → Disk → Option Rec → Disk
 cut_disk kept disk None = disk
 cut_disk kept disk (Some rec) = stopped kept (appended (record_text rec) disk)
 
--- The node stopped within the turn: its device holds so many bytes of the record, if one is written, and so
--- what a cut leaves of the node's part.
-pub record Cuts {S : Type 0} (turn : Turn) (kept : ℕ) (old : Held S) (disk : Disk) : Type 0 where
-  pub disk_is : disk ≡ cut_disk kept old.disk turn.written
-  pub holds : HoldsPart old.config.max_positions disk (cut_part kept (part_of old) turn.written)
+-- The node stopped within a turn that writes this record, or none: its device holds so many bytes of it, and
+-- so what a cut leaves of the node's part.
+pub record Cuts {S : Type 0} (written : Option Rec) (kept : ℕ) (old : Held S) (disk : Disk) : Type 0 where
+  pub disk_is : disk ≡ cut_disk kept old.disk written
+  pub holds : HoldsPart old.config.max_positions disk (cut_part kept (part_of old) written)
   pub working : old.failed ≡ false
 
 -- the device failed while the record was written: it holds some cut of the turn
@@ -52,17 +52,18 @@ pub record FailsInCut {S : Type 0} (written : Option Rec) (old : Held S) (disk :
   pub holds : (kept : ℕ) × HoldsPart old.config.max_positions disk (cut_part kept (part_of old) written)
   pub working : old.failed ≡ false
 
+-- why the turn is not cut, and what that leaves: the device alone where it failed, else the replica as it was
+abbrev pub IsNotCut : {S D P : Type 0} → (D → Disk) → Option Rec → Held S → NotCut S D P → Type 0
+IsNotCut disk written old (DeviceFailed device) = FailsInCut written old (disk device)
+IsNotCut disk written old (Refused fault new) = Stops written old new fault × (new ≡ old)
+
 -- the node stopped within what an input comes to
 abbrev pub CutsIf : {S : Type 0} → Result Turn Fault → ℕ → Held S → Disk → Type 0
-CutsIf (Ok turn) kept old disk = Cuts turn kept old disk
+CutsIf (Ok turn) kept old disk = Cuts turn.written kept old disk
 CutsIf (Err refusal) kept old disk = ⊥
 
-abbrev pub FailsInCutIf : {S : Type 0} → Result Turn Fault → Held S → Disk → Type 0
-FailsInCutIf (Ok turn) old disk = FailsInCut turn.written old disk
-FailsInCutIf (Err refusal) old disk = ⊥
-
--- why it is not cut, and what that leaves: the device alone where it failed, else the replica as it was,
--- for the reasons of a turn
-abbrev pub IsNotCut : {S D P : Type 0} → (D → Disk) → Result Turn Fault → Held S → NotCut S D P → Type 0
-IsNotCut disk effect old (DeviceFailed device) = FailsInCutIf effect old (disk device)
-IsNotCut disk effect old (Refused fault new) = StopsIf effect old new fault × (new ≡ old)
+-- why what an input comes to is not cut
+abbrev pub IsNotCutIf : {S D P : Type 0} → (D → Disk) → Result Turn Fault → Held S → NotCut S D P → Type 0
+IsNotCutIf disk (Ok turn) old refused = IsNotCut disk turn.written old refused
+IsNotCutIf disk (Err refusal) old (DeviceFailed device) = ⊥
+IsNotCutIf disk (Err refusal) old (Refused fault new) = IsRefused refusal old new fault

@@ -1,14 +1,8 @@
 //! A node that stops within a step.
 
-ghost use Rattle.std.specs.Prelude.{◌≡◌, Ok, Some, IfOk, IfErr, IfSome, false, true};
-ghost use Rattle.rp_base.specs.Right.{IsRightRecord};
-ghost use Rattle.rp_codec.specs.Record.{IsRecord, record_text};
-ghost use Rattle.rp_model.specs.Effect.{cut_part};
-ghost use Rattle.rp_model.specs.Parts.{is_in_log};
-ghost use Rattle.rp_replica.specs.Cutting.{CutsIf, HoldsPart, IsNotCut, cut_disk, written_if};
-ghost use Rattle.rp_replica.specs.Held.{part_of};
+ghost use Rattle.std.specs.Prelude.{◌≡◌, Some, IfOk, IfErr, false};
+ghost use Rattle.rp_replica.specs.Cutting.{Cuts, CutsIf, IsNotCut, IsNotCutIf, MayWrite};
 ghost use Rattle.rp_replica.specs.Inputs.{IsRightInput, input_effect};
-ghost use Rattle.rp_replica.specs.Turning.{StopsIf};
 
 use crate::input::Input;
 use crate::replica::Replica;
@@ -34,7 +28,7 @@ impl<M: Machine, D: CutDevice> Replica<M, D> {
         requires right { IsRightInput input.now }
         ensures ok { IfOk result (λ device. CutsIf
             (input_effect M.next M.answers self input.now) kept self (D.disk device)) }
-        ensures err { IfErr result (λ refused. IsNotCut D.disk
+        ensures err { IfErr result (λ refused. IsNotCutIf D.disk
             (input_effect M.next M.answers self input.now) self refused) }
     {
         match self.record_of(alloc, input) {
@@ -50,11 +44,8 @@ impl<M: Machine, D: CutDevice> Replica<M, D> {
     fn tear(self, rec: &Rec, kept: u64) -> Result<D, NotCut<M, D>>
         requires working { self.failed ≡ false }
         requires right { MayWrite self.config.max_positions (Some rec.now) }
-        ensures disk { IfOk result (λ device. D.disk device
-            ≡ cut_disk kept self.disk (Some rec.now)) }
-        ensures holds { IfOk result (λ device. HoldsPart self.config.max_positions (D.disk device)
-            (cut_part kept (part_of self) (Some rec.now))) }
-        ensures err { IfErr result (λ refused. IsNotTorn D.disk rec.now self refused) }
+        ensures ok { IfOk result (λ device. Cuts (Some rec.now) kept self (D.disk device)) }
+        ensures err { IfErr result (λ refused. IsNotCut D.disk (Some rec.now) self refused) }
     {
         let Replica {
             me,

@@ -2,7 +2,7 @@
 
 ghost use Rattle.std.specs.Prelude.{◌≡◌, nat_eq, IfOk, IfErr, false, true};
 ghost use Rattle.rp_base.specs.Ballot.{owner_of};
-ghost use Rattle.rp_codec.specs.Message.{IsNodeParty};
+ghost use Rattle.rp_codec.specs.Message.{IsNodeParty, IsPacket};
 ghost use Rattle.rp_codec.specs.Reading.{all_of};
 ghost use Rattle.rp_codec.specs.declared.packet.Party.TheVariants.{Node};
 ghost use Rattle.rp_model.specs.Receiving.{is_for_node, is_allowed, is_node, is_no_node_above, party_number, on_body, receives};
@@ -178,7 +178,8 @@ fn owns(party: Party, ballot: Ballot) -> bool
 
 /// Whether the packet is for this node, and keeps to the configuration.
 pub(crate) fn is_for_node(config: Config, me: NodeId, packet: &Packet) -> bool
-    ensures { result ≡ is_for_node config me packet.now }
+    ensures told { result ≡ is_for_node config me packet.now }
+    ensures packet { result ≡ true → IsPacket packet.now }
 {
     is_node(me, packet.to())
         && is_no_node_above(config.nodes, packet.from())

@@ -73,10 +73,10 @@ impl<M: Machine, D: Device> Replica<M, D> {
         if !is_for_node(self.config, self.me, packet) {
             return None;
         }
-        match packet.from() {
-            Party::Node(from) => self.record_between_nodes(from, packet),
-            Party::Task(_) | Party::Audit => None,
-        }
+        let Party::Node(from) = packet.from() else {
+            return None;
+        };
+        self.record_between_nodes(from, packet)
     }
 
     /// That of a packet from a node to this one.

@@ -1,6 +1,7 @@
 -- What a stop within the write of a record leaves.
 use Rattle.std.proofs.Common.{◌≡◌, ℕ, zero, suc, ◌+◌, ◌<◌, ◌≤◌, Bool, true, false, if◌then◌else◌, cond, Option, Some, None, List, [], ◌∷◌, ◌++◌, length, take, refl, sym, ap, subst, ◌∙◌, arith, inl, inr}
-use Rattle.std.specs.Prelude.{nat_le}
+use Rattle.std.specs.Prelude.{Result, Ok, Err, OnErr, IfErr, nat_le}
+use Rattle.std.specs.Result.{IsErrAnd}
 use Rattle.std.specs.List.{AllByRecursion}
 use Rattle.std.proofs.lemmas.Bool.{cases_lt, le-leb, lt-leb}
 use Rattle.std.proofs.lemmas.List.{append-nil}
@@ -8,6 +9,10 @@ use Rattle.rp_base.specs.declared.record.Rec.{Rec}
 use Rattle.rp_codec.specs.Record.{record_text, IsRecord}
 use Rattle.rp_store.specs.Disk.{Disk, appended, stopped, AppendFailed}
 use Rattle.rp_store.specs.Records.{records_text, AreRecordsOf}
+use Rattle.rp_store.specs.Stored.{Stored, IsNotPut}
+use Rattle.rp_base.specs.declared.config.Config.{Config}
+use Rattle.rp_base.specs.declared.fault.Fault.{Fault}
+use Rattle.rp_base.specs.declared.fault.Fault.TheVariants.{OutOfMemory, Device, Failed}
 use Rattle.rp_store.proofs.Whole.{before_put, after_put, only_records}
 use Rattle.rp_model.specs.declared.part.NodePart.{NodePart}
 use Rattle.rp_model.specs.declared.part.Running.{Running}
@@ -15,7 +20,9 @@ use Rattle.rp_model.specs.Effect.{cut_part, stop_part}
 use Rattle.rp_model.specs.Parts.{is_in_log, records_in_log}
 use Rattle.rp_replica.specs.Tied.{IsOnDisk}
 use Rattle.rp_replica.specs.Held.{Held, part_of}
-use Rattle.rp_replica.specs.Cutting.{HoldsPart, MayWrite, Cuts, FailsInCut}
+use Rattle.rp_replica.specs.Kept.{HoldsPart}
+use Rattle.rp_replica.specs.Turning.{Stops}
+use Rattle.rp_replica.specs.Cutting.{MayWrite, Cuts, FailsInCut}
 use Rattle.rp_replica.proofs.Keeping.{counts_more}
 
 no_bytes : (torn : List ℕ) → 0 ≡ length torn → torn ≡ []
@@ -126,3 +133,46 @@ stop_holds most disk part h = record {
   records = h.records;
   bytes = h.bytes;
 }
+
+-- ---- a write that is refused
+
+module _ {S D : Type 0} (disk : D → Disk) (me : ℕ) (config : Config) (begin : S) (running : Running) where
+  -- the replica with this store and these records
+  abbrev pub held_with : Stored D → List Rec → Held S
+  held_with store records = record {
+    me = me;
+    config = config;
+    begin = begin;
+    records = records;
+    running = running;
+    disk = disk store.device;
+    failed = store.failed;
+  }
+
+  pub stops_by : (fault : Fault) (rec : Rec) (old new : Stored D) (records after : List Rec) → IsOnDisk config.max_positions (disk old.device) old.failed records → MayWrite config.max_positions (Some rec)
+      → after ≡ records → IsNotPut disk (record_text rec) old fault new → Stops (Some rec) (held_with old records) (held_with new after) fault
+  stops_by OutOfMemory rec old new records after stands may same not =
+      (λ i. record { me = me; config = config; begin = begin; records = same i; running = running; disk = not.0.disk_same i; failed = not.0.failed i }, not.1)
+  stops_by Device rec old new records after stands may same not = (
+    record {
+      rec = rec;
+      is = refl;
+      disk = not.disk_is;
+      goes = λ i. record { me = me; config = config; begin = begin; records = same i; running = running; disk = disk new.device; failed = not.failed i };
+      holds = failure_cuts (held_with old records) stands not.worked rec (disk new.device) may not.disk_is;
+    },
+    not.worked,
+  )
+  stops_by Failed rec old new records after stands may same not =
+      (λ i. record { me = me; config = config; begin = begin; records = same i; running = running; disk = not.0.disk_same i; failed = not.0.failed i }, not.1)
+  stops_by _ rec old new records after stands may same not = absurd not
+
+  pub write_stops : {T : Type 0} (r : Result T Fault) (rec : Rec) (old new : Stored D) (records after : List Rec) → IsOnDisk config.max_positions (disk old.device) old.failed records → MayWrite config.max_positions (Some rec)
+      → OnErr r (after ≡ records) → IfErr r (λ fault. IsNotPut disk (record_text rec) old fault new) → IfErr r (λ fault. Stops (Some rec) (held_with old records) (held_with new after) fault)
+  write_stops (Ok x) rec old new records after stands may same err = tt
+  write_stops (Err fault) rec old new records after stands may same err = stops_by fault rec old new records after stands may same err
+
+-- what is given on of a fault
+pub given_on : {S T : Type 0} (r : Result T Fault) (fault : Fault) (written : Option Rec) (old new : Held S) → IsErrAnd r (λ e. e ≡ fault) → Stops written old new fault → IfErr r (λ e. Stops written old new e)
+given_on (Ok x) fault written old new is stops = tt
+given_on (Err e) fault written old new is stops = subst (λ (f : Fault). Stops written old new f) (sym is) stops

@@ -1,27 +1,17 @@
--- What a device holds of a node's part, and what a stop within a step leaves of both (this project's own).
-use Rattle.std.specs.Prelude.{◌≡◌, ℕ, false, true, IfSome, Option, Some, None, Result, Ok, Err, List, length}
+-- What a stop within a step leaves of a node's part and on its device (this project's own).
+use Rattle.std.specs.Prelude.{◌≡◌, ℕ, false, true, IfSome, Option, Some, None, Result, Ok, Err}
 use Rattle.rp_base.specs.declared.fault.Fault.{Fault}
 use Rattle.rp_base.specs.declared.record.Rec.{Rec}
 use Rattle.rp_codec.specs.Record.{IsRecord, record_text}
 use Rattle.rp_store.specs.Disk.{Disk, appended, stopped, AppendFailed}
-use Rattle.rp_store.specs.Records.{AreRecordsOf}
-use Rattle.rp_model.specs.declared.part.NodePart.{NodePart}
 use Rattle.rp_model.specs.declared.part.Turn.{Turn}
 use Rattle.rp_model.specs.Effect.{cut_part}
-use Rattle.rp_model.specs.Parts.{is_in_log, records_in_log}
+use Rattle.rp_model.specs.Parts.{is_in_log}
 use Rattle.rp_replica.specs.declared.cut.NotCut.{NotCut}
 use Rattle.rp_replica.specs.declared.cut.NotCut.TheVariants.{Failed as DeviceFailed, Refused}
 use Rattle.rp_replica.specs.Held.{Held, part_of}
+use Rattle.rp_replica.specs.Kept.{HoldsPart}
 use Rattle.rp_replica.specs.Turning.{Stops, IsRefused}
-
--- The device holds the records of the part, and those above the log, which do not count; the torn bytes
--- stand behind them.
-pub record HoldsPart (most : ℕ) (disk : Disk) (part : NodePart) : Type 0 where
-  pub all : List Rec
-  pub torn : List ℕ
-  pub found : AreRecordsOf disk.contents all torn
-  pub records : part.records ≡ records_in_log most all
-  pub bytes : part.torn ≡ length torn
 
 -- the record that a turn writes first, or why there is no turn
 abbrev pub written_if : Result Turn Fault → Result (Option Rec) Fault

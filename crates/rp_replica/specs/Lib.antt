@@ -1,6 +1,7 @@
 pub mod Notes
 pub mod Packets
 pub mod Held
+pub mod Kept
 pub mod Tied
 pub mod Turning
 pub mod Proposed

@@ -30,7 +30,6 @@ mod laws;
 mod lead;
 mod leader;
 mod learner;
-mod learning_stub;
 mod opening;
 mod own_action;
 mod pending;

@@ -16,7 +16,7 @@ ghost use Rattle.rp_store.specs.Stored.{IsPut, IsNotPut};
 ghost use Rattle.rp_model.specs.Effect.{stop_part};
 ghost use Rattle.rp_model.specs.Parts.{is_in_log};
 ghost use Rattle.rp_model.specs.Says.{says, says_to_task, writes};
-ghost use Rattle.rp_replica.specs.Cutting.{HoldsPart};
+ghost use Rattle.rp_replica.specs.Kept.{HoldsPart};
 ghost use Rattle.rp_replica.specs.Held.{held_after, part_of};
 ghost use Rattle.rp_replica.specs.Packets.{run_of};
 ghost use Rattle.rp_replica.specs.Tied.{IsAnswer};

@@ -3,7 +3,7 @@ use Rattle.rp_store.specs.Disk.{Disk}
 use Rattle.rp_model.specs.Effect.{stop_part}
 use Rattle.rp_replica.specs.Held.{Held, part_of}
 use Rattle.rp_replica.specs.Tied.{IsOnDisk}
-use Rattle.rp_replica.specs.Cutting.{HoldsPart}
+use Rattle.rp_replica.specs.Kept.{HoldsPart}
 use Rattle.rp_replica.proofs.Cuts.{held_now, stop_holds}
 use Rattle.rp_replica.proofs.replica.Replica.close.Goals as goal
 

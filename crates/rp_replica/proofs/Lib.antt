@@ -14,3 +14,8 @@ pub mod Leading
 pub mod Reporting
 pub mod Wanting
 pub mod Cuts
+pub mod Replying
+pub mod Learned
+pub mod Staying
+pub mod Missing
+pub mod Accepted

@@ -9,3 +9,4 @@ pub mod Opening
 pub mod Standing
 pub mod Inputs
 pub mod Cutting
+pub mod Applying

@@ -21,7 +21,7 @@ ghost use Rattle.rp_model.specs.Effect as inputs;
 use crate::replica::{Replica, write};
 use crate::sent::{Outbox, Sent};
 use rp_base::{Action, Ballot, Fault, NodeId, Position, Rec, Vote};
-use rp_codec::{Body, Packet, Party};
+use rp_codec::Body;
 use rp_machine::Machine;
 use rp_model::Dropped;
 use rp_proposer::Progress;
@@ -200,7 +200,7 @@ impl<M: Machine, D: Device> Replica<M, D> {
         let mut out = Outbox::new(alloc);
         for place in 0..self.config.nodes {
             let body = Body::Prepare { position, ballot };
-            out.push(&Packet::new(Party::Node(self.me), Party::Node(node_after(place)), body))?;
+            out.say(self.me, node_after(place), body)?;
         }
         Ok(out)
     }
@@ -226,14 +226,14 @@ impl<M: Machine, D: Device> Replica<M, D> {
                 ballot,
                 action: *action,
             };
-            out.push(&Packet::new(Party::Node(self.me), Party::Node(node_after(place)), body))?;
+            out.say(self.me, node_after(place), body)?;
         }
         Ok(out)
     }
 }
 
 /// The node of the number that is one above `place`.
-fn node_after(place: u8) -> NodeId
+pub(crate) fn node_after(place: u8) -> NodeId
     requires { place < 7 }
     ensures { result ≡ place + 1 }
 {

@@ -8,6 +8,8 @@
 //! - `lead`: the word to lead, at a position or at the least free one
 //! - `own_action`: what a proposal takes as its own action
 //! - `learner`: a replica that is asked what was decided, and hears of votes
+//! - `learning`: an action that is learned
+//! - `applying`: what is learned is applied in order, and answered
 //! - `arrivals`: calls, interrupts and ticks that come, and become pending
 //! - `pending`: the items that wait to be proposed
 //! - `input`: what a replica may be given
@@ -22,6 +24,7 @@
 #![tactic(auto)]
 
 mod acceptor;
+mod applying;
 mod arrivals;
 mod cut;
 mod heard;
@@ -30,6 +33,7 @@ mod laws;
 mod lead;
 mod leader;
 mod learner;
+mod learning;
 mod opening;
 mod own_action;
 mod pending;

@@ -81,7 +81,7 @@ impl<M: Machine, D: Device> Model for Replica<M, D> {
 }
 
 /// Shows that each position and each ballot of a record is within its range.
-pub(crate) fn record_in_range(rec: &Rec)
+fn record_in_range(rec: &Rec)
     ensures { HasRecordRanges rec.now }
 {
     match rec {
@@ -123,10 +123,12 @@ pub(crate) fn write<D: Device>(
     requires working { store.old.failed ≡ false }
     ensures put { OnOk result (IsPut D.disk (record_text rec.now) store.old store.new) }
     ensures noted { OnOk result (acceptor.new.records ≡ acceptor.old.records ++ rec.now ∷ []) }
+    ensures range { HasRecordRanges rec.now }
     ensures unchanged { OnErr result (acceptor.new.records ≡ acceptor.old.records) }
     ensures err { IfErr result (λ fault.
         IsNotPut D.disk (record_text rec.now) store.old fault store.new) }
 {
+    record_in_range(rec);
     reserve(acceptor, rec)?;
     store.put(rec)?;
     acceptor.note(rec);
@@ -141,7 +143,7 @@ impl<M: Machine, D: Device> Replica<M, D> {
         ensures only { IsOkUnless result faults.OutOfMemory }
     {
         let mut out = Outbox::new(alloc);
-        out.push(&Packet::new(Party::Node(self.me), Party::Node(to), body))?;
+        out.say(self.me, to, body)?;
         Ok(out)
     }
 
@@ -239,7 +241,6 @@ impl<M: Machine, D: Device> Replica<M, D> {
             (writes rec.now self.old.running [])) }
         ensures err { IfErr result (λ fault. Stops (Some rec.now) self.old self.new fault) }
     {
-        record_in_range(rec);
         write(&mut self.store, &mut self.acceptor, rec)
     }
 }

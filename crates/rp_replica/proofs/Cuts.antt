@@ -1,8 +1,7 @@
 -- What a stop within the write of a record leaves.
-use Rattle.std.proofs.Common.{◌≡◌, ℕ, zero, suc, ◌+◌, ◌<◌, ◌≤◌, Bool, true, false, if◌then◌else◌, cond, Option, Some, None, List, [], ◌∷◌, ◌++◌, length, take, refl, sym, ap, subst, ◌∙◌, arith, inl, inr}
+use Rattle.std.proofs.Common.{◌≡◌, ℕ, zero, suc, ◌+◌, ◌≤◌, Bool, true, false, cond, Option, Some, None, List, [], ◌∷◌, ◌++◌, length, take, refl, sym, ap, subst, ◌∙◌, arith, inl, inr}
 use Rattle.std.specs.Prelude.{Result, Ok, Err, OnErr, IfErr, nat_le}
 use Rattle.std.specs.Result.{IsErrAnd}
-use Rattle.std.specs.List.{AllByRecursion}
 use Rattle.std.proofs.lemmas.Bool.{cases_lt, le-leb, lt-leb}
 use Rattle.std.proofs.lemmas.List.{append-nil}
 use Rattle.rp_base.specs.declared.record.Rec.{Rec}
@@ -17,7 +16,7 @@ use Rattle.rp_store.proofs.Whole.{before_put, after_put, only_records}
 use Rattle.rp_model.specs.declared.part.NodePart.{NodePart}
 use Rattle.rp_model.specs.declared.part.Running.{Running}
 use Rattle.rp_model.specs.Effect.{cut_part, stop_part}
-use Rattle.rp_model.specs.Parts.{is_in_log, records_in_log}
+use Rattle.rp_model.specs.Parts.{is_in_log}
 use Rattle.rp_replica.specs.Tied.{IsOnDisk}
 use Rattle.rp_replica.specs.Held.{Held, part_of}
 use Rattle.rp_replica.specs.Kept.{HoldsPart}

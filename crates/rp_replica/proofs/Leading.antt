@@ -1,5 +1,5 @@
 -- What the word to lead comes to where no position is told.
-use Rattle.std.proofs.Common.{◌≡◌, ℕ, ◌^◌, Bool, true, cond, is_some, Option, Some, None, List, ap, sym, ◌∙◌}
+use Rattle.std.proofs.Common.{◌≡◌, ℕ, ◌^◌, Bool, true, cond, is_some, Option, Some, None, List, ap, ◌∙◌}
 use Rattle.std.specs.Prelude.{Result, Ok, Err, nat_le}
 use Rattle.rp_base.specs.declared.action.Action.{Action}
 use Rattle.rp_base.specs.declared.reply.Answer.{Answer}
@@ -8,7 +8,6 @@ use Rattle.rp_base.specs.declared.record.Rec.{Rec}
 use Rattle.rp_base.specs.declared.fault.Fault.{Fault}
 use Rattle.rp_base.specs.declared.fault.Fault.TheVariants.{BallotsSpent, LogFull}
 use Rattle.rp_base.specs.Ballot.{next_ballot, round_of}
-use Rattle.rp_base.specs.Records.{learned_at}
 use Rattle.rp_model.specs.declared.part.Running.{Running}
 use Rattle.rp_model.specs.declared.part.Turn.{Turn}
 use Rattle.rp_model.specs.Says.{notes}

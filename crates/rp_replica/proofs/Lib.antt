@@ -19,3 +19,4 @@ pub mod Learned
 pub mod Staying
 pub mod Missing
 pub mod Accepted
+pub mod Restarting

@@ -11,8 +11,6 @@ use Rattle.rp_codec.specs.Message.{Message}
 use Rattle.rp_codec.specs.Decoding.{IsReportText}
 use Rattle.rp_codec.specs.Reading.{all_of}
 use Rattle.rp_codec.proofs.Decoded.{whole_again}
-use Rattle.rp_model.specs.declared.part.Turn.{Turn}
-use Rattle.rp_model.specs.Effect.{NodeInput}
 use Rattle.rp_replica.specs.Held.{Held}
 use Rattle.rp_replica.specs.Inputs.{packet_given, effect_if_given}
 use Rattle.rp_replica.specs.Turning.{StopsIf}

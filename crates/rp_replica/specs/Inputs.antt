@@ -1,5 +1,5 @@
 -- What a replica may be given, and what comes of it (this project's own).
-use Rattle.std.specs.Prelude.{ℕ, Option, Result, Ok, Err, List}
+use Rattle.std.specs.Prelude.{Result, Ok, Err, List}
 use Rattle.rp_base.specs.Action.{IsRight}
 use Rattle.rp_base.specs.declared.action.Action.{Action}
 use Rattle.rp_base.specs.declared.action.Action.TheVariants as actions

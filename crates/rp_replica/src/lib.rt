@@ -46,7 +46,7 @@ mod written;
 
 pub use cut::NotCut;
 pub use input::Input;
-pub use laws::turns_are_effects;
+pub use laws::{opening_is_a_restart, texts_are_packets, turns_are_effects};
 pub use opening::Opening;
 pub use replica::Replica;
 pub use sent::Sent;

@@ -1,7 +1,7 @@
 use Rattle.std.proofs.Common.{ℕ, Option, sym, subst}
-use Rattle.std.specs.Prelude.{IfOk, IfErr}
+use Rattle.std.specs.Prelude.{IfOk}
 use Rattle.rp_model.specs.Effect as inputs
-use Rattle.rp_replica.specs.Turning.{TurnsIf, StopsIf, effect_of}
+use Rattle.rp_replica.specs.Turning.{TurnsIf, effect_of}
 use Rattle.rp_replica.proofs.replica.Replica.lead.Goals as goal
 
 pub returns-in-Some-clause-ok : goal.returns-in-Some-clause-ok

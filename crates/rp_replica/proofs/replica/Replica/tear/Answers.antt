@@ -1,4 +1,4 @@
-use Rattle.std.proofs.Common.{Some, subst, ap, ◌∙◌}
+use Rattle.std.proofs.Common.{subst, ap, ◌∙◌}
 use Rattle.rp_codec.specs.Record.{record_text}
 use Rattle.rp_store.specs.Disk.{stopped, appended, AppendFailed}
 use Rattle.rp_store.specs.Tearing.{IsNotTorn}

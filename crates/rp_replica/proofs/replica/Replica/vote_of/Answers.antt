@@ -1,9 +1,7 @@
 use Rattle.std.proofs.Common.{◌≡◌, sym, ap, subst, ◌∙◌}
 use Rattle.std.proofs.lemmas.Bool.{le-leb}
-use Rattle.rp_base.specs.declared.record.Rec.{Rec}
 use Rattle.rp_base.specs.declared.record.Rec.TheVariants.{Voted}
-use Rattle.rp_base.specs.Right.{IsRightRecord}
-use Rattle.rp_codec.specs.Record.{IsRecord, HasRecordRanges}
+use Rattle.rp_codec.specs.Record.{IsRecord}
 use Rattle.rp_model.specs.Parts.{is_in_log}
 use Rattle.rp_replica.proofs.Answering.{voted}
 use Rattle.rp_replica.proofs.replica.Replica.vote_of.Goals as goal

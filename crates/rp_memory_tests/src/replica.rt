@@ -1,5 +1,6 @@
 ghost use Rattle.rp_replica.specs.Inputs.{IsRightInput};
 
+use crate::store::LimitedDevice;
 use rp_base::{Config, Fault, NodeId, Position};
 use rp_machine::{Tally, TallyProgram};
 use rp_replica::*;
@@ -56,11 +57,7 @@ const HEARD: [(&str, &[u8], usize, u64); 7] = [
 ];
 
 /// Node 1 of three over the device, opened once more where memory was refused.
-fn opened(
-    rt: &impl Abort,
-    alloc: Global,
-    device: MemDevice,
-) -> Result<Replica<Tally, MemDevice>, Fail> {
+fn opened<D: Device>(rt: &impl Abort, alloc: Global, device: D) -> Result<Replica<Tally, D>, Fail> {
     let node = NodeId::new(1).ok_or("node 1")?;
     let config = Config {
         nodes: 3,
@@ -78,10 +75,10 @@ fn opened(
 }
 
 /// A step, taken once more where memory was refused and nothing has changed.
-fn step(
+fn step<D: Device>(
     rt: &impl Abort,
     alloc: Global,
-    node: &mut Replica<Tally, MemDevice>,
+    node: &mut Replica<Tally, D>,
     input: &Input,
 ) -> Result<Sent, Fail>
     requires { IsRightInput input.now }
@@ -133,5 +130,36 @@ fn a_cut_that_memory_refused_gives_the_node_back(rt: HostRuntime) -> Result<(), 
     assert_eq!(rt; device.len(), 9);
     let node = opened(&rt, alloc, device)?;
     assert_eq!(rt; node.stored(), 0);
+    Ok(())
+}
+
+/// Why a packet's text is refused, tried once more where memory was refused.
+fn fault_at<D: Device>(alloc: Global, node: &mut Replica<Tally, D>, text: &[u8]) -> Option<Fault> {
+    match node.receive(alloc, text).err() {
+        Some(Fault::OutOfMemory) => node.receive(alloc, text).err(),
+        fault => fault,
+    }
+}
+
+#[test]
+fn a_node_whose_device_failed_is_silent_until_it_opens_anew(rt: HostRuntime) -> Result<(), Fail> {
+    let alloc = rt.alloc();
+    let (prepare, accept) = (HEARD[0].1, HEARD[3].1);
+    let device = LimitedDevice::holding(alloc, &[], 2)?;
+    let mut node = opened(&rt, alloc, device)?;
+    let promise = step(&rt, alloc, &mut node, &Input::Receive(prepare))?;
+    assert_eq!(rt; promise.packets, 1);
+    assert_eq!(rt; fault_at(alloc, &mut node, accept), Some(Fault::Device));
+    for text in [prepare, accept, &CALL] {
+        assert_eq!(rt; fault_at(alloc, &mut node, text), Some(Fault::Failed));
+    }
+    assert_eq!(rt; node.lead(alloc, None).err(), Some(Fault::Failed));
+    let mut device = node.close();
+    device.granted = 1;
+    let mut node = opened(&rt, alloc, device)?;
+    assert_eq!(rt; node.stored(), 41);
+    let again = step(&rt, alloc, &mut node, &Input::Receive(accept))?;
+    assert_eq!(rt; again.packets, 1);
+    assert_eq!(rt; node.stored(), 41);
     Ok(())
 }

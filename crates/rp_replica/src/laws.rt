@@ -1,10 +1,19 @@
 //! How the calls of a replica stand to the definitions of worlds.
 
-ghost use Rattle.std.specs.Prelude.{◌≡◌, Ok, Err};
+ghost use Rattle.std.specs.Prelude.{◌≡◌, ℕ, Some, None, Ok, Err};
+ghost use Rattle.rp_base.specs.declared.config.Config.{Config};
 ghost use Rattle.rp_base.specs.declared.fault.Fault.{Fault};
-ghost use Rattle.rp_model.specs.Effect.{NodeInput, node_effect, turned};
+ghost use Rattle.rp_codec.specs.Message.{Message, IsPacket};
+ghost use Rattle.rp_codec.specs.Reading.{all_of};
+ghost use Rattle.rp_codec.specs.Text.{text_of};
+ghost use Rattle.rp_store.specs.Disk.{Disk};
+ghost use Rattle.rp_model.specs.Effect.{NodeInput, node_effect, turned, goes_on_as, restart_part};
+ghost use Rattle.rp_model.specs.declared.part.NodePart.{NodePart};
 ghost use Rattle.rp_model.specs.declared.part.Turn.{Turn};
 ghost use Rattle.rp_replica.specs.Held.{Held, setting_of, part_of};
+ghost use Rattle.rp_replica.specs.Inputs.{packet_given};
+ghost use Rattle.rp_replica.specs.Kept.{HoldsPart};
+ghost use Rattle.rp_replica.specs.Opening.{Opens};
 ghost use Rattle.rp_replica.specs.Turning.{Turns, effect_of};
 ghost use Rattle.rp_replica.specs.declared.sent.Sent.{Sent};
 
@@ -22,4 +31,19 @@ pub fn turns_are_effects<M: Machine>()
     ensures refusal { (old : Held M) (input : NodeInput) (fault : Fault)
         → effect_of M.next M.answers old input ≡ Err fault
         → node_effect (setting_of M.next M.answers old) old.me (part_of old) input ≡ Err fault }
+{}
+
+/// The text of a packet is received as that packet.
+pub fn texts_are_packets()
+    ensures { (m : Message) → IsPacket m
+        → packet_given (all_of (text_of m)) ≡ Ok (NodeInput.Receive m) }
+{}
+
+/// What is opened over a device is what a restart makes of the stopped part that the device keeps.
+pub fn opening_is_a_restart<M: Machine>()
+    ensures { (me : ℕ) (config : Config) (begin : M) (disk : Disk) (held : Held M)
+        (count cut_bytes : ℕ) (part : NodePart) → HoldsPart config.max_positions disk part
+        → part.running ≡ None → Opens me config begin disk held count cut_bytes
+        → restart_part part
+        ≡ record (goes_on_as (part_of held)) { opened = Some (count, cut_bytes) } }
 {}

@@ -59,14 +59,14 @@ impl<M: Machine, D: Device> Replica<M, D> {
     }
 
     /// Whether an action is learned at the position.
-    fn is_learned(&self, position: Position) -> bool
+    pub(crate) fn is_learned(&self, position: Position) -> bool
         ensures { result ≡ is_some (learned_at self.now.records position) }
     {
         self.log.get(position).is_some()
     }
 
     /// Whether the position is above the log, or too far above the first unlearned one.
-    fn is_out_of_reach(&self, position: Position) -> bool
+    pub(crate) fn is_out_of_reach(&self, position: Position) -> bool
         ensures { result
             ≡ is_out_of_reach self.now.config.max_positions self.now.records position }
     {
@@ -75,7 +75,7 @@ impl<M: Machine, D: Device> Replica<M, D> {
     }
 
     /// The ballot to lead in next, if there is one.
-    fn next_ballot(&self) -> Option<Ballot>
+    pub(crate) fn next_ballot(&self) -> Option<Ballot>
         ensures some { IfSome result (λ b. IsAbove self.now.me
             (starts_above self.now.records self.now.running) b) }
         ensures value { IfSome result (λ b. b

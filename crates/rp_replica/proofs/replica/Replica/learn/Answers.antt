@@ -1,8 +1,13 @@
-use Rattle.std.proofs.Common.{◌≤◌, ap, subst, sym, ◌∙◌}
-use Rattle.std.proofs.lemmas.Bool.{le-leb}
+use Rattle.std.proofs.Common.{◌≤◌, Some, ap, subst, sym, ◌∙◌}
 use Rattle.rp_base.specs.declared.record.Rec.TheVariants.{Learned}
+use Rattle.rp_base.specs.declared.record.Rec.{Rec}
 use Rattle.rp_codec.specs.Record.{record_text}
+use Rattle.rp_model.specs.declared.part.Running.{Running}
+use Rattle.rp_replica.proofs.Cuts.{held_with, stops_by, given_on}
 use Rattle.rp_replica.specs.Applying.{learns_alone}
+use Rattle.rp_replica.specs.Cutting.{MayWrite}
+use Rattle.rp_replica.specs.Turning.{Stops}
+use Rattle.std.proofs.lemmas.Bool.{le-leb}
 use Rattle.rp_replica.specs.Held.{Held, held_after}
 use Rattle.rp_replica.specs.Packets.{with_packets}
 use Rattle.rp_replica.proofs.Keeping.{tied_refused}
@@ -60,3 +65,18 @@ returns-clause-replied g c =
     c.self.invariant c.in_ok-write.ensures.put c.in_ok-write.ensures.noted c.settled.ensures c.settled-2.ensures.settled c.settle.ensures
     c.in_ok-reserve.ensures.ok c.learn.ensures c.apply_and_reply.ensures.replied c.apply_and_reply.ensures.ordered c.apply_and_reply.ensures.none
     ∙ ap (λ (h : Held g.row.M.Denot). with_packets c.args.out.now.run (learns_alone m.next m.answers h i v).sent) c.self.view_is
+
+pub returns-in_err-write-clause-err : goal.returns-in_err-write-clause-err
+returns-in_err-write-clause-err g c =
+    let r = c.self.inside in
+    let disk = g.D.Device.disk in
+    let i = c.args.position in
+    let rec : Rec = Learned i c.args.action.now in
+    let fault = c.in_err-write.field-0.0 in
+    let known : Running = record { proposals = r.proposer.proposals; heard = r.heard; pending = r.pending; refused = r.proposer.refused } in
+    let after : Held g.row.M.Denot = held_with disk r.me r.config r.machine.begin known c.write.new.store c.write.new.acceptor.records in
+    let within : i ≤ r.config.max_positions = subst (λ (h : Held g.row.M.Denot). i ≤ h.config.max_positions) (sym c.self.view_is) c.requires.place in
+    let may : MayWrite r.config.max_positions (Some rec) = (record { ranges = c.in_err-write.ensures.range; right = c.requires.right }, le-leb i r.config.max_positions within) in
+    given_on c.from_residual-in_err-write.result fault (Some rec) c.args.self.now after c.from_residual-in_err-write.ensures.1
+    (subst (λ (k : Held g.row.M.Denot). Stops (Some rec) k after fault) c.self.view_is
+    (stops_by disk r.me r.config r.machine.begin known fault rec r.store c.write.new.store r.acceptor.records c.write.new.acceptor.records c.self.invariant.stands may c.in_err-write.ensures.unchanged c.in_err-write.ensures.err))

@@ -1,3 +1,4 @@
 pub mod Answering
 pub mod PuttingBack
 pub mod Sounding
+pub mod Joined

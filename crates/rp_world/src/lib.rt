@@ -5,10 +5,12 @@
 //! - `world`: a world as it lies in memory: the parts of the nodes and the tasks, and the messages
 //! - `parts`: steps on the lists of a world's parts
 //! - `effect`: what an event came to, as a step tells it
+//! - `messages`: every message that was sent, as its text
 #![tactic(auto)]
 
 mod cluster;
 mod effect;
+mod messages;
 mod parts;
 mod world;
 

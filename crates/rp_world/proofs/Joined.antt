@@ -1,11 +1,12 @@
 -- Texts that are joined, the packets that are read from them, and where each ends.
-use Rattle.std.proofs.Common.{◌≡◌, ℕ, zero, suc, ◌+◌, ◌≤◌, ◌<◌, Ok, List, [], ◌∷◌, ◌++◌, length, take, drop, ◌-◌, refl, sym, ap, subst, ◌∙◌, arith}
+use Rattle.std.proofs.Common.{◌≡◌, ℕ, zero, suc, ◌+◌, ◌≤◌, ◌<◌, Ok, Some, get_or, List, [], ◌∷◌, ◌++◌, length, take, drop, ◌-◌, refl, sym, ap, subst, ◌∙◌, arith}
 use Rattle.std.specs.List.{AllByRecursion}
-use Rattle.std.proofs.lemmas.List.{append_assoc, append-nil, length-append, length-drop, drop-drop}
-use Rattle.std.proofs.Math.Seq.{drop-append_seam}
+use Rattle.std.specs.Prelude.{slice_get}
+use Rattle.std.proofs.lemmas.List.{append_assoc, append-nil, length-append, length-drop, drop-drop, take-append-drop}
+use Rattle.std.proofs.Math.Seq.{drop-append_seam, drop-nil, take-append_seam}
 use Rattle.rp_codec.specs.Message.{Message, IsPacket}
 use Rattle.rp_codec.specs.Reading.{Read, packet_at}
-use Rattle.rp_codec.specs.Text.{text_of}
+use Rattle.rp_codec.specs.Text.{text_of, head_text, body_text}
 use Rattle.rp_codec.proofs.PacketLaws.{packet_again}
 use Rattle.rp_replica.specs.Packets.{texts_of}
 use Rattle.rp_world.specs.Messages.{with_rest, packets_in, AreTexts, ends_of, AreMessages}
@@ -78,13 +79,14 @@ pub record Next (ms : List Message) (place : ℕ) : Type 0 where
   pub packet : IsPacket m
   pub more : take (suc place) ms ≡ take place ms ++ m ∷ []
   pub rest : drop place ms ≡ m ∷ drop (suc place) ms
+  pub got : slice_get ms place ≡ Some m
 
 pub next_of : (ms : List Message) (place : ℕ) → AllByRecursion IsPacket ms → place < length ms → Next ms place
 next_of [] place each less = absurd (omega (arith, less))
-next_of (m ∷ ms) zero each less = record { m = m; packet = each.0; more = refl; rest = refl }
+next_of (m ∷ ms) zero each less = record { m = m; packet = each.0; more = refl; rest = refl; got = refl }
 next_of (m ∷ ms) (suc k) each less =
     let n = next_of ms k each.1 (omega (arith, less)) in
-    record { m = n.m; packet = n.packet; more = ap (λ (l : List Message). m ∷ l) n.more; rest = n.rest }
+    record { m = n.m; packet = n.packet; more = ap (λ (l : List Message). m ∷ l) n.more; rest = n.rest; got = n.got }
 
 -- one text more
 pub walked_on : (bytes : List ℕ) (from : ℕ) (ms : List Message) (before : List ℕ) (place at : ℕ) (ends : List ℕ) (len : ℕ) (ends' : List ℕ)
@@ -138,3 +140,68 @@ sent_both one other ends k t u ends' is =
     let size : length ends' ≡ length ends + k =
     ap length is ∙ length-append ends (ends_of (length one) ns) ∙ ap (λ (n : ℕ). length ends + n) (length_ends (length one) ns ∙ sym (again other k u).2) in
     ap (λ (n : ℕ). packets_in n (one ++ other)) size ∙ read_both one other (length ends) k t u
+
+-- where a text ends
+pub ends_at : (from : ℕ) (ms : List Message) (place d : ℕ) (m : Message) (rest : List Message) → drop place ms ≡ m ∷ rest
+    → get_or (ends_of from ms) place d ≡ (from + length (texts_of (take place ms))) + length (text_of m)
+ends_at from [] place d m rest is = let none : [] ≡ m ∷ rest = sym (drop-nil place) ∙ is in absurd cc
+ends_at from (x ∷ xs) zero d m rest is =
+    let same : x ≡ m = cc in
+    let e : length (text_of x) ≡ length (text_of m) = ap (λ (y : Message). length (text_of y)) same in
+    omega (arith, e)
+ends_at from (x ∷ xs) (suc k) d m rest is =
+    let more = ends_at (from + length (text_of x)) xs k d m rest is in
+    omega (arith, more, length-append (text_of x) (texts_of (take k xs)))
+
+-- where the next text begins
+pub begins_at : (ms : List Message) (place : ℕ) (n : Next ms place) → length (texts_of (take (suc place) ms)) ≡ length (texts_of (take place ms)) + length (text_of n.m)
+begins_at ms place n =
+    ap length (ap texts_of n.more ∙ texts_append (take place ms) (n.m ∷ []) ∙ ap (λ (l : List ℕ). texts_of (take place ms) ++ l) (append-nil (text_of n.m)))
+    ∙ length-append (texts_of (take place ms)) (text_of n.m)
+
+-- what stands from a text's beginning on
+pub from_start : (ms : List Message) (place : ℕ) (n : Next ms place) → drop (length (texts_of (take place ms))) (texts_of ms) ≡ text_of n.m ++ texts_of (drop (suc place) ms)
+from_start ms place n =
+    let front = texts_of (take place ms) in
+    let whole : texts_of ms ≡ front ++ texts_of (drop place ms) = ap texts_of (sym (take-append-drop place ms)) ∙ texts_append (take place ms) (drop place ms) in
+    ap (drop (length front)) whole ∙ drop-append_seam front (texts_of (drop place ms)) ∙ ap texts_of n.rest
+
+pub get_front : (xs ys : List Message) (k : ℕ) → k < length xs → slice_get (xs ++ ys) k ≡ slice_get xs k
+get_front [] ys k less = absurd (omega (arith, less))
+get_front (x ∷ xs) ys zero less = refl
+get_front (x ∷ xs) ys (suc k) less = get_front xs ys k (omega (arith, less))
+
+pub get_rear : (xs ys : List Message) (k : ℕ) → length xs ≤ k → slice_get (xs ++ ys) k ≡ slice_get ys (k - length xs)
+get_rear [] ys k more = let e : k ≡ k - 0 = omega arith in ap (slice_get ys) e
+get_rear (x ∷ xs) ys zero more = absurd (omega (arith, more))
+get_rear (x ∷ xs) ys (suc k) more = let e : k - length xs ≡ suc k - suc (length xs) = omega arith in get_rear xs ys k (omega (arith, more)) ∙ ap (slice_get ys) e
+
+-- there are no more packets than bytes
+pub few_texts : (ms : List Message) → length ms ≤ length (texts_of ms)
+few_texts [] = omega arith
+few_texts (m ∷ ms) = omega (arith, few_texts ms, length-append (text_of m) (texts_of ms), length-append (head_text m) (body_text m.body))
+
+-- a text lies within them all
+pub text_within : (ms : List Message) (place : ℕ) (n : Next ms place) → length (texts_of (take place ms)) + length (text_of n.m) ≤ length (texts_of ms)
+text_within ms place n =
+    let front = take place ms in
+    let back = drop place ms in
+    let whole = ap length (ap texts_of (sym (take-append-drop place ms)) ∙ texts_append front back) ∙ length-append (texts_of front) (texts_of back) in
+    let rest = ap length (ap texts_of n.rest) ∙ length-append (text_of n.m) (texts_of (drop (suc place) ms)) in
+    omega (arith, whole, rest)
+
+-- the text of a place, by where it begins and how long it is
+pub text_is : (bytes rest text : List ℕ) (ms : List Message) (place from len : ℕ) (n : Next ms place) → bytes ≡ texts_of ms → from ≡ length (texts_of (take place ms))
+    → rest ≡ drop from bytes → len ≡ length (text_of n.m) → text ≡ take len rest → text ≡ text_of n.m
+text_is bytes rest text ms place from len n whole at back long is =
+    let others = texts_of (drop (suc place) ms) in
+    let front : rest ≡ text_of n.m ++ others = back ∙ ap (λ (k : ℕ). drop k bytes) at ∙ ap (drop (length (texts_of (take place ms)))) whole ∙ from_start ms place n in
+    is ∙ ap (λ (k : ℕ). take k rest) long ∙ ap (take (length (text_of n.m))) front ∙ take-append_seam (text_of n.m) others
+
+-- where a text begins, by where the one before it ends
+pub start_at : (ms : List Message) (place d : ℕ) → AllByRecursion IsPacket ms → (place ≡ 0 → ⊥) → place < length ms → get_or (ends_of 0 ms) (place - 1) d ≡ length (texts_of (take place ms))
+start_at ms zero d each more less = absurd (more refl)
+start_at ms (suc j) d each more less =
+    let n = next_of ms j each (omega (arith, less)) in
+    let e : suc j - 1 ≡ j = omega arith in
+    ap (λ (k : ℕ). get_or (ends_of 0 ms) k d) e ∙ ends_at 0 ms j d n.m (drop (suc j) ms) n.rest ∙ (let f : (0 + length (texts_of (take j ms))) + length (text_of n.m) ≡ length (texts_of (take (suc j) ms)) = omega (arith, begins_at ms j n) in f)

@@ -4,3 +4,4 @@ pub mod Shape
 pub mod Agreeing
 pub mod Messages
 pub use Rattle.rp_model.specs.World
+pub mod Callers

@@ -11,6 +11,7 @@
 //! - `pending`: the items that wait to be proposed
 //! - `heard`: the votes that were heard, which memory does not hold
 //! - `sent`: the packets of one step
+//! - `standing`: what a replica's device holds
 //! - `laws`: how the calls stand to the definitions of worlds
 #![tactic(auto)]
 
@@ -25,6 +26,7 @@ mod own_action;
 mod pending;
 mod replica;
 mod sent;
+mod standing;
 
 pub use laws::turns_are_effects;
 pub use opening::Opening;

@@ -5,3 +5,4 @@ pub mod Agreeing
 pub mod Messages
 pub use Rattle.rp_model.specs.World
 pub mod Callers
+pub mod Nodes

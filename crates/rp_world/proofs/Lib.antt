@@ -2,3 +2,4 @@ pub mod Answering
 pub mod PuttingBack
 pub mod Sounding
 pub mod Joined
+pub mod Standing

@@ -1,18 +1,16 @@
 -- A node of a cluster: a replica that runs, or a device that rests (this project's own).
-use Rattle.std.specs.Prelude.{◌≡◌, ◌⊎◌, ℕ, min, false, Option, Some, None, Result, Ok, Err, List, length}
+use Rattle.std.specs.Prelude.{◌≡◌, ℕ, min, false, Option, None, Result, Ok, Err, List, length}
 use Rattle.rp_base.specs.declared.config.Config.{Config}
 use Rattle.rp_base.specs.declared.fault.Fault.{Fault}
-use Rattle.rp_base.specs.declared.fault.Fault.TheVariants.{OutOfMemory, Device, NotRunning}
 use Rattle.rp_base.specs.declared.record.Rec.{Rec}
 use Rattle.rp_store.specs.Disk.{Disk}
 use Rattle.rp_store.specs.Records.{AreRecordsOf}
 use Rattle.rp_model.specs.declared.part.NodePart.{NodePart}
-use Rattle.rp_model.specs.declared.part.Running.{Running}
-use Rattle.rp_model.specs.Effect.{Done, stop_effect, restart_part}
+use Rattle.rp_model.specs.Effect.{Done}
 use Rattle.rp_model.specs.Parts.{records_in_log}
 use Rattle.rp_replica.specs.Held.{Held, part_of}
-use Rattle.rp_world.specs.declared.node.State.{State}
-use Rattle.rp_world.specs.declared.node.State.TheVariants.{Running as Runs, Stopped}
+use Rattle.rp_world.specs.declared.node.Node.{Node}
+use Rattle.rp_world.specs.declared.node.Node.TheVariants.{Running, Stopped}
 
 -- The device holds the records of the part, and those above the log, which do not count; the torn bytes
 -- stand behind them.
@@ -35,7 +33,7 @@ pub record RunsAs {S : Type 0} (member : Member S) (held : Held S) (part : NodeP
   pub config : held.config ≡ member.config
   pub begin : held.begin ≡ member.begin
   pub working : held.failed ≡ false
-  pub part : part ≡ part_of held
+  pub known : part ≡ part_of held
 
 -- a device that rests is the part of a node that is stopped
 pub record RestsAs (most : ℕ) (disk : Disk) (part : NodePart) : Type 0 where
@@ -43,7 +41,32 @@ pub record RestsAs (most : ℕ) (disk : Disk) (part : NodePart) : Type 0 where
   pub stopped : part.running ≡ None
 
 -- the node is the part of the member
-abbrev pub StandsFor : {S D : Type 0} → (D → Disk) → Member S → Option (State S D) → NodePart → Type 0
-StandsFor disk member None part = ⊥
-StandsFor disk member (Some (Runs held)) part = RunsAs member held part
-StandsFor disk member (Some (Stopped device)) part = RestsAs member.config.max_positions (disk device) part
+abbrev pub StandsFor : {S D P : Type 0} → (D → Disk) → Member S → Node S D P → NodePart → Type 0
+StandsFor disk member (Running held) part = RunsAs member held part
+StandsFor disk member (Stopped device) part = RestsAs member.config.max_positions (disk device) part
+
+module _ {S D P : Type 0} (disk : D → Disk) (member : Member S) (old new : Node S D P) where
+  -- a step of the node is this effect on its part, and is told so
+  abbrev pub GoesBy : {A : Type 0} → (NodePart → Result (Done NodePart) Fault) → (A → Done NodePart → Type 0) → A → Type 0
+  GoesBy effect tells answer =
+      (part : NodePart) → StandsFor disk member old part
+      → (done : Done NodePart) × (effect part ≡ Ok done) × StandsFor disk member new done.part × tells answer done
+
+  -- or the effect refuses it, and nothing changes
+  abbrev pub RefusedBy : (NodePart → Result (Done NodePart) Fault) → Fault → Type 0
+  RefusedBy effect fault =
+      (part : NodePart) → StandsFor disk member old part → (effect part ≡ Err fault) × StandsFor disk member new part
+
+  -- or some of the torn bytes are gone, from the end
+  abbrev pub IsLeftTorn : Type 0
+  IsLeftTorn =
+      (part : NodePart) → StandsFor disk member old part
+      → (kept : ℕ) × StandsFor disk member new (record part { torn = min kept part.torn })
+
+-- nothing else is told
+abbrev pub TellsNothing : Unit {0} → Done NodePart → Type 0
+TellsNothing answer done = Unit {0}
+
+-- what a restart tells
+abbrev pub TellsOpened : Option (ℕ × ℕ) → Done NodePart → Type 0
+TellsOpened opened done = opened ≡ done.opened

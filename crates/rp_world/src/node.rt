@@ -1,35 +1,93 @@
 //! A node: a replica that runs, or a device that rests.
 
-ghost use Rattle.std.specs.Prelude.{◌≡◌, Some, IfOk, IfErr};
+ghost use Rattle.std.specs.Prelude.{◌≡◌, ◌⊎◌, ◌≤◌, [], Ok, IfOk, IfErr};
+ghost use Rattle.rp_base.specs.Config.{IsRightConfig};
+ghost use Rattle.rp_base.specs.declared.fault.Fault.TheVariants as faults;
+ghost use Rattle.rp_model.specs.Effect.{stop_effect, restart_part};
+ghost use Rattle.rp_model.specs.Parts.{fresh_node};
+ghost use Rattle.rp_world.specs.Nodes.{Member, StandsFor, GoesBy, RefusedBy, IsLeftTorn, TellsNothing, TellsOpened};
 
+use rp_base::{Config, Fault, NodeId};
 use rp_machine::Machine;
 use rp_replica::Replica;
 use rp_store::CutDevice;
+use std::alloc::Global;
 
-/// What a node is, between its steps.
+/// What a node is between its steps.
 #[derive(Drop)]
-pub(crate) enum State<M: Machine, D: CutDevice> {
+pub(crate) enum Node<M: Machine, D: CutDevice> {
     Running(Replica<M, D>),
     Stopped(D),
 }
 
-/// A node. Its state is there between its steps.
-#[derive(Drop)]
-pub(crate) struct Node<M: Machine, D: CutDevice> {
-    state: Option<State<M, D>>,
-}
-
 impl<M: Machine, D: CutDevice> Node<M, D> {
-    ghost use Rattle.rp_model.specs.declared.part.NodePart.{NodePart};
-    ghost use Rattle.rp_world.specs.Nodes.{Member, StandsFor};
-
-    /// How many bytes the node's device holds.
-    pub(crate) fn stored(&self) -> u64
+    /// A node over an empty device. `OutOfMemory`, or `Device` where the device failed.
+    pub(crate) fn open(
+        alloc: Global,
+        me: NodeId,
+        config: Config,
+        program: &M::Program,
+        device: D,
+    ) -> Result<Self, Fault>
+        requires config { IsRightConfig config }
+        requires member { me ≤ config.nodes }
+        requires empty { (D.disk device).contents ≡ [] }
+        ensures ok { IfOk result (λ node. StandsFor D.disk
+            (record { me = me; config = config; begin = M.begin program.now }) node fresh_node) }
+        ensures only { IfErr result (λ fault. (fault ≡ faults.OutOfMemory) ⊎ (fault
+            ≡ faults.Device)) }
     {
-        match &self.state {
-            Some(State::Running(replica)) => replica.stored(),
-            Some(State::Stopped(device)) => device.len(),
-            None => 0,
+        match Replica::open(alloc, me, config, program, device) {
+            Ok(opening) => Ok(Node::Running(opening.replica)),
+            Err((fault, _)) => Err(fault),
+        }
+    }
+
+    /// The node stops. `NotRunning` where it is stopped already.
+    pub(crate) fn stop(self) -> (Self, Result<(), Fault>)
+        ensures ok { IfOk result.1 (λ done. (member : Member M) → GoesBy D.disk member
+            self result.0 stop_effect TellsNothing done) }
+        ensures err { IfErr result.1 (λ fault. (member : Member M) → RefusedBy D.disk member
+            self result.0 stop_effect fault) }
+    {
+        match self {
+            Node::Running(replica) => {
+                replica.keeps_records();
+                (Node::Stopped(replica.close()), Ok(()))
+            }
+            Node::Stopped(device) => (Node::Stopped(device), Err(Fault::NotRunning)),
+        }
+    }
+
+    /// The node starts again, by its records alone; one that runs goes on. It tells how many records
+    /// and how many torn bytes it found. `OutOfMemory`, or `Device` where the device failed: then it
+    /// stays stopped, and some of its torn bytes may be gone.
+    pub(crate) fn restart(
+        self,
+        alloc: Global,
+        me: NodeId,
+        config: Config,
+        program: &M::Program,
+    ) -> (Self, Result<Option<(u64, u64)>, Fault>)
+        requires config { IsRightConfig config }
+        requires member { me ≤ config.nodes }
+        ensures ok { IfOk result.1 (λ opened. GoesBy D.disk
+            (record { me = me; config = config; begin = M.begin program.now })
+            self result.0 (λ part. Ok (restart_part part)) TellsOpened opened) }
+        ensures err { IfErr result.1 (λ fault. IsLeftTorn D.disk
+            (record { me = me; config = config; begin = M.begin program.now }) self result.0) }
+        ensures only { IfErr result.1 (λ fault. (fault ≡ faults.OutOfMemory) ⊎ (fault
+            ≡ faults.Device)) }
+    {
+        match self {
+            Node::Running(replica) => (Node::Running(replica), Ok(None)),
+            Node::Stopped(device) => match Replica::open(alloc, me, config, program, device) {
+                Ok(opening) => (
+                    Node::Running(opening.replica),
+                    Ok(Some((opening.records, opening.cut_bytes))),
+                ),
+                Err((fault, device)) => (Node::Stopped(device), Err(fault)),
+            },
         }
     }
 }

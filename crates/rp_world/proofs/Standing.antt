@@ -1,7 +1,6 @@
 -- What stands for a node's part once it stops or starts again.
-use Rattle.std.proofs.Common.{◌≡◌, ℕ, ◌+◌, ◌≤◌, min, false, Ok, Option, Some, None, List, [], ◌∷◌, ◌++◌, length, take, inl, inr, refl, sym, ap, subst, ◌∙◌, arith}
+use Rattle.std.proofs.Common.{◌≡◌, ℕ, min, Ok, Option, Some, List, [], ◌∷◌, ◌++◌, length, take, inl, inr, refl, sym, ap, subst, ◌∙◌, arith}
 use Rattle.std.proofs.lemmas.List.{append-nil, length-append, length-take}
-use Rattle.std.specs.List.{AllByRecursion}
 use Rattle.rp_base.specs.declared.config.Config.{Config}
 use Rattle.rp_base.specs.declared.fault.Fault.{Fault}
 use Rattle.rp_base.specs.declared.fault.Fault.TheVariants.{OutOfMemory, Device}
@@ -9,16 +8,15 @@ use Rattle.rp_base.specs.declared.record.Rec.{Rec}
 use Rattle.rp_codec.specs.Record.{record_text}
 use Rattle.rp_store.specs.Disk.{Disk}
 use Rattle.rp_store.specs.Records.{records_text, AreRecordsOf}
-use Rattle.rp_store.specs.Opening.{IsOpened}
 use Rattle.rp_store.proofs.Whole.{record_long, same_reading, only_records}
 use Rattle.rp_model.specs.declared.part.NodePart.{NodePart}
 use Rattle.rp_model.specs.declared.part.Running.{Running as Known}
-use Rattle.rp_model.specs.Effect.{Done, goes_on_as, stop_part, stops_while, stop_effect, restart_while, restart_part}
+use Rattle.rp_model.specs.Effect.{goes_on_as, stop_part, stops_while, stop_effect, restart_while, restart_part}
 use Rattle.rp_model.specs.Parts.{fresh_running, fresh_node, records_in_log}
-use Rattle.rp_replica.specs.Held.{Held, part_of}
+use Rattle.rp_replica.specs.Held.{Held}
 use Rattle.rp_replica.specs.Opening.{Opens, IsRefusedOpening}
 use Rattle.rp_replica.specs.Tied.{IsOnDisk}
-use Rattle.rp_world.specs.Nodes.{HoldsPart, Member, RunsAs, RestsAs}
+use Rattle.rp_world.specs.Nodes.{Member, RunsAs, RestsAs}
 
 no_records : (all : List Rec) (torn : List ℕ) → [] ≡ records_text all ++ torn → all ≡ []
 no_records [] torn is = refl
@@ -52,10 +50,11 @@ module _ {S : Type 0} (member : Member S) (old : Disk) (held : Held S) (count cu
       let same = same_reading old.contents rests.holds.torn opens.opened.found.0 rests.holds.all opens.all rests.holds.found opens.opened.found.1 in
       let records : part.records ≡ records_in_log member.config.max_positions opens.all = rests.holds.records ∙ ap (records_in_log member.config.max_positions) same.0 in
       let counted : count ≡ length part.records = opens.counted ∙ ap (λ (h : Held S). length h.records) opens.starts ∙ ap length (sym records) in
-      let cut : cut_bytes ≡ part.torn = opens.opened.found.2 ∙ ap length (sym same.1) ∙ sym rests.holds.bytes in
-      (subst (λ (o : Option Known). RunsAs member held (restart_while part o).part) (sym rests.stopped) (runs part.records records),
-      subst (λ (o : Option Known). let opened : Option (ℕ × ℕ) = Some (count, cut_bytes) in opened ≡ (restart_while part o).opened) (sym rests.stopped)
-      (ap (λ (n : ℕ). let opened : Option (ℕ × ℕ) = Some (n, cut_bytes) in opened) counted ∙ ap (λ (n : ℕ). let opened : Option (ℕ × ℕ) = Some (length part.records, n) in opened) cut))
+      let cut : cut_bytes ≡ part.torn = opens.opened.found.2 ∙ ap length (sym same.1) ∙ sym rests.holds.bytes in (
+        subst (λ (o : Option Known). RunsAs member held (restart_while part o).part) (sym rests.stopped) (runs part.records records),
+        subst (λ (o : Option Known). let opened : Option (ℕ × ℕ) = Some (count, cut_bytes) in opened ≡ (restart_while part o).opened) (sym rests.stopped)
+            (ap (λ (n : ℕ). let opened : Option (ℕ × ℕ) = Some (n, cut_bytes) in opened) counted ∙ ap (λ (n : ℕ). let opened : Option (ℕ × ℕ) = Some (length part.records, n) in opened) cut),
+      )
 
 -- a device that could not be opened
 module _ (most : ℕ) (old new : Disk) (part : NodePart) (rests : RestsAs most old part) where
@@ -89,17 +88,19 @@ pub stops_as : {S : Type 0} (member : Member S) (held : Held S) (disk : Disk) (p
 stops_as {S = S} member held disk part runs stands is =
     let none = stands.whole runs.working in
     let contents : disk.contents ≡ records_text stands.all =
-    ap (λ (d : Disk). d.contents) is ∙ stands.contents ∙ ap (λ (l : List ℕ). records_text stands.all ++ l) none ∙ append-nil (records_text stands.all) in
-    (ap (stops_while part) (ap (λ (p : NodePart). p.running) runs.known), record {
-      holds = record {
-        all = stands.all;
-        torn = [];
-        found = subst (λ (l : List ℕ). AreRecordsOf l stands.all []) (sym contents) (only_records stands.all stands.each);
-        records = ap (λ (p : NodePart). p.records) runs.known ∙ stands.counted ∙ ap (λ (c : Config). records_in_log c.max_positions stands.all) runs.config;
-        bytes = ap (λ (p : NodePart). p.torn) runs.known;
-      };
-      stopped = refl;
-    })
+    ap (λ (d : Disk). d.contents) is ∙ stands.contents ∙ ap (λ (l : List ℕ). records_text stands.all ++ l) none ∙ append-nil (records_text stands.all) in (
+      ap (stops_while part) (ap (λ (p : NodePart). p.running) runs.known),
+      record {
+        holds = record {
+          all = stands.all;
+          torn = [];
+          found = subst (λ (l : List ℕ). AreRecordsOf l stands.all []) (sym contents) (only_records stands.all stands.each);
+          records = ap (λ (p : NodePart). p.records) runs.known ∙ stands.counted ∙ ap (λ (c : Config). records_in_log c.max_positions stands.all) runs.config;
+          bytes = ap (λ (p : NodePart). p.torn) runs.known;
+        };
+        stopped = refl;
+      },
+    )
 
 -- a replica that runs goes on
 pub goes_on_running : {S : Type 0} (member : Member S) (held : Held S) (part : NodePart) → RunsAs member held part → restart_part part ≡ goes_on_as part

@@ -1,6 +1,5 @@
 -- A task of a cluster (this project's own).
-use Rattle.std.specs.Prelude.{◌≡◌, ℕ, Option, List}
-use Rattle.rp_base.specs.declared.action.Action.{Action}
+use Rattle.std.specs.Prelude.{◌≡◌, ℕ, List}
 use Rattle.rp_base.specs.declared.reply.Answer.{Answer}
 use Rattle.rp_tasks.specs.Calls.{Calls}
 use Rattle.rp_model.specs.declared.part.TaskPart.{TaskPart}

@@ -27,6 +27,10 @@ pub record Member (S : Type 0) : Type 0 where
   pub config : Config
   pub begin : S
 
+-- the node of this number in a cluster whose machine starts so
+abbrev pub member_of : {S : Type 0} → ℕ → Config → S → Member S
+member_of me config begin = record { me = me; config = config; begin = begin }
+
 -- a replica that runs is the part of the member
 pub record RunsAs {S : Type 0} (member : Member S) (held : Held S) (part : NodePart) : Type 0 where
   pub node : held.me ≡ member.me

@@ -5,7 +5,7 @@ ghost use Rattle.rp_base.specs.Config.{IsRightConfig};
 ghost use Rattle.rp_base.specs.declared.fault.Fault.TheVariants as faults;
 ghost use Rattle.rp_model.specs.Effect.{stop_effect, restart_part};
 ghost use Rattle.rp_model.specs.Parts.{fresh_node};
-ghost use Rattle.rp_world.specs.Nodes.{Member, StandsFor, GoesBy, RefusedBy, IsLeftTorn, TellsNothing, TellsOpened};
+ghost use Rattle.rp_world.specs.Nodes.{Member, member_of, StandsFor, GoesBy, RefusedBy, IsLeftTorn, TellsNothing, TellsOpened};
 
 use rp_base::{Config, Fault, NodeId};
 use rp_machine::Machine;
@@ -33,7 +33,7 @@ impl<M: Machine, D: CutDevice> Node<M, D> {
         requires member { me ≤ config.nodes }
         requires empty { (D.disk device).contents ≡ [] }
         ensures ok { IfOk result (λ node. StandsFor D.disk
-            (record { me = me; config = config; begin = M.begin program.now }) node fresh_node) }
+            (member_of me config (M.begin program.now)) node fresh_node) }
         ensures only { IfErr result (λ fault. (fault ≡ faults.OutOfMemory) ⊎ (fault
             ≡ faults.Device)) }
     {
@@ -72,10 +72,10 @@ impl<M: Machine, D: CutDevice> Node<M, D> {
         requires config { IsRightConfig config }
         requires member { me ≤ config.nodes }
         ensures ok { IfOk result.1 (λ opened. GoesBy D.disk
-            (record { me = me; config = config; begin = M.begin program.now })
+            (member_of me config (M.begin program.now))
             self result.0 (λ part. Ok (restart_part part)) TellsOpened opened) }
         ensures err { IfErr result.1 (λ fault. IsLeftTorn D.disk
-            (record { me = me; config = config; begin = M.begin program.now }) self result.0) }
+            (member_of me config (M.begin program.now)) self result.0) }
         ensures only { IfErr result.1 (λ fault. (fault ≡ faults.OutOfMemory) ⊎ (fault
             ≡ faults.Device)) }
     {

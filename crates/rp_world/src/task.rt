@@ -79,8 +79,11 @@ impl Task {
         requires numbers { are_spent (length self.old.part.replies) ≡ false }
         requires object { IsIndex object }
         requires operation { IsRightOperation operation }
-        ensures { self.new ≡ record self.old { part = record self.old.part {
-            outstanding = Some (next_call self.old.task self.old.part object operation arg) } } }
+        ensures { self.new ≡ record self.old {
+          part = record self.old.part {
+            outstanding = Some (next_call self.old.task self.old.part object operation arg);
+          };
+        } }
     {
         self.stub.call(object, operation, arg).unwrap();
     }
@@ -103,7 +106,8 @@ impl Task {
     /// nothing changes.
     pub(crate) fn take(&mut self, number: u32, reply: Reply) -> Result<Option<Answer>, AllocError>
         ensures part { IfOk result (λ taken. self.new ≡ record self.old {
-            part = (takes_reply self.old.task self.old.part number reply).part }) }
+          part = (takes_reply self.old.task self.old.part number reply).part;
+        }) }
         ensures taken { IfOk result (λ taken. taken
             ≡ (takes_reply self.old.task self.old.part number reply).taken) }
         ensures err { OnErr result (self.new ≡ self.old) }

@@ -1,12 +1,12 @@
 -- Each text is read where the one before it ends.
-use Rattle.std.proofs.Common.{◌≡◌, ◌+◌, ◌<◌, ◌≤◌, ◌++◌, suc, [], ◌∷◌, List, ℕ, Some, length, take, drop, refl, sym, ap, subst, ◌∙◌, arith}
+use Rattle.std.proofs.Common.{◌≡◌, ◌+◌, ◌++◌, suc, List, ℕ, length, take, drop, sym, ap, subst, ◌∙◌, arith}
 use Rattle.std.proofs.lemmas.List.{append-nil}
 use Rattle.std.proofs.Math.Seq.{take-length}
 use Rattle.rp_codec.specs.Message.{Message}
 use Rattle.rp_codec.specs.Text.{text_of}
 use Rattle.rp_replica.specs.Packets.{texts_of}
 use Rattle.rp_world.specs.Messages.{packets_in, ends_of}
-use Rattle.rp_world.proofs.Joined.{Walked, Next, again, next_of, walked_on}
+use Rattle.rp_world.proofs.Joined.{Walked, again, next_of, walked_on}
 use Rattle.rp_world.proofs.messages.add_ends.Goals as goal
 
 pub loop-place-init : goal.loop-place-init

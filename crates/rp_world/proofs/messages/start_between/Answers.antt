@@ -1,10 +1,6 @@
-use Rattle.std.proofs.Common.{◌≡◌, ◌+◌, ◌-◌, ◌<◌, ◌≤◌, ◌++◌, suc, zero, [], ◌∷◌, List, ℕ, Some, length, take, drop, get_or, refl, sym, ap, subst, ◌∙◌, arith}
-use Rattle.std.specs.Prelude.{slice_get, option_map, option_copied, slice_index_or}
-use Rattle.rp_codec.specs.Message.{Message}
-use Rattle.rp_codec.specs.Text.{text_of}
-use Rattle.rp_replica.specs.Packets.{texts_of}
-use Rattle.rp_world.specs.Messages.{packets_in, ends_of, AreTexts}
-use Rattle.rp_world.proofs.Joined.{Walked, Next, again, next_of, walked_on, ends_at, begins_at, from_start, text_within, text_is, get_front, get_rear, few_texts, start_at}
+use Rattle.std.proofs.Common.{◌-◌, List, ℕ, length, get_or, ap, ◌∙◌, arith}
+use Rattle.rp_world.specs.Messages.{packets_in}
+use Rattle.rp_world.proofs.Joined.{again, start_at}
 use Rattle.rp_world.proofs.messages.start_between.Goals as goal
 
 pub returns-else-place-eq0 : goal.returns-else-place-eq0

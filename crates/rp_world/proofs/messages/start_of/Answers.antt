@@ -1,10 +1,8 @@
-use Rattle.std.proofs.Common.{◌≡◌, ◌+◌, ◌-◌, ◌<◌, ◌≤◌, ◌++◌, suc, zero, [], ◌∷◌, List, ℕ, Some, length, take, drop, get_or, refl, sym, ap, subst, ◌∙◌, arith}
-use Rattle.std.specs.Prelude.{slice_get, option_map, option_copied, slice_index_or}
-use Rattle.rp_codec.specs.Message.{Message}
+use Rattle.std.proofs.Common.{◌≡◌, ◌+◌, ◌++◌, suc, [], ◌∷◌, ℕ, length, take, drop, refl, ap, subst, ◌∙◌, arith}
 use Rattle.rp_codec.specs.Text.{text_of}
 use Rattle.rp_replica.specs.Packets.{texts_of}
-use Rattle.rp_world.specs.Messages.{packets_in, ends_of, AreTexts}
-use Rattle.rp_world.proofs.Joined.{Walked, Next, again, next_of, walked_on, ends_at, begins_at, from_start, text_within, text_is, get_front, get_rear, few_texts}
+use Rattle.rp_world.specs.Messages.{packets_in, ends_of}
+use Rattle.rp_world.proofs.Joined.{Walked, again, next_of, walked_on}
 use Rattle.rp_world.proofs.messages.start_of.Goals as goal
 
 pub loop-passed-init : goal.loop-passed-init

@@ -1,12 +1,11 @@
-use Rattle.std.proofs.Common.{◌≡◌, ◌+◌, ◌-◌, ◌<◌, ◌≤◌, ◌++◌, suc, zero, [], ◌∷◌, List, ℕ, Some, length, take, drop, get_or, refl, sym, ap, subst, ◌∙◌, arith}
-use Rattle.std.specs.Prelude.{slice_get, option_map, option_copied, slice_index_or}
+use Rattle.std.proofs.Common.{◌≡◌, ◌++◌, suc, ℕ, Some, length, take, drop, sym, ap, ◌∙◌, arith}
+use Rattle.std.specs.Prelude.{option_map}
 use Rattle.std.proofs.lemmas.Option.{slice_get_past}
 use Rattle.std.proofs.lemmas.List.{length-append}
-use Rattle.rp_codec.specs.Message.{Message}
 use Rattle.rp_codec.specs.Text.{text_of}
 use Rattle.rp_replica.specs.Packets.{texts_of}
-use Rattle.rp_world.specs.Messages.{packets_in, ends_of, AreTexts}
-use Rattle.rp_world.proofs.Joined.{Walked, Next, again, next_of, walked_on, ends_at, begins_at, from_start, text_within, text_is, get_front, get_rear, few_texts}
+use Rattle.rp_world.specs.Messages.{packets_in}
+use Rattle.rp_world.proofs.Joined.{again, next_of, from_start, text_within, text_is}
 use Rattle.rp_world.proofs.messages.text_apart.Goals as goal
 
 pub split_at-requires : goal.split_at-requires

@@ -1,6 +1,5 @@
-use Rattle.std.proofs.Common.{◌≡◌, ◌+◌, ◌<◌, ◌≤◌, ◌++◌, ◌^◌, List, ℕ, length, sym, ap, ◌∙◌, arith}
+use Rattle.std.proofs.Common.{◌≡◌, ◌++◌, length, ap, arith}
 use Rattle.std.proofs.lemmas.List.{length-append}
-use Rattle.rp_codec.specs.Message.{Message}
 use Rattle.rp_world.specs.Messages.{Sending, packets_in}
 use Rattle.rp_world.proofs.Joined.{again, few_texts}
 use Rattle.rp_world.proofs.messages.Messages.count.Goals as goal

@@ -3,7 +3,7 @@ use Rattle.std.proofs.Common.{◌≡◌, ◌++◌, [], ◌∷◌, List, ℕ, ref
 use Rattle.std.proofs.lemmas.List.{append-nil}
 use Rattle.rp_codec.specs.Message.{Message, IsPacket}
 use Rattle.rp_codec.specs.Text.{text_of}
-use Rattle.rp_world.specs.Messages.{Sending, AreTexts, packets_in}
+use Rattle.rp_world.specs.Messages.{Sending, AreTexts}
 use Rattle.rp_world.proofs.Joined.{read_texts}
 use Rattle.rp_world.proofs.messages.Messages.say.Goals as goal
 

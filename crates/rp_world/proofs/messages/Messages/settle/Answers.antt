@@ -1,11 +1,8 @@
 -- What lay apart stands behind the others.
-use Rattle.std.proofs.Common.{◌≡◌, ◌+◌, ◌++◌, List, ℕ, [], length, drop, refl, sym, ap, subst, ◌∙◌, arith}
-use Rattle.std.specs.Prelude.{Vec}
-use Rattle.std.specs.declared.alloc.Global.{Global}
+use Rattle.std.proofs.Common.{◌≡◌, ◌+◌, ◌++◌, List, ℕ, [], length, drop, sym, ap, subst, ◌∙◌, arith}
 use Rattle.std.proofs.lemmas.List.{append-nil, length-append}
 use Rattle.std.proofs.Math.Seq.{drop-append_seam}
-use Rattle.rp_codec.specs.Message.{Message}
-use Rattle.rp_world.specs.Messages.{Sending, AreTexts, AreMessages, packets_in, ends_of}
+use Rattle.rp_world.specs.Messages.{Sending, AreMessages, packets_in, ends_of}
 use Rattle.rp_world.proofs.Joined.{ends_both, sent_both}
 use Rattle.rp_world.proofs.messages.Messages.settle.Goals as goal
 

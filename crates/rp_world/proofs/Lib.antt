@@ -3,3 +3,4 @@ pub mod PuttingBack
 pub mod Sounding
 pub mod Joined
 pub mod Standing
+pub mod Turning

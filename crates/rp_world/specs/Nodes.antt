@@ -1,13 +1,19 @@
 -- A node of a cluster: a replica that runs, or a device that rests (this project's own).
-use Rattle.std.specs.Prelude.{◌≡◌, ℕ, min, false, Option, None, Result, Ok, Err, List, length}
+use Rattle.std.specs.Prelude.{◌≡◌, ◌⊎◌, ℕ, min, true, false, Option, None, IfSome, Result, Ok, Err, List, length}
+use Rattle.rp_base.specs.declared.action.Action.{Action}
+use Rattle.rp_base.specs.declared.reply.Answer.{Answer}
+use Rattle.rp_base.specs.declared.fault.Fault.TheVariants.{OutOfMemory, Device}
+use Rattle.rp_codec.specs.Record.{IsRecord}
+use Rattle.rp_replica.specs.declared.sent.Sent.{Sent}
+use Rattle.rp_replica.specs.Packets.{texts_of}
 use Rattle.rp_base.specs.declared.config.Config.{Config}
 use Rattle.rp_base.specs.declared.fault.Fault.{Fault}
 use Rattle.rp_base.specs.declared.record.Rec.{Rec}
 use Rattle.rp_store.specs.Disk.{Disk}
 use Rattle.rp_store.specs.Records.{AreRecordsOf}
 use Rattle.rp_model.specs.declared.part.NodePart.{NodePart}
-use Rattle.rp_model.specs.Effect.{Done}
-use Rattle.rp_model.specs.Parts.{records_in_log}
+use Rattle.rp_model.specs.Effect.{Setting, Done, NodeInput, node_effect, cut_if}
+use Rattle.rp_model.specs.Parts.{is_in_log, records_in_log}
 use Rattle.rp_replica.specs.Held.{Held, part_of}
 use Rattle.rp_world.specs.declared.node.Node.{Node}
 use Rattle.rp_world.specs.declared.node.Node.TheVariants.{Running, Stopped}
@@ -44,6 +50,24 @@ pub record RestsAs (most : ℕ) (disk : Disk) (part : NodePart) : Type 0 where
   pub holds : HoldsPart most disk part
   pub stopped : part.running ≡ None
 
+-- what all nodes of its cluster share
+abbrev pub setting_at : {S : Type 0} → (S → Action → S) → (S → Action → List Answer) → Member S → Setting S
+setting_at next answers member = record { config = member.config; next = next; answers = answers; begin = member.begin }
+
+-- what an input comes to for its part
+abbrev pub node_step : {S : Type 0} → (S → Action → S) → (S → Action → List Answer) → Member S → NodeInput → NodePart → Result (Done NodePart) Fault
+node_step next answers member input part = node_effect (setting_at next answers member) member.me part input
+
+-- what a step comes to is no refusal
+abbrev pub IsComing : Result (Done NodePart) Fault → Type 0
+IsComing (Ok done) = Unit {0}
+IsComing (Err refusal) = ⊥
+
+-- the record of a step is one, and within the log
+abbrev pub IsWrittenRight : ℕ → Result (Done NodePart) Fault → Type 0
+IsWrittenRight most (Ok done) = IfSome done.written (λ rec. IsRecord rec × (is_in_log most rec ≡ true))
+IsWrittenRight most (Err refusal) = Unit {0}
+
 -- the node is the part of the member
 abbrev pub StandsFor : {S D P : Type 0} → (D → Disk) → Member S → Node S D P → NodePart → Type 0
 StandsFor disk member (Running held) part = RunsAs member held part
@@ -67,6 +91,16 @@ module _ {S D P : Type 0} (disk : D → Disk) (member : Member S) (old new : Nod
       (part : NodePart) → StandsFor disk member old part
       → (kept : ℕ) × StandsFor disk member new (record part { torn = min kept part.torn })
 
+  -- Or the step was not taken: it is refused, and nothing changes; or memory was wanting for what it comes
+  -- to, and nothing changes; or the device failed, and the step is cut with some of its record's bytes kept.
+  -- Its record is known to be right.
+  abbrev pub NotTaken : (NodePart → Result (Done NodePart) Fault) → Fault → Type 0
+  NotTaken effect fault =
+      (part : NodePart) → StandsFor disk member old part → IsWrittenRight member.config.max_positions (effect part)
+      → ((effect part ≡ Err fault) × StandsFor disk member new part)
+      ⊎ (((fault ≡ OutOfMemory) × IsComing (effect part) × StandsFor disk member new part)
+      ⊎ ((fault ≡ Device) × (kept : ℕ) × (done : Done NodePart) × (cut_if kept part (effect part) ≡ Ok done) × StandsFor disk member new done.part))
+
 -- nothing else is told
 abbrev pub TellsNothing : Unit {0} → Done NodePart → Type 0
 TellsNothing answer done = Unit {0}
@@ -74,3 +108,10 @@ TellsNothing answer done = Unit {0}
 -- what a restart tells
 abbrev pub TellsOpened : Option (ℕ × ℕ) → Done NodePart → Type 0
 TellsOpened opened done = opened ≡ done.opened
+
+-- the bytes are the texts of the packets that were sent
+pub record TellsSent (sent : Sent) (done : Done NodePart) : Type 0 where
+  pub bytes : sent.bytes.items ≡ texts_of done.sends
+  pub packets : sent.packets ≡ length done.sends
+  pub dropped : sent.dropped ≡ done.dropped
+  pub nothing : (done.taken ≡ None) × (done.opened ≡ None)

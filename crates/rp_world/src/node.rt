@@ -1,15 +1,16 @@
 //! A node: a replica that runs, or a device that rests.
 
-ghost use Rattle.std.specs.Prelude.{◌≡◌, ◌⊎◌, ◌≤◌, [], Ok, IfOk, IfErr};
+ghost use Rattle.std.specs.Prelude.{◌≡◌, ◌⊎◌, ◌≤◌, [], true, false, Ok, IfOk, IfErr};
 ghost use Rattle.rp_base.specs.Config.{IsRightConfig};
 ghost use Rattle.rp_base.specs.declared.fault.Fault.TheVariants as faults;
-ghost use Rattle.rp_model.specs.Effect.{stop_effect, restart_part};
+ghost use Rattle.rp_model.specs.Effect.{Tick, stop_effect, restart_part};
 ghost use Rattle.rp_model.specs.Parts.{fresh_node};
-ghost use Rattle.rp_world.specs.Nodes.{Member, member_of, StandsFor, GoesBy, RefusedBy, IsLeftTorn, TellsNothing, TellsOpened};
+ghost use Rattle.rp_world.specs.declared.node.Node.TheVariants.{Running, Stopped};
+ghost use Rattle.rp_world.specs.Nodes.{Member, member_of, StandsFor, GoesBy, RefusedBy, IsLeftTorn, NotTaken, TellsNothing, TellsOpened, TellsSent, node_step};
 
 use rp_base::{Config, Fault, NodeId};
 use rp_machine::Machine;
-use rp_replica::Replica;
+use rp_replica::{Replica, Sent};
 use rp_store::CutDevice;
 use std::alloc::Global;
 
@@ -89,5 +90,36 @@ impl<M: Machine, D: CutDevice> Node<M, D> {
                 Err((fault, device)) => (Node::Stopped(device), Err(fault)),
             },
         }
+    }
+
+    /// The node notes a tick of the clock. `NotRunning` where it is stopped.
+    pub(crate) fn tick(self, alloc: Global, now: u32) -> (Self, Result<Sent, Fault>)
+        ensures ok { IfOk result.1 (λ sent. (member : Member M) → GoesBy D.disk member self result.0
+            (node_step M.next M.answers member (Tick now)) TellsSent sent) }
+        ensures err { IfErr result.1 (λ fault. (member : Member M) → NotTaken D.disk member self
+            result.0 (node_step M.next M.answers member (Tick now)) fault) }
+    {
+        match self {
+            Node::Running(replica) => {
+                let mut replica = replica;
+                replica.keeps_records();
+                let answer = replica.tick(alloc, now);
+                (rest_if_failed(replica), answer)
+            }
+            Node::Stopped(device) => (Node::Stopped(device), Err(Fault::NotRunning)),
+        }
+    }
+}
+
+/// The node goes on, or rests where its device failed.
+fn rest_if_failed<M: Machine, D: CutDevice>(replica: Replica<M, D>) -> Node<M, D>
+    ensures working { replica.failed ≡ false → result ≡ Running replica }
+    ensures failed { replica.failed ≡ true
+        → (device : D) × (result ≡ Stopped device) × (D.disk device ≡ replica.disk) }
+{
+    if replica.has_failed() {
+        Node::Stopped(replica.close())
+    } else {
+        Node::Running(replica)
     }
 }

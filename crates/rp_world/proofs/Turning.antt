@@ -1,5 +1,5 @@
 -- What a replica's turn is for the node's part.
-use Rattle.std.proofs.Common.{◌≡◌, ℕ, ◌≤◌, ◌<◌, Bool, true, false, if◌then◌else◌, Option, Some, None, Result, Ok, Err, List, [], ◌∷◌, ◌++◌, length, take, ◌⊎◌, inl, inr, refl, sym, ap, subst, ◌∙◌, arith}
+use Rattle.std.proofs.Common.{◌≡◌, ℕ, ◌<◌, Bool, true, false, if◌then◌else◌, Option, Some, Result, Ok, Err, List, [], ◌∷◌, ◌++◌, length, take, ◌⊎◌, inl, inr, refl, sym, ap, subst, ◌∙◌, arith}
 use Rattle.std.specs.Prelude.{nat_le, IfSome, IfOk, IfErr}
 use Rattle.std.proofs.lemmas.List.{append-nil, length-take-le}
 use Rattle.std.proofs.lemmas.List.Elements.{filter-append}
@@ -15,17 +15,16 @@ use Rattle.rp_store.specs.Disk.{Disk}
 use Rattle.rp_store.specs.Records.{records_text, AreRecordsOf}
 use Rattle.rp_store.proofs.Whole.{before_put, after_put}
 use Rattle.rp_model.specs.declared.part.NodePart.{NodePart}
-use Rattle.rp_model.specs.declared.part.Running.{Running as Known}
 use Rattle.rp_model.specs.declared.part.Turn.{Turn}
 use Rattle.rp_model.specs.Effect.{Setting, Done, NodeInput, running_effect, turned, turned_if, node_effect, cut_if, cut_part, goes_on_as, stop_part}
-use Rattle.rp_model.specs.Parts.{is_in_log, records_in_log, with_record}
+use Rattle.rp_model.specs.Parts.{is_in_log, records_in_log}
 use Rattle.rp_replica.specs.declared.sent.Sent.{Sent}
-use Rattle.rp_replica.specs.Held.{Held, part_of, setting_of, held_after}
+use Rattle.rp_replica.specs.Held.{Held, part_of, setting_of}
 use Rattle.rp_replica.specs.Tied.{IsOnDisk}
-use Rattle.rp_replica.specs.Turning.{Turns, TurnsIf, FailsAt, Stops, StopsIf, IsRefused, effect_of}
+use Rattle.rp_replica.specs.Turning.{Turns, TurnsIf, FailsAt, Stops, StopsIf, effect_of}
 use Rattle.rp_world.specs.declared.node.Node.{Node}
 use Rattle.rp_world.specs.declared.node.Node.TheVariants.{Running, Stopped}
-use Rattle.rp_world.specs.Nodes.{HoldsPart, Member, RunsAs, RestsAs, setting_at, node_step, IsComing, IsWrittenRight, StandsFor, GoesBy, NotTaken, TellsSent}
+use Rattle.rp_world.specs.Nodes.{Member, RunsAs, RestsAs, setting_at, node_step, IsComing, IsWrittenRight, StandsFor, GoesBy, NotTaken, TellsSent}
 
 module _ {S : Type 0} (next : S → Action → S) (answers : S → Action → List Answer) (member : Member S) (old : Held S) (part : NodePart) (runs : RunsAs member old part) where
   -- an input comes to the same for the part and for the replica
@@ -157,9 +156,14 @@ module _ {S D P : Type 0} (next : S → Action → S) (answers : S → Action �
         let after = cut_part kept.0 part (Some rec) in
         let cut : cut_if kept.0 part (node_step next answers member input part) ≡ Ok (goes_on_as after) =
         ap (cut_if kept.0 part) come ∙ ap (λ (o : Option Rec). let r : Result (Done NodePart) Fault = Ok (goes_on_as (cut_part kept.0 part o)) in r) fails.is in
-        inr (inr (refl, kept.0, goes_on_as after, cut,
-        subst (λ (node : Node S D P). StandsFor disk member node after) (sym device.1)
-        (subst (λ (d : Disk). RestsAs member.config.max_positions d after) (sym device.2) rests)))
+        inr (inr (
+          refl,
+          kept.0,
+          goes_on_as after,
+          cut,
+          subst (λ (node : Node S D P). StandsFor disk member node after) (sym device.1)
+              (subst (λ (d : Disk). RestsAs member.config.max_positions d after) (sym device.2) rests),
+        ))
 
     stops_so : (turn : Turn) → effect_of next answers old input ≡ Ok turn → (fault : Fault) → Stops turn.written old new fault → NotTakenHere fault
     stops_so turn is OutOfMemory stops = inr (inl (refl, subst IsComing (sym (coming turn is)) tt, stays_so stops.0))

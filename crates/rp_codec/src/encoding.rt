@@ -2,6 +2,7 @@
 
 ghost use Rattle.std.specs.Prelude.{◌≡◌, ℕ, List, ◌++◌, IfOk, OnOk, OnErr};
 ghost use Rattle.rp_codec.specs.Message.{Message, IsPacket};
+ghost use Rattle.rp_codec.specs.Decoding.{IsReportBody};
 ghost use Rattle.rp_codec.specs.Text.{kind_number, party_number, head_text, text_of};
 
 use crate::body_text::put_body;
@@ -50,6 +51,16 @@ fn head_of(packet: &Packet) -> [u8; 4]
         party_number(packet.from()),
         party_number(packet.to()),
     ]
+}
+
+/// The one text of a packet that is no report. It takes no memory.
+pub fn text_of_packet(packet: &Packet) -> ShortText
+    requires { ¬ IsReportBody packet.now.body }
+    ensures { result ≡ text_of packet.now }
+{
+    let mut text = ShortText::starting_with(&head_of(packet));
+    put_body(&mut text, packet.body());
+    text
 }
 
 /// Puts the packet's one text behind the bytes. Where memory is refused, the bytes stay.

@@ -37,7 +37,7 @@ mod short_text;
 
 pub use actions::Actions;
 pub use decoding::{decode, packet_len};
-pub use encoding::{encode, encode_onto, one_text};
+pub use encoding::{encode, encode_onto, one_text, text_of_packet};
 pub use packet::{Body, Packet, Party};
 pub use record_text::{decode_front, encode_rec, one_record_text, text_of_record};
 pub use rules::report_len;

@@ -59,7 +59,8 @@ impl ShortText {
 
     /// The bytes in order.
     pub fn as_slice(&self) -> &[u8]
-        ensures { result.now ≡ self.now }
+        ensures bytes { result.now ≡ self.now }
+        ensures short { length self.now ≤ 40 }
     {
         &self.bytes[..self.len]
     }

@@ -1,6 +1,6 @@
 //! What a node learned, and how far it is taken.
 
-ghost use Rattle.std.specs.Prelude.{◌≡◌, ℕ, ◌<◌, ◌≤◌, [], ◌∷◌, ◌++◌, length, is_some, IfSome, IfNone, IfErr, OnOk, OnErr};
+ghost use Rattle.std.specs.Prelude.{◌≡◌, ℕ, ◌^◌, ◌<◌, ◌≤◌, [], ◌∷◌, ◌++◌, length, is_some, IfSome, IfNone, IfErr, OnOk, OnErr};
 ghost use Rattle.std.specs.FinMap.{get};
 ghost use Rattle.rp_base.specs.declared.fault.Fault.TheVariants.{OutOfMemory};
 ghost use Rattle.rp_log.specs.Contents.{empty_log, HasRoom, action_at, IsLearned, with_room, with_action, next_to_take, ready_of, IsTakenInOrder};
@@ -168,5 +168,14 @@ impl Log {
         ensures in_order { IsTakenInOrder self.now }
     {
         u32::from(self.taken)
+    }
+
+    /// The actions that were taken, in order: those of positions 1, 2, 3 and so on, at most 65,535.
+    pub fn taken(&self) -> &[Action]
+        ensures value { result.now ≡ self.now.taken }
+        ensures few { length result.now < 2 ^ 16 }
+    {
+        let (taken, _) = self.front.split_at(usize::from(self.taken));
+        taken
     }
 }

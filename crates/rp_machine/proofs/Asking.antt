@@ -1,9 +1,10 @@
 -- What a machine behind a log is asked, by the last number and its reply alone.
-use Rattle.std.proofs.Common.{◌≡◌, ◌≢◌, ℕ, zero, suc, ◌+◌, ◌<◌, ◌≤◌, max, ℤ, Bool, true, false, not, ◌&&◌, ◌||◌, nat_eq, nat_lt, is_none, Option, Some, None, List, [], ◌∷◌, ◌++◌, length, find, if◌then◌else◌, refl, sym, ap, subst, ◌∙◌, inl, inr, arith, eq-eqb, lt-ltb, ltb-true}
+use Rattle.std.proofs.Common.{◌≡◌, ◌≢◌, ℕ, zero, suc, ◌+◌, ◌<◌, ◌≤◌, max, ℤ, Bool, true, false, not, ◌&&◌, ◌||◌, nat_eq, nat_lt, is_none, Option, Some, None, List, [], ◌∷◌, ◌++◌, length, map, find, if◌then◌else◌, refl, sym, ap, subst, ◌∙◌, inl, inr, arith, eq-eqb, lt-ltb, ltb-true}
 use Rattle.std.specs.Option.{option_map}
 use Rattle.std.specs.List.{list_any, list_all}
 use Rattle.std.specs.Cmp.Lexicographic.{pointwise, bytes_decides}
-use Rattle.std.proofs.lemmas.Bool.{cases_lt, ne_eqb}
+use Rattle.std.specs.Prelude.{nat_le}
+use Rattle.std.proofs.lemmas.Bool.{cases_lt, ne_eqb, le-leb}
 use Rattle.std.proofs.lemmas.Bool.Decides.{eqb_tells}
 use Rattle.std.proofs.lemmas.List.{length-append}
 use Rattle.rp_base.specs.Sets.{Has}
@@ -14,7 +15,8 @@ use Rattle.rp_base.specs.declared.reply.Reply.{Reply}
 use Rattle.rp_base.specs.declared.reply.Answer.{Answer}
 use Rattle.rp_machine.specs.Replay.{numbers_of, occurrences_of, one_to, is_for, is_answered, all_answered, is_next_number, counts}
 use Rattle.rp_machine.specs.Asked.{greatest, last_number, last_occurrence, waits, answer_to, kept_reply}
-use Rattle.rp_machine.proofs.Calling.{has_left, one_to_bound}
+use Rattle.rp_machine.specs.Calls.{CallName, calls_made, call_of}
+use Rattle.rp_machine.proofs.Calling.{has_left, answered, made_number, one_to_bound}
 use Rattle.rp_machine.proofs.Numbering.{IsCounted, length-one_to}
 
 -- a list of which each member passes a test, and then one more
@@ -111,3 +113,40 @@ all_below (x ∷ xs) n above =
 -- an interrupt counts where it is above the last of its source
 pub interrupt_counts : (kept : List Action) (given : List Answer) (source occurrence : ℕ) → 1 ≤ occurrence → nat_lt (last_occurrence source kept) occurrence ≡ counts kept given (Interrupt source occurrence)
 interrupt_counts kept given source occurrence above = sym (all_below (occurrences_of source kept) occurrence above)
+
+-- ---- whether a call may still be answered
+
+has_greatest : (n : ℕ) (xs : List ℕ) → Has n xs → n ≤ greatest xs
+has_greatest n [] h = absurd h
+has_greatest n (x ∷ xs) h = elim h [ inl same ↦ omega arith | inr later ↦ let le = has_greatest n xs later in omega arith ]
+
+-- a call above the last one that counted has no answer, where only calls that counted are answered
+unanswered : (kept : List Action) (given : List Answer) (task number : ℕ) → ((call : CallName) → Has call (map call_of given) → Has call (calls_made kept)) → last_number task kept < number
+    → (b : Bool) → list_any (is_for task number) given ≡ b → b ≡ false
+unanswered kept given task number known above true e =
+    let this : CallName = record { task = task; number = number } in
+    let le = has_greatest number (numbers_of task kept) (made_number this kept (known this (answered task number given e))) in
+    absurd (omega arith)
+unanswered kept given task number known above false e = refl
+
+-- a test that no member passes finds none
+pub not_found : (test : Answer → Bool) (xs : List Answer) → list_any test xs ≡ false → find test xs ≡ None
+not_found test [] e = refl
+not_found test (x ∷ xs) e = by (test x) refl (not_found test xs)
+  where
+    by : (b : Bool) → test x ≡ b → (list_any test xs ≡ false → find test xs ≡ None) → find test (x ∷ xs) ≡ None
+    by true t later = let met : true ≡ false = ap (λ (b : Bool). b || list_any test xs) (sym t) ∙ e in absurd (cc)
+    by false t later = ap (λ (b : Bool). if b then Some x else find test xs) t ∙ later (ap (λ (b : Bool). b || list_any test xs) (sym t) ∙ e)
+
+-- none above the last is answered
+pub none_above : (kept : List Action) (given : List Answer) (task number : ℕ) → ((call : CallName) → Has call (map call_of given) → Has call (calls_made kept)) → last_number task kept < number
+    → answer_to task number given ≡ None
+none_above kept given task number known above =
+    not_found (is_for task number) given (unanswered kept given task number known above (list_any (is_for task number) given) refl)
+
+-- so one above it is open
+pub open_above : (kept : List Action) (given : List Answer) (task number last : ℕ) → last ≡ last_number task kept → last < number → answer_to task number given ≡ None
+    → nat_lt last number ≡ (is_none (answer_to task number given) && nat_le (last_number task kept) number)
+open_above kept given task number last is above none =
+    lt-ltb last number above
+    ∙ sym (ap (λ (o : Option Answer). is_none o && nat_le (last_number task kept) number) none ∙ le-leb (last_number task kept) number (omega arith))

@@ -29,7 +29,7 @@ without x (z ∷ zs) h =
           )
     ]
 
-set_within : {A : Type 0} (xs ys : List A) → IsSet xs → ((x : A) → Has x xs → Has x ys) → length xs ≤ length ys
+pub set_within : {A : Type 0} (xs ys : List A) → IsSet xs → ((x : A) → Has x xs → Has x ys) → length xs ≤ length ys
 set_within [] ys set inside = omega arith
 set_within {A} (x ∷ xs) ys set inside =
     let left = without x ys (inside x (inl refl)) in
@@ -48,7 +48,7 @@ one_call (Call task number object operation arg) = omega arith
 one_call (Interrupt source occurrence) = omega arith
 one_call (Tick now) = omega arith
 
-calls_few : (actions : List Action) → length (calls_made actions) ≤ length actions
+pub calls_few : (actions : List Action) → length (calls_made actions) ≤ length actions
 calls_few [] = omega arith
 calls_few (action ∷ rest) =
     let first : length (calls_of action) ≤ 1 = one_call action in

@@ -1,7 +1,7 @@
 -- How what memory holds of a machine behind a log goes on.
-use Rattle.std.proofs.Common.{◌≡◌, ◌≢◌, ℕ, zero, suc, ◌+◌, ◌-◌, ◌<◌, ◌≤◌, ℤ, Bool, true, false, ◌&&◌, ◌||◌, nat_eq, nat_lt, Option, Some, None, List, [], ◌∷◌, ◌++◌, length, take, map, find, get_or, set, if◌then◌else◌, refl, sym, ap, subst, ◌∙◌, inl, inr, arith, append_assoc, append-nil, eq-eqb, eqb-true, lt-ltb, ltb-true}
+use Rattle.std.proofs.Common.{◌≡◌, ◌≢◌, ℕ, zero, suc, ◌+◌, ◌-◌, ◌<◌, ◌≤◌, ℤ, Bool, true, false, ◌&&◌, ◌||◌, nat_eq, nat_lt, Option, Some, None, List, [], ◌∷◌, ◌++◌, length, take, map, get_or, set, if◌then◌else◌, refl, sym, ap, subst, ◌∙◌, inl, inr, arith, append_assoc, append-nil, eq-eqb, eqb-true, lt-ltb, ltb-true}
 use Rattle.std.specs.Option.{option_map, option_or}
-use Rattle.std.specs.List.{list_any, cons_option}
+use Rattle.std.specs.List.{cons_option}
 use Rattle.std.proofs.lemmas.Bool.{cases_lt, cases_eq, ne_eqb}
 use Rattle.std.proofs.lemmas.List.{take_more, get_or-set_same, get_or-set_other, length-set}
 use Rattle.std.proofs.lemmas.List.Elements.{filter_map-append}
@@ -22,7 +22,7 @@ use Rattle.rp_machine.specs.Numbered.{Applied, outcome, caller_of, AreCallers, A
 use Rattle.rp_machine.proofs.Calling.{has_left, has_right, has_either, both_true, answered, calls_made-append, made_number, one_to_bound, is_new}
 use Rattle.rp_machine.proofs.Numbering.{IsCounted, counted, counted_action, numbers_other, numbers_own, next_numbers, greatest-push, greatest-one_to}
 use Rattle.rp_machine.proofs.Replaying.{replay_from-append}
-use Rattle.rp_machine.proofs.Asking.{interrupt_counts}
+use Rattle.rp_machine.proofs.Asking.{not_found, interrupt_counts}
 use Rattle.rp_machine.proofs.Applying.{AllRight, IsAccounted, accounted, may_apply}
 
 with_answers-push : (callers : List Caller) (xs : List Answer) (x : Answer) → with_answers callers (xs ++ x ∷ []) ≡ with_answer (with_answers callers xs) x
@@ -35,14 +35,6 @@ with_answers-more callers answers i x below read =
     ap (with_answers callers) (take_more answers i x below ∙ ap (λ (y : Answer). take i answers ++ y ∷ []) (sym read)) ∙ with_answers-push callers (take i answers) x
 
 -- ---- which replies are found
-
-not_found : (test : Answer → Bool) (xs : List Answer) → list_any test xs ≡ false → find test xs ≡ None
-not_found test [] e = refl
-not_found test (x ∷ xs) e = by (test x) refl (not_found test xs)
-  where
-    by : (b : Bool) → test x ≡ b → (list_any test xs ≡ false → find test xs ≡ None) → find test (x ∷ xs) ≡ None
-    by true t later = let met : true ≡ false = ap (λ (b : Bool). b || list_any test xs) (sym t) ∙ e in absurd (cc)
-    by false t later = ap (λ (b : Bool). if b then Some x else find test xs) t ∙ later (ap (λ (b : Bool). b || list_any test xs) (sym t) ∙ e)
 
 no_reply : (task number : ℕ) (kept : List Action) (given : List Answer) → is_answered given task number ≡ false → kept_reply task number kept given ≡ None
 no_reply task number kept given e =
@@ -362,3 +354,10 @@ module _ {S P : Type 0} (next : S → Action → S) (answers : S → Action → 
         } in
         let P : List Action → Type 0 = λ list. IsHeld (replay_of next answers (begin program) list) list machine' callers' occurrences' in
         subst P (sym same) (subst (λ (s : Replayed S). IsHeld s (actions ++ action ∷ []) machine' callers' occurrences') (replay_push program actions action true e) plain)
+
+    -- no call is answered twice
+    pub once_more : (program : P) (actions after : List Action) (action : Action) → AllRight actions → IsRight action → after ≡ actions ++ action ∷ []
+        → IsSet (map call_of (replay_of next answers (begin program) after).given)
+    once_more program actions after action all right same =
+        (accounted next answers waiting begin runs none_waits starts keeps accounts program after
+        (subst AllRight (sym same) (right_more actions action all right))).once

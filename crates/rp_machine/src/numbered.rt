@@ -1,12 +1,12 @@
 //! A machine behind a log: each call counts once.
 
-ghost use Rattle.std.specs.Prelude.{◌≡◌, ℕ, ◌+◌, ◌-◌, ◌<◌, ◌≤◌, ◌&&◌, not, nat_eq, is_none, Some, None, List, [], ◌∷◌, ◌++◌, IfOk, slice_set, slice_index_or};
+ghost use Rattle.std.specs.Prelude.{◌≡◌, ℕ, ◌+◌, ◌-◌, ◌<◌, ◌≤◌, ◌&&◌, not, nat_eq, nat_le, is_none, map, Some, None, List, [], ◌∷◌, ◌++◌, IfOk, slice_set, slice_index_or};
 ghost use Rattle.rp_base.specs.Action.{IsRight, IsIndex};
 ghost use Rattle.rp_base.specs.Sets.{IsSet};
 ghost use Rattle.rp_base.specs.declared.action.Action.{Action};
-ghost use Rattle.rp_machine.specs.Calls.{calls_made};
+ghost use Rattle.rp_machine.specs.Calls.{calls_made, call_of};
 ghost use Rattle.rp_machine.specs.Replay.{answers_behind, counts, kept_of};
-ghost use Rattle.rp_machine.specs.Asked.{last_number, last_occurrence, waits, kept_reply};
+ghost use Rattle.rp_machine.specs.Asked.{last_number, last_occurrence, waits, answer_to, kept_reply};
 ghost use Rattle.rp_machine.specs.Numbered.{outcome, with_action, with_occurrence, with_answers};
 
 use crate::machine::Machine;
@@ -79,13 +79,14 @@ impl<M: Machine> Numbered<M> {
     }
 
     /// Applies the next action of the log, and gives the answers that come of it: those of the machine
-    /// where the action counts, else none. It takes no memory.
+    /// where the action counts, else none. No call is answered twice. It takes no memory.
     pub fn apply(&mut self, action: &Action) -> Answers
         requires { IsRight action.now }
         ensures applied { self.new
             ≡ record self.old { actions = self.old.actions ++ action.now ∷ [] } }
         ensures answers { result ≡ answers_behind M.next M.answers
             (outcome M.next M.answers self.old) action.now }
+        ensures once { IsSet (map call_of (outcome M.next M.answers self.new).given) }
     {
         replay_may_go_on::<M>();
         if !self.counts(action) {
@@ -127,6 +128,16 @@ impl<M: Machine> Numbered<M> {
         self.caller(task).waits()
     }
 
+    /// Whether a call may still be answered: it is not, and no call of its task above it counted.
+    pub fn is_open(&self, task: TaskId, number: u32) -> bool
+        requires { 1 ≤ number }
+        ensures { let r = outcome M.next M.answers self.now in result
+            ≡ (is_none (answer_to task number r.given) && nat_le (last_number task r.kept) number) }
+    {
+        let caller = self.caller(task);
+        caller.last < number || caller.last == number && caller.reply.is_none()
+    }
+
     /// The last occurrence of the source, 1 to 8, that counted, 0 where none did.
     pub fn last_occurrence(&self, source: u8) -> u32
         requires { IsIndex source }
@@ -142,11 +153,13 @@ impl<M: Machine> Numbered<M> {
         &self.machine
     }
 
-    /// What is kept of the task's calls.
+    /// What is kept of the task's calls. None above the last one is answered.
     fn caller(&self, task: TaskId) -> Caller
         ensures last { result.last ≡ last_number task (outcome M.next M.answers self.now).kept }
         ensures reply { let r = outcome M.next M.answers self.now in result.reply
             ≡ kept_reply task result.last r.kept r.given }
+        ensures above { let r = outcome M.next M.answers self.now in (number : ℕ)
+            → result.last < number → answer_to task number r.given ≡ None }
     {
         self.callers[usize::from(task.get()) - 1]
     }

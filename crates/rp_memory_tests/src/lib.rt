@@ -5,6 +5,8 @@
 #[cfg(test)]
 mod learner;
 #[cfg(test)]
+mod replica;
+#[cfg(test)]
 mod store;
 #[cfg(test)]
 mod world;

@@ -33,7 +33,7 @@ or_none (Some v) = refl
 -- ---- on the device
 
 -- a record more counts where it is within the log
-counts_more : (most : ℕ) (all : List Rec) (rec : Rec) → is_in_log most rec ≡ true → records_in_log most all ++ rec ∷ [] ≡ records_in_log most (all ++ rec ∷ [])
+pub counts_more : (most : ℕ) (all : List Rec) (rec : Rec) → is_in_log most rec ≡ true → records_in_log most all ++ rec ∷ [] ≡ records_in_log most (all ++ rec ∷ [])
 counts_more most all rec in_log =
     sym (filter-append (is_in_log most) all (rec ∷ []) ∙ ap (λ (b : Bool). records_in_log most all ++ (if b then rec ∷ [] else [])) in_log)
 
@@ -54,6 +54,7 @@ disk_more most disk after records rec d right in_log is =
       each = all_end d.all rec d.each right;
       kept = omega (arith, long, stable);
       whole = λ e. refl;
+      stable = λ e. stable;
     }
 
 -- a record was to be written, and the device failed
@@ -68,6 +69,7 @@ disk_failed most disk after records bytes d failed =
       each = d.each;
       kept = omega (arith, d.kept, failed.stable);
       whole = λ e. absurd (cc);
+      stable = λ e. absurd (cc);
     }
 
 -- ---- an answer tells nothing of what is started or learned

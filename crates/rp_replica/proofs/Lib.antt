@@ -9,3 +9,13 @@ pub mod Starting
 pub mod Hearing
 pub mod Beginning
 pub mod Choosing
+pub mod FreePlaces
+pub mod Leading
+pub mod Reporting
+pub mod Wanting
+pub mod Cuts
+pub mod Replying
+pub mod Learned
+pub mod Staying
+pub mod Missing
+pub mod Accepted

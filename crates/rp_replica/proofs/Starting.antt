@@ -49,6 +49,7 @@ tied_fresh me config old disk all cut_bytes records proposer learner log applied
         each = opened.kept.each;
         kept = omega (arith, long, stable);
         whole = λ e. refl;
+        stable = λ e. stable;
       };
       leads = subst (λ (p : ProposerPart). IsProposer me config records (length log.taken) p) (sym fresh)
           (record {

@@ -1,8 +1,12 @@
 pub mod Notes
 pub mod Packets
 pub mod Held
+pub mod Kept
 pub mod Tied
 pub mod Turning
 pub mod Proposed
 pub mod Opening
 pub mod Standing
+pub mod Inputs
+pub mod Cutting
+pub mod Applying

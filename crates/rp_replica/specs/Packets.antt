@@ -1,5 +1,5 @@
 -- The packets of one step, as one run of bytes (this project's own).
-use Rattle.std.specs.Prelude.{ℕ, suc, List, [], ◌∷◌, ◌++◌, length}
+use Rattle.std.specs.Prelude.{ℕ, suc, ◌+◌, List, [], ◌∷◌, ◌++◌, length}
 use Rattle.rp_codec.specs.Message.{Message}
 use Rattle.rp_codec.specs.Text.{text_of}
 
@@ -20,3 +20,16 @@ run_of packets = record { bytes = texts_of packets; packets = length packets }
 -- one packet more
 abbrev pub with_packet : Run → Message → Run
 with_packet run m = record { bytes = run.bytes ++ text_of m; packets = suc run.packets }
+
+-- a run of bytes, and for how many more there is room
+pub record RoomyRun : Type 0 where
+  pub run : Run
+  pub room : ℕ
+
+-- how many bytes the text of a packet has at most, if it is no report
+abbrev pub longest_text : ℕ
+longest_text = 40
+
+-- these packets more
+abbrev pub with_packets : Run → List Message → Run
+with_packets run packets = record { bytes = run.bytes ++ texts_of packets; packets = run.packets + length packets }

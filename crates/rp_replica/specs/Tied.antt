@@ -23,7 +23,7 @@ use Rattle.rp_machine.specs.Numbered.{Applied}
 use Rattle.rp_model.specs.Parts.{is_in_log, records_in_log}
 
 -- The device holds all records of the node in order, of which those within the log count, and behind them
--- what is torn: nothing, unless it has failed. All records are stable.
+-- what is torn: nothing, unless it has failed. All records are stable, and nothing else unless it has failed.
 pub record IsOnDisk (most : ℕ) (disk : Disk) (failed : Bool) (records : List Rec) : Type 0 where
   pub all : List Rec
   pub torn : List ℕ
@@ -32,6 +32,7 @@ pub record IsOnDisk (most : ℕ) (disk : Disk) (failed : Bool) (records : List R
   pub each : AllByRecursion IsRecord all
   pub kept : length (records_text all) ≤ disk.stable
   pub whole : failed ≡ false → torn ≡ []
+  pub stable : failed ≡ false → disk.stable ≡ length disk.contents
 
 -- a promise that reports a right vote, or none
 abbrev pub IsRightPromise : Promise → Type 0

@@ -1,5 +1,5 @@
 -- What a call of a replica comes to (this project's own).
-use Rattle.std.specs.Prelude.{◌≡◌, ◌⊎◌, true, false, Option, Some, Result, Ok, Err, List, length}
+use Rattle.std.specs.Prelude.{◌≡◌, ◌⊎◌, ℕ, true, false, Option, Some, Result, Ok, Err, List, length}
 use Rattle.rp_base.specs.declared.action.Action.{Action}
 use Rattle.rp_base.specs.declared.reply.Answer.{Answer}
 use Rattle.rp_base.specs.declared.fault.Fault.{Fault}
@@ -10,8 +10,9 @@ use Rattle.rp_store.specs.Disk.{AppendFailed}
 use Rattle.rp_model.specs.declared.part.Turn.{Turn}
 use Rattle.rp_replica.specs.declared.sent.Sent.{Sent}
 use Rattle.rp_replica.specs.Packets.{texts_of}
-use Rattle.rp_model.specs.Effect.{NodeInput, running_effect}
-use Rattle.rp_replica.specs.Held.{Held, setting_of, held_after}
+use Rattle.rp_model.specs.Effect.{NodeInput, running_effect, cut_part}
+use Rattle.rp_replica.specs.Kept.{HoldsPart}
+use Rattle.rp_replica.specs.Held.{Held, setting_of, part_of, held_after}
 
 -- The turn took effect: its record is written and stable, and the bytes are the texts of its packets.
 pub record Turns {S : Type 0} (turn : Turn) (old new : Held S) (sent : Sent) : Type 0 where
@@ -20,12 +21,14 @@ pub record Turns {S : Type 0} (turn : Turn) (old new : Held S) (sent : Sent) : T
   pub packets : sent.packets ≡ length turn.sent
   pub dropped : sent.dropped ≡ turn.dropped
 
--- the device failed while this record was written: some beginning of its text may stand behind the others
+-- The device failed while this record was written: some beginning of its text may stand behind the others,
+-- and so it holds what some cut of the turn leaves of the node's part.
 pub record FailsAt {S : Type 0} (written : Option Rec) (old new : Held S) : Type 0 where
   pub rec : Rec
   pub is : written ≡ Some rec
   pub disk : AppendFailed (record_text rec) old.disk new.disk
   pub goes : new ≡ record old { disk = new.disk; failed = true }
+  pub holds : (kept : ℕ) × HoldsPart old.config.max_positions new.disk (cut_part kept (part_of old) written)
 
 -- why a turn did not take effect, and what that leaves; there is no other reason
 abbrev pub Stops : {S : Type 0} → Option Rec → Held S → Held S → Fault → Type 0

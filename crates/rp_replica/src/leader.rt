@@ -21,7 +21,7 @@ ghost use Rattle.rp_model.specs.Effect as inputs;
 use crate::replica::{Replica, write};
 use crate::sent::{Outbox, Sent};
 use rp_base::{Action, Ballot, Fault, NodeId, Position, Rec, Vote};
-use rp_codec::{Body, Packet, Party};
+use rp_codec::Body;
 use rp_machine::Machine;
 use rp_model::Dropped;
 use rp_proposer::Progress;
@@ -59,14 +59,14 @@ impl<M: Machine, D: Device> Replica<M, D> {
     }
 
     /// Whether an action is learned at the position.
-    fn is_learned(&self, position: Position) -> bool
+    pub(crate) fn is_learned(&self, position: Position) -> bool
         ensures { result ≡ is_some (learned_at self.now.records position) }
     {
         self.log.get(position).is_some()
     }
 
     /// Whether the position is above the log, or too far above the first unlearned one.
-    fn is_out_of_reach(&self, position: Position) -> bool
+    pub(crate) fn is_out_of_reach(&self, position: Position) -> bool
         ensures { result
             ≡ is_out_of_reach self.now.config.max_positions self.now.records position }
     {
@@ -75,7 +75,7 @@ impl<M: Machine, D: Device> Replica<M, D> {
     }
 
     /// The ballot to lead in next, if there is one.
-    fn next_ballot(&self) -> Option<Ballot>
+    pub(crate) fn next_ballot(&self) -> Option<Ballot>
         ensures some { IfSome result (λ b. IsAbove self.now.me
             (starts_above self.now.records self.now.running) b) }
         ensures value { IfSome result (λ b. b
@@ -200,7 +200,7 @@ impl<M: Machine, D: Device> Replica<M, D> {
         let mut out = Outbox::new(alloc);
         for place in 0..self.config.nodes {
             let body = Body::Prepare { position, ballot };
-            out.push(&Packet::new(Party::Node(self.me), Party::Node(node_after(place)), body))?;
+            out.say(self.me, node_after(place), body)?;
         }
         Ok(out)
     }
@@ -226,14 +226,14 @@ impl<M: Machine, D: Device> Replica<M, D> {
                 ballot,
                 action: *action,
             };
-            out.push(&Packet::new(Party::Node(self.me), Party::Node(node_after(place)), body))?;
+            out.say(self.me, node_after(place), body)?;
         }
         Ok(out)
     }
 }
 
 /// The node of the number that is one above `place`.
-fn node_after(place: u8) -> NodeId
+pub(crate) fn node_after(place: u8) -> NodeId
     requires { place < 7 }
     ensures { result ≡ place + 1 }
 {

@@ -14,6 +14,7 @@ ghost use Rattle.rp_base.specs.Right.{IsRightRecord};
 ghost use Rattle.rp_proposer.specs.Proposing as proposing;
 ghost use Rattle.rp_replica.specs.Opening.{Opens, IsRefusedOpening};
 
+use crate::applying::apply_ready;
 use crate::heard::Heard;
 use crate::pending::Pending;
 use crate::replica::Replica;
@@ -75,22 +76,6 @@ pub(crate) fn log_of(alloc: Global, records: &[Rec]) -> Result<Log, Fault>
         }
     }
     Ok(log)
-}
-
-/// Applies all that is ready, in order.
-pub(crate) fn apply_ready<M: Machine>(machine: &mut Numbered<M>, log: &mut Log)
-    requires right { (i : ℕ) (v : Action) → action_at log.old i ≡ Some v → IsRight v }
-    requires taken { machine.old.actions ≡ log.old.taken }
-    ensures begin { machine.new.begin ≡ machine.old.begin }
-    ensures taken { machine.new.actions ≡ log.new.taken }
-    ensures places { log.new.places ≡ log.old.places }
-    ensures none { action_at log.new (next_to_take log.new) ≡ None }
-    ensures ordered { IsTakenInOrder log.new }
-{
-    while let Some((_, action)) = log.take_ready() {
-        machine.apply(&action);
-    }
-    log.applied();
 }
 
 /// What the records of a node give it to run by.

@@ -1,13 +1,15 @@
 //! The calls, interrupts and ticks that wait to be proposed.
 
-ghost use Rattle.std.specs.Prelude.{◌≡◌, ◌<◌, [], ◌∷◌, ◌++◌, length, nat_lt, not, IfOk, IsOkUnless};
+ghost use Rattle.std.specs.Prelude.{◌≡◌, ◌<◌, ◌≤◌, [], ◌∷◌, ◌++◌, length, drop, filter, slice_get, nat_lt, not, IfOk, IsTrue, IsOkUnless};
 ghost use Rattle.std.specs.List.{list_any};
-ghost use Rattle.rp_base.specs.Action.{equal_items};
+ghost use Rattle.rp_base.specs.Action.{IsCount, same_action, equal_items};
 ghost use Rattle.rp_base.specs.declared.fault.Fault.TheVariants as faults;
-ghost use Rattle.rp_model.specs.Pending.{most_pending};
+ghost use Rattle.rp_machine.specs.Numbered.{outcome};
+ghost use Rattle.rp_model.specs.Pending.{most_pending, is_answered_by, stays};
 
 use circular_buffer::HeapCircularBuffer;
-use rp_base::{Action, Fault};
+use rp_base::{Action, Answer, Fault};
+use rp_machine::{Machine, Numbered};
 use rp_model::RightAction;
 use std::alloc::Global;
 use std::marker::Model;
@@ -58,6 +60,46 @@ impl Pending {
         self.items.len() < MOST_PENDING
     }
 
+    /// How many items are pending.
+    pub(crate) fn len(&self) -> usize
+        ensures value { result ≡ length self.now }
+        ensures within { result ≤ most_pending }
+    {
+        self.items.len()
+    }
+
+    /// Whether the call that is answered is pending, which then has a right number.
+    pub(crate) fn awaits(&self, answer: &Answer) -> bool
+        ensures value { result ≡ list_any (is_answered_by answer.now) self.now }
+        ensures count { IsTrue result → IsCount answer.now.number }
+    {
+        let (front, back) = self.items.as_slices();
+        has_call(front, answer) || has_call(back, answer)
+    }
+
+    /// Takes out the items that do not stay, once these actions are the last that were applied to the
+    /// machine.
+    pub(crate) fn settle<M: Machine>(&mut self, machine: &Numbered<M>, applied: &[Action])
+        ensures { let r = outcome M.next M.answers machine.now in self.new
+            ≡ filter (stays r.kept r.given applied.now) self.old }
+    {
+        for _ in 0..self.len() {
+            if let Some(item) = self.pop() {
+                if stays(machine, applied, item) {
+                    self.push(item);
+                }
+            }
+        }
+    }
+
+    /// Takes out the first item.
+    fn pop(&mut self) -> Option<RightAction>
+        ensures first { result ≡ slice_get self.old 0 }
+        ensures rest { self.new ≡ drop 1 self.old }
+    {
+        self.items.pop_front()
+    }
+
     /// The items in order, in two runs.
     pub(crate) fn as_slices(&self) -> (&[RightAction], &[RightAction])
         ensures { result.0.now ++ result.1.now ≡ self.now }
@@ -89,4 +131,55 @@ pub(crate) fn is_equal(item: Action, other: Action) -> bool
         },
         _ => item == other,
     }
+}
+
+/// Whether the item is the call that is answered, which then has a right number.
+fn is_answered_by(answer: &Answer, item: RightAction) -> bool
+    ensures value { result ≡ is_answered_by answer.now item }
+    ensures count { IsTrue result → IsCount answer.now.number }
+{
+    match item.get() {
+        Action::Call { task, number, .. } => task == answer.task && number == answer.number,
+        _ => false,
+    }
+}
+
+/// Whether the call that is answered is among the items, and then has a right number.
+fn has_call(items: &[RightAction], answer: &Answer) -> bool
+    ensures value { result ≡ list_any (is_answered_by answer.now) items.now }
+    ensures count { IsTrue result → IsCount answer.now.number }
+{
+    for item in items {
+        if is_answered_by(answer, *item) {
+            return true;
+        }
+    }
+    false
+}
+
+/// Whether a pending item stays, once these actions are the last that were applied to the machine.
+fn stays<M: Machine>(machine: &Numbered<M>, applied: &[Action], item: RightAction) -> bool
+    ensures { let r = outcome M.next M.answers machine.now in result
+        ≡ stays r.kept r.given applied.now item }
+{
+    match item.get() {
+        Action::Noop => false,
+        Action::Call { task, number, .. } => machine.is_open(task, number),
+        Action::Interrupt { source, occurrence } => machine.last_occurrence(source) < occurrence,
+        Action::Tick { now } => !has_action(applied, Action::Tick { now }),
+    }
+}
+
+/// Whether the action is among these.
+fn has_action(actions: &[Action], action: Action) -> bool
+    ensures { result ≡ list_any (same_action action) actions.now }
+{
+    actions.iter().any(|other| is_same(action, *other))
+}
+
+/// Whether the actions are the same.
+fn is_same(action: Action, other: Action) -> bool
+    ensures { result ≡ same_action action other }
+{
+    action == other
 }

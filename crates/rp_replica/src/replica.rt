@@ -13,9 +13,11 @@ ghost use Rattle.rp_codec.specs.Record.{record_text, HasRecordRanges};
 ghost use Rattle.rp_codec.specs.declared.packet.Party.TheVariants.{Node};
 ghost use Rattle.rp_codec.specs.declared.packet.Body.TheVariants.{Reply as Answered};
 ghost use Rattle.rp_store.specs.Stored.{IsPut, IsNotPut};
+ghost use Rattle.rp_model.specs.Effect.{stop_part};
 ghost use Rattle.rp_model.specs.Parts.{is_in_log};
 ghost use Rattle.rp_model.specs.Says.{says, says_to_task, writes};
-ghost use Rattle.rp_replica.specs.Held.{held_after};
+ghost use Rattle.rp_replica.specs.Kept.{HoldsPart};
+ghost use Rattle.rp_replica.specs.Held.{held_after, part_of};
 ghost use Rattle.rp_replica.specs.Packets.{run_of};
 ghost use Rattle.rp_replica.specs.Tied.{IsAnswer};
 ghost use Rattle.rp_replica.specs.Turning.{Stops};
@@ -121,10 +123,12 @@ pub(crate) fn write<D: Device>(
     requires working { store.old.failed ≡ false }
     ensures put { OnOk result (IsPut D.disk (record_text rec.now) store.old store.new) }
     ensures noted { OnOk result (acceptor.new.records ≡ acceptor.old.records ++ rec.now ∷ []) }
+    ensures range { HasRecordRanges rec.now }
     ensures unchanged { OnErr result (acceptor.new.records ≡ acceptor.old.records) }
     ensures err { IfErr result (λ fault.
         IsNotPut D.disk (record_text rec.now) store.old fault store.new) }
 {
+    record_in_range(rec);
     reserve(acceptor, rec)?;
     store.put(rec)?;
     acceptor.note(rec);
@@ -139,7 +143,7 @@ impl<M: Machine, D: Device> Replica<M, D> {
         ensures only { IsOkUnless result faults.OutOfMemory }
     {
         let mut out = Outbox::new(alloc);
-        out.push(&Packet::new(Party::Node(self.me), Party::Node(to), body))?;
+        out.say(self.me, to, body)?;
         Ok(out)
     }
 
@@ -192,9 +196,11 @@ impl<M: Machine, D: Device> Replica<M, D> {
         Ok(self.machine.machine().image(alloc)?)
     }
 
-    /// The device, as it stands.
+    /// The device, as it stands. Unless it has failed it holds the records, and nothing behind them.
     pub fn close(self) -> D
-        ensures { D.disk result ≡ self.disk }
+        ensures disk { D.disk result ≡ self.disk }
+        ensures holds { self.failed ≡ false
+            → HoldsPart self.config.max_positions (D.disk result) (stop_part (part_of self)) }
     {
         self.store.close()
     }
@@ -235,7 +241,6 @@ impl<M: Machine, D: Device> Replica<M, D> {
             (writes rec.now self.old.running [])) }
         ensures err { IfErr result (λ fault. Stops (Some rec.now) self.old self.new fault) }
     {
-        record_in_range(rec);
         write(&mut self.store, &mut self.acceptor, rec)
     }
 }

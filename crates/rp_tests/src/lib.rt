@@ -21,6 +21,8 @@ mod object;
 #[cfg(test)]
 mod proposer;
 #[cfg(test)]
+mod replica;
+#[cfg(test)]
 mod tasks;
 #[cfg(test)]
 mod world;

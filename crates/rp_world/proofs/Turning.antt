@@ -21,10 +21,21 @@ use Rattle.rp_model.specs.Parts.{is_in_log, records_in_log}
 use Rattle.rp_replica.specs.declared.sent.Sent.{Sent}
 use Rattle.rp_replica.specs.Held.{Held, part_of, setting_of}
 use Rattle.rp_replica.specs.Tied.{IsOnDisk}
+use Rattle.rp_replica.specs.declared.input.Input.{Input}
+use Rattle.rp_replica.specs.Inputs.{given_by, effect_if_given, input_effect}
 use Rattle.rp_replica.specs.Turning.{Turns, TurnsIf, FailsAt, Stops, StopsIf, effect_of}
 use Rattle.rp_world.specs.declared.node.Node.{Node}
 use Rattle.rp_world.specs.declared.node.Node.TheVariants.{Running, Stopped}
-use Rattle.rp_world.specs.Nodes.{Member, RunsAs, RestsAs, setting_at, node_step, IsComing, IsWrittenRight, StandsFor, GoesBy, NotTaken, TellsSent}
+use Rattle.rp_world.specs.Nodes.{Member, RunsAs, RestsAs, setting_at, node_step, IsComing, StandsFor, GoesBy, NotTaken, TellsSent}
+
+-- a node that was cut is stopped
+cut_stopped : (kept : ℕ) (part : NodePart) (written : Option Rec) → (cut_part kept part written).running ≡ None
+cut_stopped kept part None = refl
+cut_stopped kept part (Some rec) =
+    elim (nat_le (length (record_text rec)) kept) as (λ b. let left : NodePart = if b then stop_part (record part { records = part.records ++ rec ∷ [] }) else stop_part (record part { torn = kept }) in left.running ≡ None) [
+      | true ↦ refl
+      | false ↦ refl
+    ]
 
 module _ {S : Type 0} (next : S → Action → S) (answers : S → Action → List Answer) (member : Member S) (old : Held S) (part : NodePart) (runs : RunsAs member old part) where
   -- an input comes to the same for the part and for the replica
@@ -54,54 +65,14 @@ module _ {S : Type 0} (next : S → Action → S) (answers : S → Action → Li
   pub stays : (new : Held S) → new ≡ old → RunsAs member new part
   stays new same = subst (λ (h : Held S). RunsAs member h part) (sym same) runs
 
-  -- what its device holds where that failed while a right record was written
-  module _ (new : Held S) (rec : Rec) (stands : IsOnDisk old.config.max_positions old.disk old.failed old.records) (right : IsRecord rec)
-      (within : is_in_log member.config.max_positions rec ≡ true) (kept : ℕ) (is : new.disk.contents ≡ old.disk.contents ++ take kept (record_text rec)) where
-    abbrev most : ℕ
-    most = member.config.max_positions
-
-    contents : new.disk.contents ≡ records_text stands.all ++ take kept (record_text rec)
-    contents =
-        is ∙ ap (λ (l : List ℕ). l ++ take kept (record_text rec))
-        (stands.contents ∙ ap (λ (l : List ℕ). records_text stands.all ++ l) (stands.whole runs.working) ∙ append-nil (records_text stands.all))
-
-    records : part.records ≡ records_in_log most stands.all
-    records = ap (λ (p : NodePart). p.records) runs.known ∙ stands.counted ∙ ap (λ (c : Config). records_in_log c.max_positions stands.all) runs.config
-
-    grown : part.records ++ rec ∷ [] ≡ records_in_log most (stands.all ++ rec ∷ [])
-    grown =
-        ap (λ (l : List Rec). l ++ rec ∷ []) records
-        ∙ ap (λ (b : Bool). records_in_log most stands.all ++ (if b then rec ∷ [] else [])) (sym within)
-        ∙ sym (filter-append (is_in_log most) stands.all (rec ∷ []))
-
-    by_test : (b : Bool) → nat_le (length (record_text rec)) kept ≡ b
-        → RestsAs most new.disk (if b then stop_part (record part { records = part.records ++ rec ∷ [] }) else stop_part (record part { torn = kept }))
-    by_test true test = record {
-      holds = record {
-        all = stands.all ++ rec ∷ [];
-        torn = [];
-        found = subst (λ (l : List ℕ). AreRecordsOf l (stands.all ++ rec ∷ []) []) (sym contents)
-            (after_put stands.all rec kept stands.each right (leb-true (length (record_text rec)) kept test));
-        records = grown;
-        bytes = ap (λ (p : NodePart). p.torn) runs.known;
-      };
-      stopped = refl;
-    }
-    by_test false test =
-        let less : kept < length (record_text rec) = leb-false (length (record_text rec)) kept test in
-        record {
-          holds = record {
-            all = stands.all;
-            torn = take kept (record_text rec);
-            found = subst (λ (l : List ℕ). AreRecordsOf l stands.all (take kept (record_text rec))) (sym contents) (before_put stands.all rec kept stands.each right less);
-            records = records;
-            bytes = sym (length-take-le kept (record_text rec) (omega (arith, less)));
-          };
-          stopped = refl;
-        }
-
-    pub is_cut : RestsAs most new.disk (cut_part kept part (Some rec))
-    is_cut = by_test (nat_le (length (record_text rec)) kept) refl
+  -- what its device holds where the node stopped within a turn
+  pub is_cut : (kept : ℕ) (written : Option Rec) (disk : Disk) → HoldsPart old.config.max_positions disk (cut_part kept (part_of old) written)
+      → RestsAs member.config.max_positions disk (cut_part kept part written)
+  is_cut kept written disk holds = record {
+    holds = subst (λ (p : NodePart). HoldsPart member.config.max_positions disk (cut_part kept p written)) (sym runs.known)
+        (subst (λ (c : Config). HoldsPart c.max_positions disk (cut_part kept (part_of old) written)) runs.config holds);
+    stopped = cut_stopped kept part written;
+  }
 
   -- what was answered, if it was taken
   pub taken : (input : NodeInput) (new : Held S) (sent : Sent) (turn : Result Turn Fault) → effect_of next answers old input ≡ turn → TurnsIf turn old new sent
@@ -127,8 +98,8 @@ module _ {S D P : Type 0} (next : S → Action → S) (answers : S → Action �
   answered (Ok sent) turns = taken_by sent turns
   answered (Err fault) turns = tt
 
-  module _ (off : new.failed ≡ true → (device : D) × (n ≡ Stopped device) × (disk device ≡ new.disk)) (stands : IsOnDisk old.config.max_positions old.disk old.failed old.records)
-      (member : Member S) (part : NodePart) (runs : RunsAs member old part) (right : IsWrittenRight member.config.max_positions (node_step next answers member input part)) where
+  module _ (off : new.failed ≡ true → (device : D) × (n ≡ Stopped device) × (disk device ≡ new.disk))
+      (member : Member S) (part : NodePart) (runs : RunsAs member old part) where
     -- how the step was not taken
     abbrev NotTakenHere : Fault → Type 0
     NotTakenHere fault =
@@ -146,24 +117,13 @@ module _ {S D P : Type 0} (next : S → Action → S) (answers : S → Action �
 
     fails_so : (turn : Turn) → effect_of next answers old input ≡ Ok turn → FailsAt turn.written old new → NotTakenHere Device
     fails_so turn is fails =
-        let come = coming turn is in
-        let rec = fails.rec in
-        let fine = subst (λ (o : Option Rec). IfSome o (λ r. IsRecord r × (is_in_log member.config.max_positions r ≡ true))) fails.is
-        (subst (IsWrittenRight member.config.max_positions) come right) in
-        let kept = fails.disk.contents in
-        let rests = is_cut next answers member old part runs new rec stands fine.0 fine.1 kept.0 kept.1 in
+        let kept = fails.holds.0 in
+        let after = cut_part kept part turn.written in
+        let rests = is_cut next answers member old part runs kept turn.written new.disk fails.holds.1 in
         let device = off (ap (λ (h : Held S). h.failed) fails.goes) in
-        let after = cut_part kept.0 part (Some rec) in
-        let cut : cut_if kept.0 part (node_step next answers member input part) ≡ Ok (goes_on_as after) =
-        ap (cut_if kept.0 part) come ∙ ap (λ (o : Option Rec). let r : Result (Done NodePart) Fault = Ok (goes_on_as (cut_part kept.0 part o)) in r) fails.is in
-        inr (inr (
-          refl,
-          kept.0,
-          goes_on_as after,
-          cut,
-          subst (λ (node : Node S D P). StandsFor disk member node after) (sym device.1)
-              (subst (λ (d : Disk). RestsAs member.config.max_positions d after) (sym device.2) rests),
-        ))
+        inr (inr (refl, kept, goes_on_as after, ap (cut_if kept part) (coming turn is),
+        subst (λ (node : Node S D P). StandsFor disk member node after) (sym device.1)
+        (subst (λ (d : Disk). RestsAs member.config.max_positions d after) (sym device.2) rests)))
 
     stops_so : (turn : Turn) → effect_of next answers old input ≡ Ok turn → (fault : Fault) → Stops turn.written old new fault → NotTakenHere fault
     stops_so turn is OutOfMemory stops = inr (inl (refl, subst IsComing (sym (coming turn is)) tt, stays_so stops.0))
@@ -182,8 +142,26 @@ module _ {S D P : Type 0} (next : S → Action → S) (answers : S → Action �
         ]
 
   -- a step that was not taken
-  pub not_answered : (off : new.failed ≡ true → (device : D) × (n ≡ Stopped device) × (disk device ≡ new.disk)) → IsOnDisk old.config.max_positions old.disk old.failed old.records
-      → (answer : Result Sent Fault) → IfErr answer (λ fault. StopsIf (effect_of next answers old input) old new fault)
+  pub not_answered : (off : new.failed ≡ true → (device : D) × (n ≡ Stopped device) × (disk device ≡ new.disk)) → (answer : Result Sent Fault) → IfErr answer (λ fault. StopsIf (effect_of next answers old input) old new fault)
       → IfErr answer (λ fault. (member : Member S) → NotTaken disk member (Running old) n (node_step next answers member input) fault)
-  not_answered off stands (Ok sent) stops = tt
-  not_answered off stands (Err fault) stops = λ member part runs right. by_effect off stands member part runs right (effect_of next answers old input) refl fault stops
+  not_answered off (Ok sent) stops = tt
+  not_answered off (Err fault) stops = λ member part runs. by_effect off member part runs (effect_of next answers old input) refl fault stops
+
+-- the same of an input that gives this to the node
+module _ {S D P : Type 0} (next : S → Action → S) (answers : S → Action → List Answer) (disk : D → Disk) (old new : Held S) (n : Node S D P)
+    (on : new.failed ≡ false → n ≡ Running new) (input : Input) where
+  same_input : (given : NodeInput) → given_by input ≡ Ok given → input_effect next answers old input ≡ effect_of next answers old given
+  same_input given is = ap (effect_if_given next answers old) is
+
+  pub turned_ok : (answer : Result Sent Fault) → IfOk answer (λ sent. TurnsIf (input_effect next answers old input) old new sent)
+      → IfOk answer (λ sent. (member : Member S) (given : NodeInput) → given_by input ≡ Ok given → GoesBy disk member (Running old) n (node_step next answers member given) TellsSent sent)
+  turned_ok (Ok sent) turns = λ member given is.
+      taken_by next answers disk given old new n on sent (subst (λ (r : Result Turn Fault). TurnsIf r old new sent) (same_input given is) turns) member
+  turned_ok (Err fault) turns = tt
+
+  pub turned_err : (off : new.failed ≡ true → (device : D) × (n ≡ Stopped device) × (disk device ≡ new.disk))
+      → (answer : Result Sent Fault) → IfErr answer (λ fault. StopsIf (input_effect next answers old input) old new fault)
+      → IfErr answer (λ fault. (member : Member S) (given : NodeInput) → given_by input ≡ Ok given → NotTaken disk member (Running old) n (node_step next answers member given) fault)
+  turned_err off (Ok sent) stops = tt
+  turned_err off (Err fault) stops = λ member given is.
+      not_answered next answers disk given old new n on off (Err fault) (subst (λ (r : Result Turn Fault). StopsIf r old new fault) (same_input given is) stops) member

@@ -1,31 +1,19 @@
 -- A node of a cluster: a replica that runs, or a device that rests (this project's own).
-use Rattle.std.specs.Prelude.{◌≡◌, ◌⊎◌, ℕ, min, true, false, Option, None, IfSome, Result, Ok, Err, List, length}
+use Rattle.std.specs.Prelude.{◌≡◌, ◌⊎◌, ℕ, min, false, Option, None, Result, Ok, Err, List, length}
 use Rattle.rp_base.specs.declared.action.Action.{Action}
 use Rattle.rp_base.specs.declared.reply.Answer.{Answer}
 use Rattle.rp_base.specs.declared.fault.Fault.TheVariants.{OutOfMemory, Device}
-use Rattle.rp_codec.specs.Record.{IsRecord}
 use Rattle.rp_replica.specs.declared.sent.Sent.{Sent}
 use Rattle.rp_replica.specs.Packets.{texts_of}
 use Rattle.rp_base.specs.declared.config.Config.{Config}
 use Rattle.rp_base.specs.declared.fault.Fault.{Fault}
-use Rattle.rp_base.specs.declared.record.Rec.{Rec}
 use Rattle.rp_store.specs.Disk.{Disk}
-use Rattle.rp_store.specs.Records.{AreRecordsOf}
 use Rattle.rp_model.specs.declared.part.NodePart.{NodePart}
 use Rattle.rp_model.specs.Effect.{Setting, Done, NodeInput, node_effect, cut_if}
-use Rattle.rp_model.specs.Parts.{is_in_log, records_in_log}
 use Rattle.rp_replica.specs.Held.{Held, part_of}
+use Rattle.rp_replica.specs.Kept.{HoldsPart}
 use Rattle.rp_world.specs.declared.node.Node.{Node}
 use Rattle.rp_world.specs.declared.node.Node.TheVariants.{Running, Stopped}
-
--- The device holds the records of the part, and those above the log, which do not count; the torn bytes
--- stand behind them.
-pub record HoldsPart (most : ℕ) (disk : Disk) (part : NodePart) : Type 0 where
-  pub all : List Rec
-  pub torn : List ℕ
-  pub found : AreRecordsOf disk.contents all torn
-  pub records : part.records ≡ records_in_log most all
-  pub bytes : part.torn ≡ length torn
 
 -- which node of which cluster
 pub record Member (S : Type 0) : Type 0 where
@@ -63,11 +51,6 @@ abbrev pub IsComing : Result (Done NodePart) Fault → Type 0
 IsComing (Ok done) = Unit {0}
 IsComing (Err refusal) = ⊥
 
--- the record of a step is one, and within the log
-abbrev pub IsWrittenRight : ℕ → Result (Done NodePart) Fault → Type 0
-IsWrittenRight most (Ok done) = IfSome done.written (λ rec. IsRecord rec × (is_in_log most rec ≡ true))
-IsWrittenRight most (Err refusal) = Unit {0}
-
 -- the node is the part of the member
 abbrev pub StandsFor : {S D P : Type 0} → (D → Disk) → Member S → Node S D P → NodePart → Type 0
 StandsFor disk member (Running held) part = RunsAs member held part
@@ -79,6 +62,12 @@ module _ {S D P : Type 0} (disk : D → Disk) (member : Member S) (old new : Nod
   GoesBy effect tells answer =
       (part : NodePart) → StandsFor disk member old part
       → (done : Done NodePart) × (effect part ≡ Ok done) × StandsFor disk member new done.part × tells answer done
+
+  -- a step of the node is a cut of this effect, where so many bytes of its record are kept
+  abbrev pub IsCutBy : ℕ → (NodePart → Result (Done NodePart) Fault) → Type 0
+  IsCutBy kept effect =
+      (part : NodePart) → StandsFor disk member old part
+      → (done : Done NodePart) × (cut_if kept part (effect part) ≡ Ok done) × StandsFor disk member new done.part
 
   -- or the effect refuses it, and nothing changes
   abbrev pub RefusedBy : (NodePart → Result (Done NodePart) Fault) → Fault → Type 0
@@ -93,10 +82,9 @@ module _ {S D P : Type 0} (disk : D → Disk) (member : Member S) (old new : Nod
 
   -- Or the step was not taken: it is refused, and nothing changes; or memory was wanting for what it comes
   -- to, and nothing changes; or the device failed, and the step is cut with some of its record's bytes kept.
-  -- Its record is known to be right.
   abbrev pub NotTaken : (NodePart → Result (Done NodePart) Fault) → Fault → Type 0
   NotTaken effect fault =
-      (part : NodePart) → StandsFor disk member old part → IsWrittenRight member.config.max_positions (effect part)
+      (part : NodePart) → StandsFor disk member old part
       → ((effect part ≡ Err fault) × StandsFor disk member new part)
       ⊎ (((fault ≡ OutOfMemory) × IsComing (effect part) × StandsFor disk member new part)
       ⊎ ((fault ≡ Device) × (kept : ℕ) × (done : Done NodePart) × (cut_if kept part (effect part) ≡ Ok done) × StandsFor disk member new done.part))

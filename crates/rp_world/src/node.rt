@@ -1,18 +1,17 @@
 //! A node: a replica that runs, or a device that rests.
 
 ghost use Rattle.std.specs.Prelude.{◌≡◌, ◌⊎◌, ◌≤◌, [], true, false, Ok, Some, IfOk, IfErr};
-ghost use Rattle.rp_base.specs.Action.{IsRight};
 ghost use Rattle.rp_base.specs.Config.{IsRightConfig};
-ghost use Rattle.rp_base.specs.declared.action.Action.TheVariants as actions;
+ghost use Rattle.rp_replica.specs.Inputs.{IsRightInput, given_by};
 ghost use Rattle.rp_base.specs.declared.fault.Fault.TheVariants as faults;
-ghost use Rattle.rp_model.specs.Effect.{Interrupt, Lead, Tick, stop_effect, restart_part};
+ghost use Rattle.rp_model.specs.Effect.{NodeInput, stop_effect, restart_part};
 ghost use Rattle.rp_model.specs.Parts.{fresh_node};
 ghost use Rattle.rp_world.specs.declared.node.Node.TheVariants.{Running, Stopped};
 ghost use Rattle.rp_world.specs.Nodes.{Member, member_of, StandsFor, GoesBy, RefusedBy, IsLeftTorn, NotTaken, TellsNothing, TellsOpened, TellsSent, node_step};
 
-use rp_base::{Config, Fault, NodeId, Position};
+use rp_base::{Config, Fault, NodeId};
 use rp_machine::Machine;
-use rp_replica::{Replica, Sent};
+use rp_replica::{Input, Replica, Sent};
 use rp_store::CutDevice;
 use std::alloc::Global;
 
@@ -94,62 +93,21 @@ impl<M: Machine, D: CutDevice> Node<M, D> {
         }
     }
 
-    /// The node notes a tick of the clock. `NotRunning` where it is stopped.
-    pub(crate) fn tick(self, alloc: Global, now: u32) -> (Self, Result<Sent, Fault>)
-        ensures ok { IfOk result.1 (λ sent. (member : Member M) → GoesBy D.disk member self result.0
-            (node_step M.next M.answers member (Tick now)) TellsSent sent) }
-        ensures err { IfErr result.1 (λ fault. (member : Member M) → NotTaken D.disk member self
-            result.0 (node_step M.next M.answers member (Tick now)) fault) }
+    /// The node makes the step of an input. `NotRunning` where it is stopped, and else as the replica
+    /// says; where its device failed it is stopped within the step.
+    pub(crate) fn turn(self, alloc: Global, input: &Input) -> (Self, Result<Sent, Fault>)
+        requires right { IsRightInput input.now }
+        ensures ok { IfOk result.1 (λ sent. (member : Member M) (given : NodeInput)
+            → given_by input.now ≡ Ok given → GoesBy D.disk member self result.0
+            (node_step M.next M.answers member given) TellsSent sent) }
+        ensures err { IfErr result.1 (λ fault. (member : Member M) (given : NodeInput)
+            → given_by input.now ≡ Ok given → NotTaken D.disk member self result.0
+            (node_step M.next M.answers member given) fault) }
     {
         match self {
             Node::Running(replica) => {
                 let mut replica = replica;
-                replica.keeps_records();
-                let answer = replica.tick(alloc, now);
-                (rest_if_failed(replica), answer)
-            }
-            Node::Stopped(device) => (Node::Stopped(device), Err(Fault::NotRunning)),
-        }
-    }
-
-    /// The node notes an occurrence, from 1, of an interrupt's source, 1 to 8. `NotRunning` where it is
-    /// stopped.
-    pub(crate) fn interrupt(
-        self,
-        alloc: Global,
-        source: u8,
-        occurrence: u32,
-    ) -> (Self, Result<Sent, Fault>)
-        requires right { IsRight (actions.Interrupt source occurrence) }
-        ensures ok { IfOk result.1 (λ sent. (member : Member M) → GoesBy D.disk member self result.0
-            (node_step M.next M.answers member (Interrupt source occurrence)) TellsSent sent) }
-        ensures err { IfErr result.1 (λ fault. (member : Member M) → NotTaken D.disk member self
-            result.0 (node_step M.next M.answers member (Interrupt source occurrence)) fault) }
-    {
-        match self {
-            Node::Running(replica) => {
-                let mut replica = replica;
-                replica.keeps_records();
-                let answer = replica.interrupt(alloc, source, occurrence);
-                (rest_if_failed(replica), answer)
-            }
-            Node::Stopped(device) => (Node::Stopped(device), Err(Fault::NotRunning)),
-        }
-    }
-
-    /// The node leads at a position. `NotRunning` where it is stopped, `LogFull` and `BallotsSpent` as
-    /// the replica says.
-    pub(crate) fn lead_at(self, alloc: Global, position: Position) -> (Self, Result<Sent, Fault>)
-        ensures ok { IfOk result.1 (λ sent. (member : Member M) → GoesBy D.disk member self result.0
-            (node_step M.next M.answers member (Lead (Some position))) TellsSent sent) }
-        ensures err { IfErr result.1 (λ fault. (member : Member M) → NotTaken D.disk member self
-            result.0 (node_step M.next M.answers member (Lead (Some position))) fault) }
-    {
-        match self {
-            Node::Running(replica) => {
-                let mut replica = replica;
-                replica.keeps_records();
-                let answer = replica.lead_at(alloc, position);
+                let answer = replica.turn(alloc, input);
                 (rest_if_failed(replica), answer)
             }
             Node::Stopped(device) => (Node::Stopped(device), Err(Fault::NotRunning)),

@@ -2,7 +2,7 @@
 use Rattle.std.proofs.Common.{true, false, List, ap, sym, ◌∙◌}
 use Rattle.rp_machine.specs.declared.numbered.Caller.{Caller}
 use Rattle.rp_machine.specs.Numbered.{with_action, with_answers}
-use Rattle.rp_machine.proofs.Holding.{viewed, held_not, held_more, still_may}
+use Rattle.rp_machine.proofs.Holding.{viewed, held_not, held_more, still_may, once_more}
 use Rattle.rp_machine.proofs.numbered.Numbered.apply.Goals as goal
 
 pub invariant_of-self : goal.invariant_of-self
@@ -35,3 +35,19 @@ invariant_of-self-2 g c =
     ∙ ap (with_answers (with_action self.callers c.args.action.now)) (c.as_slice.ensures ∙ c.apply-answers.ensures.answers) in
     held_more m.next m.answers m.waiting m.begin m.runs laws.none_waits laws.starts laws.keeps laws.accounts self.program.value self.actions c.push-2.new.self c.args.action.now self.machine c.apply-answers.new.self self.callers c.hear.new.callers self.occurrences c.note.new.occurrences
     c.self.invariant c.requires c.self.told counting c.push-2.ensures c.apply-answers.ensures.next told c.note.ensures.occurrences
+
+pub returns-then-not-counts-clause-once : goal.returns-then-not-counts-clause-once
+returns-then-not-counts-clause-once g c =
+    let m = g.M.Machine in
+    let laws = g.met.M.Machine in
+    let self = c.self.inside in
+    once_more m.next m.answers m.waiting m.begin m.runs laws.none_waits laws.starts laws.keeps laws.accounts self.program.value self.actions c.push.new.self c.args.action.now
+    c.self.invariant.right c.requires c.push.ensures
+
+pub returns-clause-once : goal.returns-clause-once
+returns-clause-once g c =
+    let m = g.M.Machine in
+    let laws = g.met.M.Machine in
+    let self = c.self.inside in
+    once_more m.next m.answers m.waiting m.begin m.runs laws.none_waits laws.starts laws.keeps laws.accounts self.program.value self.actions c.push-2.new.self c.args.action.now
+    c.self.invariant.right c.requires c.push-2.ensures

@@ -1,5 +1,4 @@
-use Rattle.std.proofs.Common.{◌≡◌, ◌+◌, ap, ◌∙◌}
-use Rattle.rp_codec.specs.declared.packet.Party.TheVariants.{Node}
+use Rattle.std.proofs.Common.{◌≡◌, ℕ, ◌+◌, ap, ◌∙◌}
 use Rattle.rp_codec.specs.declared.packet.Body.TheVariants.{Prepare}
 use Rattle.rp_model.specs.Says.{says}
 use Rattle.rp_replica.specs.Packets.{with_packet}
@@ -10,6 +9,6 @@ pub loop-place-preserved : goal.loop-place-preserved
 loop-place-preserved g c =
     let body = Prepare c.args.position c.args.ballot in
     let me_is : c.self.inside.me ≡ c.args.self.now.me = λ i. (c.self.view_is i).me in
-    let said : c.new.result ≡ says c.args.self.now.me body (c.loop-place.place + 1) =
-    c.new.ensures ∙ (λ i. record { from = Node (me_is i); to = Node (c.node_after.ensures i); body = body }) in
-    c.in_ok-push.ensures ∙ ap (with_packet c.loop-place.out) said ∙ one_node_more c.loop-place.place c.args.self.now.me body c.loop-place.out c.loop-place.invariant
+    let said : says c.self.inside.me body c.node_after.result ≡ says c.args.self.now.me body (c.loop-place.place + 1) =
+    ap (λ (me : ℕ). says me body c.node_after.result) me_is ∙ ap (says c.args.self.now.me body) c.node_after.ensures in
+    c.in_ok-say.ensures ∙ ap (with_packet c.loop-place.out) said ∙ one_node_more c.loop-place.place c.args.self.now.me body c.loop-place.out c.loop-place.invariant

@@ -1,7 +1,13 @@
-use Rattle.std.proofs.Common.{◌≡◌, suc, ◌+◌, ◌<◌, ◌≤◌, None, length, subst, sym}
+use Rattle.std.proofs.Common.{◌≡◌, suc, ◌+◌, ◌<◌, ◌≤◌, Some, None, length, refl, subst, sym}
 use Rattle.rp_base.specs.Records.{learned_at, first_unlearned}
 use Rattle.rp_proposer.proofs.Windows.{window_has_room}
+use Rattle.rp_base.specs.declared.record.Rec.{Rec}
+use Rattle.rp_base.specs.declared.record.Rec.TheVariants.{Started}
+use Rattle.rp_model.specs.declared.part.Running.{Running}
+use Rattle.rp_replica.specs.Cutting.{MayWrite}
 use Rattle.rp_replica.specs.Held.{Held}
+use Rattle.rp_replica.specs.Turning.{Stops}
+use Rattle.rp_replica.proofs.Cuts.{held_with, stops_by, given_on}
 use Rattle.rp_replica.proofs.Beginning.{in_reach, tied_started}
 use Rattle.rp_replica.proofs.replica.Replica.start.Goals as goal
 
@@ -26,3 +32,16 @@ invariant_of-self-2 g c =
     tied_started g.D.Device.disk r.me r.config r.learner r.heard r.log r.machine r.store c.write.new.store r.acceptor.records c.write.new.acceptor.records r.proposer c.begin.new.self i c.args.ballot c.args.own.now
     c.in_ok-write.ensures.put c.in_ok-write.ensures.noted c.begin.ensures c.self.invariant c.requires.ballot.ballot c.requires.right unlearned
     (in_reach r.acceptor.records r.log r.machine i c.self.invariant.applies least unlearned below)
+
+pub returns-in_err-write-clause-err : goal.returns-in_err-write-clause-err
+returns-in_err-write-clause-err g c =
+    let r = c.self.inside in
+    let disk = g.D.Device.disk in
+    let rec : Rec = Started c.args.ballot in
+    let fault = c.in_err-write.field-0.0 in
+    let known : Running = record { proposals = r.proposer.proposals; heard = r.heard; pending = r.pending; refused = r.proposer.refused } in
+    let after : Held g.row.M.Denot = held_with disk r.me r.config r.machine.begin known c.write.new.store c.write.new.acceptor.records in
+    let may : MayWrite r.config.max_positions (Some rec) = (record { ranges = c.requires.ballot.ballot; right = tt }, refl) in
+    given_on c.from_residual.result fault (Some rec) c.args.self.now after c.from_residual.ensures.1
+    (subst (λ (k : Held g.row.M.Denot). Stops (Some rec) k after fault) c.self.view_is
+    (stops_by disk r.me r.config r.machine.begin known fault rec r.store c.write.new.store r.acceptor.records c.write.new.acceptor.records c.self.invariant.stands may c.in_err-write.ensures.unchanged c.in_err-write.ensures.err))

@@ -1,0 +1,178 @@
+-- What a stop within the write of a record leaves.
+use Rattle.std.proofs.Common.{◌≡◌, ℕ, zero, suc, ◌+◌, ◌<◌, ◌≤◌, Bool, true, false, if◌then◌else◌, cond, Option, Some, None, List, [], ◌∷◌, ◌++◌, length, take, refl, sym, ap, subst, ◌∙◌, arith, inl, inr}
+use Rattle.std.specs.Prelude.{Result, Ok, Err, OnErr, IfErr, nat_le}
+use Rattle.std.specs.Result.{IsErrAnd}
+use Rattle.std.specs.List.{AllByRecursion}
+use Rattle.std.proofs.lemmas.Bool.{cases_lt, le-leb, lt-leb}
+use Rattle.std.proofs.lemmas.List.{append-nil}
+use Rattle.rp_base.specs.declared.record.Rec.{Rec}
+use Rattle.rp_codec.specs.Record.{record_text, IsRecord}
+use Rattle.rp_store.specs.Disk.{Disk, appended, stopped, AppendFailed}
+use Rattle.rp_store.specs.Records.{records_text, AreRecordsOf}
+use Rattle.rp_store.specs.Stored.{Stored, IsNotPut}
+use Rattle.rp_base.specs.declared.config.Config.{Config}
+use Rattle.rp_base.specs.declared.fault.Fault.{Fault}
+use Rattle.rp_base.specs.declared.fault.Fault.TheVariants.{OutOfMemory, Device, Failed}
+use Rattle.rp_store.proofs.Whole.{before_put, after_put, only_records}
+use Rattle.rp_model.specs.declared.part.NodePart.{NodePart}
+use Rattle.rp_model.specs.declared.part.Running.{Running}
+use Rattle.rp_model.specs.Effect.{cut_part, stop_part}
+use Rattle.rp_model.specs.Parts.{is_in_log, records_in_log}
+use Rattle.rp_replica.specs.Tied.{IsOnDisk}
+use Rattle.rp_replica.specs.Held.{Held, part_of}
+use Rattle.rp_replica.specs.Kept.{HoldsPart}
+use Rattle.rp_replica.specs.Turning.{Stops}
+use Rattle.rp_replica.specs.Cutting.{MayWrite, Cuts, FailsInCut}
+use Rattle.rp_replica.proofs.Keeping.{counts_more}
+
+no_bytes : (torn : List ℕ) → 0 ≡ length torn → torn ≡ []
+no_bytes [] e = refl
+no_bytes (b ∷ torn) e = absurd (omega (arith, e))
+
+taken_all : (n : ℕ) (bytes : List ℕ) → n ≤ length bytes → length (take n bytes) ≡ n
+taken_all zero bytes within = refl
+taken_all (suc n) [] within = absurd (omega arith)
+taken_all (suc n) (b ∷ bytes) within = ap suc (taken_all n bytes (omega arith))
+
+-- the device of a replica that works holds its part
+pub holds_now : (most : ℕ) (disk : Disk) (records : List Rec) (running : Option Running) → IsOnDisk most disk false records
+    → HoldsPart most disk (record { records = records; torn = 0; running = running })
+holds_now most disk records running d =
+    let text : disk.contents ≡ records_text d.all = d.contents ∙ ap (λ (t : List ℕ). records_text d.all ++ t) (d.whole refl) ∙ append-nil (records_text d.all) in
+    record {
+      all = d.all;
+      torn = [];
+      found = subst (λ (contents : List ℕ). AreRecordsOf contents d.all []) (sym text) (only_records d.all d.each);
+      records = d.counted;
+      bytes = refl;
+    }
+
+module _ (most kept : ℕ) (part : NodePart) (rec : Rec) where
+  cut_by : (b : Bool) → nat_le (length (record_text rec)) kept ≡ b → cut_part kept part (Some rec) ≡ cond b (record part { records = part.records ++ rec ∷ []; running = None }) (record part { torn = kept; running = None })
+  cut_by true whole = ap (λ (b : Bool). cond b (record part { records = part.records ++ rec ∷ []; running = None }) (record part { torn = kept; running = None })) whole
+  cut_by false part-of = ap (λ (b : Bool). cond b (record part { records = part.records ++ rec ∷ []; running = None }) (record part { torn = kept; running = None })) part-of
+
+  -- some bytes of the record stand behind the others
+  pub cut_holds : (disk after : Disk) → HoldsPart most disk part → part.torn ≡ 0 → IsRecord rec → is_in_log most rec ≡ true → after.contents ≡ disk.contents ++ take kept (record_text rec)
+      → HoldsPart most after (cut_part kept part (Some rec))
+  cut_holds disk after h untorn right in_log is =
+      let none : h.torn ≡ [] = no_bytes h.torn (sym untorn ∙ h.bytes) in
+      let text : disk.contents ≡ records_text h.all = h.found.whole ∙ ap (λ (t : List ℕ). records_text h.all ++ t) none ∙ append-nil (records_text h.all) in
+      let contents : after.contents ≡ records_text h.all ++ take kept (record_text rec) = is ∙ ap (λ (t : List ℕ). t ++ take kept (record_text rec)) text in
+      elim (cases_lt kept (length (record_text rec))) [
+        | inl less ↦
+            subst (HoldsPart most after) (sym (cut_by false (lt-leb (length (record_text rec)) kept less)))
+            (record {
+              all = h.all;
+              torn = take kept (record_text rec);
+              found = subst (λ (t : List ℕ). AreRecordsOf t h.all (take kept (record_text rec))) (sym contents) (before_put h.all rec kept h.found.each right less);
+              records = h.records;
+              bytes = sym (taken_all kept (record_text rec) (omega arith));
+            })
+        | inr whole ↦
+            subst (HoldsPart most after) (sym (cut_by true (le-leb (length (record_text rec)) kept whole)))
+            (record {
+              all = h.all ++ rec ∷ [];
+              torn = [];
+              found = subst (λ (t : List ℕ). AreRecordsOf t (h.all ++ rec ∷ []) []) (sym contents) (after_put h.all rec kept h.found.each right whole);
+              records = ap (λ (rs : List Rec). rs ++ rec ∷ []) h.records ∙ counts_more most h.all rec in_log;
+              bytes = untorn;
+            })
+      ]
+
+-- what a stop leaves of contents that were all stable
+pub stopped_contents : (kept : ℕ) (text : List ℕ) (disk : Disk) → disk.stable ≡ length disk.contents → (stopped kept (appended text disk)).contents ≡ disk.contents ++ take kept text
+stopped_contents kept text disk stable = ap (λ (n : ℕ). take (n + kept) (disk.contents ++ text)) stable ∙ passed disk.contents
+  where
+    passed : (xs : List ℕ) → take (length xs + kept) (xs ++ text) ≡ xs ++ take kept text
+    passed [] = let here : 0 + kept ≡ kept = omega arith in ap (λ (n : ℕ). take n text) here
+    passed (x ∷ xs) =
+        let more : length (x ∷ xs) + kept ≡ suc (length xs + kept) = omega arith in
+        ap (λ (n : ℕ). take n (x ∷ xs ++ text)) more ∙ ap (λ (ys : List ℕ). x ∷ ys) (passed xs)
+
+-- ---- a replica
+
+module _ {S : Type 0} (held : Held S) (stands : IsOnDisk held.config.max_positions held.disk held.failed held.records) (working : held.failed ≡ false) where
+  works : IsOnDisk held.config.max_positions held.disk false held.records
+  works = subst (λ (f : Bool). IsOnDisk held.config.max_positions held.disk f held.records) working stands
+
+  pub held_now : HoldsPart held.config.max_positions held.disk (part_of held)
+  held_now = holds_now held.config.max_positions held.disk held.records (Some held.running) works
+
+  -- it stops within the write of a record
+  pub torn_cuts : (kept : ℕ) (rec : Rec) (after : Disk) → MayWrite held.config.max_positions (Some rec) → after ≡ stopped kept (appended (record_text rec) held.disk) → Cuts (Some rec) kept held after
+  torn_cuts kept rec after may is = record {
+    disk_is = is;
+    holds = cut_holds held.config.max_positions kept (part_of held) rec held.disk after held_now refl may.0 may.1
+        (ap (λ (d : Disk). d.contents) is ∙ stopped_contents kept (record_text rec) held.disk (works.stable refl));
+    working = working;
+  }
+
+  -- its device fails there
+  pub failure_cuts : (rec : Rec) (after : Disk) → MayWrite held.config.max_positions (Some rec) → AppendFailed (record_text rec) held.disk after
+      → (kept : ℕ) × HoldsPart held.config.max_positions after (cut_part kept (part_of held) (Some rec))
+  failure_cuts rec after may failed =
+      let kept = failed.contents.0 in
+      (kept, cut_holds held.config.max_positions kept (part_of held) rec held.disk after held_now refl may.0 may.1 failed.contents.1)
+
+  pub torn_fails : (rec : Rec) (after : Disk) → MayWrite held.config.max_positions (Some rec) → AppendFailed (record_text rec) held.disk after → FailsInCut (Some rec) held after
+  torn_fails rec after may failed = record {
+    rec = rec;
+    is = refl;
+    disk_is = failed;
+    holds = failure_cuts rec after may failed;
+    working = working;
+  }
+
+-- a stop leaves what the device holds
+pub stop_holds : (most : ℕ) (disk : Disk) (part : NodePart) → HoldsPart most disk part → HoldsPart most disk (stop_part part)
+stop_holds most disk part h = record {
+  all = h.all;
+  torn = h.torn;
+  found = h.found;
+  records = h.records;
+  bytes = h.bytes;
+}
+
+-- ---- a write that is refused
+
+module _ {S D : Type 0} (disk : D → Disk) (me : ℕ) (config : Config) (begin : S) (running : Running) where
+  -- the replica with this store and these records
+  abbrev pub held_with : Stored D → List Rec → Held S
+  held_with store records = record {
+    me = me;
+    config = config;
+    begin = begin;
+    records = records;
+    running = running;
+    disk = disk store.device;
+    failed = store.failed;
+  }
+
+  pub stops_by : (fault : Fault) (rec : Rec) (old new : Stored D) (records after : List Rec) → IsOnDisk config.max_positions (disk old.device) old.failed records → MayWrite config.max_positions (Some rec)
+      → after ≡ records → IsNotPut disk (record_text rec) old fault new → Stops (Some rec) (held_with old records) (held_with new after) fault
+  stops_by OutOfMemory rec old new records after stands may same not =
+      (λ i. record { me = me; config = config; begin = begin; records = same i; running = running; disk = not.0.disk_same i; failed = not.0.failed i }, not.1)
+  stops_by Device rec old new records after stands may same not = (
+    record {
+      rec = rec;
+      is = refl;
+      disk = not.disk_is;
+      goes = λ i. record { me = me; config = config; begin = begin; records = same i; running = running; disk = disk new.device; failed = not.failed i };
+      holds = failure_cuts (held_with old records) stands not.worked rec (disk new.device) may not.disk_is;
+    },
+    not.worked,
+  )
+  stops_by Failed rec old new records after stands may same not =
+      (λ i. record { me = me; config = config; begin = begin; records = same i; running = running; disk = not.0.disk_same i; failed = not.0.failed i }, not.1)
+  stops_by _ rec old new records after stands may same not = absurd not
+
+  pub write_stops : {T : Type 0} (r : Result T Fault) (rec : Rec) (old new : Stored D) (records after : List Rec) → IsOnDisk config.max_positions (disk old.device) old.failed records → MayWrite config.max_positions (Some rec)
+      → OnErr r (after ≡ records) → IfErr r (λ fault. IsNotPut disk (record_text rec) old fault new) → IfErr r (λ fault. Stops (Some rec) (held_with old records) (held_with new after) fault)
+  write_stops (Ok x) rec old new records after stands may same err = tt
+  write_stops (Err fault) rec old new records after stands may same err = stops_by fault rec old new records after stands may same err
+
+-- what is given on of a fault
+pub given_on : {S T : Type 0} (r : Result T Fault) (fault : Fault) (written : Option Rec) (old new : Held S) → IsErrAnd r (λ e. e ≡ fault) → Stops written old new fault → IfErr r (λ e. Stops written old new e)
+given_on (Ok x) fault written old new is stops = tt
+given_on (Err e) fault written old new is stops = subst (λ (f : Fault). Stops written old new f) (sym is) stops

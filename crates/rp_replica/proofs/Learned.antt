@@ -1,0 +1,255 @@
+-- A replica's parts once an action is learned.
+use Rattle.std.proofs.Common.{◌≡◌, ◌≢◌, ℕ, suc, ◌+◌, ◌-◌, ◌<◌, ◌≤◌, Bool, true, false, cond, not, nat_eq, Option, Some, None, List, [], ◌∷◌, ◌++◌, length, drop, sym, ap, subst, ◌∙◌, inl, inr, arith, append-nil, eq-eqb}
+use Rattle.std.specs.Prelude.{IsSome, slice_get, filter}
+use Rattle.std.specs.List.{AllByRecursion}
+use Rattle.std.proofs.lemmas.Bool.{cases_lt, ne_eqb}
+use Rattle.std.proofs.Math.Seq.{drop-append_seam}
+use Rattle.rp_base.specs.declared.action.Action.{Action}
+use Rattle.rp_base.specs.declared.config.Config.{Config}
+use Rattle.rp_base.specs.declared.record.Rec.{Rec}
+use Rattle.rp_base.specs.declared.record.Rec.TheVariants.{Learned}
+use Rattle.rp_base.specs.declared.reply.Answer.{Answer}
+use Rattle.rp_base.specs.Action.{IsRight}
+use Rattle.rp_base.specs.Number.{IsPosition}
+use Rattle.rp_base.specs.Right.{IsRightRecord}
+use Rattle.rp_base.specs.Sets.{Has}
+use Rattle.rp_base.specs.Promises.{HeardVote, heard_elsewhere}
+use Rattle.rp_base.specs.Proposals.{Proposal, without_proposal}
+use Rattle.rp_base.specs.Records.{or_else, learned_at, applied_of}
+use Rattle.rp_base.proofs.Members.{has_passing, mapped_has}
+use Rattle.rp_base.proofs.MoreRecords.{started_push, learned_push}
+use Rattle.rp_codec.specs.Record.{record_text}
+use Rattle.rp_store.specs.Disk.{Disk}
+use Rattle.rp_store.specs.Stored.{Stored, IsPut}
+use Rattle.rp_proposer.specs.Proposing.{ProposerPart, settles}
+use Rattle.rp_learner.specs.Learning.{Learning}
+use Rattle.rp_learner.specs.Standings.{Settles}
+use Rattle.rp_log.specs.Contents.{Contents, action_at, with_room, with_action, next_to_take, IsTakenInOrder}
+use Rattle.rp_log.specs.Recorded.{LearnedAlike}
+use Rattle.rp_log.proofs.Places.{front_within}
+use Rattle.rp_log.proofs.RecordedRuns.{all_taken, learned_with, reserved_alike}
+use Rattle.rp_machine.specs.Numbered.{Applied, outcome}
+use Rattle.rp_machine.specs.Replay.{Replayed, replay_of, kept_of, replay_answers}
+use Rattle.rp_model.specs.Parts.{is_in_log}
+use Rattle.rp_model.specs.Pending.{stays, replies_to}
+use Rattle.rp_replica.specs.Applying.{HasReplied}
+use Rattle.rp_replica.specs.Packets.{RoomyRun, with_packets}
+use Rattle.rp_model.specs.Learner.{learns}
+use Rattle.rp_replica.specs.Held.{Held, held_after}
+use Rattle.rp_replica.specs.Tied.{IsOnDisk, IsProposer, IsApplied, Tied}
+use Rattle.rp_replica.proofs.Answering.{right_records}
+use Rattle.rp_replica.proofs.Applied.{applied_is, learned_right}
+use Rattle.rp_replica.proofs.Keeping.{or_none, disk_more}
+use Rattle.rp_replica.proofs.Promising.{places, leads_passing}
+use Rattle.rp_replica.proofs.Settling.{learns_more, taken_same}
+use Rattle.rp_replica.proofs.Starting.{same_learned}
+
+-- ---- room in the log
+
+-- a log that learned the same and took the same is as applied as before
+same_applied : {S : Type 0} (records : List Rec) (log after : Contents) (applied : Applied S) → LearnedAlike records after → after.taken ≡ log.taken → IsApplied records log applied → IsApplied records after applied
+same_applied records log after applied alike same a =
+    let next : next_to_take after ≡ next_to_take log = ap (λ (actions : List Action). length actions + 1) same in
+    record {
+      learned = alike;
+      ordered = λ k within.
+          ap (λ (actions : List Action). slice_get actions k) same
+          ∙ a.ordered k (subst (λ (actions : List Action). k < length actions) same within)
+          ∙ a.learned (k + 1)
+          ∙ sym (alike (k + 1));
+      none = alike (next_to_take after) ∙ ap (learned_at records) next ∙ sym (a.learned (next_to_take log)) ∙ a.none;
+      taken = a.taken ∙ sym same;
+    }
+
+pub tied_room : {S : Type 0} (me : ℕ) (config : Config) (disk : Disk) (failed : Bool) (records : List Rec) (proposer : ProposerPart) (learner : Learning) (votes : List HeardVote) (log after : Contents) (applied : Applied S) (i : ℕ)
+    → after ≡ with_room log i → Tied me config disk failed records proposer learner votes log applied → Tied me config disk failed records proposer learner votes after applied
+tied_room me config disk failed records proposer learner votes log after applied i is t =
+    subst (λ (l : Contents). Tied me config disk failed records proposer learner votes l applied) (sym is)
+    (record {
+      sizes = t.sizes;
+      member = t.member;
+      stands = t.stands;
+      leads = subst (λ (actions : List Action). IsProposer me config records (length actions) proposer) (sym (taken_same log i)) t.leads;
+      learns = t.learns;
+      applies = same_applied records log (with_room log i) applied (reserved_alike records log i t.applies.learned) (taken_same log i) t.applies;
+    })
+
+-- ---- the log that learned it
+
+module _ (records : List Rec) (log roomy learned : Contents) (i : ℕ) (v : Action) (alike : LearnedAlike records log) (room : roomy ≡ with_room log i) (is : learned ≡ with_action roomy i v) where
+  pub log_learned : LearnedAlike (records ++ Learned i v ∷ []) learned
+  log_learned =
+      subst (λ (l : Contents). LearnedAlike (records ++ Learned i v ∷ []) l) (sym (is ∙ ap (λ (l : Contents). with_action l i v) room))
+      (learned_with records (with_room log i) i v (reserved_alike records log i alike))
+
+  pub log_taken : learned.taken ≡ log.taken
+  log_taken = ap (λ (l : Contents). l.taken) (is ∙ ap (λ (l : Contents). with_action l i v) room) ∙ taken_same log i
+
+all_right : (records : List Rec) (rec : Rec) → AllByRecursion IsRightRecord records → IsRightRecord rec → AllByRecursion IsRightRecord (records ++ rec ∷ [])
+all_right [] rec all right = (right, tt)
+all_right (other ∷ rest) rec all right = (all.0, all_right rest rec all.1 right)
+
+pub rights : (most : ℕ) (disk : Disk) (failed : Bool) (records : List Rec) → IsOnDisk most disk failed records → AllByRecursion IsRightRecord records
+rights most disk failed records stands = subst (λ (rs : List Rec). AllByRecursion IsRightRecord rs) (sym stands.counted) (right_records (is_in_log most) stands.all stands.each)
+
+-- what it learned is right
+pub learned_is_right : (most : ℕ) (disk : Disk) (failed : Bool) (records : List Rec) (learned : Contents) (i : ℕ) (v : Action) → IsOnDisk most disk failed records → IsRight v
+    → LearnedAlike (records ++ Learned i v ∷ []) learned → (j : ℕ) (w : Action) → action_at learned j ≡ Some w → IsRight w
+learned_is_right most disk failed records learned i v stands right alike j w e =
+    learned_right (records ++ Learned i v ∷ []) j w (all_right records (Learned i v) (rights most disk failed records stands) right) (sym (alike j) ∙ e)
+
+-- ---- the proposer
+
+-- what is unlearned lies above what was taken
+past_taken : (records : List Rec) (log : Contents) (j : ℕ) → LearnedAlike records log → IsTakenInOrder log → 1 ≤ j → learned_at records j ≡ None → suc (length log.taken) ≤ j
+past_taken records log j alike ordered least unlearned =
+    elim (cases_lt (length log.taken) j) [
+      | inl past ↦ omega arith
+      | inr taken ↦
+          let lt : j - 1 < length log.taken = omega arith in
+          let same : j - 1 + 1 ≡ j = omega arith in
+          let missing : slice_get log.taken (j - 1) ≡ None = ordered (j - 1) lt ∙ ap (action_at log) same ∙ alike j ∙ unlearned in
+          let never : false ≡ true = subst (λ (o : Option Action). IsSome o) missing (front_within log.taken (j - 1) lt) in
+          absurd (cc)
+    ]
+
+-- where another proposal runs
+elsewhere : (ps : List Proposal) (i j : ℕ) → Has j (places (without_proposal ps i)) → j ≢ i
+elsewhere ps i j h e =
+    let from = mapped_has (λ (p : Proposal). p.position) j (without_proposal ps i) h in
+    let both = has_passing (λ (p : Proposal). not (nat_eq p.position i)) from.0 ps from.1 in
+    let here : nat_eq from.0.position i ≡ true = eq-eqb from.0.position i (sym from.2 ∙ e) in
+    let never : false ≡ true = sym (ap not here) ∙ both.1 in
+    absurd (cc)
+
+leads_learned : (me : ℕ) (config : Config) (records : List Rec) (taken : ℕ) (proposer : ProposerPart) (log : Contents) (i : ℕ) (v : Action) → IsProposer me config records taken proposer → taken ≤ length log.taken
+    → LearnedAlike (records ++ Learned i v ∷ []) log → IsTakenInOrder log → IsProposer me config (records ++ Learned i v ∷ []) (length log.taken) (settles proposer i)
+leads_learned me config records taken proposer log i v t longer alike ordered =
+    let less : IsProposer me config records taken (settles proposer i) = leads_passing me config records taken proposer t (λ (p : Proposal). not (nat_eq p.position i)) proposer.refused in
+    let others : (j : ℕ) → Has j (places (without_proposal proposer.proposals i)) → learned_at (records ++ Learned i v ∷ []) j ≡ None = λ j h.
+    learned_push records (Learned i v) j
+    ∙ ap (λ (b : Bool). or_else (learned_at records j) (cond b (Some v) None)) (ne_eqb i j (λ e. elsewhere proposer.proposals i j h (sym e)))
+    ∙ or_none (learned_at records j)
+    ∙ less.unlearned j h in
+    record {
+      node = less.node;
+      nodes = less.nodes;
+      started = less.started ∙ sym (started_push records (Learned i v) ∙ omega arith);
+      window = record {
+        different = less.window.different;
+        inside = λ j h.
+            let within = less.window.inside j h in
+            let past = past_taken (records ++ Learned i v ∷ []) log j alike ordered (omega (arith, within.0)) (others j h) in
+            (past, omega (arith, within.1, longer));
+      };
+      unlearned = others;
+      right = less.right;
+    }
+
+-- ---- all parts
+
+module _ {S D : Type 0} (next : S → Action → S) (answers : S → Action → List Answer) (disk : D → Disk) (me : ℕ) (config : Config) (old new : Stored D) (records after : List Rec) (proposer leading : ProposerPart)
+    (learner learning : Learning) (votes heard : List HeardVote) (log roomy learned taken : Contents) (applied applying : Applied S) (pending : List Action) (out said : RoomyRun) (i : ℕ) (v : Action)
+    (t : Tied me config (disk old.device) old.failed records proposer learner votes log applied)
+    (put : IsPut disk (record_text (Learned i v)) old new) (noted : after ≡ records ++ Learned i v ∷ []) (ends : leading ≡ settles proposer i) (settled : Settles learner i learning) (gone : heard ≡ heard_elsewhere votes i)
+    (room : roomy ≡ with_room log i) (learning_it : learned ≡ with_action roomy i v) (replied : HasReplied next answers me pending learned taken applied applying out said)
+    (ordered : IsTakenInOrder taken) (none : action_at taken (next_to_take taken) ≡ None) where
+  alike : LearnedAlike (records ++ Learned i v ∷ []) taken
+  alike = same_learned (records ++ Learned i v ∷ []) learned taken replied.applies.places (log_learned records log roomy learned i v t.applies.learned room learning_it)
+
+  same_taken : learned.taken ≡ log.taken
+  same_taken = log_taken records log roomy learned i v t.applies.learned room learning_it
+
+  applies : IsApplied (records ++ Learned i v ∷ []) taken applying
+  applies = record { learned = alike; ordered = ordered; none = none; taken = replied.applies.taken }
+
+  -- they hang together
+  pub tied_learned : IsPosition i → IsRight v → is_in_log config.max_positions (Learned i v) ≡ true → Tied me config (disk new.device) new.failed after leading learning heard taken applying
+  tied_learned position right in_log =
+      let more = records ++ Learned i v ∷ [] in
+      let stands : IsOnDisk config.max_positions (disk new.device) false more =
+      disk_more config.max_positions (disk old.device) (disk new.device) records (Learned i v)
+      (subst (λ (f : Bool). IsOnDisk config.max_positions (disk old.device) f records) put.worked t.stands) (record { ranges = position; right = right }) in_log put.disk_is in
+      let longer : length log.taken ≤ length taken.taken = subst (λ (actions : List Action). length actions ≤ length taken.taken) same_taken replied.applies.longer in
+      let fresh : Tied me config (disk new.device) false more (settles proposer i) learning (heard_elsewhere votes i) taken applying = record {
+        sizes = t.sizes;
+        member = t.member;
+        stands = stands;
+        leads = leads_learned me config records (length log.taken) proposer taken i v t.leads longer alike ordered;
+        learns = learns_more config records learner learning votes i v t.learns settled;
+        applies = applies;
+      } in
+      subst (λ (rs : List Rec). Tied me config (disk new.device) new.failed rs leading learning heard taken applying) (sym noted)
+      (subst (λ (p : ProposerPart). Tied me config (disk new.device) new.failed more p learning heard taken applying) (sym ends)
+      (subst (λ (hs : List HeardVote). Tied me config (disk new.device) new.failed more (settles proposer i) learning hs taken applying) (sym gone)
+      (subst (λ (f : Bool). Tied me config (disk new.device) f more (settles proposer i) learning (heard_elsewhere votes i) taken applying) (sym put.working) fresh)))
+
+  -- what the machine came to
+  was : outcome next answers applied ≡ replay_of next answers applied.begin (applied_of records)
+  was = ap (replay_of next answers applied.begin) (applied_is records log applied t.applies)
+
+  is : outcome next answers applying ≡ replay_of next answers applied.begin (applied_of (records ++ Learned i v ∷ []))
+  is =
+      ap (λ (b : S). replay_of next answers b applying.actions) replied.applies.begin
+      ∙ ap (replay_of next answers applied.begin) (applied_is (records ++ Learned i v ∷ []) taken applying applies)
+
+  -- the pending items that stay
+  pub stays_learned : (left newly : List Action) (before : ℕ) → before ≡ length learned.taken → newly ≡ drop before taken.taken
+      → left ≡ filter (stays (outcome next answers applying).kept (outcome next answers applying).given newly) pending
+      → left ≡ filter (stays (kept_of next answers applied.begin (applied_of (records ++ Learned i v ∷ []))) (replay_answers next answers applied.begin (applied_of (records ++ Learned i v ∷ [])))
+      (drop (length (applied_of records)) (applied_of (records ++ Learned i v ∷ [])))) pending
+  stays_learned left newly before count behind kept =
+      let long : before ≡ length (applied_of records) = count ∙ ap (λ (actions : List Action). length actions) (same_taken ∙ all_taken records log t.applies.learned t.applies.ordered t.applies.none) in
+      let all : taken.taken ≡ applied_of (records ++ Learned i v ∷ []) = all_taken (records ++ Learned i v ∷ []) taken alike ordered none in
+      let which : newly ≡ drop (length (applied_of records)) (applied_of (records ++ Learned i v ∷ [])) = behind ∙ ap (λ (n : ℕ). drop n taken.taken) long ∙ ap (drop (length (applied_of records))) all in
+      kept
+      ∙ ap (λ (r : Replayed S). filter (stays r.kept r.given newly) pending) is
+      ∙ ap (λ (list : List Action). filter (stays (kept_of next answers applied.begin (applied_of (records ++ Learned i v ∷ []))) (replay_answers next answers applied.begin (applied_of (records ++ Learned i v ∷ []))) list) pending) which
+
+  -- the replies
+  pub replies_learned : said.run ≡ with_packets out.run (replies_to me pending
+      (drop (length (replay_answers next answers applied.begin (applied_of records))) (replay_answers next answers applied.begin (applied_of (records ++ Learned i v ∷ [])))) ++ [])
+  replies_learned =
+      let before = replay_answers next answers applied.begin (applied_of records) in
+      let later = replay_answers next answers applied.begin (applied_of (records ++ Learned i v ∷ [])) in
+      let grown : later ≡ before ++ replied.more =
+      sym (ap (λ (r : Replayed S). r.given) is) ∙ replied.applies.given ∙ ap (λ (r : Replayed S). r.given ++ replied.more) was in
+      let which : replied.more ≡ drop (length before) later = sym (ap (drop (length before)) grown ∙ drop-append_seam before replied.more) in
+      replied.run
+      ∙ ap (λ (given : List Answer). with_packets out.run (replies_to me pending given)) which
+      ∙ ap (with_packets out.run) (sym (append-nil (replies_to me pending (drop (length before) later))))
+
+  -- and what the replica holds
+  pub held_learned : (left newly : List Action) (before : ℕ) → before ≡ length learned.taken → newly ≡ drop before taken.taken
+      → left ≡ filter (stays (outcome next answers applying).kept (outcome next answers applying).given newly) pending
+      → (let h : Held S = record {
+        me = me;
+        config = config;
+        begin = applied.begin;
+        records = records;
+        running = record { proposals = proposer.proposals; heard = votes; pending = pending; refused = proposer.refused };
+        disk = disk old.device;
+        failed = old.failed;
+      } in
+      let now : Held S = record {
+        me = me;
+        config = config;
+        begin = applying.begin;
+        records = after;
+        running = record { proposals = leading.proposals; heard = heard; pending = left; refused = leading.refused };
+        disk = disk new.device;
+        failed = new.failed;
+      } in
+      now ≡ held_after h (learns next answers h.begin h.me h.records h.running i v [] []))
+  held_learned left newly before count behind kept =
+      let staying = stays_learned left newly before count behind kept in
+      let failing : new.failed ≡ old.failed = put.working ∙ sym put.worked in
+      λ j. record {
+        me = me;
+        config = config;
+        begin = replied.applies.begin j;
+        records = noted j;
+        running = record { proposals = (ends j).proposals; heard = gone j; pending = staying j; refused = (ends j).refused };
+        disk = put.disk_is j;
+        failed = failing j;
+      }

@@ -1,0 +1,82 @@
+use Rattle.std.proofs.Common.{◌≤◌, Some, [], ap, subst, sym, ◌∙◌}
+use Rattle.std.proofs.lemmas.Bool.{le-leb}
+use Rattle.rp_base.specs.declared.record.Rec.TheVariants.{Learned}
+use Rattle.rp_codec.specs.Record.{record_text}
+use Rattle.rp_model.specs.Learner.{learns}
+use Rattle.rp_base.specs.declared.record.Rec.{Rec}
+use Rattle.rp_model.specs.declared.part.Running.{Running}
+use Rattle.rp_replica.specs.Cutting.{MayWrite}
+use Rattle.rp_replica.specs.Turning.{Stops}
+use Rattle.rp_replica.proofs.Cuts.{held_with, stops_by, given_on}
+use Rattle.rp_replica.specs.Held.{Held, held_after}
+use Rattle.rp_replica.specs.Packets.{with_packets}
+use Rattle.rp_replica.proofs.Keeping.{tied_refused}
+use Rattle.rp_replica.proofs.Learned.{tied_room, log_learned, learned_is_right, tied_learned, held_learned, replies_learned}
+use Rattle.rp_replica.proofs.replica.Replica.learn.Goals as goal
+
+pub invariant_of-self-in_err-write : goal.invariant_of-self-in_err-write
+invariant_of-self-in_err-write g c =
+    let r = c.self.inside in
+    let disk = g.D.Device.disk in
+    tied_refused disk r.me r.config r.proposer r.learner r.heard c.reserve.new.self r.machine (record_text (Learned c.args.position c.args.action.now)) r.store c.write.new.store r.acceptor.records c.write.new.acceptor.records c.in_err-write.field-0.0
+    (tied_room r.me r.config (disk r.store.device) r.store.failed r.acceptor.records r.proposer r.learner r.heard r.log c.reserve.new.self r.machine c.args.position c.in_ok-reserve.ensures.ok c.self.invariant)
+    c.in_err-write.ensures.err c.in_err-write.ensures.unchanged
+
+pub apply_and_reply-requires-clause-right : goal.apply_and_reply-requires-clause-right
+apply_and_reply-requires-clause-right g c =
+    let r = c.self.inside in
+    let v = c.args.action.now in
+    learned_is_right r.config.max_positions (g.D.Device.disk r.store.device) r.store.failed r.acceptor.records c.learn.new.self c.args.position v c.self.invariant.stands c.requires.right
+    (log_learned r.acceptor.records r.log c.reserve.new.self c.learn.new.self c.args.position v c.self.invariant.applies.learned c.in_ok-reserve.ensures.ok c.learn.ensures)
+
+pub invariant_of-self-2 : goal.invariant_of-self-2
+invariant_of-self-2 g c =
+    let m = g.M.Machine in
+    let r = c.self.inside in
+    let i = c.args.position in
+    let within : i ≤ r.config.max_positions = subst (λ (h : Held g.row.M.Denot). i ≤ h.config.max_positions) (sym c.self.view_is) c.requires.place in
+    tied_learned m.next m.answers g.D.Device.disk r.me r.config r.store c.write.new.store r.acceptor.records c.write.new.acceptor.records r.proposer c.settled.new.self
+    r.learner c.settled-2.new.self r.heard c.settle.new.self r.log c.reserve.new.self c.learn.new.self c.apply_and_reply.new.log r.machine c.apply_and_reply.new.machine r.pending c.args.out.now c.apply_and_reply.new.out i c.args.action.now
+    c.self.invariant c.in_ok-write.ensures.put c.in_ok-write.ensures.noted c.settled.ensures c.settled-2.ensures.settled c.settle.ensures
+    c.in_ok-reserve.ensures.ok c.learn.ensures c.apply_and_reply.ensures.replied c.apply_and_reply.ensures.ordered c.apply_and_reply.ensures.none
+    c.in_ok-write.ensures.range c.requires.right (le-leb i r.config.max_positions within)
+
+pub returns-clause-learned : goal.returns-clause-learned
+returns-clause-learned g c =
+    let m = g.M.Machine in
+    let r = c.self.inside in
+    let i = c.args.position in
+    let v = c.args.action.now in
+    held_learned m.next m.answers g.D.Device.disk r.me r.config r.store c.write.new.store r.acceptor.records c.write.new.acceptor.records r.proposer c.settled.new.self
+    r.learner c.settled-2.new.self r.heard c.settle.new.self r.log c.reserve.new.self c.learn.new.self c.apply_and_reply.new.log r.machine c.apply_and_reply.new.machine r.pending c.args.out.now c.apply_and_reply.new.out i v
+    c.self.invariant c.in_ok-write.ensures.put c.in_ok-write.ensures.noted c.settled.ensures c.settled-2.ensures.settled c.settle.ensures
+    c.in_ok-reserve.ensures.ok c.learn.ensures c.apply_and_reply.ensures.replied c.apply_and_reply.ensures.ordered c.apply_and_reply.ensures.none
+    c.settle-2.new.self c.taken_since.result.now c.applied-before.result c.applied-before.ensures.count c.taken_since.ensures c.settle-2.ensures
+    ∙ ap (λ (h : Held g.row.M.Denot). held_after h (learns m.next m.answers h.begin h.me h.records h.running i v [] [])) c.self.view_is
+
+pub returns-clause-replied : goal.returns-clause-replied
+returns-clause-replied g c =
+    let m = g.M.Machine in
+    let r = c.self.inside in
+    let i = c.args.position in
+    let v = c.args.action.now in
+    replies_learned m.next m.answers g.D.Device.disk r.me r.config r.store c.write.new.store r.acceptor.records c.write.new.acceptor.records r.proposer c.settled.new.self
+    r.learner c.settled-2.new.self r.heard c.settle.new.self r.log c.reserve.new.self c.learn.new.self c.apply_and_reply.new.log r.machine c.apply_and_reply.new.machine r.pending c.args.out.now c.apply_and_reply.new.out i v
+    c.self.invariant c.in_ok-write.ensures.put c.in_ok-write.ensures.noted c.settled.ensures c.settled-2.ensures.settled c.settle.ensures
+    c.in_ok-reserve.ensures.ok c.learn.ensures c.apply_and_reply.ensures.replied c.apply_and_reply.ensures.ordered c.apply_and_reply.ensures.none
+    ∙ ap (λ (h : Held g.row.M.Denot). with_packets c.args.out.now.run (learns m.next m.answers h.begin h.me h.records h.running i v [] []).sent) c.self.view_is
+
+pub returns-in_err-write-clause-err : goal.returns-in_err-write-clause-err
+returns-in_err-write-clause-err g c =
+    let r = c.self.inside in
+    let disk = g.D.Device.disk in
+    let i = c.args.position in
+    let rec : Rec = Learned i c.args.action.now in
+    let fault = c.in_err-write.field-0.0 in
+    let known : Running = record { proposals = r.proposer.proposals; heard = r.heard; pending = r.pending; refused = r.proposer.refused } in
+    let after : Held g.row.M.Denot = held_with disk r.me r.config r.machine.begin known c.write.new.store c.write.new.acceptor.records in
+    let within : i ≤ r.config.max_positions = subst (λ (h : Held g.row.M.Denot). i ≤ h.config.max_positions) (sym c.self.view_is) c.requires.place in
+    let may : MayWrite r.config.max_positions (Some rec) = (record { ranges = c.in_err-write.ensures.range; right = c.requires.right }, le-leb i r.config.max_positions within) in
+    given_on c.from_residual-in_err-write.result fault (Some rec) c.args.self.now after c.from_residual-in_err-write.ensures.1
+    (subst (λ (k : Held g.row.M.Denot). Stops (Some rec) k after fault) c.self.view_is
+    (stops_by disk r.me r.config r.machine.begin known fault rec r.store c.write.new.store r.acceptor.records c.write.new.acceptor.records c.self.invariant.stands may c.in_err-write.ensures.unchanged c.in_err-write.ensures.err))

@@ -1,0 +1,25 @@
+-- What applying comes to for a replica's parts (no public clause names it).
+use Rattle.std.specs.Prelude.{◌≡◌, ℕ, ◌+◌, ◌*◌, ◌≤◌, List, ◌++◌, length}
+use Rattle.rp_base.specs.declared.action.Action.{Action}
+use Rattle.rp_base.specs.declared.reply.Answer.{Answer}
+use Rattle.rp_log.specs.Contents.{Contents}
+use Rattle.rp_machine.specs.Numbered.{Applied, outcome}
+use Rattle.rp_model.specs.Pending.{replies_to}
+use Rattle.rp_replica.specs.Packets.{RoomyRun, longest_text, with_packets}
+
+module _ {S : Type 0} (next : S → Action → S) (answers : S → Action → List Answer) where
+  -- what the log took is applied, and nothing is learned; these answers came of it
+  pub record AppliesMore (before after : Contents) (old new : Applied S) (more : List Answer) : Type 0 where
+    pub begin : new.begin ≡ old.begin
+    pub taken : new.actions ≡ after.taken
+    pub places : after.places ≡ before.places
+    pub longer : length before.taken ≤ length after.taken
+    pub given : (outcome next answers new).given ≡ (outcome next answers old).given ++ more
+
+  -- the answers whose call is pending are among the packets, one for each pending item at most
+  pub record HasReplied (me : ℕ) (pending : List Action) (before after : Contents) (old new : Applied S) (out said : RoomyRun) : Type 0 where
+    pub more : List Answer
+    pub applies : AppliesMore before after old new more
+    pub run : said.run ≡ with_packets out.run (replies_to me pending more)
+    pub few : length (replies_to me pending more) ≤ length pending
+    pub room : out.room ≤ said.room + longest_text * length (replies_to me pending more)

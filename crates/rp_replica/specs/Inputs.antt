@@ -1,0 +1,46 @@
+-- What a replica may be given, and what comes of it (this project's own).
+use Rattle.std.specs.Prelude.{ℕ, Option, Result, Ok, Err, List}
+use Rattle.rp_base.specs.Action.{IsRight}
+use Rattle.rp_base.specs.declared.action.Action.{Action}
+use Rattle.rp_base.specs.declared.action.Action.TheVariants as actions
+use Rattle.rp_base.specs.declared.reply.Answer.{Answer}
+use Rattle.rp_base.specs.declared.fault.Fault.{Fault}
+use Rattle.rp_base.specs.declared.fault.Fault.TheVariants.{BadPacket}
+use Rattle.rp_base.specs.declared.fault.PacketReason.{PacketReason}
+use Rattle.rp_codec.specs.Message.{Message}
+use Rattle.rp_codec.specs.Reading.{all_of}
+use Rattle.rp_model.specs.declared.part.Turn.{Turn}
+use Rattle.rp_model.specs.Effect.{NodeInput}
+use Rattle.rp_model.specs.Effect as nodes
+use Rattle.rp_replica.specs.declared.input.Input.{Input}
+use Rattle.rp_replica.specs.declared.input.Input.TheVariants.{Receive, Lead, Interrupt, Tick, Report}
+use Rattle.rp_replica.specs.Held.{Held}
+use Rattle.rp_replica.specs.Turning.{effect_of}
+
+-- an interrupt's source is 1 to 8, and its occurrence from 1
+abbrev pub IsRightInput : Input → Type 0
+IsRightInput (Interrupt source occurrence) = IsRight (actions.Interrupt source occurrence)
+IsRightInput _ = Unit {0}
+
+-- bytes are the packet of which they are the text, all of them; there is a reason where they are none's
+abbrev pub packet_given : Result Message PacketReason → Result NodeInput Fault
+packet_given (Ok message) = Ok (nodes.NodeInput.Receive message)
+packet_given (Err reason) = Err (BadPacket reason)
+
+-- what the node is given by an input
+abbrev pub given_by : Input → Result NodeInput Fault
+given_by (Receive bytes) = packet_given (all_of bytes.now)
+given_by (Lead choice) = Ok (nodes.NodeInput.Lead choice)
+given_by (Interrupt source occurrence) = Ok (nodes.NodeInput.Interrupt source occurrence)
+given_by (Tick now) = Ok (nodes.NodeInput.Tick now)
+given_by (Report first) = Ok (nodes.NodeInput.Report first)
+
+module _ {S : Type 0} (next : S → Action → S) (answers : S → Action → List Answer) (held : Held S) where
+  -- what comes of it, or the refusal
+  abbrev pub effect_if_given : Result NodeInput Fault → Result Turn Fault
+  effect_if_given (Ok input) = effect_of next answers held input
+  effect_if_given (Err refusal) = Err refusal
+
+  -- what an input comes to for a replica, or its refusal
+  abbrev pub input_effect : Input → Result Turn Fault
+  input_effect input = effect_if_given (given_by input)

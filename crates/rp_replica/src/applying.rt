@@ -1,0 +1,87 @@
+//! What is learned is applied in order, and answered (Lamport, "Paxos Made Simple", section 3).
+
+ghost use Rattle.std.specs.Prelude.{◌≡◌, ℕ, suc, ◌+◌, ◌*◌, ◌<◌, ◌≤◌, Some, None, IfSome, IfNone, length, map};
+ghost use Rattle.rp_base.specs.Action.{IsRight};
+ghost use Rattle.rp_base.specs.Sets.{IsSet};
+ghost use Rattle.rp_base.specs.declared.action.Action.{Action};
+ghost use Rattle.rp_log.specs.Contents.{IsTakenInOrder, action_at, next_to_take};
+ghost use Rattle.rp_machine.specs.Calls.{call_of};
+ghost use Rattle.rp_machine.specs.Numbered.{outcome};
+ghost use Rattle.rp_model.specs.Pending.{replies_to};
+ghost use Rattle.rp_replica.specs.Applying.{AppliesMore, HasReplied};
+ghost use Rattle.rp_replica.specs.Packets.{longest_text, with_packets};
+
+use crate::pending::Pending;
+use crate::sent::RoomyOutbox;
+use rp_base::{Action, Answer, Answers, NodeId};
+use rp_log::Log;
+use rp_machine::{Machine, Numbered};
+
+/// Applies the next action that is ready, and gives the answers that come of it.
+fn apply_next<M: Machine>(machine: &mut Numbered<M>, log: &mut Log) -> Option<Answers>
+    requires right { (i : ℕ) (v : Action) → action_at log.old i ≡ Some v → IsRight v }
+    requires taken { machine.old.actions ≡ log.old.taken }
+    ensures more { IfSome result (λ answers.
+        AppliesMore M.next M.answers log.old log.new machine.old machine.new answers) }
+    ensures one { IfSome result (λ _. length log.new.taken ≡ suc (length log.old.taken)) }
+    ensures within { IfSome result (λ _. length log.new.taken < 65536) }
+    ensures once { IfSome result (λ _.
+        IsSet (map call_of (outcome M.next M.answers machine.new).given)) }
+    ensures none { IfNone result (action_at log.old (next_to_take log.old) ≡ None) }
+    ensures stays { IfNone result ((log.new ≡ log.old) × (machine.new ≡ machine.old)) }
+{
+    let (_, action) = log.take_ready()?;
+    Some(machine.apply(&action))
+}
+
+/// Applies all that is ready, in order.
+pub(crate) fn apply_ready<M: Machine>(machine: &mut Numbered<M>, log: &mut Log)
+    requires right { (i : ℕ) (v : Action) → action_at log.old i ≡ Some v → IsRight v }
+    requires taken { machine.old.actions ≡ log.old.taken }
+    ensures begin { machine.new.begin ≡ machine.old.begin }
+    ensures taken { machine.new.actions ≡ log.new.taken }
+    ensures places { log.new.places ≡ log.old.places }
+    ensures none { action_at log.new (next_to_take log.new) ≡ None }
+    ensures ordered { IsTakenInOrder log.new }
+{
+    while apply_next(machine, log).is_some() {}
+    log.applied();
+}
+
+/// Applies all that is ready, in order, and pushes a reply for each answer whose call is pending. It
+/// takes no memory.
+pub(crate) fn apply_and_reply<M: Machine>(
+    machine: &mut Numbered<M>,
+    log: &mut Log,
+    me: NodeId,
+    pending: &Pending,
+    out: &mut RoomyOutbox,
+)
+    requires right { (i : ℕ) (v : Action) → action_at log.old i ≡ Some v → IsRight v }
+    requires taken { machine.old.actions ≡ log.old.taken }
+    requires room { longest_text * length pending.now ≤ out.old.room }
+    ensures replied { HasReplied M.next M.answers me pending.now
+        log.old log.new machine.old machine.new out.old out.new }
+    ensures none { action_at log.new (next_to_take log.new) ≡ None }
+    ensures ordered { IsTakenInOrder log.new }
+{
+    while let Some(answers) = apply_next(machine, log) {
+        reply_to(me, pending, answers.as_slice(), out);
+    }
+    log.applied();
+}
+
+/// Pushes a reply for each of the answers whose call is pending.
+fn reply_to(me: NodeId, pending: &Pending, answers: &[Answer], out: &mut RoomyOutbox)
+    requires { longest_text * length (replies_to me pending.now answers.now) ≤ out.old.room }
+    ensures run { out.new.run
+        ≡ with_packets out.old.run (replies_to me pending.now answers.now) }
+    ensures room { out.old.room
+        ≤ out.new.room + longest_text * length (replies_to me pending.now answers.now) }
+{
+    for answer in answers {
+        if pending.awaits(answer) {
+            out.reply(me, answer);
+        }
+    }
+}

@@ -1,0 +1,82 @@
+//! A node that stops within a step.
+
+ghost use Rattle.std.specs.Prelude.{◌≡◌, Some, IfOk, IfErr, false};
+ghost use Rattle.rp_replica.specs.Cutting.{Cuts, CutsIf, IsNotCut, IsNotCutIf, MayWrite};
+ghost use Rattle.rp_replica.specs.Inputs.{IsRightInput, input_effect};
+
+use crate::input::Input;
+use crate::replica::Replica;
+use rp_base::{Fault, Rec};
+use rp_machine::Machine;
+use rp_store::{CutDevice, Device, NotTorn};
+use std::alloc::Global;
+
+/// A step that was not cut short.
+#[derive(Drop)]
+pub enum NotCut<M: Machine, D: Device> {
+    /// The device failed. Some beginning of the step's record may stand at its end.
+    Failed(D),
+    /// Nothing has changed, and the step would be refused with this fault too.
+    Refused(Fault, Replica<M, D>),
+}
+
+impl<M: Machine, D: CutDevice> Replica<M, D> {
+    /// The node stops within the step of an input: the step's record is appended and not synced, and
+    /// the device stops with the first `kept` bytes of it, or all if there are no more. Nothing is
+    /// sent. A step that writes no record leaves the device as it is.
+    pub fn torn(self, alloc: Global, input: &Input, kept: u64) -> Result<D, NotCut<M, D>>
+        requires right { IsRightInput input.now }
+        ensures ok { IfOk result (λ device. CutsIf
+            (input_effect M.next M.answers self input.now) kept self (D.disk device)) }
+        ensures err { IfErr result (λ refused. IsNotCutIf D.disk
+            (input_effect M.next M.answers self input.now) self refused) }
+    {
+        match self.record_of(alloc, input) {
+            Ok(Some(rec)) => self.tear(&rec, kept),
+            Ok(None) => Ok(self.close()),
+            Err(fault) => Err(NotCut::Refused(fault, self)),
+        }
+    }
+}
+
+impl<M: Machine, D: CutDevice> Replica<M, D> {
+    /// The node stops within the write of this record.
+    fn tear(self, rec: &Rec, kept: u64) -> Result<D, NotCut<M, D>>
+        requires working { self.failed ≡ false }
+        requires right { MayWrite self.config.max_positions (Some rec.now) }
+        ensures ok { IfOk result (λ device. Cuts (Some rec.now) kept self (D.disk device)) }
+        ensures err { IfErr result (λ refused. IsNotCut D.disk (Some rec.now) self refused) }
+    {
+        let Replica {
+            me,
+            config,
+            store,
+            acceptor,
+            proposer,
+            learner,
+            heard,
+            log,
+            machine,
+            pending,
+        } = self;
+        match store.tear(rec, kept) {
+            Ok(device) => Ok(device),
+            Err(NotTorn::Failed(device)) => Err(NotCut::Failed(device)),
+            Err(NotTorn::Refused(fault, store)) => Err(NotCut::Refused(
+                fault,
+                Replica {
+                    me,
+                    config,
+                    store,
+                    acceptor,
+                    proposer,
+                    learner,
+                    heard,
+                    log,
+                    machine,
+                    pending,
+                },
+            )),
+        }
+    }
+}

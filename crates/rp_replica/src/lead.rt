@@ -1,0 +1,90 @@
+//! The word to lead, at a position or at the least free one.
+
+ghost use Rattle.std.specs.Prelude.{◌≡◌, ◌<◌, ◌≤◌, ◌^◌, true, IfNone, IfSome, IfOk, IfErr};
+ghost use Rattle.rp_model.specs.Effect as inputs;
+ghost use Rattle.rp_model.specs.Leader.{is_free_position, is_out_of_reach, least_free};
+ghost use Rattle.rp_replica.specs.Turning.{TurnsIf, StopsIf, effect_of};
+
+use crate::replica::Replica;
+use crate::sent::Sent;
+use rp_base::{Fault, Position};
+use rp_machine::Machine;
+use rp_store::Device;
+use std::alloc::Global;
+
+/// How far above the first unlearned position a node may lead.
+const WINDOW: u32 = 64;
+
+impl<M: Machine, D: Device> Replica<M, D> {
+    /// The word to lead at a position, or with none at the least position that is not learned and at
+    /// which no proposal of this node runs. Where the position is learned nothing happens. It is
+    /// refused with `LogFull` above the log or 64 positions above the first unlearned one, with
+    /// `BallotsSpent` where the node has no ballot left, and then with 1, 2 or 3.
+    pub fn lead(&mut self, alloc: Global, choice: Option<Position>) -> Result<Sent, Fault>
+        ensures ok { IfOk result (λ sent. TurnsIf
+            (effect_of M.next M.answers self.old (inputs.NodeInput.Lead choice))
+            self.old self.new sent) }
+        ensures err { IfErr result (λ fault. StopsIf
+            (effect_of M.next M.answers self.old (inputs.NodeInput.Lead choice))
+            self.old self.new fault) }
+    {
+        match choice {
+            Some(position) => self.lead_at(alloc, position),
+            None => self.lead_at_least(alloc),
+        }
+    }
+
+    /// The word to lead at the least free position.
+    fn lead_at_least(&mut self, alloc: Global) -> Result<Sent, Fault>
+        ensures ok { IfOk result (λ sent. TurnsIf
+            (effect_of M.next M.answers self.old (inputs.NodeInput.Lead None))
+            self.old self.new sent) }
+        ensures err { IfErr result (λ fault. StopsIf
+            (effect_of M.next M.answers self.old (inputs.NodeInput.Lead None))
+            self.old self.new fault) }
+    {
+        if self.has_failed() {
+            return Err(Fault::Failed);
+        }
+        match self.least_free() {
+            Some(position) => self.lead_at(alloc, position),
+            None => Err(Fault::LogFull),
+        }
+    }
+
+    /// The least free position, where it is within reach. It looks at 64 positions at most: below the
+    /// first unlearned one none is free.
+    pub(crate) fn least_free(&self) -> Option<Position>
+        ensures some { IfSome result (λ position. position
+            ≡ least_free self.now.records self.now.running.proposals) }
+        ensures none { IfNone result (is_out_of_reach self.now.config.max_positions self.now.records
+            (least_free self.now.records self.now.running.proposals) ≡ true) }
+    {
+        let first = self.log.next_unlearned();
+        let end = (first + WINDOW).min(u32::from(self.config.max_positions) + 1);
+        for number in first..end {
+            let position = position_at(number);
+            if self.is_free_position(position) {
+                return Some(position);
+            }
+        }
+        None
+    }
+
+    /// Whether nothing is learned at the position and no proposal runs there.
+    fn is_free_position(&self, position: Position) -> bool
+        ensures { result
+            ≡ is_free_position self.now.records self.now.running.proposals position }
+    {
+        !self.is_learned(position) && self.proposer.runs(position).is_none()
+    }
+}
+
+/// The position of a number within the log.
+fn position_at(number: u32) -> Position
+    requires low { 1 ≤ number }
+    requires high { number < 2 ^ 16 }
+    ensures { result ≡ number }
+{
+    Position::new(number as u16).unwrap()
+}

@@ -1,0 +1,87 @@
+//! An action that is learned (Lamport, "Paxos Made Simple", section 2.3).
+
+ghost use Rattle.std.specs.Prelude.{◌≡◌, ◌+◌, ◌*◌, ◌≤◌, [], Some, length, drop, OnOk, IfErr, false};
+ghost use Rattle.rp_base.specs.Action.{IsRight};
+ghost use Rattle.rp_base.specs.declared.action.Action.{Action};
+ghost use Rattle.rp_base.specs.declared.record.Rec.TheVariants.{Learned};
+ghost use Rattle.rp_model.specs.Learner.{learns, missing_position};
+ghost use Rattle.rp_replica.specs.Held.{held_after};
+ghost use Rattle.rp_replica.specs.Packets.{longest_text, with_packets};
+ghost use Rattle.rp_replica.specs.Turning.{Stops};
+
+use crate::applying::apply_and_reply;
+use crate::replica::{Replica, write};
+use crate::sent::RoomyOutbox;
+use rp_base::{Action, Fault, Position, Rec};
+use rp_log::Log;
+use rp_machine::Machine;
+use rp_store::Device;
+
+impl<M: Machine, D: Device> Replica<M, D> {
+    /// Learns an action at a position of the log: it is written, all that is ready then is applied,
+    /// and each answer whose call is pending is replied to. Behind the write it takes no memory.
+    pub(crate) fn learn(
+        &mut self,
+        position: Position,
+        action: &Action,
+        out: &mut RoomyOutbox,
+    ) -> Result<(), Fault>
+        requires working { self.old.failed ≡ false }
+        requires place { position ≤ self.old.config.max_positions }
+        requires right { IsRight action.now }
+        requires room { longest_text * length self.old.running.pending ≤ out.old.room }
+        ensures learned { OnOk result (self.new ≡ held_after self.old
+            (learns M.next M.answers self.old.begin self.old.me self.old.records self.old.running
+            position action.now [] [])) }
+        ensures replied { OnOk result (out.new.run ≡ with_packets out.old.run
+            (learns M.next M.answers self.old.begin self.old.me self.old.records self.old.running
+            position action.now [] []).sent) }
+        ensures room { OnOk result (out.old.room
+            ≤ out.new.room + longest_text * length self.old.running.pending) }
+        ensures err { IfErr result (λ fault.
+            Stops (Some (Learned position action.now)) self.old self.new fault) }
+    {
+        self.log.reserve(position)?;
+        write(
+            &mut self.store,
+            &mut self.acceptor,
+            &Rec::Learned(position, *action),
+        )?;
+        self.proposer.settled(position);
+        self.learner.settled(position);
+        self.heard.settle(position, *action);
+        self.log.learn(position, *action);
+        let before = self.log.applied();
+        apply_and_reply(
+            &mut self.machine,
+            &mut self.log,
+            self.me,
+            &self.pending,
+            out,
+        );
+        self.pending
+            .settle(&self.machine, taken_since(&self.log, before));
+        Ok(())
+    }
+
+    /// The first unlearned position, where a learned one lies above it.
+    pub(crate) fn missing_position(&self) -> Option<Position>
+        ensures { result ≡ missing_position self.now.records }
+    {
+        let next = self.log.next_unlearned();
+        let top = self.log.top()?;
+        if next < u32::from(top.get()) {
+            Position::new(next as u16)
+        } else {
+            None
+        }
+    }
+}
+
+/// What the log took since so many actions were taken.
+fn taken_since(log: &Log, count: u32) -> &[Action]
+    requires { count ≤ length log.now.taken }
+    ensures { result.now ≡ drop count log.now.taken }
+{
+    &log.taken()[count as usize..]
+}

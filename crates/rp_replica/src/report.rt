@@ -1,0 +1,69 @@
+//! A replica that tells the audit what it has applied.
+
+ghost use Rattle.std.specs.Prelude.{◌≡◌, ◌-◌, ◌<◌, ◌^◌, [], ◌∷◌, length, take, drop, IfOk, IfErr, IsOkUnless};
+ghost use Rattle.rp_base.specs.declared.fault.Fault.TheVariants as faults;
+ghost use Rattle.rp_base.specs.Records.{applied_of};
+ghost use Rattle.rp_codec.specs.Message.{report_len};
+ghost use Rattle.rp_model.specs.Effect as inputs;
+ghost use Rattle.rp_model.specs.Effect.{report_of};
+ghost use Rattle.rp_replica.specs.Packets.{run_of};
+ghost use Rattle.rp_replica.specs.Turning.{TurnsIf, StopsIf, effect_of};
+
+use crate::replica::Replica;
+use crate::sent::{Outbox, Sent};
+use rp_base::{Action, Fault, Position};
+use rp_codec::{Actions, Body, Packet, Party, report_len};
+use rp_machine::Machine;
+use rp_model::Dropped;
+use rp_store::Device;
+use std::alloc::{AllocError, Global};
+
+impl<M: Machine, D: Device> Replica<M, D> {
+    /// A report to the audit of the actions applied at the positions from `first` on, as many as
+    /// `report_len` says. It copies what it tells and no more. Refused with 1 where memory ran out,
+    /// or with 3.
+    pub fn report(&mut self, alloc: Global, first: Position) -> Result<Sent, Fault>
+        ensures ok { IfOk result (λ sent. TurnsIf
+            (effect_of M.next M.answers self.old (inputs.NodeInput.Report first))
+            self.old self.new sent) }
+        ensures err { IfErr result (λ fault. StopsIf
+            (effect_of M.next M.answers self.old (inputs.NodeInput.Report first))
+            self.old self.new fault) }
+    {
+        if self.has_failed() {
+            return Err(Fault::Failed);
+        }
+        Ok(self.tells_applied(alloc, first)?.sent(Dropped::No))
+    }
+
+    /// The packet of a report.
+    fn tells_applied(&self, alloc: Global, first: Position) -> Result<Outbox, Fault>
+        ensures said { IfOk result (λ out. out
+            ≡ run_of (report_of self.now.me first (applied_of self.now.records) ∷ [])) }
+        ensures only { IsOkUnless result faults.OutOfMemory }
+    {
+        let applied = self.log.taken();
+        let body = Body::Report {
+            first,
+            applied: applied.len() as u16,
+            actions: Actions::from_vec(told(alloc, applied, first)?),
+        };
+        let mut out = Outbox::new(alloc);
+        out.push(&Packet::new(Party::Node(self.me), Party::Audit, body))?;
+        Ok(out)
+    }
+}
+
+/// What a report tells of the actions that are applied.
+fn told(alloc: Global, applied: &[Action], first: Position) -> Result<Vec<Action>, AllocError>
+    requires { length applied.now < 2 ^ 16 }
+    ensures told { IfOk result (λ told. told.items
+        ≡ take (report_len first (length applied.now)) (drop (first - 1) applied.now)) }
+    ensures len { IfOk result (λ told. length told.items
+        ≡ report_len first (length applied.now)) }
+{
+    let before = usize::from(first.get() - 1).min(applied.len());
+    let (_, behind) = applied.split_at(before);
+    let (told, _) = behind.split_at(usize::from(report_len(first, applied.len() as u16)));
+    told.to_vec(alloc)
+}

@@ -1,5 +1,5 @@
 -- What a replica's turn is for the node's part.
-use Rattle.std.proofs.Common.{◌≡◌, ℕ, ◌<◌, Bool, true, false, if◌then◌else◌, Option, Some, Result, Ok, Err, List, [], ◌∷◌, ◌++◌, length, take, ◌⊎◌, inl, inr, refl, sym, ap, subst, ◌∙◌, arith}
+use Rattle.std.proofs.Common.{◌≡◌, ℕ, ◌<◌, Bool, true, false, if◌then◌else◌, Option, Some, None, Result, Ok, Err, List, [], ◌∷◌, ◌++◌, length, take, ◌⊎◌, inl, inr, refl, sym, ap, subst, ◌∙◌, arith}
 use Rattle.std.specs.Prelude.{nat_le, IfSome, IfOk, IfErr}
 use Rattle.std.proofs.lemmas.List.{append-nil, length-take-le}
 use Rattle.std.proofs.lemmas.List.Elements.{filter-append}
@@ -20,6 +20,7 @@ use Rattle.rp_model.specs.Effect.{Setting, Done, NodeInput, running_effect, turn
 use Rattle.rp_model.specs.Parts.{is_in_log, records_in_log}
 use Rattle.rp_replica.specs.declared.sent.Sent.{Sent}
 use Rattle.rp_replica.specs.Held.{Held, part_of, setting_of}
+use Rattle.rp_replica.specs.Kept.{HoldsPart}
 use Rattle.rp_replica.specs.Tied.{IsOnDisk}
 use Rattle.rp_replica.specs.declared.input.Input.{Input}
 use Rattle.rp_replica.specs.Inputs.{given_by, effect_if_given, input_effect}
@@ -121,9 +122,14 @@ module _ {S D P : Type 0} (next : S → Action → S) (answers : S → Action �
         let after = cut_part kept part turn.written in
         let rests = is_cut next answers member old part runs kept turn.written new.disk fails.holds.1 in
         let device = off (ap (λ (h : Held S). h.failed) fails.goes) in
-        inr (inr (refl, kept, goes_on_as after, ap (cut_if kept part) (coming turn is),
-        subst (λ (node : Node S D P). StandsFor disk member node after) (sym device.1)
-        (subst (λ (d : Disk). RestsAs member.config.max_positions d after) (sym device.2) rests)))
+        inr (inr (
+          refl,
+          kept,
+          goes_on_as after,
+          ap (cut_if kept part) (coming turn is),
+          subst (λ (node : Node S D P). StandsFor disk member node after) (sym device.1)
+              (subst (λ (d : Disk). RestsAs member.config.max_positions d after) (sym device.2) rests),
+        ))
 
     stops_so : (turn : Turn) → effect_of next answers old input ≡ Ok turn → (fault : Fault) → Stops turn.written old new fault → NotTakenHere fault
     stops_so turn is OutOfMemory stops = inr (inl (refl, subst IsComing (sym (coming turn is)) tt, stays_so stops.0))

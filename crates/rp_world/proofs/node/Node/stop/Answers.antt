@@ -8,5 +8,5 @@ pub returns-in-Running-clause-ok : goal.returns-in-Running-clause-ok
 returns-in-Running-clause-ok g c = λ member part stands.
     let disk = g.D.Device.disk in
     let runs = subst (λ n. StandsFor disk member n part) c.in-Running.is stands in
-    let stopped = stops_as member c.in-Running.replica (disk c.close.result) part runs c.keeps_records.ensures c.close.ensures in
+    let stopped = stops_as member c.in-Running.replica (disk c.close.result) part runs c.keeps_records.ensures c.close.ensures.disk in
     (goes_on_as (stop_part part), stopped.0, stopped.1, tt)

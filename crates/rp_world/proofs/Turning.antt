@@ -1,27 +1,20 @@
 -- What a replica's turn is for the node's part.
-use Rattle.std.proofs.Common.{◌≡◌, ℕ, ◌<◌, Bool, true, false, if◌then◌else◌, Option, Some, None, Result, Ok, Err, List, [], ◌∷◌, ◌++◌, length, take, ◌⊎◌, inl, inr, refl, sym, ap, subst, ◌∙◌, arith}
-use Rattle.std.specs.Prelude.{nat_le, IfSome, IfOk, IfErr}
-use Rattle.std.proofs.lemmas.List.{append-nil, length-take-le}
-use Rattle.std.proofs.lemmas.List.Elements.{filter-append}
-use Rattle.std.proofs.lemmas.Bool.{leb-true, leb-false}
+use Rattle.std.proofs.Common.{◌≡◌, ℕ, Bool, true, false, if◌then◌else◌, Option, Some, None, Result, Ok, Err, List, [], ◌∷◌, ◌++◌, length, ◌⊎◌, inl, inr, refl, sym, ap, subst, ◌∙◌}
+use Rattle.std.specs.Prelude.{nat_le, IfOk, IfErr}
 use Rattle.rp_base.specs.declared.action.Action.{Action}
 use Rattle.rp_base.specs.declared.config.Config.{Config}
 use Rattle.rp_base.specs.declared.fault.Fault.{Fault}
 use Rattle.rp_base.specs.declared.fault.Fault.TheVariants.{OutOfMemory, Device, Failed}
 use Rattle.rp_base.specs.declared.record.Rec.{Rec}
 use Rattle.rp_base.specs.declared.reply.Answer.{Answer}
-use Rattle.rp_codec.specs.Record.{record_text, IsRecord}
+use Rattle.rp_codec.specs.Record.{record_text}
 use Rattle.rp_store.specs.Disk.{Disk}
-use Rattle.rp_store.specs.Records.{records_text, AreRecordsOf}
-use Rattle.rp_store.proofs.Whole.{before_put, after_put}
 use Rattle.rp_model.specs.declared.part.NodePart.{NodePart}
 use Rattle.rp_model.specs.declared.part.Turn.{Turn}
 use Rattle.rp_model.specs.Effect.{Setting, Done, NodeInput, running_effect, turned, turned_if, node_effect, cut_if, cut_part, goes_on_as, stop_part}
-use Rattle.rp_model.specs.Parts.{is_in_log, records_in_log}
 use Rattle.rp_replica.specs.declared.sent.Sent.{Sent}
 use Rattle.rp_replica.specs.Held.{Held, part_of, setting_of}
 use Rattle.rp_replica.specs.Kept.{HoldsPart}
-use Rattle.rp_replica.specs.Tied.{IsOnDisk}
 use Rattle.rp_replica.specs.declared.input.Input.{Input}
 use Rattle.rp_replica.specs.Inputs.{given_by, effect_if_given, input_effect}
 use Rattle.rp_replica.specs.Turning.{Turns, TurnsIf, FailsAt, Stops, StopsIf, effect_of}

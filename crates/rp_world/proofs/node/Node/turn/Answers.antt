@@ -1,8 +1,6 @@
-use Rattle.std.proofs.Common.{◌≡◌, Ok, Err, Result, sym, subst}
+use Rattle.std.proofs.Common.{◌≡◌, Ok, sym, subst}
 use Rattle.std.specs.Prelude.{IfOk, IfErr}
-use Rattle.rp_base.specs.declared.fault.Fault.{Fault}
 use Rattle.rp_model.specs.Effect.{NodeInput}
-use Rattle.rp_replica.specs.declared.sent.Sent.{Sent}
 use Rattle.rp_replica.specs.Inputs.{given_by}
 use Rattle.rp_world.specs.Nodes.{Member, GoesBy, NotTaken, TellsSent, node_step}
 use Rattle.rp_world.proofs.Turning.{turned_ok, turned_err}

@@ -20,6 +20,7 @@
 //! - `cut`: a node that stops within a step
 //! - `heard`: the votes that were heard, which memory does not hold
 //! - `sent`: the packets of one step
+//! - `standing`: what a replica's device holds
 //! - `laws`: how the calls stand to the definitions of worlds
 #![tactic(auto)]
 
@@ -41,6 +42,7 @@ mod receiving;
 mod replica;
 mod report;
 mod sent;
+mod standing;
 mod turn;
 mod written;
 

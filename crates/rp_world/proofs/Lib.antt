@@ -1,3 +1,6 @@
 pub mod Answering
 pub mod PuttingBack
 pub mod Sounding
+pub mod Joined
+pub mod Standing
+pub mod Turning

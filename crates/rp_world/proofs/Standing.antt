@@ -1,0 +1,107 @@
+-- What stands for a node's part once it stops or starts again.
+use Rattle.std.proofs.Common.{◌≡◌, ℕ, min, Ok, Option, Some, List, [], ◌∷◌, ◌++◌, length, take, inl, inr, refl, sym, ap, subst, ◌∙◌, arith}
+use Rattle.std.proofs.lemmas.List.{append-nil, length-append, length-take}
+use Rattle.rp_base.specs.declared.config.Config.{Config}
+use Rattle.rp_base.specs.declared.fault.Fault.{Fault}
+use Rattle.rp_base.specs.declared.fault.Fault.TheVariants.{OutOfMemory, Device}
+use Rattle.rp_base.specs.declared.record.Rec.{Rec}
+use Rattle.rp_codec.specs.Record.{record_text}
+use Rattle.rp_store.specs.Disk.{Disk}
+use Rattle.rp_store.specs.Records.{records_text, AreRecordsOf}
+use Rattle.rp_store.proofs.Whole.{record_long, same_reading, only_records}
+use Rattle.rp_model.specs.declared.part.NodePart.{NodePart}
+use Rattle.rp_model.specs.declared.part.Running.{Running as Known}
+use Rattle.rp_model.specs.Effect.{goes_on_as, stop_part, stops_while, stop_effect, restart_while, restart_part}
+use Rattle.rp_model.specs.Parts.{fresh_running, fresh_node, records_in_log}
+use Rattle.rp_replica.specs.Held.{Held}
+use Rattle.rp_replica.specs.Opening.{Opens, IsRefusedOpening}
+use Rattle.rp_replica.specs.Tied.{IsOnDisk}
+use Rattle.rp_world.specs.Nodes.{Member, RunsAs, RestsAs}
+
+no_records : (all : List Rec) (torn : List ℕ) → [] ≡ records_text all ++ torn → all ≡ []
+no_records [] torn is = refl
+no_records (r ∷ rs) torn is =
+    let long = ap length is ∙ length-append (records_text (r ∷ rs)) torn in
+    absurd (omega (arith, long, length-append (record_text r) (records_text rs), record_long r))
+
+module _ {S : Type 0} (member : Member S) (old : Disk) (held : Held S) (count cut_bytes : ℕ) (opens : Opens member.me member.config member.begin old held count cut_bytes) where
+  -- a replica that was opened is this part
+  runs : (records : List Rec) → records ≡ records_in_log member.config.max_positions opens.all
+      → RunsAs member held (let part : NodePart = record { records = records; torn = 0; running = Some fresh_running } in part)
+  runs records is = record {
+    node = ap (λ (h : Held S). h.me) opens.starts;
+    config = ap (λ (h : Held S). h.config) opens.starts;
+    begin = ap (λ (h : Held S). h.begin) opens.starts;
+    working = ap (λ (h : Held S). h.failed) opens.starts;
+    known = ap (λ (rs : List Rec). let part : NodePart = record { records = rs; torn = 0; running = Some fresh_running } in part) (is ∙ sym (ap (λ (h : Held S). h.records) opens.starts))
+        ∙ ap (λ (known : Known). let part : NodePart = record { records = held.records; torn = 0; running = Some known } in part) (sym (ap (λ (h : Held S). h.running) opens.starts));
+  }
+
+  -- over an empty device, a fresh one
+  pub runs_fresh : old.contents ≡ [] → RunsAs member held fresh_node
+  runs_fresh empty =
+      let none = no_records opens.all opens.opened.found.0 (sym empty ∙ opens.opened.found.1.whole) in
+      runs [] (ap (records_in_log member.config.max_positions) (sym none))
+
+  -- over a device that rests, the part that starts again, and the numbers are its own
+  pub starts_again : (part : NodePart) → RestsAs member.config.max_positions old part
+      → RunsAs member held (restart_part part).part × (let opened : Option (ℕ × ℕ) = Some (count, cut_bytes) in opened ≡ (restart_part part).opened)
+  starts_again part rests =
+      let same = same_reading old.contents rests.holds.torn opens.opened.found.0 rests.holds.all opens.all rests.holds.found opens.opened.found.1 in
+      let records : part.records ≡ records_in_log member.config.max_positions opens.all = rests.holds.records ∙ ap (records_in_log member.config.max_positions) same.0 in
+      let counted : count ≡ length part.records = opens.counted ∙ ap (λ (h : Held S). length h.records) opens.starts ∙ ap length (sym records) in
+      let cut : cut_bytes ≡ part.torn = opens.opened.found.2 ∙ ap length (sym same.1) ∙ sym rests.holds.bytes in (
+        subst (λ (o : Option Known). RunsAs member held (restart_while part o).part) (sym rests.stopped) (runs part.records records),
+        subst (λ (o : Option Known). let opened : Option (ℕ × ℕ) = Some (count, cut_bytes) in opened ≡ (restart_while part o).opened) (sym rests.stopped)
+            (ap (λ (n : ℕ). let opened : Option (ℕ × ℕ) = Some (n, cut_bytes) in opened) counted ∙ ap (λ (n : ℕ). let opened : Option (ℕ × ℕ) = Some (length part.records, n) in opened) cut),
+      )
+
+-- a device that could not be opened
+module _ (most : ℕ) (old new : Disk) (part : NodePart) (rests : RestsAs most old part) where
+  left : (kept : ℕ) (torn : List ℕ) → AreRecordsOf new.contents rests.holds.all torn → min kept part.torn ≡ length torn → RestsAs most new (record part { torn = min kept part.torn })
+  left kept torn found size = record {
+    holds = record { all = rests.holds.all; torn = torn; found = found; records = rests.holds.records; bytes = size };
+    stopped = rests.stopped;
+  }
+
+  pub refused : (fault : Fault) → IsRefusedOpening old fault new → (kept : ℕ) × RestsAs most new (record part { torn = min kept part.torn })
+  refused OutOfMemory why =
+      elim why [
+        | inl same ↦
+            let e : min part.torn part.torn ≡ length rests.holds.torn = omega (arith, rests.holds.bytes) in
+            (part.torn, left part.torn rests.holds.torn (subst (λ (l : List ℕ). AreRecordsOf l rests.holds.all rests.holds.torn) (sym same.contents) rests.holds.found) e)
+        | inr opened ↦
+            let is = opened.2 in
+            let one = same_reading old.contents rests.holds.torn is.found.0 rests.holds.all opened.0 rests.holds.found is.found.1 in
+            let e : min 0 part.torn ≡ 0 = omega arith in
+            (0, left 0 [] (subst (λ (rs : List Rec). AreRecordsOf new.contents rs []) (sym one.0) is.kept) e)
+      ]
+  refused Device why =
+      let kept = why.0.records rests.holds.all rests.holds.torn rests.holds.found in
+      let e : min kept.0 part.torn ≡ length (take kept.0 rests.holds.torn) = ap (min kept.0) rests.holds.bytes ∙ sym (length-take kept.0 rests.holds.torn) in
+      (kept.0, left kept.0 (take kept.0 rests.holds.torn) kept.1 e)
+  refused _ why = absurd why
+
+-- a replica that is closed
+pub stops_as : {S : Type 0} (member : Member S) (held : Held S) (disk : Disk) (part : NodePart) → RunsAs member held part → IsOnDisk held.config.max_positions held.disk held.failed held.records
+    → disk ≡ held.disk → (stop_effect part ≡ Ok (goes_on_as (stop_part part))) × RestsAs member.config.max_positions disk (stop_part part)
+stops_as {S = S} member held disk part runs stands is =
+    let none = stands.whole runs.working in
+    let contents : disk.contents ≡ records_text stands.all =
+    ap (λ (d : Disk). d.contents) is ∙ stands.contents ∙ ap (λ (l : List ℕ). records_text stands.all ++ l) none ∙ append-nil (records_text stands.all) in (
+      ap (stops_while part) (ap (λ (p : NodePart). p.running) runs.known),
+      record {
+        holds = record {
+          all = stands.all;
+          torn = [];
+          found = subst (λ (l : List ℕ). AreRecordsOf l stands.all []) (sym contents) (only_records stands.all stands.each);
+          records = ap (λ (p : NodePart). p.records) runs.known ∙ stands.counted ∙ ap (λ (c : Config). records_in_log c.max_positions stands.all) runs.config;
+          bytes = ap (λ (p : NodePart). p.torn) runs.known;
+        };
+        stopped = refl;
+      },
+    )
+
+-- a replica that runs goes on
+pub goes_on_running : {S : Type 0} (member : Member S) (held : Held S) (part : NodePart) → RunsAs member held part → restart_part part ≡ goes_on_as part
+goes_on_running member held part runs = ap (restart_while part) (ap (λ (p : NodePart). p.running) runs.known)

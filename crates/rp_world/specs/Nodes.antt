@@ -1,0 +1,105 @@
+-- A node of a cluster: a replica that runs, or a device that rests (this project's own).
+use Rattle.std.specs.Prelude.{◌≡◌, ◌⊎◌, ℕ, min, false, Option, None, Result, Ok, Err, List, length}
+use Rattle.rp_base.specs.declared.action.Action.{Action}
+use Rattle.rp_base.specs.declared.reply.Answer.{Answer}
+use Rattle.rp_base.specs.declared.fault.Fault.TheVariants.{OutOfMemory, Device}
+use Rattle.rp_replica.specs.declared.sent.Sent.{Sent}
+use Rattle.rp_replica.specs.Packets.{texts_of}
+use Rattle.rp_base.specs.declared.config.Config.{Config}
+use Rattle.rp_base.specs.declared.fault.Fault.{Fault}
+use Rattle.rp_store.specs.Disk.{Disk}
+use Rattle.rp_model.specs.declared.part.NodePart.{NodePart}
+use Rattle.rp_model.specs.Effect.{Setting, Done, NodeInput, node_effect, cut_if}
+use Rattle.rp_replica.specs.Held.{Held, part_of}
+use Rattle.rp_replica.specs.Kept.{HoldsPart}
+use Rattle.rp_world.specs.declared.node.Node.{Node}
+use Rattle.rp_world.specs.declared.node.Node.TheVariants.{Running, Stopped}
+
+-- which node of which cluster
+pub record Member (S : Type 0) : Type 0 where
+  pub me : ℕ
+  pub config : Config
+  pub begin : S
+
+-- the node of this number in a cluster whose machine starts so
+abbrev pub member_of : {S : Type 0} → ℕ → Config → S → Member S
+member_of me config begin = record { me = me; config = config; begin = begin }
+
+-- a replica that runs is the part of the member
+pub record RunsAs {S : Type 0} (member : Member S) (held : Held S) (part : NodePart) : Type 0 where
+  pub node : held.me ≡ member.me
+  pub config : held.config ≡ member.config
+  pub begin : held.begin ≡ member.begin
+  pub working : held.failed ≡ false
+  pub known : part ≡ part_of held
+
+-- a device that rests is the part of a node that is stopped
+pub record RestsAs (most : ℕ) (disk : Disk) (part : NodePart) : Type 0 where
+  pub holds : HoldsPart most disk part
+  pub stopped : part.running ≡ None
+
+-- what all nodes of its cluster share
+abbrev pub setting_at : {S : Type 0} → (S → Action → S) → (S → Action → List Answer) → Member S → Setting S
+setting_at next answers member = record { config = member.config; next = next; answers = answers; begin = member.begin }
+
+-- what an input comes to for its part
+abbrev pub node_step : {S : Type 0} → (S → Action → S) → (S → Action → List Answer) → Member S → NodeInput → NodePart → Result (Done NodePart) Fault
+node_step next answers member input part = node_effect (setting_at next answers member) member.me part input
+
+-- what a step comes to is no refusal
+abbrev pub IsComing : Result (Done NodePart) Fault → Type 0
+IsComing (Ok done) = Unit {0}
+IsComing (Err refusal) = ⊥
+
+-- the node is the part of the member
+abbrev pub StandsFor : {S D P : Type 0} → (D → Disk) → Member S → Node S D P → NodePart → Type 0
+StandsFor disk member (Running held) part = RunsAs member held part
+StandsFor disk member (Stopped device) part = RestsAs member.config.max_positions (disk device) part
+
+module _ {S D P : Type 0} (disk : D → Disk) (member : Member S) (old new : Node S D P) where
+  -- a step of the node is this effect on its part, and is told so
+  abbrev pub GoesBy : {A : Type 0} → (NodePart → Result (Done NodePart) Fault) → (A → Done NodePart → Type 0) → A → Type 0
+  GoesBy effect tells answer =
+      (part : NodePart) → StandsFor disk member old part
+      → (done : Done NodePart) × (effect part ≡ Ok done) × StandsFor disk member new done.part × tells answer done
+
+  -- a step of the node is a cut of this effect, where so many bytes of its record are kept
+  abbrev pub IsCutBy : ℕ → (NodePart → Result (Done NodePart) Fault) → Type 0
+  IsCutBy kept effect =
+      (part : NodePart) → StandsFor disk member old part
+      → (done : Done NodePart) × (cut_if kept part (effect part) ≡ Ok done) × StandsFor disk member new done.part
+
+  -- or the effect refuses it, and nothing changes
+  abbrev pub RefusedBy : (NodePart → Result (Done NodePart) Fault) → Fault → Type 0
+  RefusedBy effect fault =
+      (part : NodePart) → StandsFor disk member old part → (effect part ≡ Err fault) × StandsFor disk member new part
+
+  -- or some of the torn bytes are gone, from the end
+  abbrev pub IsLeftTorn : Type 0
+  IsLeftTorn =
+      (part : NodePart) → StandsFor disk member old part
+      → (kept : ℕ) × StandsFor disk member new (record part { torn = min kept part.torn })
+
+  -- Or the step was not taken: it is refused, and nothing changes; or memory was wanting for what it comes
+  -- to, and nothing changes; or the device failed, and the step is cut with some of its record's bytes kept.
+  abbrev pub NotTaken : (NodePart → Result (Done NodePart) Fault) → Fault → Type 0
+  NotTaken effect fault =
+      (part : NodePart) → StandsFor disk member old part
+      → ((effect part ≡ Err fault) × StandsFor disk member new part)
+      ⊎ (((fault ≡ OutOfMemory) × IsComing (effect part) × StandsFor disk member new part)
+      ⊎ ((fault ≡ Device) × (kept : ℕ) × (done : Done NodePart) × (cut_if kept part (effect part) ≡ Ok done) × StandsFor disk member new done.part))
+
+-- nothing else is told
+abbrev pub TellsNothing : Unit {0} → Done NodePart → Type 0
+TellsNothing answer done = Unit {0}
+
+-- what a restart tells
+abbrev pub TellsOpened : Option (ℕ × ℕ) → Done NodePart → Type 0
+TellsOpened opened done = opened ≡ done.opened
+
+-- the bytes are the texts of the packets that were sent
+pub record TellsSent (sent : Sent) (done : Done NodePart) : Type 0 where
+  pub bytes : sent.bytes.items ≡ texts_of done.sends
+  pub packets : sent.packets ≡ length done.sends
+  pub dropped : sent.dropped ≡ done.dropped
+  pub nothing : (done.taken ≡ None) × (done.opened ≡ None)

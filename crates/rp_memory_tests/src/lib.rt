@@ -5,8 +5,6 @@
 #[cfg(test)]
 mod learner;
 #[cfg(test)]
-mod replica;
-#[cfg(test)]
 mod store;
 #[cfg(test)]
 mod world;

@@ -176,9 +176,9 @@ fn a_put_refused_for_memory_writes_nothing(rt: HostRuntime) -> Result<(), Fail> 
 
 /// A device in memory whose next sync fails once no more are granted. It counts those that did not.
 #[derive(Drop)]
-pub(crate) struct LimitedDevice {
+struct LimitedDevice {
     inner: MemDevice,
-    pub(crate) granted: u32,
+    granted: u32,
     syncs: u32,
     failures: Count,
 }
@@ -217,7 +217,7 @@ impl Device for LimitedDevice {
 
 impl LimitedDevice {
     /// It holds these bytes, none of them stable.
-    pub(crate) fn holding(alloc: Global, bytes: &[u8], granted: u32) -> Result<Self, Fail> {
+    fn holding(alloc: Global, bytes: &[u8], granted: u32) -> Result<Self, Fail> {
         let mut inner = MemDevice::new(alloc);
         appends(&mut inner, bytes)?;
         Ok(LimitedDevice {

@@ -21,8 +21,6 @@ mod object;
 #[cfg(test)]
 mod proposer;
 #[cfg(test)]
-mod replica;
-#[cfg(test)]
 mod tasks;
 #[cfg(test)]
 mod world;

@@ -19,7 +19,7 @@ use Rattle.rp_base.proofs.Members.{has_right}
 use Rattle.rp_codec.specs.Message.{Message}
 use Rattle.rp_codec.specs.declared.packet.Body.{Body}
 use Rattle.rp_codec.specs.declared.packet.Body.TheVariants as bodies
-use Rattle.rp_model.specs.declared.part.Running.{Running}
+use Rattle.rp_model.specs.Parts.{Running}
 use Rattle.rp_model.specs.Says.{says, writes}
 use Rattle.rp_model.specs.Acceptor.{tells_promise, on_prepare, tells_vote, on_accept}
 use Rattle.rp_model.specs.Facts.{IsOffered}

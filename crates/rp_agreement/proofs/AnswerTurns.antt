@@ -32,8 +32,8 @@ use Rattle.rp_codec.specs.declared.packet.Body.{Body}
 use Rattle.rp_codec.specs.declared.packet.Body.TheVariants as bodies
 use Rattle.rp_machine.specs.Replay.{is_for, kept_of, one_to}
 use Rattle.rp_machine.specs.Asked.{last_number, last_occurrence, answer_to, kept_reply}
-use Rattle.rp_model.specs.declared.part.Running.{Running}
-use Rattle.rp_model.specs.declared.part.Turn.{Turn}
+use Rattle.rp_model.specs.Parts.{Running}
+use Rattle.rp_model.specs.Parts.{Turn}
 use Rattle.rp_model.specs.Parts.{with_record}
 use Rattle.rp_model.specs.Says.{says, says_to_all, says_to_others, says_to_task, sends, notes, drops_foreign, drops_full}
 use Rattle.rp_model.specs.Acceptor.{tells_promise, tells_vote}

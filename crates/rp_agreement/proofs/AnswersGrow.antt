@@ -12,8 +12,8 @@ use Rattle.rp_codec.specs.declared.packet.Body.{Body}
 use Rattle.rp_codec.specs.declared.packet.Body.TheVariants as bodies
 use Rattle.rp_machine.specs.Replay.{replay_of, unmoved}
 use Rattle.rp_machine.proofs.Replaying.{replay_from-append, goes_on_from}
-use Rattle.rp_model.specs.declared.part.NodePart.{NodePart}
-use Rattle.rp_model.specs.declared.part.TaskPart.{TaskPart}
+use Rattle.rp_model.specs.Parts.{NodePart}
+use Rattle.rp_model.specs.Parts.{TaskPart}
 use Rattle.rp_model.specs.Effect.{Setting}
 use Rattle.rp_agreement.specs.Sound.{IsSound}
 use Rattle.rp_agreement.specs.Order.{Begins, AllSent}

@@ -6,9 +6,9 @@ use Rattle.rp_codec.specs.Message.{Message}
 use Rattle.rp_codec.specs.declared.packet.Party.{Party}
 use Rattle.rp_codec.specs.declared.packet.Party.TheVariants.{Node, Task, Audit}
 use Rattle.rp_model.specs.declared.effect.Effect.{Effect}
-use Rattle.rp_model.specs.declared.part.Running.{Running}
-use Rattle.rp_model.specs.declared.part.NodePart.{NodePart}
-use Rattle.rp_model.specs.declared.part.TaskPart.{TaskPart}
+use Rattle.rp_model.specs.Parts.{Running}
+use Rattle.rp_model.specs.Parts.{NodePart}
+use Rattle.rp_model.specs.Parts.{TaskPart}
 use Rattle.rp_model.specs.Effect as nodes
 use Rattle.rp_model.specs.Effect.{Setting, Done, NodeInput, node_effect, cut_effect, stop_effect, restart_part, untorn_part}
 use Rattle.rp_model.specs.Tasks as tasks
@@ -28,7 +28,7 @@ pub record IsKeptByAll {S : Type 0} (s : Setting S) (P : World → Type 0) : Typ
       → cut_effect s me part input kept ≡ Ok done → P (node_done w me done).world
   pub stop : (w : World) (me : ℕ) (part : NodePart) (done : Done NodePart) → P w → part_at w.nodes me ≡ Some part → stop_effect part ≡ Ok done → P (node_done w me done).world
   pub restart : (w : World) (me : ℕ) (part : NodePart) → P w → part_at w.nodes me ≡ Some part → P (node_done w me (restart_part part)).world
-  pub torn : (w : World) (me : ℕ) (part : NodePart) → P w → part_at w.nodes me ≡ Some part → P (untorn w me (Some part))
+  pub torn : (w : World) (me kept : ℕ) (part : NodePart) → P w → part_at w.nodes me ≡ Some part → P (untorn kept w me (Some part))
   pub task : (w : World) (t : ℕ) (part : TaskPart) (input : TaskInput) (done : Done TaskPart) → P w → part_at w.tasks t ≡ Some part → IsTaskInput w.sent t input
       → task_effect s.config t part input ≡ Ok done → P (task_done w t done).world
 
@@ -142,9 +142,9 @@ module _ {S : Type 0} (s : Setting S) (P : World → Type 0) (kept_by : IsKeptBy
 
   -- ---- whatever a step answers
 
-  torn_keeps : (w : World) (me : ℕ) (part : Option NodePart) → P w → part_at w.nodes me ≡ part → P (untorn w me part)
-  torn_keeps w me None meets here = meets
-  torn_keeps w me (Some part) meets here = kept_by.torn w me part meets here
+  torn_keeps : (w : World) (me kept : ℕ) (part : Option NodePart) → P w → part_at w.nodes me ≡ part → P (untorn kept w me part)
+  torn_keeps w me kept None meets here = meets
+  torn_keeps w me kept (Some part) meets here = kept_by.torn w me kept part meets here
 
   same_keeps : (w left : World) → P w → left ≡ w → P left
   same_keeps w left meets same = subst P (sym same) meets
@@ -155,11 +155,7 @@ module _ {S : Type 0} (s : Setting S) (P : World → Type 0) (kept_by : IsKeptBy
   left_keeps w (Makes step) left meets is = same_keeps w left meets is
   left_keeps w (Cut step kept) left meets is = same_keeps w left meets is
   left_keeps w (Stop me) left meets is = same_keeps w left meets is
-  left_keeps w (Restart me) left meets is =
-      elim is [
-        | inl same ↦ same_keeps w left meets same
-        | inr cut ↦ subst P (sym cut) (torn_keeps w me (part_at w.nodes me) meets refl)
-      ]
+  left_keeps w (Restart me) left meets is = subst P (sym is.1) (torn_keeps w me is.0 (part_at w.nodes me) meets refl)
 
   -- what an effect leads to
   pub comes_keeps : (result : Result Happening Fault) (happening : Happening) (after : World) → MeetsAfter P result → result ≡ Ok happening → after ≡ happening.world → P after

@@ -28,8 +28,8 @@ use Rattle.rp_codec.specs.declared.packet.Body.{Body}
 use Rattle.rp_codec.specs.declared.packet.Body.TheVariants as bodies
 use Rattle.rp_machine.specs.Asked.{last_number, last_occurrence, kept_reply}
 use Rattle.rp_machine.specs.Replay.{one_to, kept_of, replay_answers}
-use Rattle.rp_model.specs.declared.part.Running.{Running}
-use Rattle.rp_model.specs.declared.part.Turn.{Turn}
+use Rattle.rp_model.specs.Parts.{Running}
+use Rattle.rp_model.specs.Parts.{Turn}
 use Rattle.rp_model.specs.Parts.{with_record}
 use Rattle.rp_model.specs.Says.{says, says_to_all, says_to_others, says_to_task}
 use Rattle.rp_model.specs.Acceptor.{tells_promise, tells_vote}

@@ -10,7 +10,7 @@ use Rattle.rp_base.specs.Majority.{majority_of, AreNodes}
 use Rattle.rp_base.proofs.SetsMeet.{sets_meet}
 use Rattle.rp_codec.specs.Message.{Message}
 use Rattle.rp_model.specs.Facts.{HasPromised, HasVoted, IsOffered, IsDecided}
-use Rattle.rp_model.specs.declared.part.NodePart.{NodePart}
+use Rattle.rp_model.specs.Parts.{NodePart}
 use Rattle.rp_agreement.specs.Told.{IsAsked}
 use Rattle.rp_agreement.specs.Founded.{IsFounded}
 use Rattle.rp_agreement.specs.Sound.{IsSound}

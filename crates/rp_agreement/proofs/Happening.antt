@@ -10,7 +10,7 @@ use Rattle.rp_base.specs.Records.{applied_of}
 use Rattle.rp_model.specs.Answers.{Happen}
 use Rattle.rp_model.specs.Facts.{IsDecided}
 use Rattle.rp_model.specs.Parts.{fresh_node}
-use Rattle.rp_model.specs.declared.part.NodePart.{NodePart}
+use Rattle.rp_model.specs.Parts.{NodePart}
 use Rattle.rp_agreement.specs.Computed.{order_of}
 use Rattle.rp_agreement.proofs.Computing.{order_is}
 use Rattle.rp_agreement.proofs.Following.{one_decided}

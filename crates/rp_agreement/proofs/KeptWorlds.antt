@@ -8,8 +8,8 @@ use Rattle.rp_base.specs.Records.{applied_of}
 use Rattle.rp_machine.specs.Calls.{CallName, call_of}
 use Rattle.rp_machine.specs.Replay.{one_to}
 use Rattle.rp_machine.proofs.Numbering.{length-one_to}
-use Rattle.rp_model.specs.declared.part.NodePart.{NodePart}
-use Rattle.rp_model.specs.declared.part.TaskPart.{TaskPart}
+use Rattle.rp_model.specs.Parts.{NodePart}
+use Rattle.rp_model.specs.Parts.{TaskPart}
 use Rattle.rp_model.specs.Parts.{fresh_task}
 use Rattle.rp_model.specs.Effect.{Setting, Done, goes_on_as, restart_part, untorn_part}
 use Rattle.rp_model.specs.Tasks.{task_effect}
@@ -60,8 +60,8 @@ module _ {S : Type 0} (s : Setting S) (right : IsRightConfig s.config) where
     cut = λ w me kept part input done world here is came. node_case w me part done world here (cut_done s right w me part world.size world.kept.sound here kept input done is came) (cut_answers s me kept part input done came);
     stop = λ w me part done world here came. node_case w me part done world here (stop_done s right w me part world.size world.kept.sound here done came) (stop_answers s part done came);
     restart = λ w me part world here. node_case w me part (restart_part part) world here (restart_done s right w me part world.size world.kept.sound here) (restart_answers s part);
-    torn = λ w me part world here.
-        untorn_world (IsKeptWorld s) w me part (node_case w me part (goes_on_as (untorn_part part)) world here (torn_done s right w me part world.size world.kept.sound here) (λ m h. absurd h));
+    torn = λ w me kept part world here.
+        untorn_world (IsKeptWorld s) w me kept part (node_case w me part (goes_on_as (untorn_part kept part)) world here (torn_done s right w me part world.size world.kept.sound here kept) (λ m h. absurd h));
     task = λ w t part input done world here is came. record {
       size = world.size;
       kept = task_goes_on s t input done (node_in w.nodes) (task_in w.tasks) w.sent (node_in w.nodes) (task_in (with_part w.tasks t done.part)) (w.sent ++ done.sends) world.kept is

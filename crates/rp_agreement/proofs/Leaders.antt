@@ -22,9 +22,9 @@ use Rattle.rp_base.proofs.Members.{has_right, mapped_has}
 use Rattle.rp_codec.specs.Message.{Message}
 use Rattle.rp_codec.specs.declared.packet.Body.TheVariants as bodies
 use Rattle.rp_machine.specs.Replay.{kept_of, one_to}
-use Rattle.rp_model.specs.declared.part.Running.{Running}
-use Rattle.rp_model.specs.declared.part.NodePart.{NodePart}
-use Rattle.rp_model.specs.declared.part.Turn.{Turn}
+use Rattle.rp_model.specs.Parts.{Running}
+use Rattle.rp_model.specs.Parts.{NodePart}
+use Rattle.rp_model.specs.Parts.{Turn}
 use Rattle.rp_model.specs.Says.{says, says_to_all, sends, notes}
 use Rattle.rp_model.specs.Pending.{is_free_item, own_action}
 use Rattle.rp_model.specs.Leader.{chosen_position, is_out_of_reach, starts_above, begins, on_lead, counts_promise, on_promise_to, on_promise, on_nack}

@@ -15,7 +15,7 @@ use Rattle.rp_base.proofs.Members.{has_right, has_passing}
 use Rattle.rp_codec.specs.Message.{Message}
 use Rattle.rp_codec.specs.declared.packet.Body.TheVariants as bodies
 use Rattle.rp_machine.specs.Replay.{kept_of, replay_answers, one_to}
-use Rattle.rp_model.specs.declared.part.Running.{Running}
+use Rattle.rp_model.specs.Parts.{Running}
 use Rattle.rp_model.specs.Says.{says, says_to_others, says_to_task, notes}
 use Rattle.rp_model.specs.Pending.{is_answered_by, replies_to, stays}
 use Rattle.rp_model.specs.Learner.{missing_position, asks_for, tells_learned, on_ask, learns, on_vote, on_accepted, on_decision, on_decided}

@@ -9,9 +9,9 @@ use Rattle.rp_base.specs.declared.record.Rec.TheVariants.{Learned}
 use Rattle.rp_base.specs.Records.{learned_at, learned_run, unless_missing, applied_of}
 use Rattle.rp_base.specs.Sets.{Has}
 use Rattle.rp_base.proofs.Members.{has_split}
-use Rattle.rp_model.specs.declared.part.Running.{Running}
-use Rattle.rp_model.specs.declared.part.NodePart.{NodePart}
-use Rattle.rp_model.specs.declared.part.Turn.{Turn}
+use Rattle.rp_model.specs.Parts.{Running}
+use Rattle.rp_model.specs.Parts.{NodePart}
+use Rattle.rp_model.specs.Parts.{Turn}
 use Rattle.rp_model.specs.Parts.{fresh_node, with_record, is_in_log}
 use Rattle.rp_model.specs.Texts.{written_for}
 use Rattle.rp_model.specs.Effect.{Setting, Done, NodeInput, running_effect, turned_if, effect_while, node_effect, stop_part, cut_part, stops_while, stop_effect, cut_if, cut_effect, restart_while, restart_part}
@@ -121,7 +121,7 @@ module _ {S : Type 0} (s : Setting S) where
         (came_in_log s.config.max_positions (stop_effect part) done (stop_while s.config.max_positions part part.running (at_place w me part all here)) came);
     restart = λ w me part all here. put_in_log s.config.max_positions w me (restart_part part).part all
         (restarted s.config.max_positions part part.running (at_place w me part all here));
-    torn = λ w me part all here. put_in_log s.config.max_positions w me _ all (at_place w me part all here);
+    torn = λ w me kept part all here. put_in_log s.config.max_positions w me _ all (at_place w me part all here);
     task = λ w t part input done all here is came. all;
   }
 

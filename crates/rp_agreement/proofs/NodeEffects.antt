@@ -10,9 +10,9 @@ use Rattle.rp_base.specs.Config.{IsRightConfig}
 use Rattle.rp_base.specs.Records.{applied_of}
 use Rattle.rp_codec.specs.Message.{Message, report_len}
 use Rattle.rp_machine.specs.Replay.{kept_of}
-use Rattle.rp_model.specs.declared.part.Running.{Running}
-use Rattle.rp_model.specs.declared.part.NodePart.{NodePart}
-use Rattle.rp_model.specs.declared.part.Turn.{Turn}
+use Rattle.rp_model.specs.Parts.{Running}
+use Rattle.rp_model.specs.Parts.{NodePart}
+use Rattle.rp_model.specs.Parts.{Turn}
 use Rattle.rp_model.specs.Parts.{fresh_running, with_record}
 use Rattle.rp_model.specs.Says.{sends}
 use Rattle.rp_model.specs.Texts.{written_for}
@@ -173,9 +173,9 @@ restarted nodes x node sent (Some running) sound is = record {
 pub restart_sound : (nodes x : ℕ) (node : ℕ → NodePart) (sent : List Message) → IsSound nodes node sent → IsSoundDone nodes x (node x) sent (restart_part (node x))
 restart_sound nodes x node sent sound = restarted nodes x node sent (node x).running sound refl
 
--- torn bytes are gone
-pub untorn_sound : (nodes x : ℕ) (node : ℕ → NodePart) (sent : List Message) → IsSound nodes node sent → IsSoundDone nodes x (node x) sent (goes_on_as (untorn_part (node x)))
-untorn_sound nodes x node sent sound = record {
+-- some torn bytes are gone
+pub untorn_sound : (nodes x kept : ℕ) (node : ℕ → NodePart) (sent : List Message) → IsSound nodes node sent → IsSoundDone nodes x (node x) sent (goes_on_as (untorn_part kept (node x)))
+untorn_sound nodes x kept node sent sound = record {
   wrote = None;
   records = refl;
   step = silent_step nodes x (node x).records sent None (node x).running tt (λ after e. sound.runs x after e);

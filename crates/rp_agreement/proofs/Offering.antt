@@ -16,7 +16,7 @@ use Rattle.rp_codec.specs.Message.{Message}
 use Rattle.rp_codec.specs.declared.packet.Party.{Party}
 use Rattle.rp_codec.specs.declared.packet.Body.{Body}
 use Rattle.rp_codec.specs.declared.packet.Body.TheVariants as bodies
-use Rattle.rp_model.specs.declared.part.NodePart.{NodePart}
+use Rattle.rp_model.specs.Parts.{NodePart}
 use Rattle.rp_model.specs.Facts.{IsPromise, HasPromised, IsOffered}
 use Rattle.rp_agreement.specs.Told.{IsAsked}
 use Rattle.rp_agreement.specs.Founded.{Reports, IsFounded}

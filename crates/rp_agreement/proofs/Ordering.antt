@@ -7,7 +7,7 @@ use Rattle.rp_base.specs.declared.record.Rec.{Rec}
 use Rattle.rp_base.specs.Records.{learned_at, learned_run, unless_missing, applied_of}
 use Rattle.rp_codec.specs.Message.{Message}
 use Rattle.rp_model.specs.Facts.{IsDecided, IsOrder}
-use Rattle.rp_model.specs.declared.part.NodePart.{NodePart}
+use Rattle.rp_model.specs.Parts.{NodePart}
 use Rattle.rp_agreement.specs.Sound.{IsSound}
 use Rattle.rp_agreement.specs.Order.{Begins, AreAlike, AreDecided, AllSent}
 use Rattle.rp_agreement.proofs.RecordGrowth.{learned_has}

@@ -15,7 +15,7 @@ use Rattle.rp_codec.specs.declared.packet.Party.TheVariants.{Node, Task}
 use Rattle.rp_codec.specs.declared.packet.Body.TheVariants as bodies
 use Rattle.rp_machine.specs.Calls.{CallName}
 use Rattle.rp_machine.specs.Asked.{last_number, last_occurrence, kept_reply}
-use Rattle.rp_model.specs.declared.part.Running.{Running}
+use Rattle.rp_model.specs.Parts.{Running}
 use Rattle.rp_model.specs.Says.{says_to_task, notes, drops_full}
 use Rattle.rp_model.specs.Pending.{most_pending, adds_pending, on_numbered, on_call, on_interrupt, on_tick}
 use Rattle.rp_agreement.specs.Told.{Asks, IsAsked}

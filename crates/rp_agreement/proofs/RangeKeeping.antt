@@ -17,10 +17,10 @@ use Rattle.rp_codec.specs.declared.packet.Party.{Party}
 use Rattle.rp_codec.specs.declared.packet.Party.TheVariants.{Node, Task}
 use Rattle.rp_codec.specs.declared.packet.Body.{Body}
 use Rattle.rp_codec.specs.declared.packet.Body.TheVariants as bodies
-use Rattle.rp_model.specs.declared.part.Running.{Running}
-use Rattle.rp_model.specs.declared.part.NodePart.{NodePart}
-use Rattle.rp_model.specs.declared.part.TaskPart.{TaskPart}
-use Rattle.rp_model.specs.declared.part.Turn.{Turn}
+use Rattle.rp_model.specs.Parts.{Running}
+use Rattle.rp_model.specs.Parts.{NodePart}
+use Rattle.rp_model.specs.Parts.{TaskPart}
+use Rattle.rp_model.specs.Parts.{Turn}
 use Rattle.rp_model.specs.Parts.{fresh_running, fresh_node}
 use Rattle.rp_model.specs.Texts.{written_for}
 use Rattle.rp_model.specs.Effect.{Setting, Done, NodeInput, running_effect, turned_if, effect_while, node_effect, goes_on_as, stop_part, cut_part, untorn_part, stops_while, stop_effect, cut_if, cut_effect, restart_while, restart_part}
@@ -228,10 +228,10 @@ module _ {S : Type 0} (s : Setting S) (right : IsRightConfig s.config) (fits : (
     stop = λ w me part done all here came. node_stands s.config.nodes w me done all
         (came_ranged (stop_effect part) done (stops_ranged part part.running (all.parts part (part_has w.nodes me part here))) came);
     restart = λ w me part all here. node_stands s.config.nodes w me (restart_part part) all (restarted_ranged part part.running (all.parts part (part_has w.nodes me part here)));
-    torn = λ w me part all here.
+    torn = λ w me kept part all here.
         let was = all.parts part (part_has w.nodes me part here) in
-        untorn_world (IsRangedWorld s.config.nodes) w me part
-        (node_stands s.config.nodes w me (goes_on_as (untorn_part part)) all (record { records = was.records; running = was.running }, no_packets));
+        untorn_world (IsRangedWorld s.config.nodes) w me kept part
+        (node_stands s.config.nodes w me (goes_on_as (untorn_part kept part)) all (record { records = was.records; running = was.running }, no_packets));
     task = λ w t part input done all here is came. task_stands s.config.nodes w t part done all here
         (if_task_done t (task_effect s.config t part input) done (task_sound s.config w.sent t part input (all.waits t part here) is) came)
         (for_nodes_if (task_effect s.config t part input) done (input_nodes s.config w.sent t part input is) came);

@@ -32,8 +32,8 @@ use Rattle.rp_codec.specs.declared.packet.Body.TheVariants as bodies
 use Rattle.rp_codec.specs.Record.{IsRecord}
 use Rattle.rp_machine.specs.Replay.{one_to}
 use Rattle.rp_machine.specs.Asked.{last_number, kept_reply}
-use Rattle.rp_model.specs.declared.part.Running.{Running}
-use Rattle.rp_model.specs.declared.part.Turn.{Turn}
+use Rattle.rp_model.specs.Parts.{Running}
+use Rattle.rp_model.specs.Parts.{Turn}
 use Rattle.rp_model.specs.Says.{says, says_to_all, says_to_others, says_to_task, sends, notes, writes, drops_full, drops_foreign}
 use Rattle.rp_model.specs.Acceptor.{tells_promise, tells_vote, on_prepare, on_accept}
 use Rattle.rp_model.specs.Leader.{counts_promise, on_promise_to, on_promise, on_nack}

@@ -11,8 +11,8 @@ use Rattle.rp_codec.specs.declared.packet.Party.TheVariants.{Node, Task, Audit}
 use Rattle.rp_codec.specs.declared.packet.Body.{Body}
 use Rattle.rp_codec.specs.declared.packet.Body.TheVariants as bodies
 use Rattle.rp_machine.specs.Replay.{kept_of, replay_answers}
-use Rattle.rp_model.specs.declared.part.Running.{Running}
-use Rattle.rp_model.specs.declared.part.NodePart.{NodePart}
+use Rattle.rp_model.specs.Parts.{Running}
+use Rattle.rp_model.specs.Parts.{NodePart}
 use Rattle.rp_model.specs.Says.{drops_foreign}
 use Rattle.rp_model.specs.Receiving.{is_for_node, party_number, on_body, receives}
 use Rattle.rp_agreement.specs.Sound.{SaysSo, IsRunning, IsSound}

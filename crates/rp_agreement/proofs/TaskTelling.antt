@@ -20,7 +20,7 @@ use Rattle.rp_codec.specs.declared.packet.Body.{Body}
 use Rattle.rp_codec.specs.declared.packet.Body.TheVariants as bodies
 use Rattle.rp_machine.specs.Calls.{CallName, calls_of, call_of}
 use Rattle.rp_machine.specs.Replay.{one_to}
-use Rattle.rp_model.specs.declared.part.TaskPart.{TaskPart}
+use Rattle.rp_model.specs.Parts.{TaskPart}
 use Rattle.rp_model.specs.Effect.{Done, goes_on_as}
 use Rattle.rp_base.specs.Calls.{outstanding_number}
 use Rattle.rp_model.specs.Tasks.{TaskInput, Submit, Again, Take, next_call, may_call, calls_if, asks_again, takes, takes_reply, task_hears, task_effect, asks}

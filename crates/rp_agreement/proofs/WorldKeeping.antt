@@ -6,8 +6,8 @@ use Rattle.std.proofs.lemmas.List.{append-nil}
 use Rattle.rp_base.specs.Config.{IsRightConfig}
 use Rattle.rp_base.specs.Sets.{Has}
 use Rattle.rp_codec.specs.Message.{Message}
-use Rattle.rp_model.specs.declared.part.NodePart.{NodePart}
-use Rattle.rp_model.specs.declared.part.TaskPart.{TaskPart}
+use Rattle.rp_model.specs.Parts.{NodePart}
+use Rattle.rp_model.specs.Parts.{TaskPart}
 use Rattle.rp_model.specs.Parts.{fresh_node}
 use Rattle.rp_model.specs.Effect.{Setting, Done, goes_on_as, NodeInput, node_effect, cut_effect, stop_effect, restart_part, untorn_part}
 use Rattle.rp_model.specs.Tasks.{task_effect}
@@ -70,9 +70,9 @@ task_done_keeps nodes w t part done sound here d = record {
 }
 
 -- a world in which torn bytes are gone is one in which nothing was sent
-pub untorn_world : (P : World → Type 0) (w : World) (me : ℕ) (part : NodePart) → P (node_done w me (goes_on_as (untorn_part part))).world → P (untorn w me (Some part))
-untorn_world P w me part meets =
-    subst (λ (sent : List Message). P (record { nodes = with_part w.nodes me (untorn_part part); tasks = w.tasks; sent = sent })) (append-nil w.sent) meets
+pub untorn_world : (P : World → Type 0) (w : World) (me kept : ℕ) (part : NodePart) → P (node_done w me (goes_on_as (untorn_part kept part))).world → P (untorn kept w me (Some part))
+untorn_world P w me kept part meets =
+    subst (λ (sent : List Message). P (record { nodes = with_part w.nodes me (untorn_part kept part); tasks = w.tasks; sent = sent })) (append-nil w.sent) meets
 
 module _ {S : Type 0} (s : Setting S) (right : IsRightConfig s.config) where
   -- the effects speak of the part at the place
@@ -108,10 +108,10 @@ module _ {S : Type 0} (s : Setting S) (right : IsRightConfig s.config) where
     restart_done =
         at_part (λ p. IsSoundDone s.config.nodes me (node_in w.nodes me) w.sent (restart_part p)) w me part here (restart_sound s.config.nodes me (node_in w.nodes) w.sent sound)
 
-    pub torn_done : IsSoundDone s.config.nodes me (node_in w.nodes me) w.sent (goes_on_as (untorn_part part))
-    torn_done =
-        at_part (λ p. IsSoundDone s.config.nodes me (node_in w.nodes me) w.sent (goes_on_as (untorn_part p))) w me part here
-        (untorn_sound s.config.nodes me (node_in w.nodes) w.sent sound)
+    pub torn_done : (kept : ℕ) → IsSoundDone s.config.nodes me (node_in w.nodes me) w.sent (goes_on_as (untorn_part kept part))
+    torn_done kept =
+        at_part (λ p. IsSoundDone s.config.nodes me (node_in w.nodes me) w.sent (goes_on_as (untorn_part kept p))) w me part here
+        (untorn_sound s.config.nodes me kept (node_in w.nodes) w.sent sound)
 
   -- the invariant of a world is kept by all
   pub sound_kept : IsKeptByAll s (IsSoundWorld s.config.nodes)
@@ -120,9 +120,9 @@ module _ {S : Type 0} (s : Setting S) (right : IsRightConfig s.config) where
     cut = λ w me kept part input done sound here is came. node_done_keeps s.config.nodes w me part done sound here (cut_done w me part sound.size sound.sound here kept input done is came);
     stop = λ w me part done sound here came. node_done_keeps s.config.nodes w me part done sound here (stop_done w me part sound.size sound.sound here done came);
     restart = λ w me part sound here. node_done_keeps s.config.nodes w me part (restart_part part) sound here (restart_done w me part sound.size sound.sound here);
-    torn = λ w me part sound here.
-        untorn_world (IsSoundWorld s.config.nodes) w me part
-        (node_done_keeps s.config.nodes w me part (goes_on_as (untorn_part part)) sound here (torn_done w me part sound.size sound.sound here));
+    torn = λ w me kept part sound here.
+        untorn_world (IsSoundWorld s.config.nodes) w me kept part
+        (node_done_keeps s.config.nodes w me part (goes_on_as (untorn_part kept part)) sound here (torn_done w me part sound.size sound.sound here kept));
     task = λ w t part input done sound here is came.
         task_done_keeps s.config.nodes w t part done sound here
         (if_task_done t (task_effect s.config t part input) done (task_sound s.config w.sent t part input (sound.waits t part here) is) came);

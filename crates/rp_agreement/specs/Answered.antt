@@ -17,8 +17,8 @@ use Rattle.rp_machine.specs.Replay.{one_to, replay_answers}
 use Rattle.rp_model.specs.Effect.{Setting}
 use Rattle.rp_model.specs.Parts.{fresh_task}
 use Rattle.rp_model.specs.World.{World, part_at}
-use Rattle.rp_model.specs.declared.part.NodePart.{NodePart}
-use Rattle.rp_model.specs.declared.part.TaskPart.{TaskPart}
+use Rattle.rp_model.specs.Parts.{NodePart}
+use Rattle.rp_model.specs.Parts.{TaskPart}
 use Rattle.rp_agreement.specs.Told.{Asks}
 use Rattle.rp_agreement.specs.Order.{Begins}
 use Rattle.rp_agreement.specs.Computed.{order_of}

@@ -5,7 +5,7 @@ use Rattle.rp_base.specs.Sets.{Has}
 use Rattle.rp_base.specs.Majority.{majority_of, AreNodes}
 use Rattle.rp_base.specs.declared.action.Action.{Action}
 use Rattle.rp_base.specs.declared.record.Rec.TheVariants.{Voted}
-use Rattle.rp_model.specs.declared.part.NodePart.{NodePart}
+use Rattle.rp_model.specs.Parts.{NodePart}
 
 -- more than half of the nodes have written that they voted for the action in this ballot
 pub record IsCast (nodes : ℕ) (node : ℕ → NodePart) (i b : ℕ) (v : Action) : Type 0 where

@@ -10,8 +10,8 @@ use Rattle.rp_codec.specs.declared.packet.Party.TheVariants.{Task}
 use Rattle.rp_codec.specs.declared.packet.Body.TheVariants.{Call}
 use Rattle.rp_model.specs.Effect.{Done, NodeInput, Receive, Lead, Interrupt, Tick, Report}
 use Rattle.rp_model.specs.Tasks.{TaskInput, Submit, Again, Take}
-use Rattle.rp_model.specs.declared.part.NodePart.{NodePart}
-use Rattle.rp_model.specs.declared.part.TaskPart.{TaskPart}
+use Rattle.rp_model.specs.Parts.{NodePart}
+use Rattle.rp_model.specs.Parts.{TaskPart}
 use Rattle.rp_agreement.specs.Sound.{IsCall}
 use Rattle.rp_agreement.specs.Steps.{SentToo}
 

@@ -12,9 +12,9 @@ use Rattle.rp_base.specs.declared.record.Vote.{Vote}
 use Rattle.rp_codec.specs.Message.{Message, IsPacket}
 use Rattle.rp_codec.specs.Record.{IsRecord}
 use Rattle.rp_model.specs.World.{World, part_at}
-use Rattle.rp_model.specs.declared.part.Running.{Running}
-use Rattle.rp_model.specs.declared.part.NodePart.{NodePart}
-use Rattle.rp_model.specs.declared.part.TaskPart.{TaskPart}
+use Rattle.rp_model.specs.Parts.{Running}
+use Rattle.rp_model.specs.Parts.{NodePart}
+use Rattle.rp_model.specs.Parts.{TaskPart}
 use Rattle.rp_agreement.specs.Inputs.{WaitsForOwn}
 
 -- a proposal's position and ballot are ones, and what it may offer is right

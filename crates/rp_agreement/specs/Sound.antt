@@ -18,8 +18,8 @@ use Rattle.rp_codec.specs.declared.packet.Party.TheVariants.{Node, Task, Audit}
 use Rattle.rp_codec.specs.declared.packet.Body.{Body}
 use Rattle.rp_codec.specs.declared.packet.Body.TheVariants.{Call, Prepare, Promise, Accept, Accepted, Decided, Ask, Nack, Reply, Report}
 use Rattle.rp_model.specs.Facts.{HasPromised, HasVoted, IsOffered, IsDecided}
-use Rattle.rp_model.specs.declared.part.Running.{Running}
-use Rattle.rp_model.specs.declared.part.NodePart.{NodePart}
+use Rattle.rp_model.specs.Parts.{Running}
+use Rattle.rp_model.specs.Parts.{NodePart}
 use Rattle.rp_agreement.specs.Told.{IsAsked}
 use Rattle.rp_agreement.specs.Founded.{Reports, IsFounded}
 

@@ -2,8 +2,8 @@
 use Rattle.std.specs.Prelude.{◌≡◌, ℕ, Some, unwrap_or, List, length}
 use Rattle.rp_model.specs.Parts.{fresh_node}
 use Rattle.rp_model.specs.World.{World, part_at}
-use Rattle.rp_model.specs.declared.part.NodePart.{NodePart}
-use Rattle.rp_model.specs.declared.part.TaskPart.{TaskPart}
+use Rattle.rp_model.specs.Parts.{NodePart}
+use Rattle.rp_model.specs.Parts.{TaskPart}
 use Rattle.rp_agreement.specs.Sound.{IsSound}
 use Rattle.rp_agreement.specs.Inputs.{WaitsForOwn}
 

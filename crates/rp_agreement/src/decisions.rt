@@ -9,7 +9,7 @@ ghost use Rattle.rp_base.specs.declared.record.Rec.TheVariants.{Learned};
 ghost use Rattle.rp_codec.specs.Message.{Message};
 ghost use Rattle.rp_codec.specs.declared.packet.Body.TheVariants.{Decided};
 ghost use Rattle.rp_model.specs.Facts.{IsDecided};
-ghost use Rattle.rp_model.specs.declared.part.NodePart.{NodePart};
+ghost use Rattle.rp_model.specs.Parts.{NodePart};
 ghost use Rattle.rp_agreement.specs.Decided.{IsCast};
 ghost use Rattle.rp_agreement.specs.Order.{AllSent};
 ghost use Rattle.rp_agreement.specs.Sound.{IsSound};

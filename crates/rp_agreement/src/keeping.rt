@@ -13,8 +13,8 @@ ghost use Rattle.rp_model.specs.Events.{Event, IsEvent};
 ghost use Rattle.rp_model.specs.Tasks.{TaskInput, task_effect};
 ghost use Rattle.rp_model.specs.World.{World, Happening, event_effect};
 ghost use Rattle.rp_model.specs.declared.effect.Effect.{Effect};
-ghost use Rattle.rp_model.specs.declared.part.NodePart.{NodePart};
-ghost use Rattle.rp_model.specs.declared.part.TaskPart.{TaskPart};
+ghost use Rattle.rp_model.specs.Parts.{NodePart};
+ghost use Rattle.rp_model.specs.Parts.{TaskPart};
 ghost use Rattle.rp_agreement.specs.Sound.{IsMember, IsSound};
 ghost use Rattle.rp_agreement.specs.Steps.{SentToo};
 ghost use Rattle.rp_agreement.specs.Inputs.{IsInput, IsTaskInput, NodeMoves, WaitsForOwn};
@@ -50,9 +50,9 @@ pub fn node_events_keep<M: Machine>()
         → IsMember nodes x → IsSound nodes node sent
         → NodeMoves x (restart_part (node x)) node sent after later
         → IsSound nodes after later }
-    ensures untorn { (nodes x : ℕ) (node after : ℕ → NodePart) (sent later : List Message)
+    ensures untorn { (nodes x kept : ℕ) (node after : ℕ → NodePart) (sent later : List Message)
         → IsMember nodes x → IsSound nodes node sent
-        → NodeMoves x (goes_on_as (untorn_part (node x))) node sent after later
+        → NodeMoves x (goes_on_as (untorn_part kept (node x))) node sent after later
         → IsSound nodes after later }
 {}
 

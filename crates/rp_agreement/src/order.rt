@@ -7,7 +7,7 @@ ghost use Rattle.rp_codec.specs.Message.{Message};
 ghost use Rattle.rp_codec.specs.declared.packet.Body.TheVariants.{Report};
 ghost use Rattle.rp_machine.specs.Replay.{replay_of};
 ghost use Rattle.rp_model.specs.Facts.{IsOrder};
-ghost use Rattle.rp_model.specs.declared.part.NodePart.{NodePart};
+ghost use Rattle.rp_model.specs.Parts.{NodePart};
 ghost use Rattle.rp_agreement.specs.Computed.{order_of};
 ghost use Rattle.rp_agreement.specs.Order.{Begins, AreAlike, AllSent};
 ghost use Rattle.rp_agreement.specs.Sound.{IsReported, IsSound};

@@ -4,7 +4,7 @@ ghost use Rattle.std.specs.Prelude.{ℕ, Option, List};
 ghost use Rattle.rp_base.specs.declared.record.Vote.{Vote};
 ghost use Rattle.rp_codec.specs.Message.{Message};
 ghost use Rattle.rp_codec.specs.declared.packet.Body.{Body};
-ghost use Rattle.rp_model.specs.declared.part.NodePart.{NodePart};
+ghost use Rattle.rp_model.specs.Parts.{NodePart};
 ghost use Rattle.rp_agreement.specs.Told.{Says};
 ghost use Rattle.rp_model.specs.Facts.{HasPromised};
 ghost use Rattle.rp_agreement.specs.Founded.{Reports};

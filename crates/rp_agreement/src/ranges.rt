@@ -14,7 +14,7 @@ ghost use Rattle.rp_model.specs.Effect.{Setting};
 ghost use Rattle.rp_model.specs.Events.{Event, IsEvent};
 ghost use Rattle.rp_model.specs.Parts.{is_in_log};
 ghost use Rattle.rp_model.specs.World.{World, Happening, opening_world, part_at, event_effect};
-ghost use Rattle.rp_model.specs.declared.part.NodePart.{NodePart};
+ghost use Rattle.rp_model.specs.Parts.{NodePart};
 ghost use Rattle.rp_agreement.specs.Answered.{setting_for};
 ghost use Rattle.rp_agreement.specs.History.{IsHistory};
 ghost use Rattle.rp_agreement.specs.Ranges.{IsRangedWorld};

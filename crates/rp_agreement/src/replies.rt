@@ -16,8 +16,8 @@ ghost use Rattle.rp_model.specs.Events.{Event, IsEvent};
 ghost use Rattle.rp_model.specs.Tasks.{TaskInput, task_effect};
 ghost use Rattle.rp_model.specs.World.{World, Happening, part_at, event_effect};
 ghost use Rattle.rp_model.specs.declared.effect.Effect.{Effect};
-ghost use Rattle.rp_model.specs.declared.part.NodePart.{NodePart};
-ghost use Rattle.rp_model.specs.declared.part.TaskPart.{TaskPart};
+ghost use Rattle.rp_model.specs.Parts.{NodePart};
+ghost use Rattle.rp_model.specs.Parts.{TaskPart};
 ghost use Rattle.rp_agreement.specs.Computed.{order_of};
 ghost use Rattle.rp_agreement.specs.History.{IsHistory};
 ghost use Rattle.rp_agreement.specs.Inputs.{IsInput, IsTaskInput, NodeMoves, TaskMoves};
@@ -56,10 +56,10 @@ pub fn node_events_keep_replies<M: Machine>()
         → IsMember setting.config.nodes x → IsKept setting node task sent
         → NodeMoves x (restart_part (node x)) node sent after later
         → IsKept setting after task later }
-    ensures untorn { (setting : Setting M) (x : ℕ)
+    ensures untorn { (setting : Setting M) (x left : ℕ)
         (node after : ℕ → NodePart) (task : ℕ → TaskPart) (sent later : List Message)
         → IsMember setting.config.nodes x → IsKept setting node task sent
-        → NodeMoves x (goes_on_as (untorn_part (node x))) node sent after later
+        → NodeMoves x (goes_on_as (untorn_part left (node x))) node sent after later
         → IsKept setting after task later }
 {}
 

@@ -18,10 +18,10 @@ use Rattle.rp_codec.specs.declared.packet.Party.TheVariants.{Node, Task, Audit}
 use Rattle.rp_model.specs.declared.event.Event.{Event}
 use Rattle.rp_model.specs.declared.event.Event.TheVariants.{Submit, Node as NodeStep}
 use Rattle.rp_model.specs.declared.event.Step.TheVariants.{Deliver, Lead}
-use Rattle.rp_model.specs.declared.part.NodePart.{NodePart}
-use Rattle.rp_model.specs.declared.part.Running.{Running}
-use Rattle.rp_model.specs.declared.part.TaskPart.{TaskPart}
-use Rattle.rp_model.specs.declared.part.Turn.{Turn}
+use Rattle.rp_model.specs.Parts.{NodePart}
+use Rattle.rp_model.specs.Parts.{Running}
+use Rattle.rp_model.specs.Parts.{TaskPart}
+use Rattle.rp_model.specs.Parts.{Turn}
 use Rattle.rp_model.specs.Receiving.{receives}
 use Rattle.rp_model.specs.Effect as nodes
 use Rattle.rp_model.specs.Effect.{Setting, Done, turned, turned_if, effect_while}

@@ -12,8 +12,8 @@ use Rattle.rp_machine.specs.TallyRule.{tally_next, tally_answers, tally_image}
 use Rattle.rp_model.specs.declared.event.Event.{Event}
 use Rattle.rp_model.specs.declared.event.Event.TheVariants.{Submit, Node as NodeStep}
 use Rattle.rp_model.specs.declared.event.Step.TheVariants as steps
-use Rattle.rp_model.specs.declared.part.NodePart.{NodePart}
-use Rattle.rp_model.specs.declared.part.Running.{Running}
+use Rattle.rp_model.specs.Parts.{NodePart}
+use Rattle.rp_model.specs.Parts.{Running}
 use Rattle.rp_model.specs.Effect as nodes
 use Rattle.rp_model.specs.Events.{event_of}
 use Rattle.rp_model.specs.World.{World, Happening, opening_world, event_effect, part_at}

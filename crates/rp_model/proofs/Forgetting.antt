@@ -20,10 +20,10 @@ use Rattle.rp_base.specs.Promises.{Promise, HeardVote, offer_of, same_vote, same
 use Rattle.rp_base.specs.Records.{or_else, learned_in, learned_at, applied_of}
 use Rattle.rp_base.specs.Sets.{with_member, with_members}
 use Rattle.rp_codec.specs.Message.{Message}
-use Rattle.rp_model.specs.declared.part.Running.{Running}
-use Rattle.rp_model.specs.declared.part.Turn.{Turn}
-use Rattle.rp_model.specs.declared.part.Dropped.{Dropped}
-use Rattle.rp_model.specs.declared.part.Dropped.TheVariants.{No, Full, Foreign}
+use Rattle.rp_model.specs.Parts.{Running}
+use Rattle.rp_model.specs.Parts.{Turn}
+use Rattle.rp_model.specs.declared.effect.Dropped.{Dropped}
+use Rattle.rp_model.specs.declared.effect.Dropped.TheVariants.{No, Full, Foreign}
 use Rattle.rp_model.specs.Parts.{with_record}
 use Rattle.rp_base.specs.Ballot.{greatest_with, next_ballot, round_of}
 use Rattle.rp_base.specs.Action.{equal_items}

@@ -1,12 +1,5 @@
-pub mod Accepting
-pub mod FreePositions
-pub mod LastVotes
-pub mod Numbering
-pub mod OneMore
 pub mod Forgetting
 pub mod Replying
-pub mod Runs
 pub mod AppliedGrowing
 pub mod WorldGrowing
-pub mod Replacing
 pub mod Deciding

@@ -3,7 +3,7 @@ use Rattle.std.specs.Prelude.{◌≡◌, ◌⊎◌, ℕ, ◌+◌, ◌-◌, ◌^�
 use Rattle.rp_base.specs.declared.fault.Fault.{Fault}
 use Rattle.rp_base.specs.declared.fault.Fault.TheVariants.{OutOfMemory, Device}
 use Rattle.rp_model.specs.declared.effect.Effect.{Effect}
-use Rattle.rp_model.specs.declared.part.NodePart.{NodePart}
+use Rattle.rp_model.specs.Parts.{NodePart}
 use Rattle.rp_model.specs.Effect.{Setting, untorn_part}
 use Rattle.rp_model.specs.Events.{Event, Submit, Again, Makes, Cut, Stop, Restart}
 use Rattle.rp_model.specs.World.{World, Happening, part_at, with_part, event_effect}
@@ -17,20 +17,20 @@ pub record Tells (sent : ℕ) (happening : Happening) (effect : Effect) : Type 0
   pub taken : effect.taken ≡ happening.taken
   pub opened : effect.opened ≡ happening.opened
 
--- the torn bytes of a node are gone, where there is a node of this number
-abbrev pub untorn : World → ℕ → Option NodePart → World
-untorn w me None = w
-untorn w me (Some part) = record w { nodes = with_part w.nodes me (untorn_part part) }
+-- at most so many of a node's torn bytes are left, where there is a node of this number
+abbrev pub untorn : ℕ → World → ℕ → Option NodePart → World
+untorn kept w me None = w
+untorn kept w me (Some part) = record w { nodes = with_part w.nodes me (untorn_part kept part) }
 
--- What a failing event leaves: the world as it was, but that the torn bytes of a node may be gone that was
--- to start again.
+-- What a failing event leaves: the world as it was, but that torn bytes of a node may be gone that was to
+-- start again, from the end.
 abbrev pub IsLeft : World → Event → World → Type 0
 IsLeft w (Submit task node object operation arg) left = left ≡ w
 IsLeft w (Again task node) left = left ≡ w
 IsLeft w (Makes step) left = left ≡ w
 IsLeft w (Cut step kept) left = left ≡ w
 IsLeft w (Stop me) left = left ≡ w
-IsLeft w (Restart me) left = (left ≡ w) ⊎ (left ≡ untorn w me (part_at w.nodes me))
+IsLeft w (Restart me) left = (kept : ℕ) × (left ≡ untorn kept w me (part_at w.nodes me))
 
 -- Where memory is wanting, the event would not have been refused, and nothing happens.
 pub record IsOutOfMemory {S : Type 0} (s : Setting S) (w : World) (event : Event) (left : World) : Type 0 where

@@ -1,6 +1,6 @@
 -- What an input comes to for one node, and what a stop, a cut and a restart leave of it (this project's
 -- own). Nothing here looks at another actor.
-use Rattle.std.specs.Prelude.{ℕ, ◌-◌, nat_le, Option, Some, None, Result, Ok, Err, List, [], ◌∷◌, ◌++◌, length, take, drop, if◌then◌else◌}
+use Rattle.std.specs.Prelude.{ℕ, ◌-◌, min, nat_le, Option, Some, None, Result, Ok, Err, List, [], ◌∷◌, ◌++◌, length, take, drop, if◌then◌else◌}
 use Rattle.rp_base.specs.declared.action.Action.{Action}
 use Rattle.rp_base.specs.declared.config.Config.{Config}
 use Rattle.rp_base.specs.declared.fault.Fault.{Fault}
@@ -12,11 +12,11 @@ use Rattle.rp_codec.specs.Message.{Message, report_len}
 use Rattle.rp_codec.specs.declared.packet.Party.TheVariants.{Node, Audit}
 use Rattle.rp_codec.specs.declared.packet.Body.TheVariants as bodies
 use Rattle.rp_machine.specs.Replay.{kept_of}
-use Rattle.rp_model.specs.declared.part.Running.{Running}
-use Rattle.rp_model.specs.declared.part.NodePart.{NodePart}
-use Rattle.rp_model.specs.declared.part.Turn.{Turn}
-use Rattle.rp_model.specs.declared.part.Dropped.{Dropped}
-use Rattle.rp_model.specs.declared.part.Dropped.TheVariants.{No}
+use Rattle.rp_model.specs.Parts.{Running}
+use Rattle.rp_model.specs.Parts.{NodePart}
+use Rattle.rp_model.specs.Parts.{Turn}
+use Rattle.rp_model.specs.declared.effect.Dropped.{Dropped}
+use Rattle.rp_model.specs.declared.effect.Dropped.TheVariants.{No}
 use Rattle.rp_model.specs.Parts.{fresh_running, with_record}
 use Rattle.rp_model.specs.Says.{sends}
 use Rattle.rp_model.specs.Texts.{written_for}
@@ -108,9 +108,9 @@ cut_part kept part (Some rec) =
     then stop_part (record part { records = part.records ++ rec ∷ [] })
     else stop_part (record part { torn = kept })
 
--- the torn bytes are gone
-abbrev pub untorn_part : NodePart → NodePart
-untorn_part part = record part { torn = 0 }
+-- at most so many torn bytes are left
+abbrev pub untorn_part : ℕ → NodePart → NodePart
+untorn_part kept part = record part { torn = min kept part.torn }
 
 -- a stop of a node that runs
 abbrev pub stops_while : NodePart → Option Running → Result (Done NodePart) Fault

@@ -5,10 +5,10 @@ use Rattle.rp_base.specs.Number.{IsNode, IsTask, IsPosition}
 use Rattle.rp_base.specs.Action.{IsIndex, IsCount}
 use Rattle.rp_base.specs.declared.action.Operation.{Operation}
 use Rattle.rp_base.specs.declared.action.Operation.TheVariants.{Function, Procedure, Entry, SetTimer, CancelTimer}
-use Rattle.rp_model.specs.declared.event.Step.{Step as PlainStep}
-use Rattle.rp_model.specs.declared.event.Step.TheVariants as plain_steps
-use Rattle.rp_model.specs.declared.event.Event.{Event as PlainEvent}
-use Rattle.rp_model.specs.declared.event.Event.TheVariants as plain_events
+use Rattle.rp_model.specs.declared.event.Step.{Step as TakenStep}
+use Rattle.rp_model.specs.declared.event.Step.TheVariants as taken_steps
+use Rattle.rp_model.specs.declared.event.Event.{Event as TakenEvent}
+use Rattle.rp_model.specs.declared.event.Event.TheVariants as taken_events
 
 -- A node's step: a packet that was sent, by its number from 1, is delivered to whom it is for; or the node
 -- of a number leads, at a position or the least free one, notes an interrupt of a source, notes a
@@ -56,12 +56,19 @@ IsEvent (Cut step kept) = IsStep step × (kept < 2 ^ 64)
 IsEvent (Stop node) = IsNode node
 IsEvent (Restart node) = IsNode node
 
--- ---- the events that a cluster of plain nodes takes: calls, deliveries and leading
+-- ---- the same as a cluster takes them
 
-abbrev pub step_of : PlainStep → Step
-step_of (plain_steps.Deliver number) = Deliver number
-step_of (plain_steps.Lead node position) = Lead node position
+abbrev pub step_of : TakenStep → Step
+step_of (taken_steps.Deliver number) = Deliver number
+step_of (taken_steps.Lead node position) = Lead node position
+step_of (taken_steps.Interrupt node interrupt) = Interrupt node interrupt.source interrupt.occurrence
+step_of (taken_steps.Tick node now) = Tick node now
+step_of (taken_steps.Report node first) = Report node first
 
-abbrev pub event_of : PlainEvent → Event
-event_of (plain_events.Submit task node object operation arg) = Submit task node object operation arg
-event_of (plain_events.Node step) = Makes (step_of step)
+abbrev pub event_of : TakenEvent → Event
+event_of (taken_events.Submit task node object operation arg) = Submit task node object operation arg
+event_of (taken_events.Again task node) = Again task node
+event_of (taken_events.Node step) = Makes (step_of step)
+event_of (taken_events.Cut step kept) = Cut (step_of step) kept
+event_of (taken_events.Stop node) = Stop node
+event_of (taken_events.Restart node) = Restart node

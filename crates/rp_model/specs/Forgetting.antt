@@ -4,8 +4,8 @@ use Rattle.rp_base.specs.declared.fault.Fault.{Fault}
 use Rattle.rp_base.specs.declared.record.Rec.{Rec}
 use Rattle.rp_base.specs.Promises.{HeardVote}
 use Rattle.rp_base.specs.Records.{learned_at}
-use Rattle.rp_model.specs.declared.part.Running.{Running}
-use Rattle.rp_model.specs.declared.part.Turn.{Turn}
+use Rattle.rp_model.specs.Parts.{Running}
+use Rattle.rp_model.specs.Parts.{Turn}
 use Rattle.rp_model.specs.Parts.{with_record}
 
 -- nothing is learned at the position where the vote was heard

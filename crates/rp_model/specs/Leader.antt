@@ -15,8 +15,8 @@ use Rattle.rp_base.specs.Promises.{Promise, offer_of}
 use Rattle.rp_base.specs.Proposals.{Proposal, new_proposal, proposal_at, without_proposal, with_proposal, is_in, takes_promise, with_promise, is_promised, after_promise}
 use Rattle.rp_codec.specs.declared.packet.Body.TheVariants as bodies
 use Rattle.rp_machine.specs.Replay.{kept_of}
-use Rattle.rp_model.specs.declared.part.Running.{Running}
-use Rattle.rp_model.specs.declared.part.Turn.{Turn}
+use Rattle.rp_model.specs.Parts.{Running}
+use Rattle.rp_model.specs.Parts.{Turn}
 use Rattle.rp_model.specs.Says.{says_to_all, sends, notes, writes}
 use Rattle.rp_model.specs.Pending.{own_action}
 

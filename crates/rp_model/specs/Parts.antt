@@ -1,10 +1,43 @@
--- What a node and a task know at first, and how a node's records grow (this project's own).
+-- The parts of a world: what a node and a task are, what they know at first, and how a node's records grow
+-- (this project's own).
 use Rattle.std.specs.Prelude.{ℕ, Bool, true, nat_le, Option, Some, None, List, [], ◌∷◌, ◌++◌, filter}
 use Rattle.rp_base.specs.declared.record.Rec.{Rec}
 use Rattle.rp_base.specs.declared.record.Rec.TheVariants.{Started, Promised, Voted, Learned}
-use Rattle.rp_model.specs.declared.part.Running.{Running}
-use Rattle.rp_model.specs.declared.part.NodePart.{NodePart}
-use Rattle.rp_model.specs.declared.part.TaskPart.{TaskPart}
+use Rattle.rp_base.specs.Proposals.{Proposal}
+use Rattle.rp_base.specs.declared.action.Action.{Action}
+use Rattle.rp_base.specs.declared.record.Vote.{Vote}
+use Rattle.rp_base.specs.declared.reply.Answer.{Answer}
+use Rattle.rp_codec.specs.Message.{Message}
+use Rattle.rp_model.specs.declared.effect.Dropped.{Dropped}
+
+-- What a node knows while it runs, and loses when it stops: its proposals, one at most for each position;
+-- the set of the votes that it heard at positions that are not learned (who cast it, where, which); the
+-- calls, interrupts and ticks to be proposed, in order of arrival; and the greatest ballot that a refusal
+-- of a running proposal told.
+pub record Running : Type 0 where
+  pub proposals : List Proposal
+  pub heard : List (ℕ × ℕ × Vote)
+  pub pending : List Action
+  pub refused : Option ℕ
+
+-- a node: what it wrote down in order, how many bytes of a record are torn, and what it knows if it runs
+pub record NodePart : Type 0 where
+  pub records : List Rec
+  pub torn : ℕ
+  pub running : Option Running
+
+-- a task: the call that it waits for, and the replies that it got in order; its calls are numbered from 1
+pub record TaskPart : Type 0 where
+  pub outstanding : Option Action
+  pub replies : List Answer
+
+-- what one step of a node does: the record that it writes first, then the packets that it sends in order,
+-- what it knows afterwards, and what it did not take
+pub record Turn : Type 0 where
+  pub written : Option Rec
+  pub sent : List Message
+  pub running : Running
+  pub dropped : Dropped
 
 -- no proposal, no vote heard, nothing pending, and no refusal
 abbrev pub fresh_running : Running

@@ -7,9 +7,9 @@ use Rattle.rp_codec.specs.Message.{Message}
 use Rattle.rp_codec.specs.declared.packet.Party.TheVariants.{Node, Task}
 use Rattle.rp_codec.specs.declared.packet.Body.{Body}
 use Rattle.rp_machine.specs.Replay.{one_to}
-use Rattle.rp_model.specs.declared.part.Running.{Running}
-use Rattle.rp_model.specs.declared.part.Turn.{Turn}
-use Rattle.rp_model.specs.declared.part.Dropped.TheVariants.{No, Full, Foreign}
+use Rattle.rp_model.specs.Parts.{Running}
+use Rattle.rp_model.specs.Parts.{Turn}
+use Rattle.rp_model.specs.declared.effect.Dropped.TheVariants.{No, Full, Foreign}
 
 -- a packet from node to node
 abbrev pub says : ℕ → Body → ℕ → Message

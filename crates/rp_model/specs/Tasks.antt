@@ -15,7 +15,7 @@ use Rattle.rp_codec.specs.Message.{Message}
 use Rattle.rp_codec.specs.declared.packet.Party.TheVariants.{Node, Task}
 use Rattle.rp_codec.specs.declared.packet.Body.{Body}
 use Rattle.rp_codec.specs.declared.packet.Body.TheVariants as bodies
-use Rattle.rp_model.specs.declared.part.TaskPart.{TaskPart}
+use Rattle.rp_model.specs.Parts.{TaskPart}
 use Rattle.rp_model.specs.Effect.{Done, goes_on_as}
 
 -- what a task may be given: a call to make and the node to ask, the word to ask a node again, or a packet

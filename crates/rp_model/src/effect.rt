@@ -1,7 +1,18 @@
 //! What an event came to, as a step tells it.
 
-use crate::part::Dropped;
 use rp_base::Answer;
+
+/// What a node did not take.
+#[derive(Clone, Copy, Debug, PartialEq, Eq)]
+pub enum Dropped {
+    /// Nothing was dropped.
+    No,
+    /// A pending item, since 32 are pending.
+    Full,
+    /// A packet that is for another node, from a node or for a position beyond the configuration,
+    /// or in a ballot that its sender does not own.
+    Foreign,
+}
 
 /// What an event came to.
 #[derive(Clone, Copy, Debug, PartialEq, Eq)]

@@ -4,6 +4,7 @@ ghost use Rattle.std.specs.Prelude.{◌<◌, ◌^◌, FitsSigned};
 ghost use Rattle.std.specs.Int.{w64};
 ghost use Rattle.rp_model.specs.Events.{IsOperation, IsStep, IsEvent, step_of, event_of};
 
+use crate::interrupt::Interrupt;
 use rp_base::{NodeId, Operation, Position, TaskId};
 
 /// One step of a node.
@@ -17,9 +18,24 @@ pub enum Step {
         node: NodeId,
         position: Option<Position>,
     },
+    /// The node notes an interrupt of a source, to be proposed.
+    Interrupt {
+        node: NodeId,
+        interrupt: Interrupt,
+    },
+    /// The node notes a tick, to be proposed.
+    Tick {
+        node: NodeId,
+        now: u32,
+    },
+    /// The node reports to the audit what it has applied, from a position on.
+    Report {
+        node: NodeId,
+        first: Position,
+    },
 }
 
-/// One step of one actor.
+/// One step of one actor, or a stop or a restart of a node.
 #[derive(Clone, Copy, Debug, PartialEq, Eq)]
 pub enum Event {
     /// A task makes its next call, and asks a node.
@@ -30,8 +46,23 @@ pub enum Event {
         operation: Operation,
         arg: i64,
     },
+    /// A task asks a node once more for the call that it waits for.
+    Again {
+        task: TaskId,
+        node: NodeId,
+    },
     /// A node makes a step.
     Node(Step),
+    /// A node stops within a step: so many bytes of the step's record are kept, or all if there are no
+    /// more, and nothing is sent.
+    Cut {
+        step: Step,
+        kept: u64,
+    },
+    /// A node stops.
+    Stop(NodeId),
+    /// A node starts again, by what it wrote.
+    Restart(NodeId),
 }
 
 impl Event {
@@ -51,7 +82,17 @@ impl Event {
                 let _ = (task.get(), node.get(), index_of(operation));
                 call_keeps_ranges(object, arg);
             }
+            Event::Again { task, node } => {
+                let _ = (task.get(), node.get());
+            }
             Event::Node(step) => step.keeps_ranges(),
+            Event::Cut { step, kept } => {
+                let _ = kept;
+                step.keeps_ranges();
+            }
+            Event::Stop(node) | Event::Restart(node) => {
+                let _ = node.get();
+            }
         }
     }
 }
@@ -67,6 +108,15 @@ impl Step {
             }
             Step::Lead { node, position } => {
                 let _ = (node.get(), position.map(Position::get));
+            }
+            Step::Interrupt { node, interrupt } => {
+                let _ = (node.get(), interrupt.source, interrupt.occurrence);
+            }
+            Step::Tick { node, now } => {
+                let _ = (node.get(), now);
+            }
+            Step::Report { node, first } => {
+                let _ = (node.get(), first.get());
             }
         }
     }

@@ -8,7 +8,7 @@ ghost use Rattle.rp_model.specs.Effect.{Setting, NodeInput, running_effect};
 ghost use Rattle.rp_model.specs.Events.{Event};
 ghost use Rattle.rp_model.specs.World.{World, Happening, event_effect};
 ghost use Rattle.rp_model.specs.Forgetting.{KnowsAlike, AreAlikeAnswers};
-ghost use Rattle.rp_model.specs.declared.part.Running.{Running};
+ghost use Rattle.rp_model.specs.Parts.{Running};
 ghost use Rattle.rp_model.specs.Facts.{IsOrder};
 ghost use Rattle.rp_model.specs.Growing.{Grows};
 

@@ -18,9 +18,9 @@ use Rattle.rp_learner.specs.declared.learner.Standing.{Standing}
 use Rattle.rp_learner.specs.declared.learner.Standing.TheVariants.{Counting, Learned, Known}
 use Rattle.rp_machine.specs.Replay.{one_to, replay_answers}
 use Rattle.rp_model.specs.Pending.{replies_to}
-use Rattle.rp_model.specs.declared.part.Dropped.TheVariants.{No}
-use Rattle.rp_model.specs.declared.part.Running.{Running}
-use Rattle.rp_model.specs.declared.part.Turn.{Turn}
+use Rattle.rp_model.specs.declared.effect.Dropped.TheVariants.{No}
+use Rattle.rp_model.specs.Parts.{Running}
+use Rattle.rp_model.specs.Parts.{Turn}
 use Rattle.rp_model.specs.Learner.{learns, on_vote, on_accepted}
 use Rattle.rp_model.specs.Says.{says, says_to_others, notes}
 use Rattle.rp_replica.specs.declared.sent.Sent.{Sent}

@@ -8,7 +8,7 @@ use Rattle.rp_base.specs.declared.reply.Answer.{Answer}
 use Rattle.rp_codec.specs.declared.packet.Body.TheVariants as bodies
 use Rattle.rp_machine.specs.Asked.{last_number, last_occurrence}
 use Rattle.rp_machine.specs.Replay.{replay_of}
-use Rattle.rp_model.specs.declared.part.Running.{Running}
+use Rattle.rp_model.specs.Parts.{Running}
 use Rattle.rp_model.specs.Says.{says_to_task, sends, notes}
 use Rattle.rp_model.specs.Pending.{adds_pending, on_numbered, on_interrupt}
 use Rattle.rp_base.specs.declared.action.Action.{Action}

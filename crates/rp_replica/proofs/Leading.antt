@@ -8,8 +8,8 @@ use Rattle.rp_base.specs.declared.record.Rec.{Rec}
 use Rattle.rp_base.specs.declared.fault.Fault.{Fault}
 use Rattle.rp_base.specs.declared.fault.Fault.TheVariants.{BallotsSpent, LogFull}
 use Rattle.rp_base.specs.Ballot.{next_ballot, round_of}
-use Rattle.rp_model.specs.declared.part.Running.{Running}
-use Rattle.rp_model.specs.declared.part.Turn.{Turn}
+use Rattle.rp_model.specs.Parts.{Running}
+use Rattle.rp_model.specs.Parts.{Turn}
 use Rattle.rp_model.specs.Says.{notes}
 use Rattle.rp_model.specs.Leader.{least_free, is_out_of_reach, starts_above, begins, on_lead}
 use Rattle.rp_replica.proofs.FreePlaces.{least_is_unlearned}

@@ -21,8 +21,8 @@ use Rattle.rp_proposer.proofs.Places.{noted_there}
 use Rattle.rp_proposer.specs.Proposing.{ProposerPart, progress_in, once_noted, notes_promise, notes_refusal}
 use Rattle.rp_proposer.specs.declared.proposal.Progress.{Progress}
 use Rattle.rp_proposer.specs.declared.proposal.Progress.TheVariants.{Waiting, Offer, Stale}
-use Rattle.rp_model.specs.declared.part.Running.{Running}
-use Rattle.rp_model.specs.declared.part.Turn.{Turn}
+use Rattle.rp_model.specs.Parts.{Running}
+use Rattle.rp_model.specs.Parts.{Turn}
 use Rattle.rp_model.specs.Says.{says_to_all, sends, notes}
 use Rattle.rp_model.specs.Leader.{on_promise_to}
 use Rattle.rp_replica.specs.Proposed.{promised_running}

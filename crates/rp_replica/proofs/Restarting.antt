@@ -4,8 +4,8 @@ use Rattle.rp_base.specs.declared.config.Config.{Config}
 use Rattle.rp_base.specs.declared.record.Rec.{Rec}
 use Rattle.rp_store.specs.Disk.{Disk}
 use Rattle.rp_store.proofs.Whole.{same_reading}
-use Rattle.rp_model.specs.declared.part.NodePart.{NodePart}
-use Rattle.rp_model.specs.declared.part.Running.{Running}
+use Rattle.rp_model.specs.Parts.{NodePart}
+use Rattle.rp_model.specs.Parts.{Running}
 use Rattle.rp_model.specs.Effect.{Done, goes_on_as, restart_part, restart_while}
 use Rattle.rp_model.specs.Parts.{fresh_running, records_in_log}
 use Rattle.rp_replica.specs.Held.{Held, part_of}

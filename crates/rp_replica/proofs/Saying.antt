@@ -5,9 +5,9 @@ use Rattle.rp_codec.specs.Text.{text_of}
 use Rattle.rp_codec.specs.declared.packet.Body.{Body}
 use Rattle.rp_machine.specs.Replay.{one_to}
 use Rattle.rp_codec.specs.Message.{Message}
-use Rattle.rp_model.specs.declared.part.Dropped.TheVariants.{No}
+use Rattle.rp_model.specs.declared.effect.Dropped.TheVariants.{No}
 use Rattle.rp_model.specs.Says.{says, says_to_all, sends, notes}
-use Rattle.rp_model.specs.declared.part.Running.{Running}
+use Rattle.rp_model.specs.Parts.{Running}
 use Rattle.rp_replica.specs.declared.sent.Sent.{Sent}
 use Rattle.rp_replica.specs.Packets.{Run, texts_of, run_of, with_packet}
 use Rattle.rp_replica.specs.Held.{Held, held_after}

@@ -4,7 +4,7 @@ use Rattle.rp_base.specs.declared.action.Action.{Action}
 use Rattle.rp_base.specs.declared.reply.Answer.{Answer}
 use Rattle.rp_log.specs.Contents.{Contents}
 use Rattle.rp_machine.specs.Numbered.{Applied, outcome}
-use Rattle.rp_model.specs.declared.part.Turn.{Turn}
+use Rattle.rp_model.specs.Parts.{Turn}
 use Rattle.rp_model.specs.Learner.{learns}
 use Rattle.rp_model.specs.Pending.{replies_to}
 use Rattle.rp_replica.specs.Held.{Held}

@@ -4,7 +4,7 @@ use Rattle.rp_base.specs.declared.fault.Fault.{Fault}
 use Rattle.rp_base.specs.declared.record.Rec.{Rec}
 use Rattle.rp_codec.specs.Record.{IsRecord, record_text}
 use Rattle.rp_store.specs.Disk.{Disk, appended, stopped, AppendFailed}
-use Rattle.rp_model.specs.declared.part.Turn.{Turn}
+use Rattle.rp_model.specs.Parts.{Turn}
 use Rattle.rp_model.specs.Effect.{cut_part}
 use Rattle.rp_model.specs.Parts.{is_in_log}
 use Rattle.rp_replica.specs.declared.cut.NotCut.{NotCut}

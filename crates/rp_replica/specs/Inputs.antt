@@ -9,7 +9,7 @@ use Rattle.rp_base.specs.declared.fault.Fault.TheVariants.{BadPacket}
 use Rattle.rp_base.specs.declared.fault.PacketReason.{PacketReason}
 use Rattle.rp_codec.specs.Message.{Message}
 use Rattle.rp_codec.specs.Reading.{all_of}
-use Rattle.rp_model.specs.declared.part.Turn.{Turn}
+use Rattle.rp_model.specs.Parts.{Turn}
 use Rattle.rp_model.specs.Effect.{NodeInput}
 use Rattle.rp_model.specs.Effect as nodes
 use Rattle.rp_replica.specs.declared.input.Input.{Input}

@@ -4,7 +4,7 @@ use Rattle.rp_base.specs.declared.action.Action.{Action}
 use Rattle.rp_base.specs.Promises.{Promise}
 use Rattle.rp_base.specs.Proposals.{Proposal, new_proposal, with_proposal}
 use Rattle.rp_proposer.specs.Proposing.{once_noted}
-use Rattle.rp_model.specs.declared.part.Running.{Running}
+use Rattle.rp_model.specs.Parts.{Running}
 
 -- the proposal at its position, if one runs there, takes the promise where it counts
 abbrev pub promised_running : ℕ → Running → ℕ → Promise → Option Proposal → Running

@@ -7,7 +7,7 @@ use Rattle.rp_base.specs.declared.fault.Fault.TheVariants.{OutOfMemory, Device, 
 use Rattle.rp_base.specs.declared.record.Rec.{Rec}
 use Rattle.rp_codec.specs.Record.{record_text}
 use Rattle.rp_store.specs.Disk.{AppendFailed}
-use Rattle.rp_model.specs.declared.part.Turn.{Turn}
+use Rattle.rp_model.specs.Parts.{Turn}
 use Rattle.rp_replica.specs.declared.sent.Sent.{Sent}
 use Rattle.rp_replica.specs.Packets.{texts_of}
 use Rattle.rp_model.specs.Effect.{NodeInput, running_effect, cut_part}

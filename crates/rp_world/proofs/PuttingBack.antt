@@ -9,8 +9,8 @@ use Rattle.rp_codec.specs.declared.packet.Party.TheVariants.{Task}
 use Rattle.rp_codec.specs.declared.packet.Body.{Body}
 use Rattle.rp_codec.specs.declared.packet.Body.TheVariants as bodies
 use Rattle.rp_model.specs.declared.effect.Effect.{Effect}
-use Rattle.rp_model.specs.declared.part.TaskPart.{TaskPart}
-use Rattle.rp_model.specs.declared.part.Dropped.TheVariants.{No}
+use Rattle.rp_model.specs.Parts.{TaskPart}
+use Rattle.rp_model.specs.declared.effect.Dropped.TheVariants.{No}
 use Rattle.rp_model.specs.Effect.{Setting, Done, goes_on_as}
 use Rattle.rp_model.specs.Tasks.{takes, takes_reply, task_hears}
 use Rattle.rp_model.specs.World.{World, Happening, part_at, with_part, task_done, task_is_told, arrives, delivers}

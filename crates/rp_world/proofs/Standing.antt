@@ -9,8 +9,8 @@ use Rattle.rp_codec.specs.Record.{record_text}
 use Rattle.rp_store.specs.Disk.{Disk}
 use Rattle.rp_store.specs.Records.{records_text, AreRecordsOf}
 use Rattle.rp_store.proofs.Whole.{record_long, same_reading, only_records}
-use Rattle.rp_model.specs.declared.part.NodePart.{NodePart}
-use Rattle.rp_model.specs.declared.part.Running.{Running as Known}
+use Rattle.rp_model.specs.Parts.{NodePart}
+use Rattle.rp_model.specs.Parts.{Running as Known}
 use Rattle.rp_model.specs.Effect.{goes_on_as, stop_part, stops_while, stop_effect, restart_while, restart_part}
 use Rattle.rp_model.specs.Parts.{fresh_running, fresh_node, records_in_log}
 use Rattle.rp_replica.specs.Held.{Held}

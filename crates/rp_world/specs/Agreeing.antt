@@ -8,8 +8,8 @@ use Rattle.rp_machine.specs.Places.{IsPlace, IsAnswerOf}
 use Rattle.rp_machine.specs.Replay.{replay_of}
 use Rattle.rp_model.specs.Facts.{IsOrder}
 use Rattle.rp_model.specs.World.{World, part_at}
-use Rattle.rp_model.specs.declared.part.NodePart.{NodePart}
-use Rattle.rp_model.specs.declared.part.TaskPart.{TaskPart}
+use Rattle.rp_model.specs.Parts.{NodePart}
+use Rattle.rp_model.specs.Parts.{TaskPart}
 use Rattle.rp_agreement.specs.Order.{Begins, AreAlike}
 
 module _ {S : Type 0} (next : S → Action → S) (answers : S → Action → List Answer) (begin : S) where

@@ -2,7 +2,7 @@
 use Rattle.std.specs.Prelude.{◌≡◌, ℕ, List}
 use Rattle.rp_base.specs.declared.reply.Answer.{Answer}
 use Rattle.rp_tasks.specs.Calls.{Calls}
-use Rattle.rp_model.specs.declared.part.TaskPart.{TaskPart}
+use Rattle.rp_model.specs.Parts.{TaskPart}
 use Rattle.rp_agreement.specs.Answered.{calls_so_far}
 
 -- its number and its part of the world

@@ -8,7 +8,7 @@ use Rattle.rp_replica.specs.Packets.{texts_of}
 use Rattle.rp_base.specs.declared.config.Config.{Config}
 use Rattle.rp_base.specs.declared.fault.Fault.{Fault}
 use Rattle.rp_store.specs.Disk.{Disk}
-use Rattle.rp_model.specs.declared.part.NodePart.{NodePart}
+use Rattle.rp_model.specs.Parts.{NodePart}
 use Rattle.rp_model.specs.Effect.{Setting, Done, NodeInput, node_effect, cut_if}
 use Rattle.rp_replica.specs.Held.{Held, part_of}
 use Rattle.rp_replica.specs.Kept.{HoldsPart}

@@ -1,7 +1,7 @@
 //! What an event came to, as a step tells it.
 
 ghost use Rattle.std.specs.Prelude.{◌≡◌, ◌-◌, ◌^◌, min, length, None, Some};
-ghost use Rattle.rp_model.specs.declared.part.Dropped.TheVariants.{No};
+ghost use Rattle.rp_model.specs.declared.effect.Dropped.TheVariants.{No};
 
 use rp_base::{Answer, Fault};
 use rp_model::{Dropped, Effect, Turn};

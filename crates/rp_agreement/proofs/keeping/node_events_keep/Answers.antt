@@ -22,5 +22,5 @@ returns-clause-restart g c = λ nodes x node after sent later member sound moves
     done_keeps nodes x (restart_part (node x)) node sent after later member sound (restart_sound nodes x node sent sound) moves
 
 pub returns-clause-untorn : goal.returns-clause-untorn
-returns-clause-untorn g c = λ nodes x node after sent later member sound moves.
-    done_keeps nodes x (goes_on_as (untorn_part (node x))) node sent after later member sound (untorn_sound nodes x node sent sound) moves
+returns-clause-untorn g c = λ nodes x kept node after sent later member sound moves.
+    done_keeps nodes x (goes_on_as (untorn_part kept (node x))) node sent after later member sound (untorn_sound nodes x kept node sent sound) moves

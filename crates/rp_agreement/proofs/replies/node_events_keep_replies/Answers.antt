@@ -26,7 +26,7 @@ returns-clause-restart g c = λ s x node after task sent later member kept moves
     (done_keeps s.config.nodes x (restart_part (node x)) node sent after later member kept.sound d moves) d (restart_answers s (node x)) moves
 
 pub returns-clause-untorn : goal.returns-clause-untorn
-returns-clause-untorn g c = λ s x node after task sent later member kept moves.
-    let d = untorn_sound s.config.nodes x node sent kept.sound in
-    node_keeps s x (goes_on_as (untorn_part (node x))) node task sent after later kept
-    (done_keeps s.config.nodes x (goes_on_as (untorn_part (node x))) node sent after later member kept.sound d moves) d (λ m h. absurd h) moves
+returns-clause-untorn g c = λ s x left node after task sent later member kept moves.
+    let d = untorn_sound s.config.nodes x left node sent kept.sound in
+    node_keeps s x (goes_on_as (untorn_part left (node x))) node task sent after later kept
+    (done_keeps s.config.nodes x (goes_on_as (untorn_part left (node x))) node sent after later member kept.sound d moves) d (λ m h. absurd h) moves

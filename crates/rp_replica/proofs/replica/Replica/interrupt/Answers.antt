@@ -1,5 +1,5 @@
 use Rattle.std.proofs.Common.{[], ap, subst, sym, ◌∙◌}
-use Rattle.rp_model.specs.declared.part.Turn.{Turn}
+use Rattle.rp_model.specs.Parts.{Turn}
 use Rattle.rp_model.specs.Pending.{adds_pending}
 use Rattle.rp_machine.specs.Replay.{kept_of}
 use Rattle.rp_base.specs.Records.{applied_of}

@@ -2,7 +2,7 @@ use Rattle.std.proofs.Common.{◌≡◌, true, Some, sym, subst}
 use Rattle.std.specs.Prelude.{IfErr}
 use Rattle.rp_base.specs.declared.config.Config.{Config}
 use Rattle.rp_model.specs.Parts.{is_in_log}
-use Rattle.rp_model.specs.declared.part.Running.{Running}
+use Rattle.rp_model.specs.Parts.{Running}
 use Rattle.rp_replica.specs.Cutting.{MayWrite}
 use Rattle.rp_replica.specs.Held.{Held}
 use Rattle.rp_replica.specs.Turning.{Stops}

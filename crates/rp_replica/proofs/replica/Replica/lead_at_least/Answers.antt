@@ -2,7 +2,7 @@ use Rattle.std.proofs.Common.{refl, sym, subst, inl, ◌∙◌}
 use Rattle.std.specs.Prelude.{IfOk, IfErr, Result}
 use Rattle.rp_base.specs.declared.fault.Fault.{Fault}
 use Rattle.rp_base.specs.declared.fault.Fault.TheVariants.{LogFull}
-use Rattle.rp_model.specs.declared.part.Turn.{Turn}
+use Rattle.rp_model.specs.Parts.{Turn}
 use Rattle.rp_replica.specs.Turning.{TurnsIf, StopsIf}
 use Rattle.rp_replica.proofs.Leading.{lead_at_least, lead_out}
 use Rattle.rp_replica.proofs.replica.Replica.lead_at_least.Goals as goal

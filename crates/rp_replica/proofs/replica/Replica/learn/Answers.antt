@@ -2,7 +2,7 @@ use Rattle.std.proofs.Common.{◌≤◌, Some, ap, subst, sym, ◌∙◌}
 use Rattle.rp_base.specs.declared.record.Rec.TheVariants.{Learned}
 use Rattle.rp_base.specs.declared.record.Rec.{Rec}
 use Rattle.rp_codec.specs.Record.{record_text}
-use Rattle.rp_model.specs.declared.part.Running.{Running}
+use Rattle.rp_model.specs.Parts.{Running}
 use Rattle.rp_replica.proofs.Cuts.{held_with, stops_by, given_on}
 use Rattle.rp_replica.specs.Applying.{learns_alone}
 use Rattle.rp_replica.specs.Cutting.{MayWrite}

@@ -2,7 +2,7 @@ use Rattle.std.proofs.Common.{◌≡◌, [], sym, ap, subst, ◌∙◌}
 use Rattle.rp_codec.specs.declared.packet.Body.TheVariants as bodies
 use Rattle.rp_learner.specs.declared.learner.Standing.TheVariants.{Learned}
 use Rattle.rp_learner.specs.Standings.{vote_for}
-use Rattle.rp_model.specs.declared.part.Turn.{Turn}
+use Rattle.rp_model.specs.Parts.{Turn}
 use Rattle.rp_model.specs.Says.{says_to_others}
 use Rattle.rp_replica.specs.Applying.{learns_alone}
 use Rattle.rp_replica.specs.Packets.{Run, with_packets}

@@ -4,7 +4,7 @@ use Rattle.rp_base.specs.Records.{applied_of}
 use Rattle.rp_codec.specs.declared.packet.Body.TheVariants as bodies
 use Rattle.rp_machine.specs.Asked.{kept_reply}
 use Rattle.rp_machine.specs.Replay.{kept_of, replay_answers}
-use Rattle.rp_model.specs.declared.part.Turn.{Turn}
+use Rattle.rp_model.specs.Parts.{Turn}
 use Rattle.rp_model.specs.Says.{says_to_task}
 use Rattle.rp_model.specs.Pending.{on_numbered, on_call}
 use Rattle.rp_replica.specs.Turning.{Turns}

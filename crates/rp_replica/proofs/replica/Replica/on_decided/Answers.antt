@@ -1,7 +1,7 @@
 use Rattle.std.proofs.Common.{◌≡◌, None, [], ◌∷◌, ◌++◌, sym, ap, subst, ◌∙◌}
 use Rattle.rp_base.specs.declared.record.Rec.TheVariants.{Learned}
 use Rattle.rp_base.specs.Records.{learned_at}
-use Rattle.rp_model.specs.declared.part.Turn.{Turn}
+use Rattle.rp_model.specs.Parts.{Turn}
 use Rattle.rp_model.specs.Learner.{on_decision, asks_for, missing_position}
 use Rattle.rp_replica.specs.Applying.{learns_alone}
 use Rattle.rp_replica.specs.Held.{Held}

@@ -4,7 +4,7 @@ use Rattle.rp_base.specs.Promises.{Promise}
 use Rattle.rp_codec.specs.declared.packet.Body.TheVariants as bodies
 use Rattle.rp_proposer.specs.Proposing.{progress_in}
 use Rattle.rp_proposer.specs.declared.proposal.Progress.TheVariants.{Waiting, Offer, Stale}
-use Rattle.rp_model.specs.declared.part.Turn.{Turn}
+use Rattle.rp_model.specs.Parts.{Turn}
 use Rattle.rp_model.specs.Says.{says_to_all}
 use Rattle.rp_replica.specs.Held.{Held}
 use Rattle.rp_replica.specs.Proposed.{promised_running}

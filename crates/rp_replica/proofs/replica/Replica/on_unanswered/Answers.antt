@@ -1,7 +1,7 @@
 use Rattle.std.proofs.Common.{[], ap, subst, ◌∙◌}
 use Rattle.rp_base.specs.Records.{applied_of}
 use Rattle.rp_machine.specs.Replay.{kept_of}
-use Rattle.rp_model.specs.declared.part.Turn.{Turn}
+use Rattle.rp_model.specs.Parts.{Turn}
 use Rattle.rp_model.specs.Pending.{adds_pending}
 use Rattle.rp_replica.specs.Turning.{Turns}
 use Rattle.rp_replica.proofs.Applied.{call_past, call_new}

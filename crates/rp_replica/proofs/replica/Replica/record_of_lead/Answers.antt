@@ -1,7 +1,7 @@
 use Rattle.std.proofs.Common.{ℕ, Option, sym, ap, ◌∙◌}
 use Rattle.std.specs.Prelude.{Result}
 use Rattle.rp_base.specs.declared.fault.Fault.{Fault}
-use Rattle.rp_model.specs.declared.part.Turn.{Turn}
+use Rattle.rp_model.specs.Parts.{Turn}
 use Rattle.rp_model.specs.Leader.{on_lead}
 use Rattle.rp_replica.specs.Cutting.{written_if}
 use Rattle.rp_replica.proofs.Leading.{lead_out}

@@ -3,7 +3,7 @@ use Rattle.rp_base.specs.Records.{learned_at, first_unlearned}
 use Rattle.rp_proposer.proofs.Windows.{window_has_room}
 use Rattle.rp_base.specs.declared.record.Rec.{Rec}
 use Rattle.rp_base.specs.declared.record.Rec.TheVariants.{Started}
-use Rattle.rp_model.specs.declared.part.Running.{Running}
+use Rattle.rp_model.specs.Parts.{Running}
 use Rattle.rp_replica.specs.Cutting.{MayWrite}
 use Rattle.rp_replica.specs.Held.{Held}
 use Rattle.rp_replica.specs.Turning.{Stops}

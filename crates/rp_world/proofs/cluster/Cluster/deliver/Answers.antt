@@ -4,7 +4,7 @@ use Rattle.rp_base.specs.declared.fault.Fault.{Fault}
 use Rattle.rp_base.specs.declared.record.Rec.{Rec}
 use Rattle.rp_codec.specs.declared.packet.Party.TheVariants.{Node, Task}
 use Rattle.rp_codec.specs.declared.packet.Body.TheVariants.{Reply}
-use Rattle.rp_model.specs.declared.part.NodePart.{NodePart}
+use Rattle.rp_model.specs.Parts.{NodePart}
 use Rattle.rp_model.specs.Effect.{turned}
 use Rattle.rp_model.specs.Receiving.{receives}
 use Rattle.rp_model.specs.World.{Happening, part_at, node_done}

@@ -2,8 +2,8 @@ use Rattle.std.proofs.Common.{◌≡◌, Some, Ok, Err, Option, List, Result, ap
 use Rattle.std.specs.Prelude.{option_copied, IfSome}
 use Rattle.rp_base.specs.declared.fault.Fault.{Fault}
 use Rattle.rp_base.specs.declared.record.Rec.{Rec}
-use Rattle.rp_model.specs.declared.part.NodePart.{NodePart}
-use Rattle.rp_model.specs.declared.part.Turn.{Turn}
+use Rattle.rp_model.specs.Parts.{NodePart}
+use Rattle.rp_model.specs.Parts.{Turn}
 use Rattle.rp_model.specs.Effect.{turned}
 use Rattle.rp_model.specs.Leader.{on_lead}
 use Rattle.rp_model.specs.Says.{IsOutcome}

@@ -1,5 +1,5 @@
 use Rattle.std.proofs.Common.{None, refl, sym, subst}
-use Rattle.rp_model.specs.declared.part.NodePart.{NodePart}
+use Rattle.rp_model.specs.Parts.{NodePart}
 use Rattle.rp_model.specs.Effect.{Done, restart_part}
 use Rattle.rp_world.specs.Nodes.{member_of, RunsAs, StandsFor, TellsOpened}
 use Rattle.rp_world.proofs.Standing.{starts_again, refused, goes_on_running}

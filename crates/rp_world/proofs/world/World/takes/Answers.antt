@@ -1,6 +1,6 @@
 use Rattle.std.proofs.Common.{None, ap, ◌∙◌}
 use Rattle.rp_model.specs.declared.effect.Effect.{Effect}
-use Rattle.rp_model.specs.declared.part.Dropped.TheVariants.{No}
+use Rattle.rp_model.specs.declared.effect.Dropped.TheVariants.{No}
 use Rattle.std.proofs.Common.{ℕ}
 use Rattle.rp_world.proofs.PuttingBack.{ignored}
 use Rattle.rp_world.proofs.world.World.takes.Goals as goal

@@ -1,0 +1,13 @@
+//! An occurrence of an interrupt.
+
+ghost use Rattle.rp_base.specs.Action.{IsIndex, IsCount};
+
+/// An occurrence of an interrupt.
+#[derive(Clone, Copy, Debug, PartialEq, Eq)]
+pub struct Interrupt {
+    /// 1 to 8.
+    pub source: u8,
+    /// From 1.
+    pub occurrence: u32,
+    ghost in_range: { IsIndex source × IsCount occurrence },
+}

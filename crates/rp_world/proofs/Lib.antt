@@ -5,3 +5,5 @@ pub mod Resting
 pub mod Moving
 pub mod Answering
 pub mod Sounding
+pub mod Ending
+pub mod Taking

@@ -1,15 +1,22 @@
 -- What a change of one node or of one task is for the world.
-use Rattle.std.proofs.Common.{◌≡◌, ℕ, zero, suc, ◌+◌, ◌-◌, ◌<◌, ◌≤◌, Option, Some, None, Result, Ok, Err, List, [], ◌∷◌, ◌++◌, length, map, take, drop, slice_get, slice_set, option_map, refl, sym, ap, subst, ◌∙◌, arith}
-use Rattle.std.specs.Prelude.{IfSome, insert, remove}
+use Rattle.std.proofs.Common.{◌≡◌, ℕ, zero, suc, ◌+◌, ◌-◌, ◌<◌, ◌≤◌, Option, Some, None, Result, Ok, Err, List, [], ◌∷◌, ◌++◌, length, map, take, drop, slice_get, slice_set, option_map, inl, inr, refl, sym, ap, subst, ◌∙◌, arith}
+use Rattle.std.specs.Prelude.{IfSome, insert, remove, get_or}
+use Rattle.std.proofs.lemmas.List.{append-nil}
+use Rattle.std.proofs.lemmas.Option.{slice_get-get_or}
 use Rattle.rp_base.specs.declared.config.Config.{Config}
+use Rattle.rp_base.specs.declared.fault.Fault.{Fault}
 use Rattle.rp_codec.specs.Message.{Message}
 use Rattle.rp_store.specs.Disk.{Disk}
 use Rattle.rp_model.specs.Parts.{NodePart, TaskPart}
-use Rattle.rp_model.specs.World.{World, part_at, with_part}
+use Rattle.rp_model.specs.Answers.{Tells}
+use Rattle.rp_model.specs.declared.effect.Effect.{Effect}
+use Rattle.rp_model.specs.Effect.{Done, cut_if, cut_part, goes_on_as}
+use Rattle.rp_model.specs.World.{World, Happening, part_at, with_part, node_done, node_done_if}
 use Rattle.rp_world.specs.declared.node.Node.{Node}
 use Rattle.rp_world.specs.Callers.{Caller}
 use Rattle.rp_world.specs.Messages.{Sending}
-use Rattle.rp_world.specs.Nodes.{Member, member_of, StandsFor}
+use Rattle.rp_world.specs.Going.{Goes, Answers}
+use Rattle.rp_world.specs.Nodes.{Member, member_of, StandsFor, IsComing, NotTaken}
 use Rattle.rp_world.specs.Shape.{part_by, world_of, IsWorld}
 use Rattle.rp_world.proofs.Resting.{part_is}
 
@@ -54,6 +61,10 @@ at_if {A = A} P o x is holds = subst (λ (p : Option A). IfSome p P) is holds
 pub part_same : {A : Type 0} (xs : List A) (i : ℕ) (x : A) → slice_get xs i ≡ Some x → with_part xs (suc i) x ≡ xs
 part_same xs i x here = set_same xs i x here
 
+-- what stands at a place
+pub here_of : {A : Type 0} (xs : List A) (i : ℕ) (x : A) → i < length xs → x ≡ get_or xs i x → slice_get xs i ≡ Some x
+here_of xs i x within is = slice_get-get_or xs i x within ∙ ap (λ y. Some y) (sym is)
+
 -- ---- nodes
 
 module _ {S D P : Type 0} (disk : D → Disk) (config : Config) (begin : S) (nodes : List (Node S D P)) (tasks : List Caller) where
@@ -61,25 +72,35 @@ module _ {S D P : Type 0} (disk : D → Disk) (config : Config) (begin : S) (nod
   most = config.max_positions
 
   -- there is no node of this number
-  pub no_node : (i : ℕ) → slice_get nodes i ≡ None → part_at (map (part_by disk most) nodes) (suc i) ≡ None
-  no_node i none = get_map (part_by disk most) nodes i ∙ ap (option_map (part_by disk most)) none
+  pub no_node : (i me : ℕ) → suc i ≡ me → slice_get nodes i ≡ None → part_at (map (part_by disk most) nodes) me ≡ None
+  no_node i me placed none =
+      subst (λ (k : ℕ). part_at (map (part_by disk most) nodes) k ≡ None) placed (get_map (part_by disk most) nodes i ∙ ap (option_map (part_by disk most)) none)
 
-  module _ (i : ℕ) (n : Node S D P) (here : slice_get nodes i ≡ Some n) where
+  -- the node of a number, which is one more than its place
+  module _ (i me : ℕ) (placed : suc i ≡ me) (n : Node S D P) (here : slice_get nodes i ≡ Some n) where
     abbrev member : Member S
-    member = member_of (suc i) config begin
+    member = member_of me config begin
 
-    -- the part of the node in the world
-    pub part_here : part_at (map (part_by disk most) nodes) (suc i) ≡ Some (part_by disk most n)
-    part_here = get_map (part_by disk most) nodes i ∙ ap (option_map (part_by disk most)) here
+    abbrev part : NodePart
+    part = part_by disk most n
+
+    -- its part in the world
+    pub part_here : part_at (map (part_by disk most) nodes) me ≡ Some part
+    part_here = subst (λ (k : ℕ). part_at (map (part_by disk most) nodes) k ≡ Some part) placed (get_map (part_by disk most) nodes i ∙ ap (option_map (part_by disk most)) here)
 
     -- it stands for that
-    pub stands_here : IsWorld disk config begin nodes tasks → StandsFor disk member n (part_by disk most n)
-    stands_here is = at_if (λ node. StandsFor disk member node (part_by disk most node)) (slice_get nodes i) n here (is.members i)
+    pub stands_here : IsWorld disk config begin nodes tasks → StandsFor disk member n part
+    stands_here is =
+        subst (λ (k : ℕ). StandsFor disk (member_of k config begin) n part) placed
+        (at_if (λ node. StandsFor disk (member_of (suc i) config begin) node (part_by disk most node)) (slice_get nodes i) n here (is.members i))
 
-    module _ (new : Node S D P) (part : NodePart) (stands : StandsFor disk member new part) where
+    module _ (new : Node S D P) (after : NodePart) (stands : StandsFor disk member new after) where
       -- its new part stands in its place
-      pub nodes_moved : map (part_by disk most) (slice_set nodes i new) ≡ with_part (map (part_by disk most) nodes) (suc i) part
-      nodes_moved = set_map (part_by disk most) nodes i new ∙ ap (slice_set (map (part_by disk most) nodes) i) (sym (part_is disk member new part stands))
+      pub nodes_moved : map (part_by disk most) (slice_set nodes i new) ≡ with_part (map (part_by disk most) nodes) me after
+      nodes_moved =
+          set_map (part_by disk most) nodes i new
+          ∙ subst (λ (k : ℕ). slice_set (map (part_by disk most) nodes) i (part_by disk most new) ≡ with_part (map (part_by disk most) nodes) k after) placed
+              (ap (slice_set (map (part_by disk most) nodes) i) (sym (part_is disk member new after stands)))
 
       -- and all nodes are still of this cluster
       pub still_nodes : IsWorld disk config begin nodes tasks → IsWorld disk config begin (slice_set nodes i new) tasks
@@ -87,26 +108,104 @@ module _ {S D P : Type 0} (disk : D → Disk) (config : Config) (begin : S) (nod
         right = is.right;
         size = length_set nodes i new ∙ is.size;
         members = set_keeps (λ k node. StandsFor disk (member_of (suc k) config begin) node (part_by disk most node)) nodes i new is.members
-            (subst (StandsFor disk member new) (part_is disk member new part stands) stands);
+            (subst (λ (k : ℕ). StandsFor disk (member_of k config begin) new (part_by disk most new)) (sym placed)
+            (subst (StandsFor disk member new) (part_is disk member new after stands) stands));
         eight = is.eight;
         numbered = is.numbered;
       }
 
     -- a node that stands for its part leaves the world as it was
-    pub nodes_stay : (new : Node S D P) → StandsFor disk member new (part_by disk most n) → map (part_by disk most) (slice_set nodes i new) ≡ map (part_by disk most) nodes
-    nodes_stay new stands = nodes_moved new (part_by disk most n) stands ∙ part_same (map (part_by disk most) nodes) i (part_by disk most n) part_here
+    pub nodes_stay : (new : Node S D P) → StandsFor disk member new part → map (part_by disk most) (slice_set nodes i new) ≡ map (part_by disk most) nodes
+    nodes_stay new stands =
+        nodes_moved new part stands
+        ∙ subst (λ (k : ℕ). with_part (map (part_by disk most) nodes) k part ≡ map (part_by disk most) nodes) placed
+            (part_same (map (part_by disk most) nodes) i part (get_map (part_by disk most) nodes i ∙ ap (option_map (part_by disk most)) here))
+
+    -- ---- what a step of it comes to
+
+    module _ (messages : Sending) where
+      abbrev w : World
+      w = world_of disk most nodes tasks messages
+
+      module _ (new : Node S D P) (later : Sending) where
+        abbrev next : World
+        next = world_of disk most (slice_set nodes i new) tasks later
+
+        pub moved : (after : NodePart) (sends : List Message) → StandsFor disk member new after → later.sent ≡ messages.sent ++ sends
+            → next ≡ (let x : World = record { nodes = with_part w.nodes me after; tasks = w.tasks; sent = w.sent ++ sends } in x)
+        moved after sends stands sent =
+            ap (λ (ps : List NodePart). let x : World = record { nodes = ps; tasks = w.tasks; sent = later.sent } in x) (nodes_moved new after stands)
+            ∙ ap (λ (ms : List Message). let x : World = record { nodes = with_part w.nodes me after; tasks = w.tasks; sent = ms } in x) sent
+
+        pub stayed : StandsFor disk member new part → later.sent ≡ messages.sent → next ≡ w
+        stayed stands sent =
+            ap (λ (ps : List NodePart). let x : World = record { nodes = ps; tasks = w.tasks; sent = later.sent } in x) (nodes_stay new stands)
+            ∙ ap (λ (ms : List Message). let x : World = record { nodes = w.nodes; tasks = w.tasks; sent = ms } in x) sent
+
+        -- it took effect
+        pub goes : (whole : Result Happening Fault) (done : Done NodePart) (told : Effect) → whole ≡ Ok (node_done w me done) → StandsFor disk member new done.part
+            → later.sent ≡ messages.sent ++ done.sends → Tells (length w.sent) (node_done w me done) told → Goes w whole next told
+        goes whole done told came stands sent tells = record { happening = node_done w me done; came = came; world = moved done.part done.sends stands sent; tells = tells }
+
+        -- or was not taken
+        module _ (effect : NodePart → Result (Done NodePart) Fault) (whole : Result Happening Fault) (cut : ℕ → Result Happening Fault)
+            (comes : Result (Done NodePart) Fault → Result Happening Fault)
+            (whole_is : whole ≡ comes (effect part)) (cut_is : (kept : ℕ) → cut kept ≡ node_done_if w me (cut_if kept part (effect part)))
+            (refuses : (fault : Fault) → comes (Err fault) ≡ Err fault) (happens : (done : Done NodePart) → (h : Happening) × (comes (Ok done) ≡ Ok h))
+            (sent : later.sent ≡ messages.sent) where
+          wanted : (result : Result (Done NodePart) Fault) → effect part ≡ result → IsComing result → (h : Happening) × (whole ≡ Ok h)
+          wanted (Ok done) is coming = let h = happens done in (h.0, whole_is ∙ ap comes is ∙ h.1)
+          wanted (Err fault) is coming = absurd coming
+
+          pub answered : (fault : Fault) → NotTaken disk member n new effect fault → StandsFor disk member n part → Answers w whole cut next (let r : Result Effect Fault = Err fault in r)
+          answered fault not_taken stands =
+              elim (not_taken part stands) [
+                | inl refused ↦ inl (record { came = whole_is ∙ ap comes refused.0 ∙ refuses fault; unchanged = stayed refused.1 sent })
+                | inr other ↦
+                    elim other [
+                      | inl memory ↦
+                          let h = wanted (effect part) refl memory.1 in
+                          inr (inl (record { memory = memory.0; wanted = h.0; came = h.1; unchanged = stayed memory.2 sent }))
+                      | inr device ↦
+                          let kept = device.1 in
+                          let done = device.2 in
+                          let after = cut_part kept part done.written in
+                          inr (inr (record {
+                            device = device.0;
+                            kept = kept;
+                            happening = node_done w me (goes_on_as after);
+                            came = cut_is kept ∙ ap (λ (r : Result (Done NodePart) Fault). node_done_if w me (cut_if kept part r)) device.3;
+                            world = moved after [] device.4 (sent ∙ sym (append-nil messages.sent));
+                          }))
+                    ]
+              ]
+
+    -- after a step that was not taken the node stands for some part
+    pub stands_after : (effect : NodePart → Result (Done NodePart) Fault) (new : Node S D P) (fault : Fault) → NotTaken disk member n new effect fault → StandsFor disk member n part
+        → (after : NodePart) × StandsFor disk member new after
+    stands_after effect new fault not_taken stands =
+        elim (not_taken part stands) [
+          | inl refused ↦ (part, refused.1)
+          | inr other ↦
+              elim other [
+                | inl memory ↦ (part, memory.2)
+                | inr device ↦ (cut_part device.1 part device.2.written, device.4)
+              ]
+        ]
 
   -- ---- tasks
 
-  module _ (i : ℕ) (t : Caller) (here : slice_get tasks i ≡ Some t) where
-    pub task_here : part_at (map (λ (c : Caller). c.part) tasks) (suc i) ≡ Some t.part
-    task_here = get_map (λ (c : Caller). c.part) tasks i ∙ ap (option_map (λ (c : Caller). c.part)) here
+  module _ (i me : ℕ) (placed : suc i ≡ me) (t : Caller) (here : slice_get tasks i ≡ Some t) where
+    pub task_here : part_at (map (λ (c : Caller). c.part) tasks) me ≡ Some t.part
+    task_here = subst (λ (k : ℕ). part_at (map (λ (c : Caller). c.part) tasks) k ≡ Some t.part) placed (get_map (λ (c : Caller). c.part) tasks i ∙ ap (option_map (λ (c : Caller). c.part)) here)
 
-    pub number_here : IsWorld disk config begin nodes tasks → t.task ≡ suc i
-    number_here is = at_if (λ (c : Caller). c.task ≡ suc i) (slice_get tasks i) t here (is.numbered i)
+    pub number_here : IsWorld disk config begin nodes tasks → t.task ≡ me
+    number_here is = at_if (λ (c : Caller). c.task ≡ suc i) (slice_get tasks i) t here (is.numbered i) ∙ placed
 
-    pub tasks_moved : (new : Caller) → map (λ (c : Caller). c.part) (slice_set tasks i new) ≡ with_part (map (λ (c : Caller). c.part) tasks) (suc i) new.part
-    tasks_moved new = set_map (λ (c : Caller). c.part) tasks i new
+    pub tasks_moved : (new : Caller) → map (λ (c : Caller). c.part) (slice_set tasks i new) ≡ with_part (map (λ (c : Caller). c.part) tasks) me new.part
+    tasks_moved new =
+        set_map (λ (c : Caller). c.part) tasks i new
+        ∙ subst (λ (k : ℕ). slice_set (map (λ (c : Caller). c.part) tasks) i new.part ≡ with_part (map (λ (c : Caller). c.part) tasks) k new.part) placed refl
 
     pub still_tasks : (new : Caller) → new.task ≡ t.task → IsWorld disk config begin nodes tasks → IsWorld disk config begin nodes (slice_set tasks i new)
     still_tasks new same is = record {
@@ -114,5 +213,5 @@ module _ {S D P : Type 0} (disk : D → Disk) (config : Config) (begin : S) (nod
       size = is.size;
       members = is.members;
       eight = length_set tasks i new ∙ is.eight;
-      numbered = set_keeps (λ k (c : Caller). c.task ≡ suc k) tasks i new is.numbered (same ∙ number_here is);
+      numbered = set_keeps (λ k (c : Caller). c.task ≡ suc k) tasks i new is.numbered (same ∙ number_here is ∙ sym placed);
     }

@@ -4,6 +4,7 @@ use Rattle.std.specs.Prelude.{nat_lt, get_or}
 use Rattle.std.specs.Int.{Width, byte_len, byte_at, bytes_high_first, cast_unsigned, w16, w32, w64}
 use Rattle.std.specs.List.{AllByRecursion}
 use Rattle.std.proofs.Math.Nat.{mod-lt}
+use Rattle.std.proofs.lemmas.Bool.{lt-ltb, ltb-true}
 use Rattle.rp_base.specs.Action.{IsRight, IsRightOperation}
 use Rattle.rp_base.specs.declared.action.Action.{Action}
 use Rattle.rp_base.specs.declared.action.Action.TheVariants as actions
@@ -39,7 +40,7 @@ none_pass rest = refl
 
 byte_passes : (b : ℕ) (xs : List ℕ) → b < 256 → Passes xs → Passes (b ∷ xs)
 byte_passes b xs small pass rest =
-    let test : nat_lt b 256 ≡ true = omega (arith, small) in
+    let test : nat_lt b 256 ≡ true = lt-ltb b 256 small in
     rw test (ap (λ (l : List ℕ). b ∷ l) (pass rest))
 
 both_pass : (xs ys : List ℕ) → Passes xs → Passes ys → Passes (xs ++ ys)
@@ -101,17 +102,20 @@ records_pass (r ∷ rs) all = both_pass (record_text r) (records_text rs) (recor
 
 -- ---- the front of bytes
 
+head_bytes : (b : ℕ) (front : List ℕ) → b < 256 → IsBytes front → IsBytes (b ∷ front)
+head_bytes b front small are zero = small
+head_bytes b front small are (suc i) = are i
+
 front_bytes : (xs : List ℕ) → IsBytes (byte_front xs)
-front_bytes [] i = omega arith
-front_bytes (b ∷ rest) i =
-    elim (nat_lt b 256) as (λ t. nat_lt b 256 ≡ t → get_or (if t then b ∷ byte_front rest else []) i 0 < 256) [
-      | true ↦ λ test. at b rest i (omega (arith, test))
-      | false ↦ λ test. omega arith
-    ] refl
-  where
-    at : (b : ℕ) (rest : List ℕ) (i : ℕ) → b < 256 → get_or (b ∷ byte_front rest) i 0 < 256
-    at b rest zero small = small
-    at b rest (suc i) small = front_bytes rest i
+front_bytes [] = λ i. omega arith
+front_bytes (b ∷ rest) =
+    let deeper = front_bytes rest in
+    let by : (t : Bool) → nat_lt b 256 ≡ t → IsBytes (if t then b ∷ byte_front rest else []) =
+    λ t test. elim t as (λ u. nat_lt b 256 ≡ u → IsBytes (if u then b ∷ byte_front rest else [])) [
+        | true ↦ λ yes. head_bytes b (byte_front rest) (ltb-true b 256 yes) deeper
+        | false ↦ λ no. λ i. omega arith
+      ] test in
+    by (nat_lt b 256) refl
 
 -- what stands behind it
 front_of : (xs : List ℕ) → (more : List ℕ) × (xs ≡ byte_front xs ++ more)

@@ -146,6 +146,7 @@ impl<M: Machine, D: CutDevice> Cluster<M, D> {
     /// How many messages were sent.
     pub fn messages(&self) -> u64
         ensures value { result ≡ length self.now.world.sent }
+        ensures few { result < 2 ^ 64 - 1 }
     {
         self.world.messages()
     }

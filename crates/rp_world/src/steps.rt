@@ -132,6 +132,7 @@ impl<M: Machine, D: CutDevice> World<M, D> {
         input: &Input<'_>,
     ) -> Result<Effect, Fault>
         requires right { IsRightInput input.now }
+        requires given { (given : NodeInput) × (given_by input.now ≡ Ok given) }
         requires sends { (given : NodeInput) (part : NodePart) (done : Done NodePart)
             → given_by input.now ≡ Ok given → part_at self.old.world.nodes node ≡ Some part
             → node_effect (setting_of M.next M.answers M.begin self.old) node part given ≡ Ok done
@@ -152,10 +153,14 @@ impl<M: Machine, D: CutDevice> World<M, D> {
         if self.messages.settle().is_err() {
             return Err(node.refusal(alloc, input));
         }
-        let sent = node.turn(alloc, input)?;
-        let effect = of_step(first, &sent);
-        self.messages.put(sent.bytes, sent.packets);
-        Ok(effect)
+        match node.turn(alloc, input) {
+            Ok(sent) => {
+                let effect = of_step(first, &sent);
+                self.messages.put(sent.bytes, sent.packets);
+                Ok(effect)
+            }
+            Err(fault) => Err(fault),
+        }
     }
 
     /// A node stops within the step of an input that comes from no message, where so many bytes of
@@ -168,6 +173,7 @@ impl<M: Machine, D: CutDevice> World<M, D> {
         kept: u64,
     ) -> Result<Effect, Fault>
         requires right { IsRightInput input.now }
+        requires given { (given : NodeInput) × (given_by input.now ≡ Ok given) }
         ensures answer { (given : NodeInput) → given_by input.now ≡ Ok given
             → let setting = setting_of M.next M.answers M.begin self.old in
             Answers self.old.world
@@ -184,8 +190,10 @@ impl<M: Machine, D: CutDevice> World<M, D> {
         }
         let (node, answer) = self.nodes.remove(place).cut(alloc, input, kept);
         put_back(&mut self.nodes, place, node);
-        answer?;
-        Ok(nothing(first))
+        match answer {
+            Ok(()) => Ok(nothing(first)),
+            Err(fault) => Err(fault),
+        }
     }
 
     /// A message is taken by whom it is for; by none where that is no node that runs and no task.
@@ -218,10 +226,14 @@ impl<M: Machine, D: CutDevice> World<M, D> {
                 if !node.is_running() {
                     return Ok(nothing(first));
                 }
-                let sent = node.turn(alloc, &Input::Receive(text))?;
-                let effect = of_step(first, &sent);
-                self.messages.put(sent.bytes, sent.packets);
-                Ok(effect)
+                match node.turn(alloc, &Input::Receive(text)) {
+                    Ok(sent) => {
+                        let effect = of_step(first, &sent);
+                        self.messages.put(sent.bytes, sent.packets);
+                        Ok(effect)
+                    }
+                    Err(fault) => Err(fault),
+                }
             }
             Party::Task(task) => {
                 let Ok(packet) = decode(alloc, text)? else {
@@ -269,7 +281,9 @@ impl<M: Machine, D: CutDevice> World<M, D> {
         let input = Input::Receive(text);
         let (node, answer) = self.nodes.remove(place).cut(alloc, &input, kept);
         put_back(&mut self.nodes, place, node);
-        answer?;
-        Ok(nothing(first))
+        match answer {
+            Ok(()) => Ok(nothing(first)),
+            Err(fault) => Err(fault),
+        }
     }
 }

@@ -28,8 +28,10 @@ impl<M: Machine, D: CutDevice> World<M, D> {
         }
         let (node, answer) = self.nodes.remove(place).stop();
         put_back(&mut self.nodes, place, node);
-        answer?;
-        Ok(nothing(first))
+        match answer {
+            Ok(()) => Ok(nothing(first)),
+            Err(fault) => Err(fault),
+        }
     }
 
     /// A node starts again; one that runs goes on. `BadConfig` above the last node; `OutOfMemory` or
@@ -48,6 +50,9 @@ impl<M: Machine, D: CutDevice> World<M, D> {
         let stopped = self.nodes.remove(place);
         let (node, found) = stopped.restart(alloc, node, self.config, &self.program);
         put_back(&mut self.nodes, place, node);
-        Ok(opened(first, found?))
+        match found {
+            Ok(found) => Ok(opened(first, found)),
+            Err(fault) => Err(fault),
+        }
     }
 }

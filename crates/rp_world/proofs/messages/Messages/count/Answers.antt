@@ -14,11 +14,21 @@ overflow_add-result c =
     let e = c.self.inside.last.ok in
     omega (arith, few, a, b, d.0, d.1, e.0, e.1, texts.2, ap length texts.1, c.len.ensures)
 
-pub returns : goal.returns
-returns c =
+pub returns-clause-value : goal.returns-clause-value
+returns-clause-value c =
     let front = again c.self.inside.bytes.items (length c.self.inside.ends.items) c.self.invariant.front in
     let rear = again c.self.inside.last.items c.self.inside.apart c.self.invariant.rear in
     let ms = packets_in (length c.self.inside.ends.items) c.self.inside.bytes.items in
     let ns = packets_in c.self.inside.apart c.self.inside.last.items in
     let all : length (ms ++ ns) ≡ length c.args.self.now.sent = ap (λ (s : Sending). length s.sent) c.self.view_is in
     omega (arith, all, length-append ms ns, front.2, rear.2, c.len.ensures, c.self.inside.ends.ok.0)
+
+pub returns-clause-few : goal.returns-clause-few
+returns-clause-few c =
+    let texts = again c.self.inside.last.items c.self.inside.apart c.self.invariant.rear in
+    let few = few_texts (packets_in c.self.inside.apart c.self.inside.last.items) in
+    let a = c.self.inside.last.small in
+    let b = c.self.inside.ends.small in
+    let d = c.self.inside.ends.ok in
+    let e = c.self.inside.last.ok in
+    omega (arith, few, a, b, d.0, d.1, e.0, e.1, texts.2, ap length texts.1, c.len.ensures)

@@ -1,29 +1,69 @@
-use Rattle.std.proofs.Common.{rules, ◌≡◌, ℕ, ◌+◌, ◌-◌, ◌*◌, ◌<◌, ◌≤◌, length, ◌/◌, ◌%◌, Bool, true, false, nat_eq, nat_lt, List, [], ◌∷◌, ◌++◌, slice_index_or, slice_set, bit_and, bit_or, Fits, w8, w32, w64, Bor, MutBor}
-use Rattle.rp_model.specs.World.{part_at, stops, restarts}
-use Rattle.rp_world.specs.Going.{Answers, AnswersRestart, no_cut}
-use Rattle.rp_world.specs.Steps.{IsSameSetup}
+use Rattle.std.proofs.Common.{◌≡◌, ℕ, suc, ◌+◌, ◌-◌, ◌<◌, Result, Ok, Err, None, length, slice_get, slice_set, Some, inl, refl, sym, ap, subst, ◌∙◌, arith}
+use Rattle.std.specs.Prelude.{IfOk, IfErr, insert}
+use Rattle.rp_model.specs.declared.effect.Dropped.TheVariants.{No}
+use Rattle.rp_base.specs.declared.fault.Fault.{Fault}
+use Rattle.rp_model.specs.Effect.{stop_effect}
+use Rattle.rp_model.specs.World.{stops, part_at}
+use Rattle.rp_model.specs.declared.effect.Effect.{Effect}
+use Rattle.rp_world.specs.Going.{Answers, no_cut}
+use Rattle.rp_world.specs.Nodes.{Member, GoesBy, RefusedBy, TellsNothing, member_of}
+use Rattle.rp_world.specs.Shape.{world_of}
+use Rattle.rp_world.proofs.Moving.{here_of, put_back}
+use Rattle.rp_world.proofs.Ending.{none_here, still, stopped, not_stopped, left_by_stop}
+use Rattle.rp_world.proofs.world.World.stop.Goals.{in-Ok, in-Err}
 use Rattle.rp_world.proofs.world.World.stop.Goals as goal
 
--- src/stops.rt:24:21
-pub overflow_add-first : goal.overflow_add-first
-overflow_add-first g c = ?
-
--- src/stops.rt:27:13
 pub returns-then-place-len-clause-answer : goal.returns-then-place-len-clause-answer
-returns-then-place-len-clause-answer g c = ?
+returns-then-place-len-clause-answer g c =
+    let inside = c.self.inside in
+    let placed : suc (c.from-place.result - 1) ≡ c.args.node = omega (arith, c.get.ensures.value, c.get.ensures.in_range.0, c.from-place.ensures) in
+    let none = none_here g.D.Device.disk inside.config (g.M.Machine.begin inside.program) inside.nodes.items inside.tasks.items inside.messages (c.from-place.result - 1) c.args.node placed
+    (omega (arith, c.if-place-len.true, c.len.ensures, inside.nodes.ok.0)) in
+    let here : part_at c.args.self.now.world.nodes c.args.node ≡ None = ap (λ v. part_at v.world.nodes c.args.node) (sym c.self.view_is) ∙ none in
+    inl (record { came = ap (stops c.args.self.now.world c.args.node) here; unchanged = refl })
 
--- src/stops.rt:31:9
 pub invariant_of-self : goal.invariant_of-self
-invariant_of-self g c = ?
+invariant_of-self g c =
+    let inside = c.self.inside in
+    let disk = g.D.Device.disk in
+    let begin = g.M.Machine.begin inside.program in
+    let i = c.from-place.result - 1 in
+    let nodes = inside.nodes.items in
+    let placed : suc i ≡ c.args.node = omega (arith, c.get.ensures.value, c.get.ensures.in_range.0, c.from-place.ensures) in
+    let within : i < length nodes = omega (arith, c.if-place-len.false, c.len.ensures, inside.nodes.ok.0) in
+    let n = c.remove.result in
+    let new = c.stop-node.result.0 in
+    let here = here_of nodes i n within c.remove.ensures.value in
+    let put : c.put_back.new.nodes.items ≡ slice_set nodes i new = c.put_back.ensures ∙ ap (λ l. insert l i new) c.remove.ensures.items ∙ put_back nodes i new within in
+    still disk inside.config begin nodes inside.tasks.items inside.messages c.self.invariant i c.args.node placed n here new c.put_back.new.nodes.items put
+    (left_by_stop disk inside.config begin nodes inside.tasks.items inside.messages c.self.invariant i c.args.node placed n here new c.put_back.new.nodes.items put
+    c.stop-node.result.1 c.stop-node.ensures.ok c.stop-node.ensures.err)
 
--- src/stops.rt:31:9
-pub returns-in_err-answer-clause-answer : goal.returns-in_err-answer-clause-answer
-returns-in_err-answer-clause-answer g c = ?
-
--- src/stops.rt:18:5
-pub invariant_of-self-2 : goal.invariant_of-self-2
-invariant_of-self-2 g c = ?
-
--- src/stops.rt:18:5
 pub returns-clause-answer : goal.returns-clause-answer
-returns-clause-answer g c = ?
+returns-clause-answer g c =
+    let inside = c.self.inside in
+    let disk = g.D.Device.disk in
+    let begin = g.M.Machine.begin inside.program in
+    let i = c.from-place.result - 1 in
+    let nodes = inside.nodes.items in
+    let placed : suc i ≡ c.args.node = omega (arith, c.get.ensures.value, c.get.ensures.in_range.0, c.from-place.ensures) in
+    let within : i < length nodes = omega (arith, c.if-place-len.false, c.len.ensures, inside.nodes.ok.0) in
+    let n = c.remove.result in
+    let new = c.stop-node.result.0 in
+    let here = here_of nodes i n within c.remove.ensures.value in
+    let put : c.put_back.new.nodes.items ≡ slice_set nodes i new = c.put_back.ensures ∙ ap (λ l. insert l i new) c.remove.ensures.items ∙ put_back nodes i new within in
+    let member = member_of c.args.node inside.config begin in
+    let after = world_of disk inside.config.max_positions c.put_back.new.nodes.items inside.tasks.items inside.messages in
+    let first : c.messages-first.result + 1 ≡ length inside.messages.sent + 1 = ap (λ k. k + 1) (c.messages-first.ensures.value ∙ ap (λ v. length v.world.sent) (sym c.self.view_is)) in
+    subst (λ v. Answers v.world (stops v.world c.args.node (part_at v.world.nodes c.args.node)) no_cut after c.match-answer.result) c.self.view_is
+    (elim c.match-answer.branch [
+      | in-Ok b ↦
+          let told = b.nothing.ensures ∙ ap (λ (k : ℕ). let e : Effect = record { first = k; sent = 0; dropped = No; taken = None; opened = None } in e) first in
+          let ok = subst (λ r. IfOk r (λ done. (m : Member g.row.M.Denot) → GoesBy disk m n new stop_effect TellsNothing done)) b.in-Ok.is c.stop-node.ensures.ok in
+          subst (Answers _ _ no_cut after) (sym b.result-is)
+          (stopped disk inside.config begin nodes inside.tasks.items inside.messages c.self.invariant i c.args.node placed n here new c.put_back.new.nodes.items put (ok member) b.nothing.result told)
+      | in-Err b ↦
+          let err = subst (λ r. IfErr r (λ fault. (m : Member g.row.M.Denot) → RefusedBy disk m n new stop_effect fault)) b.in-Err.is c.stop-node.ensures.err in
+          subst (Answers _ _ no_cut after) (sym b.result-is)
+          (not_stopped disk inside.config begin nodes inside.tasks.items inside.messages c.self.invariant i c.args.node placed n here new c.put_back.new.nodes.items put b.in-Err.fault (err member))
+    ])

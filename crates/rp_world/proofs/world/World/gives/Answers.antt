@@ -1,0 +1,169 @@
+use Rattle.std.proofs.Common.{◌≡◌, ℕ, suc, ◌+◌, ◌-◌, ◌<◌, ◌≤◌, Result, Ok, Err, Some, None, length, slice_get, slice_set, inl, inr, refl, sym, ap, subst, ◌∙◌, arith}
+use Rattle.std.specs.List.{AllByRecursion}
+use Rattle.rp_base.specs.declared.fault.Fault.{Fault}
+use Rattle.rp_codec.specs.Message.{IsPacket}
+use Rattle.rp_model.specs.declared.effect.Effect.{Effect}
+use Rattle.rp_model.specs.Effect.{NodeInput, Done, node_effect}
+use Rattle.rp_model.specs.Parts.{NodePart}
+use Rattle.rp_model.specs.World.{part_at, node_takes, node_is_cut}
+use Rattle.rp_replica.specs.Inputs.{given_by}
+use Rattle.rp_world.specs.Going.{Goes, Answers}
+use Rattle.rp_world.specs.Nodes.{member_of}
+use Rattle.rp_world.specs.Shape.{world_of}
+use Rattle.rp_world.specs.Steps.{setting_of}
+use Rattle.rp_world.proofs.Moving.{here_of, part_here}
+use Rattle.rp_world.proofs.Ending.{none_here}
+use Rattle.rp_world.proofs.Taking.{on_ok, told_sent, still, texts, turned_left, turned, not_turned, not_turned_left}
+use Rattle.rp_world.proofs.world.World.gives.Goals as goal
+
+pub returns-in_default-clause-answer : goal.returns-in_default-clause-answer
+returns-in_default-clause-answer g c = λ given gives.
+    let m = g.M.Machine in
+    let inside = c.self.inside in
+    let disk = g.D.Device.disk in
+    let begin = m.begin inside.program in
+    let i = c.from.result - 1 in
+    let me = c.args.node in
+    let nodes = inside.nodes.items in
+    let placed : suc i ≡ me = omega (arith, c.get.ensures.value, c.get.ensures.in_range.0, c.from.ensures) in
+    let off : i < length nodes → ⊥ = λ h. let yes = c.in_default.ensures.variant.1 (omega (arith, h, inside.nodes.ok.0)) in absurd cc in
+    let none = none_here disk inside.config begin nodes inside.tasks.items inside.messages i me placed (omega (arith, off)) in
+    let here : part_at c.args.self.now.world.nodes me ≡ None = ap (λ v. part_at v.world.nodes me) (sym c.self.view_is) ∙ none in
+    inl (record { came = ap (node_takes (setting_of m.next m.answers m.begin c.args.self.now) c.args.self.now.world me given) here; unchanged = ap (λ v. v.world) c.self.view_is })
+
+pub returns-then-is_err-clause-answer : goal.returns-then-is_err-clause-answer
+returns-then-is_err-clause-answer g c = λ given gives.
+    let m = g.M.Machine in
+    let inside = c.self.inside in
+    let disk = g.D.Device.disk in
+    let begin = m.begin inside.program in
+    let i = c.from.result - 1 in
+    let me = c.args.node in
+    let nodes = inside.nodes.items in
+    let placed : suc i ≡ me = omega (arith, c.get.ensures.value, c.get.ensures.in_range.0, c.from.ensures) in
+    let n = c.in-Some.node.now in
+    let within : i < length nodes = omega (arith, c.in-Some.ensures.variant.0 refl, inside.nodes.ok.0) in
+    let here = here_of nodes i n within c.in-Some.ensures.value in
+    let member = member_of me inside.config begin in
+    let whole_is = ap (node_takes (setting_of m.next m.answers m.begin (record { config = inside.config; program = inside.program; world = world_of disk inside.config.max_positions nodes inside.tasks.items inside.messages })) (world_of disk inside.config.max_positions nodes inside.tasks.items inside.messages) me given)
+    (part_here disk inside.config begin nodes inside.tasks.items i me placed n here) in
+    let cut_is : (k : ℕ) → _ = λ k. ap (node_is_cut (setting_of m.next m.answers m.begin (record { config = inside.config; program = inside.program; world = world_of disk inside.config.max_positions nodes inside.tasks.items inside.messages })) (world_of disk inside.config.max_positions nodes inside.tasks.items inside.messages) me given k)
+    (part_here disk inside.config begin nodes inside.tasks.items i me placed n here) in
+    let new = c.in-Some.node.now in
+    let by = c.refusal.ensures member given gives in
+    subst (λ v. Answers v.world (node_takes (setting_of m.next m.answers m.begin v) v.world me given (part_at v.world.nodes me)) (λ kept. node_is_cut (setting_of m.next m.answers m.begin v) v.world me given kept (part_at v.world.nodes me))
+    (world_of disk inside.config.max_positions (slice_set nodes i new) inside.tasks.items c.settle.new.self) (let r : Result Effect Fault = Err c.refusal.result in r)) c.self.view_is
+    (not_turned disk inside.config begin nodes inside.tasks.items inside.messages c.self.invariant i me placed n here new m.next m.answers given c.settle.new.self c.settle.ensures.sent c.refusal.result by _ _ whole_is cut_is)
+
+pub put-requires-clause-settled : goal.put-requires-clause-settled
+put-requires-clause-settled g c = on_ok _ c.settle.result c.settle.ensures.settled c.if-is_err.ensures.value
+
+pub put-requires-clause-texts : goal.put-requires-clause-texts
+put-requires-clause-texts g c =
+    let m = g.M.Machine in
+    let inside = c.self.inside in
+    let disk = g.D.Device.disk in
+    let begin = m.begin inside.program in
+    let i = c.from.result - 1 in
+    let me = c.args.node in
+    let nodes = inside.nodes.items in
+    let placed : suc i ≡ me = omega (arith, c.get.ensures.value, c.get.ensures.in_range.0, c.from.ensures) in
+    let n = c.in-Some.node.now in
+    let within : i < length nodes = omega (arith, c.in-Some.ensures.variant.0 refl, inside.nodes.ok.0) in
+    let here = here_of nodes i n within c.in-Some.ensures.value in
+    let member = member_of me inside.config begin in
+    let new = c.turn.new.self in
+    let sends = subst (λ v. (given : NodeInput) (part : NodePart) (done : Done NodePart) → given_by c.args.input.now ≡ Ok given → part_at v.world.nodes me ≡ Some part
+    → node_effect (setting_of m.next m.answers m.begin v) me part given ≡ Ok done → AllByRecursion IsPacket done.sends) (sym c.self.view_is) c.requires.sends in
+    let given = c.requires.given in
+    texts disk inside.config begin nodes inside.tasks.items inside.messages c.self.invariant i me placed n here new m.next m.answers given.0 c.in-Ok.sent (c.in-Ok.ensures.ok member given.0 given.1) (λ done came. sends given.0 _ done given.1 (part_here disk inside.config begin nodes inside.tasks.items i me placed n here) came)
+
+pub invariant_of-self-in-Ok : goal.invariant_of-self-in-Ok
+invariant_of-self-in-Ok g c =
+    let m = g.M.Machine in
+    let inside = c.self.inside in
+    let disk = g.D.Device.disk in
+    let begin = m.begin inside.program in
+    let i = c.from.result - 1 in
+    let me = c.args.node in
+    let nodes = inside.nodes.items in
+    let placed : suc i ≡ me = omega (arith, c.get.ensures.value, c.get.ensures.in_range.0, c.from.ensures) in
+    let n = c.in-Some.node.now in
+    let within : i < length nodes = omega (arith, c.in-Some.ensures.variant.0 refl, inside.nodes.ok.0) in
+    let here = here_of nodes i n within c.in-Some.ensures.value in
+    let member = member_of me inside.config begin in
+    let new = c.turn.new.self in
+    let sends = subst (λ v. (given : NodeInput) (part : NodePart) (done : Done NodePart) → given_by c.args.input.now ≡ Ok given → part_at v.world.nodes me ≡ Some part
+    → node_effect (setting_of m.next m.answers m.begin v) me part given ≡ Ok done → AllByRecursion IsPacket done.sends) (sym c.self.view_is) c.requires.sends in
+    let given = c.requires.given in
+    still disk inside.config begin nodes inside.tasks.items inside.messages c.self.invariant i me placed n here new m.next m.answers given.0
+    (turned_left disk inside.config begin nodes inside.tasks.items inside.messages c.self.invariant i me placed n here new m.next m.answers given.0 c.in-Ok.sent (c.in-Ok.ensures.ok member given.0 given.1) (λ done came. sends given.0 _ done given.1 (part_here disk inside.config begin nodes inside.tasks.items i me placed n here) came))
+
+pub invariant_of-self-in-Err : goal.invariant_of-self-in-Err
+invariant_of-self-in-Err g c =
+    let m = g.M.Machine in
+    let inside = c.self.inside in
+    let disk = g.D.Device.disk in
+    let begin = m.begin inside.program in
+    let i = c.from.result - 1 in
+    let me = c.args.node in
+    let nodes = inside.nodes.items in
+    let placed : suc i ≡ me = omega (arith, c.get.ensures.value, c.get.ensures.in_range.0, c.from.ensures) in
+    let n = c.in-Some.node.now in
+    let within : i < length nodes = omega (arith, c.in-Some.ensures.variant.0 refl, inside.nodes.ok.0) in
+    let here = here_of nodes i n within c.in-Some.ensures.value in
+    let member = member_of me inside.config begin in
+    let new = c.turn.new.self in
+    let given = c.requires.given in
+    still disk inside.config begin nodes inside.tasks.items inside.messages c.self.invariant i me placed n here new m.next m.answers given.0
+    (not_turned_left disk inside.config begin nodes inside.tasks.items inside.messages c.self.invariant i me placed n here new m.next m.answers given.0 c.in-Err.fault (c.in-Err.ensures.err member given.0 given.1))
+
+pub returns-in-Ok-clause-answer : goal.returns-in-Ok-clause-answer
+returns-in-Ok-clause-answer g c = λ given gives.
+    let m = g.M.Machine in
+    let inside = c.self.inside in
+    let disk = g.D.Device.disk in
+    let begin = m.begin inside.program in
+    let i = c.from.result - 1 in
+    let me = c.args.node in
+    let nodes = inside.nodes.items in
+    let placed : suc i ≡ me = omega (arith, c.get.ensures.value, c.get.ensures.in_range.0, c.from.ensures) in
+    let n = c.in-Some.node.now in
+    let within : i < length nodes = omega (arith, c.in-Some.ensures.variant.0 refl, inside.nodes.ok.0) in
+    let here = here_of nodes i n within c.in-Some.ensures.value in
+    let member = member_of me inside.config begin in
+    let new = c.turn.new.self in
+    let sends = subst (λ v. (given : NodeInput) (part : NodePart) (done : Done NodePart) → given_by c.args.input.now ≡ Ok given → part_at v.world.nodes me ≡ Some part
+    → node_effect (setting_of m.next m.answers m.begin v) me part given ≡ Ok done → AllByRecursion IsPacket done.sends) (sym c.self.view_is) c.requires.sends in
+    let whole_is = ap (node_takes (setting_of m.next m.answers m.begin (record { config = inside.config; program = inside.program; world = world_of disk inside.config.max_positions nodes inside.tasks.items inside.messages })) (world_of disk inside.config.max_positions nodes inside.tasks.items inside.messages) me given)
+    (part_here disk inside.config begin nodes inside.tasks.items i me placed n here) in
+    let cut_is : (k : ℕ) → _ = λ k. ap (node_is_cut (setting_of m.next m.answers m.begin (record { config = inside.config; program = inside.program; world = world_of disk inside.config.max_positions nodes inside.tasks.items inside.messages })) (world_of disk inside.config.max_positions nodes inside.tasks.items inside.messages) me given k)
+    (part_here disk inside.config begin nodes inside.tasks.items i me placed n here) in
+    let told = c.of_step-effect.ensures ∙ ap (λ (k : ℕ). told_sent k c.in-Ok.sent) (ap (λ k. k + 1) (c.messages-first.ensures.value ∙ ap (λ v. length v.world.sent) (sym c.self.view_is))) in
+    subst (λ v. Answers v.world (node_takes (setting_of m.next m.answers m.begin v) v.world me given (part_at v.world.nodes me)) (λ kept. node_is_cut (setting_of m.next m.answers m.begin v) v.world me given kept (part_at v.world.nodes me))
+    (world_of disk inside.config.max_positions (slice_set nodes i new) inside.tasks.items c.put.new.self) (let r : Result Effect Fault = Ok c.of_step-effect.result in r)) c.self.view_is
+    (turned disk inside.config begin nodes inside.tasks.items inside.messages c.self.invariant i me placed n here new m.next m.answers given c.in-Ok.sent (c.in-Ok.ensures.ok member given gives) (λ done came. sends given _ done gives (part_here disk inside.config begin nodes inside.tasks.items i me placed n here) came)
+    c.settle.new.self c.put.new.self c.settle.ensures.sent c.put.ensures _ whole_is c.of_step-effect.result told)
+
+pub returns-in-Err-clause-answer : goal.returns-in-Err-clause-answer
+returns-in-Err-clause-answer g c = λ given gives.
+    let m = g.M.Machine in
+    let inside = c.self.inside in
+    let disk = g.D.Device.disk in
+    let begin = m.begin inside.program in
+    let i = c.from.result - 1 in
+    let me = c.args.node in
+    let nodes = inside.nodes.items in
+    let placed : suc i ≡ me = omega (arith, c.get.ensures.value, c.get.ensures.in_range.0, c.from.ensures) in
+    let n = c.in-Some.node.now in
+    let within : i < length nodes = omega (arith, c.in-Some.ensures.variant.0 refl, inside.nodes.ok.0) in
+    let here = here_of nodes i n within c.in-Some.ensures.value in
+    let member = member_of me inside.config begin in
+    let new = c.turn.new.self in
+    let whole_is = ap (node_takes (setting_of m.next m.answers m.begin (record { config = inside.config; program = inside.program; world = world_of disk inside.config.max_positions nodes inside.tasks.items inside.messages })) (world_of disk inside.config.max_positions nodes inside.tasks.items inside.messages) me given)
+    (part_here disk inside.config begin nodes inside.tasks.items i me placed n here) in
+    let cut_is : (k : ℕ) → _ = λ k. ap (node_is_cut (setting_of m.next m.answers m.begin (record { config = inside.config; program = inside.program; world = world_of disk inside.config.max_positions nodes inside.tasks.items inside.messages })) (world_of disk inside.config.max_positions nodes inside.tasks.items inside.messages) me given k)
+    (part_here disk inside.config begin nodes inside.tasks.items i me placed n here) in
+    subst (λ v. Answers v.world (node_takes (setting_of m.next m.answers m.begin v) v.world me given (part_at v.world.nodes me)) (λ kept. node_is_cut (setting_of m.next m.answers m.begin v) v.world me given kept (part_at v.world.nodes me))
+    (world_of disk inside.config.max_positions (slice_set nodes i new) inside.tasks.items c.settle.new.self) (let r : Result Effect Fault = Err c.in-Err.fault in r)) c.self.view_is
+    (not_turned disk inside.config begin nodes inside.tasks.items inside.messages c.self.invariant i me placed n here new m.next m.answers given c.settle.new.self c.settle.ensures.sent c.in-Err.fault (c.in-Err.ensures.err member given gives) _ _ whole_is cut_is)

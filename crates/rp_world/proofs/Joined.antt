@@ -1,5 +1,5 @@
 -- Texts that are joined, the packets that are read from them, and where each ends.
-use Rattle.std.proofs.Common.{◌≡◌, ℕ, zero, suc, ◌+◌, ◌≤◌, ◌<◌, Some, get_or, List, [], ◌∷◌, ◌++◌, length, take, drop, ◌-◌, refl, sym, ap, subst, ◌∙◌, arith}
+use Rattle.std.proofs.Common.{◌≡◌, ℕ, zero, suc, ◌+◌, ◌*◌, ◌≤◌, ◌<◌, Some, get_or, List, [], ◌∷◌, ◌++◌, length, take, drop, ◌-◌, refl, sym, ap, subst, ◌∙◌, arith}
 use Rattle.std.specs.List.{AllByRecursion}
 use Rattle.std.specs.Prelude.{slice_get}
 use Rattle.std.proofs.lemmas.List.{append_assoc, append-nil, length-append, length-drop, drop-drop, take-append-drop}
@@ -176,8 +176,8 @@ get_rear [] ys k more = let e : k ≡ k - 0 = omega arith in ap (slice_get ys) e
 get_rear (x ∷ xs) ys zero more = absurd (omega (arith, more))
 get_rear (x ∷ xs) ys (suc k) more = let e : k - length xs ≡ suc k - suc (length xs) = omega arith in get_rear xs ys k (omega (arith, more)) ∙ ap (slice_get ys) e
 
--- there are no more packets than bytes
-pub few_texts : (ms : List Message) → length ms ≤ length (texts_of ms)
+-- each packet has four bytes and more
+pub few_texts : (ms : List Message) → 4 * length ms ≤ length (texts_of ms)
 few_texts [] = omega arith
 few_texts (m ∷ ms) = omega (arith, few_texts ms, length-append (text_of m) (texts_of ms), length-append (head_text m) (body_text m.body))
 

@@ -3,6 +3,7 @@
 ghost use Rattle.std.specs.Prelude.{◌≡◌, ◌-◌, ◌^◌, min, ◌↔◌, ◌⊎◌, length, All, [], None, IfOk, IfErr, IfSome, IsErrOf, IsTrue};
 ghost use Rattle.rp_base.specs.Config.{IsRightConfig};
 ghost use Rattle.rp_base.specs.Records.{applied_of};
+ghost use Rattle.rp_codec.specs.Message.{IsPacket};
 ghost use Rattle.rp_codec.specs.Text.{text_of};
 ghost use Rattle.rp_machine.specs.Replay.{replay_state};
 ghost use Rattle.rp_model.specs.World.{opening_world, part_at};
@@ -146,15 +147,15 @@ impl<M: Machine, D: CutDevice> Cluster<M, D> {
     /// How many messages were sent.
     pub fn messages(&self) -> u64
         ensures value { result ≡ length self.now.world.sent }
-        ensures few { result < 2 ^ 64 - 1 }
+        ensures few { result < 2 ^ 63 }
     {
         self.world.messages()
     }
 
-    /// The text of the message of this number, from 1. `NoSuchMessage` where there is none.
+    /// The text of the message of this number, from 1: `decode` reads the packet back. `NoSuchMessage` where there is none.
     pub fn message(&self, alloc: Global, number: u64) -> Result<Vec<u8>, Fault>
         ensures text { IfOk result (λ text. IfSome (part_at self.now.world.sent number)
-            (λ m. text.items ≡ text_of m)) }
+            (λ m. (text.items ≡ text_of m) × IsPacket m)) }
         ensures none { IsErrOf result Fault.NoSuchMessage
             ↔ (part_at self.now.world.sent number ≡ None) }
         ensures only { IfErr result (λ fault. (fault ≡ Fault.NoSuchMessage) ⊎ (fault

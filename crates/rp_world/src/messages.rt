@@ -1,6 +1,6 @@
 //! Every message that was sent, as its text.
 
-ghost use Rattle.std.specs.Prelude.{◌≡◌, ◌+◌, ◌-◌, ◌^◌, ◌≤◌, ◌<◌, ◌∷◌, ◌++◌, [], length, take, drop, slice_get, Some, option_copied, option_map, OnOk, OnErr, vec_len, vec_capacity};
+ghost use Rattle.std.specs.Prelude.{◌≡◌, ◌+◌, ◌^◌, ◌≤◌, ◌<◌, ◌∷◌, ◌++◌, [], length, take, drop, slice_get, Some, option_copied, option_map, OnOk, OnErr, vec_len, vec_capacity};
 ghost use Rattle.rp_codec.specs.Text.{text_of};
 ghost use Rattle.rp_model.specs.World.{part_at};
 ghost use Rattle.rp_replica.specs.Packets.{texts_of};
@@ -85,7 +85,7 @@ impl Messages {
     /// How many messages were sent.
     pub(crate) fn count(&self) -> u64
         ensures value { result ≡ length self.now.sent }
-        ensures few { result < 2 ^ 64 - 1 }
+        ensures few { result < 2 ^ 63 }
     {
         let _ = &self.last;
         self.ends.len() as u64 + self.apart as u64

@@ -122,7 +122,7 @@ impl<M: Machine, D: CutDevice> World<M, D> {
     /// How many messages were sent.
     pub(crate) fn messages(&self) -> u64
         ensures value { result ≡ length self.now.world.sent }
-        ensures few { result < 2 ^ 64 - 1 }
+        ensures few { result < 2 ^ 63 }
     {
         self.messages.count()
     }

@@ -21,7 +21,7 @@ returns-in-Err-Failed-clause-err g c = λ member given gives.
     let disk = g.D.Device.disk in
     let failed = c.in-Err-Failed in
     subst (λ n. NotTaken disk member n (Stopped failed.device) (node_step m.next m.answers member given) Device) (sym c.in-Running.is)
-    (failed_in_cut g.row.D.Denot g.row.M-Program.Denot m.next m.answers disk c.in-Running.replica (sym c.has_failed.ensures ∙ c.if-has_failed.false) c.args.input.now failed.device (subst (λ r. IsNotCutIf disk (input_effect m.next m.answers c.in-Running.replica c.args.input.now) c.in-Running.replica r) failed.is failed.ensures.err) member given gives)
+    (failed_in_cut g.row.D.Denot g.row.M-Program.Denot m.next m.answers disk c.in-Running.replica (sym c.has_failed.ensures ∙ c.if-has_failed.false) c.args.input.now failed.device (subst (λ r. IsNotCutIf disk (input_effect m.next m.answers c.in-Running.replica c.args.input.now) c.in-Running.replica r) failed.field-0-is failed.ensures.err) member given gives)
 
 pub returns-in-Err-Refused-clause-err : goal.returns-in-Err-Refused-clause-err
 returns-in-Err-Refused-clause-err g c = λ member given gives.
@@ -29,4 +29,4 @@ returns-in-Err-Refused-clause-err g c = λ member given gives.
     let disk = g.D.Device.disk in
     let refused = c.in-Err-Refused in
     subst (λ n. NotTaken disk member n (Running refused.replica) (node_step m.next m.answers member given) refused.fault) (sym c.in-Running.is)
-    (refused_in_cut g.row.D.Denot g.row.M-Program.Denot m.next m.answers disk c.in-Running.replica (sym c.has_failed.ensures ∙ c.if-has_failed.false) c.args.input.now refused.fault refused.replica (subst (λ r. IsNotCutIf disk (input_effect m.next m.answers c.in-Running.replica c.args.input.now) c.in-Running.replica r) refused.is refused.ensures.err) member given gives)
+    (refused_in_cut g.row.D.Denot g.row.M-Program.Denot m.next m.answers disk c.in-Running.replica (sym c.has_failed.ensures ∙ c.if-has_failed.false) c.args.input.now refused.fault refused.replica (subst (λ r. IsNotCutIf disk (input_effect m.next m.answers c.in-Running.replica c.args.input.now) c.in-Running.replica r) refused.field-0-is refused.ensures.err) member given gives)

@@ -1,0 +1,28 @@
+-- Both worlds meet the invariant.
+use Rattle.std.proofs.Common.{subst}
+use Rattle.rp_model.specs.Effect.{Setting}
+use Rattle.rp_agreement.specs.Answered.{IsKeptWorld}
+use Rattle.rp_world.specs.Steps.{setting_of}
+use Rattle.rp_world.proofs.Answering.{same_setting}
+use Rattle.rp_world.proofs.Sounding.{agree, ordered}
+use Rattle.rp_world.proofs.cluster.Cluster.run.Goals as goal
+
+pub returns-clause-agree : goal.returns-clause-agree
+returns-clause-agree g c =
+    let m = g.M.Machine in
+    let old = c.args.self.now in
+    let new = c.run_all-ran.new.self in
+    let same = same_setting m.next m.answers m.begin old new c.run_all-ran.ensures.run.setup in
+    let later = subst (λ (s : Setting g.row.M.Denot). IsKeptWorld s new.world) same c.is_kept-2.ensures.kept in
+    agree m.next m.answers (m.begin old.program) old.config.nodes c.applied_lists_are_alike.ensures (c.states_are_alike.ensures (m.begin old.program)) old.world new.world c.is_kept.ensures.kept.kept.sound
+    later.kept.sound c.run_all-ran.ensures.sent
+
+pub returns-clause-ordered : goal.returns-clause-ordered
+returns-clause-ordered g c =
+    let m = g.M.Machine in
+    let old = c.args.self.now in
+    let new = c.run_all-ran.new.self in
+    let s = setting_of m.next m.answers m.begin old in
+    let same = same_setting m.next m.answers m.begin old new c.run_all-ran.ensures.run.setup in
+    ordered s c.the_order_exists.ensures c.applied_lists_begin_the_order.ensures (c.replies_tell_the_order.ensures.replies s) (c.a_call_has_one_place.ensures (m.begin old.program)) new.world
+    (subst (λ (t : Setting g.row.M.Denot). IsKeptWorld t new.world) same c.is_kept-2.ensures.kept)

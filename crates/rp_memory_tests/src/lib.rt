@@ -3,8 +3,10 @@
 #![tactic(auto)]
 
 #[cfg(test)]
+mod failing;
+#[cfg(test)]
 mod learner;
 #[cfg(test)]
-mod store;
+mod replica;
 #[cfg(test)]
-mod world;
+mod store;

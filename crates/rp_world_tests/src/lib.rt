@@ -4,3 +4,5 @@
 
 #[cfg(test)]
 mod replica;
+#[cfg(test)]
+mod world;

@@ -5,7 +5,8 @@ use rp_base::Fault;
 use rp_store::*;
 use std::alloc::Global;
 
-/// A device in memory of which one call fails, once. An append that fails leaves half of its bytes.
+/// A device in memory of which one call fails, once. An append that fails leaves half of its bytes, and
+/// a cut that fails is done.
 #[derive(Drop)]
 pub(crate) struct FailingDevice {
     inner: MemDevice,
@@ -74,10 +75,10 @@ impl Device for FailingDevice {
     }
 
     fn cut(&mut self, len: u64) -> Result<(), Fault> {
+        self.inner.cut(len)?;
         if self.left == 1 {
             return Err(self.fail());
         }
-        self.inner.cut(len)?;
         self.left = self.left.saturating_sub(1);
         Ok(())
     }

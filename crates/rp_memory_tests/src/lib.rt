@@ -10,3 +10,5 @@ mod learner;
 mod replica;
 #[cfg(test)]
 mod store;
+#[cfg(test)]
+mod world;

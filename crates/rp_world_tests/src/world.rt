@@ -187,3 +187,90 @@ fn a_report_tells_the_actions_from_a_position_on(rt: HostRuntime) -> Result<(), 
     }
     Ok(())
 }
+
+/// The texts of the messages of one call, all delivered in order.
+fn texts_of_one_call<M: Machine, D: CutDevice>(
+    alloc: Global,
+    program: M::Program,
+    devices: Vec<D>,
+) -> Result<Vec<Vec<u8>>, Fault> {
+    let node = NodeId::new(1).ok_or(Fault::BadConfig)?;
+    let mut cluster: Cluster<M, D> = opened(alloc, program, devices)?;
+    cluster.step(alloc, &call(node, 5))?;
+    cluster.step(alloc, &Event::Node(Step::Deliver(1)))?;
+    cluster.step(alloc, &lead(node))?;
+    let mut texts = Vec::new(alloc);
+    texts.push(cluster.message(alloc, 1)?)?;
+    for number in 2..100 {
+        if number > cluster.messages() {
+            break;
+        }
+        cluster.step(alloc, &Event::Node(Step::Deliver(number)))?;
+        texts.push(cluster.message(alloc, number)?)?;
+    }
+    Ok(texts)
+}
+
+/// Some of these texts, by the numbers of the messages.
+const TEXTS: [(usize, &[u8]); 6] = [
+    (2, b"\x01\x02\x01\x01\x00\x01\0\0\0\0\0\0\0\x09"),
+    (6, b"\x01\x03\x02\x01\x00\x01\0\0\0\0\0\0\0\x09\x00"),
+    (
+        9,
+        b"\x01\x04\x01\x02\x00\x01\0\0\0\0\0\0\0\x09\x01\x01\0\0\0\x01\x01\x02\x01\0\0\0\0\0\0\0\x05",
+    ),
+    (
+        12,
+        b"\x01\x05\x02\x01\x00\x01\0\0\0\0\0\0\0\x09\x01\x01\0\0\0\x01\x01\x02\x01\0\0\0\0\0\0\0\x05",
+    ),
+    (
+        14,
+        b"\x01\x06\x01\x02\x00\x01\x01\x01\0\0\0\x01\x01\x02\x01\0\0\0\0\0\0\0\x05",
+    ),
+    (16, b"\x01\x09\x01\x11\0\0\0\x01\x01\0\0\0\0\0\0\0\x05"),
+];
+
+#[test]
+fn each_message_has_its_text(rt: HostRuntime) -> Result<(), Fail> {
+    let alloc = rt.alloc();
+    let program = TallyProgram::new(1).ok_or("one object")?;
+    let texts = texts_of_one_call::<Tally, MemDevice>(alloc, program, devices(alloc)?)?;
+    assert_eq!(rt; texts.len(), 16);
+    for (number, text) in TEXTS {
+        let told = texts.get(number.saturating_sub(1)).ok_or("a message")?;
+        assert_eq!(rt; told.as_slice(), text, "message {number}");
+    }
+    Ok(())
+}
+
+/// Where a run of these events stops, and how many messages there are then.
+fn run_of<M: Machine, D: CutDevice>(
+    alloc: Global,
+    program: M::Program,
+    devices: Vec<D>,
+    events: &[Event],
+) -> Result<(Option<Refused>, u64), Fault> {
+    let mut cluster: Cluster<M, D> = opened(alloc, program, devices)?;
+    let stopped = cluster.run(alloc, events).err();
+    Ok((stopped, cluster.messages()))
+}
+
+#[test]
+fn a_run_stops_at_the_first_refusal(rt: HostRuntime) -> Result<(), Fail> {
+    let alloc = rt.alloc();
+    let program = TallyProgram::new(1).ok_or("one object")?;
+    let node = NodeId::new(1).ok_or("node 1")?;
+    let events = [
+        call(node, 5),
+        Event::Node(Step::Deliver(1)),
+        call(node, 1),
+        lead(node),
+    ];
+    let busy = Refused {
+        place: 2,
+        fault: Fault::TaskBusy,
+    };
+    let stopped = run_of::<Tally, MemDevice>(alloc, program, devices(alloc)?, &events)?;
+    assert_eq!(rt; stopped, (Some(busy), 1));
+    Ok(())
+}

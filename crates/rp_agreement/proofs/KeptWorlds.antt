@@ -1,13 +1,13 @@
 -- Each actor's step in a world keeps the invariant with what tasks are told.
-use Rattle.std.proofs.Common.{◌≡◌, ℕ, zero, suc, Ok, Option, Some, List, [], ◌∷◌, ◌++◌, length, map, ◌⊎◌, inl, inr, refl, sym, ap, subst, ◌∙◌, ◌≤◌, arith}
+use Rattle.std.proofs.Common.{◌≡◌, ℕ, zero, suc, Ok, Option, Some, List, [], ◌++◌, length, map, inl, refl, sym, ap, subst, ◌∙◌, ◌≤◌, arith}
 use Rattle.std.specs.Prelude.{unwrap_or, slice_get, replicate}
+use Rattle.rp_base.specs.declared.action.Action.{Action}
 use Rattle.rp_base.specs.declared.reply.Answer.{Answer}
 use Rattle.rp_base.specs.Config.{IsRightConfig}
 use Rattle.rp_base.specs.Sets.{Has}
 use Rattle.rp_base.specs.Records.{applied_of}
 use Rattle.rp_machine.specs.Calls.{CallName, call_of}
 use Rattle.rp_machine.specs.Replay.{one_to}
-use Rattle.rp_machine.proofs.Numbering.{length-one_to}
 use Rattle.rp_model.specs.Parts.{NodePart}
 use Rattle.rp_model.specs.Parts.{TaskPart}
 use Rattle.rp_model.specs.Parts.{fresh_task}
@@ -17,7 +17,7 @@ use Rattle.rp_model.specs.World.{World, opening_world, part_at, with_part, node_
 use Rattle.rp_agreement.specs.Inputs.{TaskMoves, WaitsForOwn}
 use Rattle.rp_agreement.specs.Computed.{order_of}
 use Rattle.rp_agreement.specs.Worlds.{node_in, IsSoundWorld}
-use Rattle.rp_agreement.specs.Answered.{answers_of, named, IsAnswered, task_in, IsKeptWorld, IsReady}
+use Rattle.rp_agreement.specs.Answered.{answers_of, named, IsAnswered, task_in, AreMade, IsKeptWorld, IsReady}
 use Rattle.rp_agreement.proofs.PartPlaces.{part_has, put_there, put_beside, put_length, sent_behind}
 use Rattle.rp_agreement.proofs.NodeEffects.{IsSoundDone, done_keeps}
 use Rattle.rp_agreement.proofs.WorldKeeping.{member_here, moves_here, untorn_world, input_done, cut_done, stop_done, restart_done, torn_done}
@@ -27,6 +27,8 @@ use Rattle.rp_agreement.proofs.EventWalk.{IsKeptByAll, history_keeps}
 use Rattle.rp_agreement.proofs.AnswerTurns.{AreAnswers}
 use Rattle.rp_agreement.proofs.NodeTelling.{node_keeps, effect_answers, cut_answers, stop_answers, restart_answers}
 use Rattle.rp_agreement.proofs.TaskKeeping.{task_goes_on}
+use Rattle.rp_agreement.proofs.Lists.{get_mapped, get_one_to, get_unmapped}
+use Rattle.rp_agreement.proofs.Made.{made_nothing}
 
 task_here : (w : World) (t : ℕ) (part : TaskPart) → part_at w.tasks t ≡ Some part → task_in w.tasks t ≡ part
 task_here w t part here = ap (λ (o : Option TaskPart). unwrap_or o fresh_task) here
@@ -91,7 +93,7 @@ kept_opening s opening = record {
     own = λ t. subst (WaitsForOwn t) (sym (all_fresh t)) (λ call e. absurd (cc));
     replies = λ m h. absurd h;
     answered = λ t. subst (IsAnswered (answers_of s (order_of s.config.nodes [])) t) (sym (all_fresh t)) (fresh_answered (answers_of s (order_of s.config.nodes [])) t);
-    in_turn = λ t action asked. absurd asked.1;
+    made = λ t. subst (λ (part : TaskPart). (calls : List Action) × AreMade [] t part calls) (sym (all_fresh t)) ([], made_nothing t);
     ready = λ t n. subst (λ (part : TaskPart). n ≤ length part.replies → IsReady s (order_of s.config.nodes []) t n) (sym (all_fresh t)) (λ few. record {
       before = [];
       begins = (order_of s.config.nodes [], refl);
@@ -102,35 +104,6 @@ kept_opening s opening = record {
 }
 
 -- ---- the reply to each call
-
-get_mapped : {A B : Type 0} (f : A → B) (xs : List A) (k : ℕ) (a : A) → slice_get xs k ≡ Some a → slice_get (map f xs) k ≡ Some (f a)
-get_mapped f [] k a e = absurd (cc)
-get_mapped {A} f (x ∷ xs) zero a e = ap (λ (o : Option A). Some (f (unwrap_or o x))) e
-get_mapped f (x ∷ xs) (suc k) a e = get_mapped f xs k a e
-
-get_behind : {A : Type 0} (xs : List A) (y : A) (k : ℕ) (a : A) → slice_get (xs ++ y ∷ []) k ≡ Some a → (slice_get xs k ≡ Some a) ⊎ ((k ≡ length xs) × (a ≡ y))
-get_behind [] y zero a e = inr (refl, sym (ap (λ (o : Option _). unwrap_or o y) e))
-get_behind [] y (suc k) a e = absurd (cc)
-get_behind (x ∷ xs) y zero a e = inl e
-get_behind (x ∷ xs) y (suc k) a e =
-    elim (get_behind xs y k a e) [
-      | inl before ↦ inl before
-      | inr last ↦ inr (ap suc last.0, last.1)
-    ]
-
--- the kth of the numbers from 1 on
-get_one_to : (n k m : ℕ) → slice_get (one_to n) k ≡ Some m → m ≡ suc k
-get_one_to zero k m e = absurd (cc)
-get_one_to (suc n) k m e =
-    elim (get_behind (one_to n) (suc n) k m e) [
-      | inl before ↦ get_one_to n k m before
-      | inr last ↦ last.1 ∙ ap suc (sym (last.0 ∙ length-one_to n))
-    ]
-
-get_unmapped : {A B : Type 0} (f : A → B) (xs : List A) (k : ℕ) (b : B) → slice_get (map f xs) k ≡ Some b → (a : A) × (slice_get xs k ≡ Some a) × (b ≡ f a)
-get_unmapped f [] k b e = absurd (cc)
-get_unmapped f (x ∷ xs) zero b e = (x, refl, sym (ap (λ (o : Option _). unwrap_or o (f x)) e))
-get_unmapped f (x ∷ xs) (suc k) b e = get_unmapped f xs k b e
 
 -- the kth reply is to the kth call
 pub reply_named : (given : List Answer) (t : ℕ) (part : TaskPart) (k : ℕ) (answer : Answer) → IsAnswered given t part → slice_get part.replies k ≡ Some answer → call_of answer ≡ named t (suc k)

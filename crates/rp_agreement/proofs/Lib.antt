@@ -26,9 +26,11 @@ pub mod AnswerTurns
 pub mod AnswersGrow
 pub mod NodeTelling
 pub mod TaskTelling
+pub mod Made
 pub mod TaskKeeping
 pub mod KeptWorlds
 pub mod Places
+pub mod ItsCalls
 pub mod InLog
 pub mod LogKeeping
 pub mod FewSends

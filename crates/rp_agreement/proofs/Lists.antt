@@ -1,7 +1,8 @@
 -- The members of lists that are searched, mapped in part, and of the highest of some votes.
 use Rattle.rp_machine.specs.Replay.{one_to}
+use Rattle.rp_machine.proofs.Numbering.{length-one_to}
 use Rattle.rp_base.proofs.Members.{has_left, has_right}
-use Rattle.std.proofs.Common.{◌≡◌, ◌≤◌, Bool, true, ◌⊎◌, inl, inr, Option, Some, None, List, [], ◌∷◌, refl, sym, ap, subst, ◌∙◌, arith, ℕ, zero, suc}
+use Rattle.std.proofs.Common.{◌≡◌, ◌≤◌, Bool, true, ◌⊎◌, inl, inr, Option, Some, None, List, [], ◌∷◌, ◌++◌, length, map, refl, sym, ap, subst, ◌∙◌, arith, ℕ, zero, suc}
 use Rattle.std.specs.Prelude.{nat_lt, filter_map, find, unwrap_or, slice_get}
 use Rattle.std.specs.List.{cons_option}
 use Rattle.std.proofs.lemmas.Bool.{cases_Bool, cond-true, cond-false, cases_eq}
@@ -102,3 +103,32 @@ one_to_has (suc n) k low high =
       | inl same ↦ has_right k (one_to n) (suc n ∷ []) (inl same)
       | inr other ↦ has_left k (one_to n) (suc n ∷ []) (one_to_has n k low (omega (arith, high, other)))
     ]
+
+pub get_mapped : {A B : Type 0} (f : A → B) (xs : List A) (k : ℕ) (a : A) → slice_get xs k ≡ Some a → slice_get (map f xs) k ≡ Some (f a)
+get_mapped f [] k a e = absurd (cc)
+get_mapped {A} f (x ∷ xs) zero a e = ap (λ (o : Option A). Some (f (unwrap_or o x))) e
+get_mapped f (x ∷ xs) (suc k) a e = get_mapped f xs k a e
+
+get_behind : {A : Type 0} (xs : List A) (y : A) (k : ℕ) (a : A) → slice_get (xs ++ y ∷ []) k ≡ Some a → (slice_get xs k ≡ Some a) ⊎ ((k ≡ length xs) × (a ≡ y))
+get_behind [] y zero a e = inr (refl, sym (ap (λ (o : Option _). unwrap_or o y) e))
+get_behind [] y (suc k) a e = absurd (cc)
+get_behind (x ∷ xs) y zero a e = inl e
+get_behind (x ∷ xs) y (suc k) a e =
+    elim (get_behind xs y k a e) [
+      | inl before ↦ inl before
+      | inr last ↦ inr (ap suc last.0, last.1)
+    ]
+
+-- the kth of the numbers from 1 on
+pub get_one_to : (n k m : ℕ) → slice_get (one_to n) k ≡ Some m → m ≡ suc k
+get_one_to zero k m e = absurd (cc)
+get_one_to (suc n) k m e =
+    elim (get_behind (one_to n) (suc n) k m e) [
+      | inl before ↦ get_one_to n k m before
+      | inr last ↦ last.1 ∙ ap suc (sym (last.0 ∙ length-one_to n))
+    ]
+
+pub get_unmapped : {A B : Type 0} (f : A → B) (xs : List A) (k : ℕ) (b : B) → slice_get (map f xs) k ≡ Some b → (a : A) × (slice_get xs k ≡ Some a) × (b ≡ f a)
+get_unmapped f [] k b e = absurd (cc)
+get_unmapped f (x ∷ xs) zero b e = (x, refl, sym (ap (λ (o : Option _). unwrap_or o (f x)) e))
+get_unmapped f (x ∷ xs) (suc k) b e = get_unmapped f xs k b e

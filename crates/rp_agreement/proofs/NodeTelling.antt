@@ -26,6 +26,7 @@ use Rattle.rp_agreement.specs.Inputs.{NodeMoves}
 use Rattle.rp_agreement.specs.Answered.{SaysAnswer, answers_of, IsKept}
 use Rattle.rp_agreement.proofs.NodeEffects.{IsSoundDone}
 use Rattle.rp_agreement.proofs.AnswerTurns.{AreAnswers, TurnAnswersIf, input_answers}
+use Rattle.rp_agreement.proofs.Made.{made_stays}
 use Rattle.rp_agreement.proofs.AnswersGrow.{answer_more, still_answered, answers_grow, order_grows, ready_grows}
 
 same_node : {a x : ℕ} → Node a ≡ Node x → a ≡ x
@@ -71,7 +72,10 @@ module _ {S : Type 0} (s : Setting S) where
         ];
         answered = λ t. still_answered (answers_of s (order_of s.config.nodes sent)) (answers_of s (order_of s.config.nodes sent'))
             (answers_grow s _ _ (order_grows s.config.nodes node' sent sent' sound all)) t (task t) (kept.answered t);
-        in_turn = λ t action asked. kept.in_turn t action (node_asks_nothing x t sent sent' done.sends action d.step.from moves.sends asked);
+        made = λ t. (
+          (kept.made t).0,
+          made_stays sent sent' t (task t) (kept.made t).0 all (λ action asked. node_asks_nothing x t sent sent' done.sends action d.step.from moves.sends asked) (kept.made t).1,
+        );
         ready = λ t n few. ready_grows s (order_of s.config.nodes sent) (order_of s.config.nodes sent') t n (order_grows s.config.nodes node' sent sent' sound all) (kept.ready t n few);
       }
 

@@ -29,6 +29,7 @@ use Rattle.rp_agreement.proofs.Lists.{some_same, has_picked}
 use Rattle.rp_agreement.proofs.PartPlaces.{part_has}
 use Rattle.rp_agreement.proofs.Lists.{one_to_has}
 use Rattle.rp_agreement.proofs.TaskTelling.{most_calls}
+use Rattle.rp_agreement.proofs.Made.{asks_in_turn}
 use Rattle.rp_agreement.proofs.TaskKeeping.{asked_in_order}
 use Rattle.rp_agreement.proofs.AnswersGrow.{answers_grow}
 
@@ -68,10 +69,10 @@ abbrev first_or : CallName → List CallName → CallName
 first_or call [] = call
 first_or call (first ∷ rest) = first
 
-same_name : {a b c d : ℕ} → named a b ≡ named c d → (a ≡ c) × (b ≡ d)
+pub same_name : {a b c d : ℕ} → named a b ≡ named c d → (a ≡ c) × (b ≡ d)
 same_name e = (ap (λ (call : CallName). call.task) e, ap (λ (call : CallName). call.number) e)
 
-first_call : {call other : CallName} → call ∷ [] ≡ other ∷ [] → call ≡ other
+pub first_call : {call other : CallName} → call ∷ [] ≡ other ∷ [] → call ≡ other
 first_call {call} {other} e = ap (first_or call) e
 
 answer_for : (t j : ℕ) (answer : Answer) → named t j ≡ call_of answer → is_for t j answer ≡ true
@@ -90,7 +91,7 @@ tested_answer (first ∷ rest) t j answer h e =
 answered_so : (given : List Answer) (t j : ℕ) → Has (named t j) (map call_of given) → is_answered given t j ≡ true
 answered_so given t j h = let hit = mapped_has call_of (named t j) given h in tested_answer given t j hit.0 hit.1 (answer_for t j hit.0 hit.2)
 
-number_is : (t j : ℕ) (action : Action) → number_for t action ≡ Some j → Has (named t j) (calls_of action)
+pub number_is : (t j : ℕ) (action : Action) → number_for t action ≡ Some j → Has (named t j) (calls_of action)
 number_is t j actions.Noop e = absurd (cc)
 number_is t j (actions.Call caller number object operation arg) e =
     elim (cases_Bool (nat_eq caller t)) [
@@ -122,7 +123,7 @@ module _ {S : Type 0} (s : Setting S) where
       ]
 
   -- what counted stands in the log
-  kept_from : (r : Replayed S) (xs : List Action) (other : Action) → Has other (replay_from s.next s.answers r xs).kept → Has other r.kept ⊎ Has other xs
+  pub kept_from : (r : Replayed S) (xs : List Action) (other : Action) → Has other (replay_from s.next s.answers r xs).kept → Has other r.kept ⊎ Has other xs
   kept_from r [] other h = inl h
   kept_from r (x ∷ xs) other h =
       elim (kept_from (replay_step s.next s.answers r x) xs other h) [
@@ -222,7 +223,7 @@ module _ {S : Type 0} (s : Setting S) where
       let here : Has action order = part_has order (suc k) action stands in
       let of_it : Has (named t (suc m)) (calls_of action) = subst (λ (calls : List CallName). Has (named t (suc m)) calls) (sym is) (inl refl) in
       let asked = asked_in_order s node sent kept.sound action here in
-      let so_far : suc m ≤ calls_so_far (task t) = kept.in_turn t action (asked.asked (named t (suc m)) of_it) (named t (suc m)) of_it in
+      let so_far : suc m ≤ calls_so_far (task t) = asks_in_turn sent t (task t) (kept.made t).0 (kept.made t).1 action (asked.asked (named t (suc m)) of_it) (named t (suc m)) of_it in
       let most : calls_so_far (task t) ≤ suc (length (task t).replies) = most_calls (task t).outstanding (length (task t).replies) in
       let ready = kept.ready t m (omega (arith, so_far, most)) in
       let right = λ (other : Action) (h : Has other (take k order)). (asked_in_order s node sent kept.sound other (taken_has k other order h)).right in

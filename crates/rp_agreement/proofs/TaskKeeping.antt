@@ -21,13 +21,14 @@ use Rattle.rp_agreement.specs.Sound.{SaysSo, IsCall, IsSound}
 use Rattle.rp_agreement.specs.Order.{AllSent}
 use Rattle.rp_agreement.specs.Computed.{order_of}
 use Rattle.rp_agreement.specs.Inputs.{TaskMoves, WaitsForOwn, IsTaskInput}
-use Rattle.rp_agreement.specs.Answered.{SaysAnswer, answers_of, named, IsAnswered, IsKept, IsReady, AsksInTurn, calls_so_far}
+use Rattle.rp_agreement.specs.Answered.{SaysAnswer, answers_of, named, IsAnswered, IsKept, IsReady, AreMade, calls_so_far}
 use Rattle.rp_agreement.proofs.Lists.{has_get}
 use Rattle.rp_agreement.proofs.Computing.{order_is}
 use Rattle.rp_agreement.proofs.Following.{decided_asked}
 use Rattle.rp_agreement.proofs.TaskEffects.{task_keeps, task_sound, if_task_done}
 use Rattle.rp_agreement.proofs.AnswersGrow.{answer_more, still_answered, answers_grow, applied_begins, order_grows, ready_grows}
-use Rattle.rp_agreement.proofs.TaskTelling.{IsAnsweredIf, task_answered, last_replied, WentOn, WentOnIf, task_went, others_ask, turn_after}
+use Rattle.rp_agreement.proofs.TaskTelling.{IsAnsweredIf, task_answered, last_replied, WentOn, WentOnIf, task_went, others_ask}
+use Rattle.rp_agreement.proofs.Made.{made_stays, made_after, asks_in_turn}
 
 -- what a task says is no reply
 calls_answer : (given : List Answer) (to : Party) (u : ℕ) (body : Body) → IsCall u body → SaysAnswer given to body
@@ -69,11 +70,11 @@ module _ {S : Type 0} (s : Setting S) where
 
   -- each call that has its reply is answered by a beginning of the order in which the next does not stand
   ready_after : (t : ℕ) (part : TaskPart) (done : Done TaskPart) (node : ℕ → NodePart) (sent : List Message) → IsSound s.config.nodes node sent
-      → IsAnswered (answers_of s (order_of s.config.nodes sent)) t part → AsksInTurn sent t part
+      → IsAnswered (answers_of s (order_of s.config.nodes sent)) t part → (made : List Action) → AreMade sent t part made
       → ((n : ℕ) → n ≤ length part.replies → IsReady s (order_of s.config.nodes sent) t n)
       → IsAnswered (answers_of s (order_of s.config.nodes sent)) t done.part → WentOn t part done
       → (n : ℕ) → n ≤ length done.part.replies → IsReady s (order_of s.config.nodes sent) t n
-  ready_after t part done node sent sound was in_turn ready now went n few =
+  ready_after t part done node sent sound was made are_made ready now went n few =
       elim went.replies [
         | inl same ↦ ready n (omega (arith, few, same))
         | inr more ↦ elim (cases_eq n (suc (length part.replies))) [
@@ -83,7 +84,7 @@ module _ {S : Type 0} (s : Setting S) where
             begins = ([], sym (append-nil (order_of s.config.nodes sent)));
             absent = λ stands.
                 let asked = asked_in_order node sent sound stands.0 stands.1 in
-                let below : suc (suc (length part.replies)) ≤ calls_so_far part = in_turn stands.0 (asked.asked (named t (suc (suc (length part.replies)))) stands.2) (named t (suc (suc (length part.replies)))) stands.2 in
+                let below : suc (suc (length part.replies)) ≤ calls_so_far part = asks_in_turn sent t part made are_made stands.0 (asked.asked (named t (suc (suc (length part.replies)))) stands.2) (named t (suc (suc (length part.replies)))) stands.2 in
                 absurd (omega (arith, below, more.1));
             answered = inr (subst (λ (m : ℕ). Has (named t m) (map call_of (answers_of s (order_of s.config.nodes sent)))) more.0 (last_replied (answers_of s (order_of s.config.nodes sent)) t done.part now (omega (arith, more.0))));
           })
@@ -120,15 +121,19 @@ module _ {S : Type 0} (s : Setting S) where
               (subst (IsAnswered (answers_of s (order_of s.config.nodes sent')) t) (sym moves.part) (still_answered given (answers_of s (order_of s.config.nodes sent')) more t done.part now))
           | inr other ↦ subst (IsAnswered (answers_of s (order_of s.config.nodes sent')) k) (sym (moves.others k other)) (still_answered given (answers_of s (order_of s.config.nodes sent')) more k (task k) (kept.answered k))
         ];
-        in_turn = λ k. elim (cases_eq k t) [
-          | inl same ↦ subst (λ (u : ℕ). AsksInTurn sent' u (task' u)) (sym same) (subst (AsksInTurn sent' t) (sym moves.part)
-              (turn_after given t (task t) done sent sent' (kept.in_turn t) now went moves.sends))
-          | inr other ↦ subst (AsksInTurn sent' k) (sym (moves.others k other)) (λ action asked. kept.in_turn k action (others_ask t k sent sent' done.sends action other d.calls moves.sends asked))
+        made = λ k. elim (cases_eq k t) [
+          | inl same ↦ subst (λ (u : ℕ). (calls : List Action) × AreMade sent' u (task' u) calls) (sym same)
+              (subst (λ (p : TaskPart). (calls : List Action) × AreMade sent' t p calls) (sym moves.part)
+              (made_after t (task t) done sent sent' (kept.made t).0 (kept.made t).1 went moves.sends given now))
+          | inr other ↦ subst (λ (p : TaskPart). (calls : List Action) × AreMade sent' k p calls) (sym (moves.others k other)) (
+            (kept.made k).0,
+            made_stays sent sent' k (task k) (kept.made k).0 all (λ action asked. others_ask t k sent sent' done.sends action other d.calls moves.sends asked) (kept.made k).1,
+          )
         ];
         ready = λ k n. elim (cases_eq k t) [
           | inl same ↦ subst (λ (u : ℕ). n ≤ length (task' u).replies → IsReady s (order_of s.config.nodes sent') u n) (sym same)
               (subst (λ (p : TaskPart). n ≤ length p.replies → IsReady s (order_of s.config.nodes sent') t n) (sym moves.part)
-              (λ few. ready_grows s (order_of s.config.nodes sent) (order_of s.config.nodes sent') t n longer (ready_after t (task t) done node sent kept.sound (kept.answered t) (kept.in_turn t) (kept.ready t) now went n few)))
+              (λ few. ready_grows s (order_of s.config.nodes sent) (order_of s.config.nodes sent') t n longer (ready_after t (task t) done node sent kept.sound (kept.answered t) (kept.made t).0 (kept.made t).1 (kept.ready t) now went n few)))
           | inr other ↦ subst (λ (p : TaskPart). n ≤ length p.replies → IsReady s (order_of s.config.nodes sent') k n) (sym (moves.others k other))
               (λ few. ready_grows s (order_of s.config.nodes sent) (order_of s.config.nodes sent') k n longer (kept.ready k n few))
         ];

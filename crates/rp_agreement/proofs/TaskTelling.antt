@@ -25,14 +25,14 @@ use Rattle.rp_model.specs.Effect.{Done, goes_on_as}
 use Rattle.rp_base.specs.Calls.{outstanding_number}
 use Rattle.rp_model.specs.Tasks.{TaskInput, Submit, Again, Take, next_call, may_call, calls_if, asks_again, takes, takes_reply, task_hears, task_effect, asks}
 use Rattle.rp_agreement.specs.Told.{Asks}
-use Rattle.rp_agreement.specs.Answered.{SaysAnswer, named, IsAnswered, AsksInTurn, calls_so_far}
+use Rattle.rp_agreement.specs.Answered.{SaysAnswer, named, IsAnswered, calls_so_far}
 use Rattle.rp_agreement.proofs.Lists.{one_to_has, some_same}
 use Rattle.rp_agreement.proofs.TaskEffects.{AreCalls}
 
 same_task : {a x : ℕ} → Task a ≡ Task x → a ≡ x
 same_task e = cc
 
-same_call : {v w : Action} → bodies.Call v ≡ bodies.Call w → v ≡ w
+pub same_call : {v w : Action} → bodies.Call v ≡ bodies.Call w → v ≡ w
 same_call e = cc
 
 -- ---- what a task takes
@@ -158,10 +158,23 @@ last_replied given t part is some =
 
 -- ---- how a task goes on
 
+-- A task made no call, and what it waits for it waited for before; or it waited for nothing, made one call
+-- and asked for it.
+pub record MadeNone (part after : TaskPart) : Type 0 where
+  pub as_many : calls_so_far after ≡ calls_so_far part
+  pub waits : (call : Action) → after.outstanding ≡ Some call → part.outstanding ≡ Some call
+
+pub record MadeOne (t : ℕ) (part after : TaskPart) (sends : List Message) : Type 0 where
+  pub call : Action
+  pub waits : after.outstanding ≡ Some call
+  pub one_more : calls_so_far after ≡ suc (calls_so_far part)
+  pub node : ℕ
+  pub asked : Has (asks t node call) sends
+
 -- what a task sends is the call that it waits for, and it makes one call, takes one reply, or neither
 pub record WentOn (t : ℕ) (part : TaskPart) (done : Done TaskPart) : Type 0 where
   pub sends : (m : Message) → Has m done.sends → (node : ℕ) × (call : Action) × (m ≡ asks t node call) × (done.part.outstanding ≡ Some call)
-  pub calls : calls_so_far part ≤ calls_so_far done.part
+  pub makes : MadeNone part done.part ⊎ MadeOne t part done.part done.sends
   pub replies : (length done.part.replies ≡ length part.replies) ⊎ ((length done.part.replies ≡ suc (length part.replies)) × (calls_so_far part ≡ suc (length part.replies)))
 
 abbrev pub WentOnIf : ℕ → TaskPart → Result (Done TaskPart) Fault → Type 0
@@ -169,7 +182,7 @@ WentOnIf t part (Ok done) = WentOn t part done
 WentOnIf t part (Err fault) = Unit {0}
 
 stayed : (t : ℕ) (part : TaskPart) → WentOn t part (goes_on_as part)
-stayed t part = record { sends = λ m h. absurd h; calls = omega arith; replies = inl refl }
+stayed t part = record { sends = λ m h. absurd h; makes = inl (record { as_many = refl; waits = λ call e. e }); replies = inl refl }
 
 one_asked : (t node : ℕ) (call : Action) (after : TaskPart) → after.outstanding ≡ Some call → (m : Message) → Has m (asks t node call ∷ [])
     → (k : ℕ) × (other : Action) × (m ≡ asks t k other) × (after.outstanding ≡ Some other)
@@ -179,17 +192,38 @@ pub most_calls : (waiting : Option Action) (n : ℕ) → (if is_some waiting the
 most_calls None n = omega arith
 most_calls (Some call) n = omega arith
 
-call_went : (t node : ℕ) (part : TaskPart) (made : Result Action Fault) → WentOnIf t part (calls_if t node part made)
-call_went t node part (Ok call) = record {
+-- a call is made only where the task waits for nothing
+abbrev IsIdleIf : Option Action → Result Action Fault → Type 0
+IsIdleIf waiting (Ok call) = waiting ≡ None
+IsIdleIf waiting (Err fault) = Unit {0}
+
+idle_if : (waiting : Option Action) (b : Bool) (fault : Fault) (other : Result Action Fault) → IsIdleIf waiting other → IsIdleIf waiting (if b then Err fault else other)
+idle_if waiting true fault other is = tt
+idle_if waiting false fault other is = is
+
+made_idle : (config : Config) (node : ℕ) (part : TaskPart) (call : Action) (waiting : Option Action) → IsIdleIf waiting (may_call config node part call waiting)
+made_idle config node part call (Some other) = tt
+made_idle config node part call None =
+    let last : Result Action Fault = if nat_lt config.nodes node || not (is_right call) then Err BadConfig else Ok call in
+    idle_if None (nat_le (2 ^ 32 - 1) (length part.replies)) NumbersSpent last (idle_if None (nat_lt config.nodes node || not (is_right call)) BadConfig (Ok call) refl)
+
+call_went : (t node : ℕ) (part : TaskPart) (made : Result Action Fault) → IsIdleIf part.outstanding made → WentOnIf t part (calls_if t node part made)
+call_went t node part (Ok call) idle = record {
   sends = one_asked t node call (record part { outstanding = Some call }) refl;
-  calls = most_calls part.outstanding (length part.replies);
+  makes = inr (record {
+    call = call;
+    waits = refl;
+    one_more = ap (λ (o : Option Action). suc (if is_some o then suc (length part.replies) else length part.replies)) (sym idle);
+    node = node;
+    asked = inl refl;
+  });
   replies = inl refl;
 }
-call_went t node part (Err fault) = tt
+call_went t node part (Err fault) idle = tt
 
 again_went : (t node : ℕ) (part : TaskPart) (waiting : Option Action) → part.outstanding ≡ waiting → WentOn t part (asks_again t node part waiting)
 again_went t node part None is = stayed t part
-again_went t node part (Some call) is = record { sends = one_asked t node call part is; calls = omega arith; replies = inl refl }
+again_went t node part (Some call) is = record { sends = one_asked t node call part is; makes = inl (record { as_many = refl; waits = λ other e. e }); replies = inl refl }
 
 went_if : (t : ℕ) (part : TaskPart) (b : Bool) (fault : Fault) (done : Done TaskPart) → WentOn t part done → WentOnIf t part (if b then Err fault else Ok done)
 went_if t part true fault done is = tt
@@ -214,7 +248,7 @@ reply_went t part number reply =
           let so_far : calls_so_far part ≡ suc (length part.replies) = waits_some part.outstanding (length part.replies) (omega (arith, positive, same)) in
           subst (WentOn t part) (sym (cond-true (takes part number) one (goes_on_as part) hit)) (record {
             sends = λ m h. absurd h;
-            calls = omega (arith, so_far, long);
+            makes = inl (record { as_many = long ∙ sym so_far; waits = λ call e. absurd (cc) });
             replies = inr (long, so_far);
           })
       | inr miss ↦ subst (WentOn t part) (sym (cond-false (takes part number) one (goes_on_as part) miss)) (stayed t part)
@@ -233,7 +267,9 @@ hears_went t part (bodies.Reply number reply) = reply_went t part number reply
 hears_went t part (bodies.Report first applied actions) = stayed t part
 
 pub task_went : (config : Config) (t : ℕ) (part : TaskPart) (input : TaskInput) → WentOnIf t part (task_effect config t part input)
-task_went config t part (Submit node object operation arg) = call_went t node part (may_call config node part (next_call t part object operation arg) part.outstanding)
+task_went config t part (Submit node object operation arg) =
+    let call = next_call t part object operation arg in
+    call_went t node part (may_call config node part call part.outstanding) (made_idle config node part call part.outstanding)
 task_went config t part (Again node) = went_if t part (nat_lt config.nodes node) BadConfig (asks_again t node part part.outstanding) (again_went t node part part.outstanding refl)
 task_went config t part (Take message) = hears_went t part message.body
 
@@ -243,20 +279,4 @@ others_ask t k sent sent' packets action other calls sends asked =
     elim ((sends (asks k asked.0 action)).0 asked.1) [
       | inl old ↦ (asked.0, old)
       | inr new ↦ let bad : Task k ≡ Task t = (calls (asks k asked.0 action) new).0 in absurd (other (same_task bad))
-    ]
-
--- what the task asked for is one of its calls so far
-pub turn_after : (given : List Answer) (t : ℕ) (part : TaskPart) (done : Done TaskPart) (sent sent' : List Message) → AsksInTurn sent t part → IsAnswered given t done.part → WentOn t part done
-    → SentToo done.sends sent sent' → AsksInTurn sent' t done.part
-turn_after given t part done sent sent' old now went sends action asked call of_it =
-    elim ((sends (asks t asked.0 action)).0 asked.1) [
-      | inl before ↦ let below : call.number ≤ calls_so_far part = old action (asked.0, before) call of_it in omega (arith, below, went.calls)
-      | inr new ↦
-          let sent_now = went.sends (asks t asked.0 action) new in
-          let same : action ≡ sent_now.1 = same_call (ap (λ (m : Message). m.body) sent_now.2) in
-          let waits : calls_of action ≡ named t (suc (length done.part.replies)) ∷ [] = now.waits action (sent_now.3 ∙ ap Some (sym same)) in
-          let there : Has call (named t (suc (length done.part.replies)) ∷ []) = subst (λ (calls : List CallName). Has call calls) waits of_it in
-          let number : call.number ≡ suc (length done.part.replies) = elim there [ inl is ↦ ap (λ (c : CallName). c.number) is | inr none ↦ absurd none ] in
-          let so_far : calls_so_far done.part ≡ suc (length done.part.replies) = ap (λ (o : Option Action). if is_some o then suc (length done.part.replies) else length done.part.replies) sent_now.3 in
-          omega (arith, number, so_far)
     ]

@@ -1,6 +1,6 @@
 -- What tasks are told: each reply that a node sent is an answer that its applied list leads to, and each
 -- reply that a task took is an answer that the order leads to (this project's own).
-use Rattle.std.specs.Prelude.{◌≡◌, ◌⊎◌, ℕ, suc, ◌≤◌, Some, is_some, unwrap_or, List, [], ◌∷◌, length, map, if◌then◌else◌}
+use Rattle.std.specs.Prelude.{◌≡◌, ◌⊎◌, ◌↔◌, ℕ, suc, ◌≤◌, Some, is_some, unwrap_or, List, [], ◌∷◌, ◌++◌, length, map, filter, if◌then◌else◌}
 use Rattle.rp_base.specs.Sets.{Has}
 use Rattle.rp_base.specs.Records.{applied_of}
 use Rattle.rp_base.specs.declared.action.Action.{Action}
@@ -13,7 +13,7 @@ use Rattle.rp_codec.specs.declared.packet.Party.TheVariants.{Node, Task, Audit}
 use Rattle.rp_codec.specs.declared.packet.Body.{Body}
 use Rattle.rp_codec.specs.declared.packet.Body.TheVariants.{Call, Prepare, Promise, Accept, Accepted, Decided, Ask, Nack, Reply, Report}
 use Rattle.rp_machine.specs.Calls.{CallName, calls_of, call_of}
-use Rattle.rp_machine.specs.Replay.{one_to, replay_answers}
+use Rattle.rp_machine.specs.Replay.{number_for, one_to, replay_answers}
 use Rattle.rp_model.specs.Effect.{Setting}
 use Rattle.rp_model.specs.Parts.{fresh_task}
 use Rattle.rp_model.specs.World.{World, part_at}
@@ -73,10 +73,23 @@ pub record IsAnswered (given : List Answer) (t : ℕ) (part : TaskPart) : Type 0
 abbrev pub calls_so_far : TaskPart → ℕ
 calls_so_far part = if is_some part.outstanding then suc (length part.replies) else length part.replies
 
--- what was asked for the task is one of its calls so far
-abbrev pub AsksInTurn : List Message → ℕ → TaskPart → Type 0
-AsksInTurn sent t part =
-    (action : Action) → Asks sent t action → (call : CallName) → Has call (calls_of action) → call.number ≤ calls_so_far part
+-- A task made these calls, in order: it asked for each of them and for no others, they are numbered from 1
+-- on, and the one that it waits for is among them.
+pub record AreMade (sent : List Message) (t : ℕ) (part : TaskPart) (made : List Action) : Type 0 where
+  pub asked : (action : Action) → Has action made ↔ Asks sent t action
+  pub numbered : map calls_of made ≡ map (λ n. named t n ∷ []) (one_to (calls_so_far part))
+  pub waits : (call : Action) → part.outstanding ≡ Some call → Has call made
+
+-- the calls of the task among the actions, in order
+abbrev pub calls_by : ℕ → List Action → List Action
+calls_by t actions = filter (λ action. is_some (number_for t action)) actions
+
+-- The calls of a task among the actions are those that it made, in order: all of them, or all but the one
+-- that it waits for.
+pub record AreItsCalls (sent : List Message) (t : ℕ) (part : TaskPart) (actions : List Action) : Type 0 where
+  pub made : List Action
+  pub are_made : AreMade sent t part made
+  pub all_but_last : (made ≡ calls_by t actions) ⊎ ((call : Action) × (part.outstanding ≡ Some call) × (made ≡ calls_by t actions ++ call ∷ []))
 
 -- the call stands among the actions
 abbrev pub Stands : CallName → List Action → Type 0
@@ -96,7 +109,7 @@ pub record IsKept {S : Type 0} (s : Setting S) (node : ℕ → NodePart) (task :
   pub own : (t : ℕ) → WaitsForOwn t (task t)
   pub replies : RepliesAre s node sent
   pub answered : (t : ℕ) → IsAnswered (answers_of s (order_of s.config.nodes sent)) t (task t)
-  pub in_turn : (t : ℕ) → AsksInTurn sent t (task t)
+  pub made : (t : ℕ) → (calls : List Action) × AreMade sent t (task t) calls
   pub ready : (t n : ℕ) → n ≤ length (task t).replies → IsReady s (order_of s.config.nodes sent) t n
 
 -- the part of the task of this number, from 1; a fresh one where there is no such task

@@ -43,6 +43,6 @@ pub use ranges::{
     events_keep_ranges, few_packets_are_sent, packets_are_right, records_stay_in_the_log,
 };
 pub use replies::{
-    answers_are_one, calls_count_where_they_first_stand, events_keep_replies,
+    answers_are_one, calls_count_in_turn, calls_count_where_they_first_stand, events_keep_replies,
     node_events_keep_replies, replies_tell_the_order, task_events_keep_replies,
 };

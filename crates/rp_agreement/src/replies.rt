@@ -9,6 +9,7 @@ ghost use Rattle.rp_base.specs.declared.reply.Answer.{Answer};
 ghost use Rattle.rp_codec.specs.Message.{Message};
 ghost use Rattle.rp_machine.specs.Calls.{CallName, calls_of};
 ghost use Rattle.rp_machine.specs.Places.{IsAnswerOf, IsPlace};
+ghost use Rattle.rp_machine.specs.Replay.{kept_of};
 ghost use Rattle.rp_model.specs.Answers.{Steps};
 ghost use Rattle.rp_model.specs.Effect.{Setting, Done, NodeInput, goes_on_as, untorn_part};
 ghost use Rattle.rp_model.specs.Effect.{node_effect, cut_effect, stop_effect, restart_part};
@@ -22,7 +23,7 @@ ghost use Rattle.rp_agreement.specs.Computed.{order_of};
 ghost use Rattle.rp_agreement.specs.History.{IsHistory};
 ghost use Rattle.rp_agreement.specs.Inputs.{IsInput, IsTaskInput, NodeMoves, TaskMoves};
 ghost use Rattle.rp_agreement.specs.Sound.{IsMember};
-ghost use Rattle.rp_agreement.specs.Answered.{named, setting_for, Stands, IsKept, IsKeptWorld};
+ghost use Rattle.rp_agreement.specs.Answered.{named, setting_for, Stands, AreItsCalls, IsKept, IsKeptWorld};
 
 use crate::opening::the_opening_is_sound;
 use rp_machine::{Machine, a_call_has_one_answer};
@@ -129,4 +130,14 @@ pub fn calls_count_where_they_first_stand<M: Machine>()
         → slice_get order k ≡ Some action → calls_of action ≡ named t n ∷ []
         → ¬ Stands (named t n) (take k order)
         → IsPlace M.next M.answers (M.begin program) order (named t n) (suc k) }
+{}
+
+/// At a program of a machine the calls of a task that count in the order are those that the task
+/// made, in order: all of them, or all but the one that it waits for.
+pub fn calls_count_in_turn<M: Machine>()
+    ensures { (config : Config) (program : M.Program) (node : ℕ → NodePart)
+        (task : ℕ → TaskPart) (sent : List Message)
+        → IsKept (setting_for M.next M.answers M.begin config program) node task sent
+        → let order = order_of config.nodes sent in
+        (t : ℕ) → AreItsCalls sent t (task t) (kept_of M.next M.answers (M.begin program) order) }
 {}

@@ -3,7 +3,11 @@
 #![tactic(auto)]
 
 #[cfg(test)]
+mod failing;
+#[cfg(test)]
 mod learner;
+#[cfg(test)]
+mod replica;
 #[cfg(test)]
 mod store;
 #[cfg(test)]

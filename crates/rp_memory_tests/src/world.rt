@@ -1,38 +1,99 @@
-use rp_base::{Config, Fault, NodeId, Position, TaskId};
-use rp_machine::{Tally, TallyProgram};
-use rp_world::{Cluster, Event, Step};
+use rp_base::{Config, Fault, NodeId, Operation, Reply, TaskId};
+use rp_machine::{Machine, Tally, TallyProgram};
+use rp_model::{Effect, Event, Step};
+use rp_store::{CutDevice, MemDevice};
+use rp_world::*;
 use std::alloc::Global;
 use std::test::Fail;
 
-/// The opening cluster, tried again where memory was refused once.
-fn opened_at_last(
+/// A step, taken once more where memory was refused and no message was sent.
+fn step<M: Machine, D: CutDevice>(
+    cluster: &mut Cluster<M, D>,
     alloc: Global,
-    config: Config,
-    program: TallyProgram,
-) -> Result<Cluster<Tally>, Fault> {
-    match Cluster::new(alloc, config, program) {
-        Err(Fault::OutOfMemory) => Cluster::new(alloc, config, program),
+    event: &Event,
+) -> Result<Effect, Fault> {
+    let messages = cluster.messages();
+    match cluster.step(alloc, event) {
+        Err(Fault::OutOfMemory) if cluster.messages() == messages => cluster.step(alloc, event),
         answer => answer,
     }
 }
 
-#[test]
-fn a_full_log_is_told_whatever_memory_is_refused(rt: HostRuntime) -> Result<(), Fail> {
+/// Delivers each message that was not delivered, in order, and gives the number of the last.
+fn deliver_all<M: Machine, D: CutDevice>(
+    cluster: &mut Cluster<M, D>,
+    alloc: Global,
+    delivered: u64,
+) -> Result<u64, Fault> {
+    let mut last = delivered;
+    for _ in 0..100 {
+        if last >= cluster.messages() {
+            break;
+        }
+        last = last.saturating_add(1);
+        step(cluster, alloc, &Event::Node(Step::Deliver(last)))?;
+    }
+    Ok(last)
+}
+
+/// Task 1 calls node 1, which leads; node 2 stops and starts again. It tells how many messages there are and
+/// the last reply, or why the cluster does not open.
+fn one_call<M: Machine, D: CutDevice>(
+    alloc: Global,
+    program: M::Program,
+    devices: Vec<D>,
+) -> Result<(u64, Option<Reply>), Fault> {
     let config = Config {
         nodes: 3,
         max_positions: 1,
     };
-    let program = TallyProgram::new(1).ok_or("one object")?;
-    let mut cluster = opened_at_last(rt.alloc(), config, program)?;
-    let beyond = Event::Node(Step::Lead {
-        node: NodeId::new(1).ok_or("node 1")?,
-        position: Position::new(2),
+    let mut cluster: Cluster<M, D> = Cluster::new(alloc, config, program, devices)?;
+    let task = TaskId::first();
+    let node = NodeId::new(1).ok_or(Fault::BadConfig)?;
+    let second = NodeId::new(2).ok_or(Fault::BadConfig)?;
+    let call = Event::Submit {
+        task,
+        node,
+        object: 1,
+        operation: Operation::Procedure(1),
+        arg: 5,
+    };
+    let lead = Event::Node(Step::Lead {
+        node,
+        position: None,
     });
-    assert_eq!(rt;
-        cluster.step(rt.alloc(), &beyond).err(),
-        Some(Fault::LogFull)
-    );
-    assert_eq!(rt; cluster.messages(), 0);
-    assert_eq!(rt; cluster.replies(TaskId::first()).len(), 0);
+    step(&mut cluster, alloc, &call)?;
+    let delivered = deliver_all(&mut cluster, alloc, 0)?;
+    step(&mut cluster, alloc, &lead)?;
+    step(&mut cluster, alloc, &Event::Stop(second))?;
+    step(&mut cluster, alloc, &Event::Restart(second))?;
+    deliver_all(&mut cluster, alloc, delivered)?;
+    let replies = cluster.replies(task);
+    Ok((
+        cluster.messages(),
+        replies.last().map(|answer| answer.reply),
+    ))
+}
+
+/// Three devices that hold nothing, made once more where memory was refused.
+fn devices(alloc: Global) -> Result<Vec<MemDevice>, Fail> {
+    let mut devices = Vec::new(alloc);
+    for _ in 0..3 {
+        if devices.push(MemDevice::new(alloc)).is_err() {
+            devices.push(MemDevice::new(alloc))?;
+        }
+    }
+    Ok(devices)
+}
+
+#[test]
+fn a_cluster_whose_memory_is_refused_once_answers_the_same(rt: HostRuntime) -> Result<(), Fail> {
+    let alloc = rt.alloc();
+    let program = TallyProgram::new(1).ok_or("one object")?;
+    let told = match one_call::<Tally, MemDevice>(alloc, program, devices(alloc)?) {
+        Err(Fault::OutOfMemory) => one_call::<Tally, MemDevice>(alloc, program, devices(alloc)?),
+        told => told,
+    };
+    assert_eq!(rt; told?, (16, Some(Reply::Value(5))));
     Ok(())
 }

@@ -4,7 +4,7 @@ use Rattle.std.specs.Ordering.{nat_cmp}
 use Rattle.std.specs.FinMap.{FinMap, len, len-empty}
 use Rattle.rp_body.specs.declared.components.Ranged.{Ranged}
 use Rattle.rp_body.proofs.Storing.{added_bools}
-use Rattle.rp_tests.proofs.entry.gate_components.Goals as goal
+use Rattle.rp_object_tests.proofs.entry.gate_components.Goals as goal
 
 pub add_int-requires : goal.add_int-requires
 add_int-requires c =

@@ -1,0 +1,8 @@
+//! Tests of nodes and clusters by events. Each helper is generic in the machine and the device, so that it is
+//! proved once, by their contracts alone.
+#![tactic(auto)]
+
+#[cfg(test)]
+mod replica;
+#[cfg(test)]
+mod world;

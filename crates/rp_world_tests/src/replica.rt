@@ -1,0 +1,370 @@
+ghost use Rattle.std.specs.Prelude.{◌≤◌};
+
+use rp_base::{Config, Fault, NodeId, PacketReason, Position};
+use rp_codec::packet_len;
+use rp_machine::{Machine, Tally, TallyProgram};
+use rp_model::Dropped;
+use rp_replica::*;
+use rp_store::{CutDevice, Device, MemDevice};
+use std::alloc::Global;
+use std::test::Fail;
+
+/// Task 1 calls node 1 for the first time: procedure 1 of object 1 with 5.
+const CALL: [u8; 21] = [
+    1, 1, 17, 1, 1, 1, 0, 0, 0, 1, 1, 2, 1, 0, 0, 0, 0, 0, 0, 0, 5,
+];
+
+/// Node 1 asks node 3 to vote for that call at position 1 in ballot 9.
+const ACCEPT: [u8; 31] = [
+    1, 4, 1, 3, 0, 1, 0, 0, 0, 0, 0, 0, 0, 9, 1, 1, 0, 0, 0, 1, 1, 2, 1, 0, 0, 0, 0, 0, 0, 0, 5,
+];
+
+/// Two votes in ballot 9 at position 1, for nothing and for tick 7.
+const VOTES: [u8; 30] = [
+    1, 3, 0, 1, 0, 0, 0, 0, 0, 0, 0, 9, 0, 1, 3, 0, 1, 0, 0, 0, 0, 0, 0, 0, 9, 3, 0, 0, 0, 7,
+];
+
+/// A node of three over a device that holds these bytes.
+fn opened<M: Machine, D: Device>(
+    alloc: Global,
+    node: u8,
+    max_positions: u16,
+    program: &M::Program,
+    mut device: D,
+    bytes: &[u8],
+) -> Result<Opening<M, D>, Fault>
+    requires positions { 1 ≤ max_positions }
+{
+    device.append(bytes)?;
+    device.sync()?;
+    let node = NodeId::new(node).ok_or(Fault::BadConfig)?;
+    if node.get() > 3 {
+        return Err(Fault::BadConfig);
+    }
+    let config = Config {
+        nodes: 3,
+        max_positions,
+    };
+    match Replica::open(alloc, node, config, program, device) {
+        Ok(opening) => Ok(opening),
+        Err((fault, _)) => Err(fault),
+    }
+}
+
+/// Puts the texts of a step's packets behind the others.
+fn take_texts(alloc: Global, sent: &Sent, texts: &mut Vec<Vec<u8>>) -> Result<(), Fault> {
+    let mut rest = sent.bytes.as_slice();
+    for _ in 0..sent.packets {
+        let len = packet_len(rest).ok_or(Fault::NoSuchMessage)?;
+        let text = rest.get(..len).ok_or(Fault::NoSuchMessage)?;
+        texts.push(text.to_vec(alloc)?)?;
+        rest = rest.get(len..).ok_or(Fault::NoSuchMessage)?;
+    }
+    Ok(())
+}
+
+/// Three nodes, and the texts of all packets that were sent.
+#[derive(Drop)]
+struct Nodes<M: Machine, D: Device> {
+    nodes: Vec<Replica<M, D>>,
+    texts: Vec<Vec<u8>>,
+    delivered: usize,
+}
+
+impl<M: Machine, D: Device> Nodes<M, D> {
+    fn new(alloc: Global, program: &M::Program, devices: Vec<D>) -> Result<Self, Fault> {
+        let mut nodes = Vec::new(alloc);
+        for (number, device) in (1..=3).zip(devices) {
+            let opening = opened(alloc, number, 1000, program, device, &[])?;
+            nodes.push(opening.replica)?;
+        }
+        Ok(Nodes {
+            nodes,
+            texts: Vec::new(alloc),
+            delivered: 0,
+        })
+    }
+
+    /// Gives each text that was not delivered to the node that it is for, in order, with all that
+    /// comes of it.
+    fn deliver(&mut self, alloc: Global) -> Result<(), Fault> {
+        for _ in 0..100 {
+            if self.delivered >= self.texts.len() {
+                break;
+            }
+            let text = self.texts[self.delivered].clone()?;
+            self.delivered = self.delivered.saturating_add(1);
+            let to = usize::from(text.get(3).copied().unwrap_or(0));
+            if let Some(node) = self.nodes.get_mut(to.saturating_sub(1)) {
+                let sent = node.turn(alloc, &Input::Receive(&text))?;
+                take_texts(alloc, &sent, &mut self.texts)?;
+            }
+        }
+        Ok(())
+    }
+}
+
+/// What a run leaves: the packets, what each node stored, applied and shows, and the report of node 2.
+#[derive(Drop)]
+struct Left {
+    texts: Vec<Vec<u8>>,
+    stored: Vec<u64>,
+    applied: Vec<u32>,
+    images: Vec<Vec<u8>>,
+    report: Vec<u8>,
+}
+
+/// The call comes to node 1, which then leads; all is delivered, and node 2 reports.
+fn one_call<M: Machine, D: Device>(
+    alloc: Global,
+    program: &M::Program,
+    devices: Vec<D>,
+) -> Result<Left, Fault> {
+    let mut run: Nodes<M, D> = Nodes::new(alloc, program, devices)?;
+    run.texts.push(CALL.to_vec(alloc)?)?;
+    run.deliver(alloc)?;
+    let leader = run.nodes.first_mut().ok_or(Fault::BadConfig)?;
+    let sent = leader.turn(alloc, &Input::Lead(None))?;
+    take_texts(alloc, &sent, &mut run.texts)?;
+    run.deliver(alloc)?;
+    let second = run.nodes.get_mut(1).ok_or(Fault::BadConfig)?;
+    let report = second.report(alloc, Position::first())?.bytes;
+    let mut left = Left {
+        texts: run.texts,
+        stored: Vec::new(alloc),
+        applied: Vec::new(alloc),
+        images: Vec::new(alloc),
+        report,
+    };
+    for node in &run.nodes {
+        left.stored.push(node.stored())?;
+        left.applied.push(node.applied())?;
+        left.images.push(node.image(alloc)?)?;
+    }
+    Ok(left)
+}
+
+#[test]
+fn one_call_is_decided_by_three_replicas(rt: HostRuntime) -> Result<(), Fail> {
+    let alloc = rt.alloc();
+    let program = TallyProgram::new(1).ok_or("one object")?;
+    let mut devices = Vec::new(alloc);
+    for _ in 0..3 {
+        devices.push(MemDevice::new(alloc))?;
+    }
+    let left = one_call::<Tally, MemDevice>(alloc, &program, devices)?;
+    assert_eq!(rt; left.texts.len(), 16);
+    assert_eq!(rt; left.texts[9].as_slice(), ACCEPT.as_slice());
+    assert_eq!(rt;
+        left.texts[15].as_slice(),
+        b"\x01\x09\x01\x11\0\0\0\x01\x01\0\0\0\0\0\0\0\x05".as_slice()
+    );
+    assert_eq!(rt; left.stored.as_slice(), [72, 62, 62].as_slice());
+    assert_eq!(rt; left.applied.as_slice(), [1, 1, 1].as_slice());
+    assert_eq!(rt; left.images.len(), 3);
+    for image in &left.images {
+        assert_eq!(rt; image.as_slice(), b"tally o1=5\n".as_slice());
+    }
+    assert_eq!(rt;
+        left.report.as_slice(),
+        b"\x01\x0a\x02\x20\0\x01\0\x01\x01\x01\x01\0\0\0\x01\x01\x02\x01\0\0\0\0\0\0\0\x05".as_slice()
+    );
+    Ok(())
+}
+
+/// What node 3 of three, with a log of one position, makes of a packet: what it drops, how many
+/// packets it sends, and how many bytes its device then holds.
+fn hears<M: Machine, D: Device>(
+    alloc: Global,
+    program: &M::Program,
+    device: D,
+    text: &[u8],
+) -> Result<(Dropped, usize, u64), Fault> {
+    let mut node = opened::<M, D>(alloc, 3, 1, program, device, &[])?.replica;
+    let sent = node.receive(alloc, text)?;
+    Ok((sent.dropped, sent.packets, node.stored()))
+}
+
+#[test]
+fn what_is_foreign_changes_nothing(rt: HostRuntime) -> Result<(), Fail> {
+    let alloc = rt.alloc();
+    let program = TallyProgram::new(1).ok_or("one object")?;
+    let cases: [(&str, &[u8]); 6] = [
+        (
+            "for another node",
+            b"\x01\x02\x01\x02\0\x01\0\0\0\0\0\0\0\x09",
+        ),
+        (
+            "from a node above 3",
+            b"\x01\x02\x04\x03\0\x01\0\0\0\0\0\0\0\x0c",
+        ),
+        ("above the log", b"\x01\x02\x01\x03\0\x02\0\0\0\0\0\0\0\x09"),
+        (
+            "in another's ballot",
+            b"\x01\x02\x01\x03\0\x01\0\0\0\0\0\0\0\x0a",
+        ),
+        ("asked above the log", b"\x01\x07\x01\x03\0\x02"),
+        (
+            "a reply",
+            b"\x01\x09\x01\x11\0\0\0\x01\x01\0\0\0\0\0\0\0\x05",
+        ),
+    ];
+    for (name, text) in cases {
+        let (dropped, packets, stored) = hears::<Tally, MemDevice>(
+            alloc,
+            &program,
+            MemDevice::new(alloc),
+            text,
+        )?;
+        assert!(rt; matches!(dropped, Dropped::Foreign), "{name}");
+        assert_eq!(rt; (packets, stored), (0, 0), "{name}");
+    }
+    let unknown = hears::<Tally, MemDevice>(alloc, &program, MemDevice::new(alloc), b"\x01\x0b");
+    assert_eq!(rt; unknown.err(), Some(Fault::BadPacket(PacketReason::Kind)));
+    Ok(())
+}
+
+/// The first tick, of those from 1 on, for which there is no place.
+fn first_full_tick<M: Machine, D: Device>(
+    alloc: Global,
+    program: &M::Program,
+    device: D,
+) -> Result<u32, Fault> {
+    let mut node = opened::<M, D>(alloc, 1, 1, program, device, &[])?.replica;
+    for now in 1..=100 {
+        let sent = node.turn(alloc, &Input::Tick { now })?;
+        if matches!(sent.dropped, Dropped::Full) {
+            return Ok(now);
+        }
+    }
+    Err(Fault::LogFull)
+}
+
+#[test]
+fn the_33rd_tick_finds_no_place(rt: HostRuntime) -> Result<(), Fail> {
+    let alloc = rt.alloc();
+    let program = TallyProgram::new(1).ok_or("one object")?;
+    let full = first_full_tick::<Tally, MemDevice>(alloc, &program, MemDevice::new(alloc))?;
+    assert_eq!(rt; full, 33);
+    Ok(())
+}
+
+/// How many records of these bytes count for node 3, and how many bytes it cuts off.
+fn found<M: Machine, D: Device>(
+    alloc: Global,
+    program: &M::Program,
+    device: D,
+    bytes: &[u8],
+) -> Result<(u64, u64), Fault> {
+    let opening = opened::<M, D>(alloc, 3, 1, program, device, bytes)?;
+    Ok((opening.records, opening.cut_bytes))
+}
+
+#[test]
+fn a_replica_opens_over_what_its_device_holds(rt: HostRuntime) -> Result<(), Fail> {
+    let alloc = rt.alloc();
+    let program = TallyProgram::new(1).ok_or("one object")?;
+    let cases: [(&str, &[u8], u64, u64); 3] = [
+        (
+            "a torn promise",
+            b"\x01\x01\0\0\0\0\0\0\0\x09\x01\x02\0\x01",
+            1,
+            4,
+        ),
+        (
+            "above the log",
+            b"\x01\x04\0\x02\x00\x01\x04\0\x01\x00",
+            1,
+            0,
+        ),
+        ("two votes in a ballot", &VOTES, 2, 0),
+    ];
+    for (name, bytes, records, cut_bytes) in cases {
+        let counts = found::<Tally, MemDevice>(alloc, &program, MemDevice::new(alloc), bytes)?;
+        assert_eq!(rt; counts, (records, cut_bytes), "{name}");
+    }
+    Ok(())
+}
+
+/// What node 3 answers to a packet, over these bytes.
+fn answer_over<M: Machine, D: Device>(
+    alloc: Global,
+    program: &M::Program,
+    device: D,
+    bytes: &[u8],
+    text: &[u8],
+) -> Result<Vec<u8>, Fault> {
+    let mut node = opened::<M, D>(alloc, 3, 1, program, device, bytes)?.replica;
+    Ok(node.receive(alloc, text)?.bytes)
+}
+
+#[test]
+fn of_two_votes_in_a_ballot_the_first_is_told(rt: HostRuntime) -> Result<(), Fail> {
+    let alloc = rt.alloc();
+    let program = TallyProgram::new(1).ok_or("one object")?;
+    let prepare = b"\x01\x02\x02\x03\0\x01\0\0\0\0\0\0\0\x0a";
+    let promise = b"\x01\x03\x03\x02\0\x01\0\0\0\0\0\0\0\x0a\x01\0\0\0\0\0\0\0\x09\x00";
+    let device = MemDevice::new(alloc);
+    let answer = answer_over::<Tally, MemDevice>(alloc, &program, device, &VOTES, prepare)?;
+    assert_eq!(rt; answer.as_slice(), promise.as_slice());
+    Ok(())
+}
+
+/// What node 3 finds where it stopped within the step of a packet.
+fn found_after_a_cut<M: Machine, D: CutDevice>(
+    alloc: Global,
+    program: &M::Program,
+    device: D,
+    text: &[u8],
+    kept: u64,
+) -> Result<(u64, u64), Fault> {
+    let node = opened::<M, D>(alloc, 3, 1, program, device, &[])?.replica;
+    match node.torn(alloc, &Input::Receive(text), kept) {
+        Ok(device) => found::<M, D>(alloc, program, device, &[]),
+        Err(NotCut::Refused(fault, _)) => Err(fault),
+        Err(NotCut::Failed(_)) => Err(Fault::Device),
+    }
+}
+
+#[test]
+fn a_cut_keeps_so_many_bytes_of_the_vote(rt: HostRuntime) -> Result<(), Fail> {
+    let alloc = rt.alloc();
+    let program = TallyProgram::new(1).ok_or("one object")?;
+    for (kept, records, cut_bytes) in [(0, 0, 0), (28, 0, 28), (29, 1, 0), (1000, 1, 0)] {
+        let device = MemDevice::new(alloc);
+        let counts = found_after_a_cut::<Tally, MemDevice>(alloc, &program, device, &ACCEPT, kept)?;
+        assert_eq!(rt; counts, (records, cut_bytes), "kept {kept}");
+    }
+    Ok(())
+}
+
+/// The positions that node 1 leads in turn, over these bytes, until it is refused, and why.
+fn positions_led<M: Machine, D: Device>(
+    alloc: Global,
+    program: &M::Program,
+    device: D,
+    bytes: &[u8],
+) -> Result<(Vec<u8>, Fault), Fault> {
+    let mut node = opened::<M, D>(alloc, 1, 3, program, device, bytes)?.replica;
+    let mut positions = Vec::new(alloc);
+    for _ in 0..9 {
+        match node.lead(alloc, None) {
+            Ok(sent) => positions.push(sent.bytes.get(5).copied().unwrap_or(0))?,
+            Err(fault) => return Ok((positions, fault)),
+        }
+    }
+    Err(Fault::NumbersSpent)
+}
+
+#[test]
+fn the_least_free_position_is_led_until_the_log_is_full(rt: HostRuntime) -> Result<(), Fail> {
+    let alloc = rt.alloc();
+    let program = TallyProgram::new(1).ok_or("one object")?;
+    // position 2 is learned
+    let learned = b"\x01\x04\0\x02\x00";
+    let device = MemDevice::new(alloc);
+    let (positions, fault) = positions_led::<Tally, MemDevice>(alloc, &program, device, learned)?;
+    assert_eq!(rt; positions.as_slice(), [1, 3].as_slice());
+    assert_eq!(rt; fault, Fault::LogFull);
+    Ok(())
+}

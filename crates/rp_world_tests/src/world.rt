@@ -1,0 +1,276 @@
+use rp_base::{Config, Fault, NodeId, Operation, Position, Reply, TaskId};
+use rp_machine::{Machine, Tally, TallyProgram};
+use rp_model::{Event, Step};
+use rp_store::{CutDevice, MemDevice};
+use rp_world::*;
+use std::alloc::Global;
+use std::test::Fail;
+
+/// Three nodes over these devices, with a log of one position.
+fn opened<M: Machine, D: CutDevice>(
+    alloc: Global,
+    program: M::Program,
+    devices: Vec<D>,
+) -> Result<Cluster<M, D>, Fault> {
+    let config = Config {
+        nodes: 3,
+        max_positions: 1,
+    };
+    Cluster::new(alloc, config, program, devices)
+}
+
+/// Task 1 calls the node: procedure 1 of object 1.
+fn call(node: NodeId, arg: i64) -> Event {
+    Event::Submit {
+        task: TaskId::first(),
+        node,
+        object: 1,
+        operation: Operation::Procedure(1),
+        arg,
+    }
+}
+
+fn lead(node: NodeId) -> Event {
+    Event::Node(Step::Lead {
+        node,
+        position: None,
+    })
+}
+
+/// Delivers the messages above the one number, up to the other, from the highest down, each three
+/// times.
+fn deliver_thrice<M: Machine, D: CutDevice>(
+    cluster: &mut Cluster<M, D>,
+    alloc: Global,
+    above: u64,
+    last: u64,
+) -> Result<(), Fault> {
+    for number in (above.saturating_add(1)..=last).rev() {
+        for _ in 0..3 {
+            cluster.step(alloc, &Event::Node(Step::Deliver(number)))?;
+        }
+    }
+    Ok(())
+}
+
+/// In rounds, delivers what was not delivered in an earlier round, until a round sends nothing.
+fn deliver_in_rounds<M: Machine, D: CutDevice>(
+    cluster: &mut Cluster<M, D>,
+    alloc: Global,
+    delivered: u64,
+) -> Result<u64, Fault> {
+    let mut above = delivered;
+    for _ in 0..100 {
+        let last = cluster.messages();
+        if last <= above {
+            break;
+        }
+        deliver_thrice(cluster, alloc, above, last)?;
+        above = last;
+    }
+    Ok(above)
+}
+
+/// What a run leaves: how many messages there are, what each node stored, applied and shows, and the
+/// replies of task 1.
+#[derive(Drop)]
+struct Left {
+    messages: u64,
+    stored: Vec<u64>,
+    applied: Vec<u16>,
+    images: Vec<Vec<u8>>,
+    replies: Vec<Reply>,
+}
+
+fn left_by<M: Machine, D: CutDevice>(
+    cluster: &Cluster<M, D>,
+    alloc: Global,
+) -> Result<Left, Fault> {
+    let mut left = Left {
+        messages: cluster.messages(),
+        stored: Vec::new(alloc),
+        applied: Vec::new(alloc),
+        images: Vec::new(alloc),
+        replies: Vec::new(alloc),
+    };
+    for number in 1..=3 {
+        let node = NodeId::new(number).ok_or(Fault::BadConfig)?;
+        left.stored.push(cluster.stored(node)?)?;
+        left.applied.push(cluster.applied(node)?)?;
+        left.images.push(cluster.image(alloc, node)?)?;
+    }
+    for answer in cluster.replies(TaskId::first()) {
+        left.replies.push(answer.reply)?;
+    }
+    Ok(left)
+}
+
+/// Task 1 calls node 1 and node 1 leads, each followed by its rounds.
+fn one_call_in_rounds<M: Machine, D: CutDevice>(
+    alloc: Global,
+    program: M::Program,
+    devices: Vec<D>,
+) -> Result<Left, Fault> {
+    let node = NodeId::new(1).ok_or(Fault::BadConfig)?;
+    let mut cluster: Cluster<M, D> = opened(alloc, program, devices)?;
+    cluster.step(alloc, &call(node, 5))?;
+    let delivered = deliver_in_rounds(&mut cluster, alloc, 0)?;
+    cluster.step(alloc, &lead(node))?;
+    deliver_in_rounds(&mut cluster, alloc, delivered)?;
+    left_by(&cluster, alloc)
+}
+
+/// Three devices that hold nothing.
+fn devices(alloc: Global) -> Result<Vec<MemDevice>, Fail> {
+    let mut devices = Vec::new(alloc);
+    for _ in 0..3 {
+        devices.push(MemDevice::new(alloc))?;
+    }
+    Ok(devices)
+}
+
+#[test]
+fn what_comes_three_times_from_the_last_down_changes_no_reply(rt: HostRuntime) -> Result<(), Fail> {
+    let alloc = rt.alloc();
+    let program = TallyProgram::new(1).ok_or("one object")?;
+    let left = one_call_in_rounds::<Tally, MemDevice>(alloc, program, devices(alloc)?)?;
+    assert_eq!(rt; left.messages, 22);
+    assert_eq!(rt; left.stored.as_slice(), [72, 62, 62].as_slice());
+    assert_eq!(rt; left.applied.as_slice(), [1, 1, 1].as_slice());
+    assert_eq!(rt; left.replies.as_slice(), [Reply::Value(5)].as_slice());
+    assert_eq!(rt; left.images.len(), 3);
+    for image in &left.images {
+        assert_eq!(rt; image.as_slice(), b"tally o1=5\n".as_slice());
+    }
+    Ok(())
+}
+
+/// The text of the report that node 2 sends after one call, of the actions from a position on.
+fn report_after_one_call<M: Machine, D: CutDevice>(
+    alloc: Global,
+    program: M::Program,
+    devices: Vec<D>,
+    first: Position,
+) -> Result<Vec<u8>, Fault> {
+    let node = NodeId::new(1).ok_or(Fault::BadConfig)?;
+    let second = NodeId::new(2).ok_or(Fault::BadConfig)?;
+    let mut cluster: Cluster<M, D> = opened(alloc, program, devices)?;
+    cluster.step(alloc, &call(node, 5))?;
+    let delivered = deliver_in_rounds(&mut cluster, alloc, 0)?;
+    cluster.step(alloc, &lead(node))?;
+    deliver_in_rounds(&mut cluster, alloc, delivered)?;
+    let report = Event::Node(Step::Report {
+        node: second,
+        first,
+    });
+    cluster.step(alloc, &report)?;
+    let number = cluster.messages();
+    cluster.message(alloc, number)
+}
+
+#[test]
+fn a_report_tells_the_actions_from_a_position_on(rt: HostRuntime) -> Result<(), Fail> {
+    let alloc = rt.alloc();
+    let cases: [(u16, &[u8]); 2] = [
+        (
+            1,
+            b"\x01\x0a\x02\x20\0\x01\0\x01\x01\x01\x01\0\0\0\x01\x01\x02\x01\0\0\0\0\0\0\0\x05",
+        ),
+        (2, b"\x01\x0a\x02\x20\0\x02\0\x01\0"),
+    ];
+    for (first, text) in cases {
+        let program = TallyProgram::new(1).ok_or("one object")?;
+        let first = Position::new(first).ok_or("a position")?;
+        let devices = devices(alloc)?;
+        let report = report_after_one_call::<Tally, MemDevice>(alloc, program, devices, first)?;
+        assert_eq!(rt; report.as_slice(), text);
+    }
+    Ok(())
+}
+
+/// The texts of the messages of one call, all delivered in order.
+fn texts_of_one_call<M: Machine, D: CutDevice>(
+    alloc: Global,
+    program: M::Program,
+    devices: Vec<D>,
+) -> Result<Vec<Vec<u8>>, Fault> {
+    let node = NodeId::new(1).ok_or(Fault::BadConfig)?;
+    let mut cluster: Cluster<M, D> = opened(alloc, program, devices)?;
+    cluster.step(alloc, &call(node, 5))?;
+    cluster.step(alloc, &Event::Node(Step::Deliver(1)))?;
+    cluster.step(alloc, &lead(node))?;
+    let mut texts = Vec::new(alloc);
+    texts.push(cluster.message(alloc, 1)?)?;
+    for number in 2..100 {
+        if number > cluster.messages() {
+            break;
+        }
+        cluster.step(alloc, &Event::Node(Step::Deliver(number)))?;
+        texts.push(cluster.message(alloc, number)?)?;
+    }
+    Ok(texts)
+}
+
+/// Some of these texts, by the numbers of the messages.
+const TEXTS: [(usize, &[u8]); 6] = [
+    (2, b"\x01\x02\x01\x01\x00\x01\0\0\0\0\0\0\0\x09"),
+    (6, b"\x01\x03\x02\x01\x00\x01\0\0\0\0\0\0\0\x09\x00"),
+    (
+        9,
+        b"\x01\x04\x01\x02\x00\x01\0\0\0\0\0\0\0\x09\x01\x01\0\0\0\x01\x01\x02\x01\0\0\0\0\0\0\0\x05",
+    ),
+    (
+        12,
+        b"\x01\x05\x02\x01\x00\x01\0\0\0\0\0\0\0\x09\x01\x01\0\0\0\x01\x01\x02\x01\0\0\0\0\0\0\0\x05",
+    ),
+    (
+        14,
+        b"\x01\x06\x01\x02\x00\x01\x01\x01\0\0\0\x01\x01\x02\x01\0\0\0\0\0\0\0\x05",
+    ),
+    (16, b"\x01\x09\x01\x11\0\0\0\x01\x01\0\0\0\0\0\0\0\x05"),
+];
+
+#[test]
+fn each_message_has_its_text(rt: HostRuntime) -> Result<(), Fail> {
+    let alloc = rt.alloc();
+    let program = TallyProgram::new(1).ok_or("one object")?;
+    let texts = texts_of_one_call::<Tally, MemDevice>(alloc, program, devices(alloc)?)?;
+    assert_eq!(rt; texts.len(), 16);
+    for (number, text) in TEXTS {
+        let told = texts.get(number.saturating_sub(1)).ok_or("a message")?;
+        assert_eq!(rt; told.as_slice(), text, "message {number}");
+    }
+    Ok(())
+}
+
+/// Where a run of these events stops, and how many messages there are then.
+fn run_of<M: Machine, D: CutDevice>(
+    alloc: Global,
+    program: M::Program,
+    devices: Vec<D>,
+    events: &[Event],
+) -> Result<(Option<Refused>, u64), Fault> {
+    let mut cluster: Cluster<M, D> = opened(alloc, program, devices)?;
+    let stopped = cluster.run(alloc, events).err();
+    Ok((stopped, cluster.messages()))
+}
+
+#[test]
+fn a_run_stops_at_the_first_refusal(rt: HostRuntime) -> Result<(), Fail> {
+    let alloc = rt.alloc();
+    let program = TallyProgram::new(1).ok_or("one object")?;
+    let node = NodeId::new(1).ok_or("node 1")?;
+    let events = [
+        call(node, 5),
+        Event::Node(Step::Deliver(1)),
+        call(node, 1),
+        lead(node),
+    ];
+    let busy = Refused {
+        place: 2,
+        fault: Fault::TaskBusy,
+    };
+    let stopped = run_of::<Tally, MemDevice>(alloc, program, devices(alloc)?, &events)?;
+    assert_eq!(rt; stopped, (Some(busy), 1));
+    Ok(())
+}

@@ -7,6 +7,8 @@
 //! - `words`: the lines of a deck and their words
 //! - `declarations`: reads the declarations of a deck
 //! - `script`: reads the script of a deck
+//! - `calls`: reads the lines of a script by which tasks call
+//! - `operands`: reads the words of a script's line that name nodes, tasks and positions
 //! - `deck`: what a deck declares and asks for
 //! - `run`: runs the script of a deck
 //! - `settled`: which messages of a run are settled
@@ -16,9 +18,11 @@
 #![tactic(auto)]
 
 mod args;
+mod calls;
 mod deck;
 mod declarations;
 mod lines;
+mod operands;
 mod printed;
 mod reading;
 mod run;

@@ -27,8 +27,10 @@ use rp_store::Device;
 use std::alloc::Global;
 
 impl<M: Machine, D: Device> Replica<M, D> {
-    /// The record that the step of an input would write, or why there would be no step.
-    pub(crate) fn record_of(&self, alloc: Global, input: &Input) -> Result<Option<Rec>, Fault>
+    /// The record that the step of an input would write, or why there would be no step: 4 where the
+    /// bytes of a packet are none's text, 6 or 7 where the node cannot lead, 1 where memory ran out, 3
+    /// after the device failed. It changes nothing.
+    pub fn record_of(&self, alloc: Global, input: &Input) -> Result<Option<Rec>, Fault>
         requires right { IsRightInput input.now }
         ensures ok { IfOk result (λ written. Ok written
             ≡ written_if (input_effect M.next M.answers self.now input.now)) }

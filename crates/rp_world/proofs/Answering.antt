@@ -1,43 +1,67 @@
--- One event more of those that happen, or the one that is answered by a fault.
-use Rattle.std.proofs.Common.{◌≡◌, ℕ, Option, Some, Result, Ok, Err, List, [], ◌∷◌, ◌++◌, inl, inr, refl, sym, ap, subst, ◌∙◌}
-use Rattle.rp_base.specs.declared.action.Action.{Action}
+-- What is answered is a step of the world, and steps make a history.
+use Rattle.std.proofs.Common.{◌≡◌, ℕ, Option, None, Some, Result, Ok, Err, List, [], ◌∷◌, ◌++◌, inl, inr, refl, sym, ap, subst, ◌∙◌}
 use Rattle.rp_base.specs.declared.config.Config.{Config}
-use Rattle.rp_base.specs.declared.fault.Fault.{Fault}
+use Rattle.rp_base.specs.declared.action.Action.{Action}
 use Rattle.rp_base.specs.declared.reply.Answer.{Answer}
-use Rattle.rp_model.specs.Parts.{NodePart}
-use Rattle.rp_model.specs.Parts.{Running}
-use Rattle.rp_model.specs.Parts.{Turn}
-use Rattle.rp_model.specs.Leader.{on_lead}
-use Rattle.rp_model.specs.Says.{IsOutcome}
+use Rattle.rp_base.specs.declared.fault.Fault.{Fault}
 use Rattle.rp_model.specs.declared.effect.Effect.{Effect}
-use Rattle.rp_model.specs.declared.event.Event.{Event as PlainEvent}
-use Rattle.rp_model.specs.declared.event.Event.TheVariants as plain_events
-use Rattle.rp_model.specs.Effect as nodes
-use Rattle.rp_model.specs.Effect.{Setting, turned, turned_if, effect_while}
-use Rattle.rp_model.specs.Events.{Event, event_of}
-use Rattle.rp_model.specs.World.{World, Happening, part_at, node_done, node_done_if, node_takes, event_effect}
-use Rattle.rp_model.specs.Answers.{IsLeft, Steps, Happen}
-use Rattle.rp_world.specs.Steps.{Setup, IsSameSetup, AnswersBy, setting_of}
+use Rattle.rp_model.specs.Effect.{Setting}
+use Rattle.rp_model.specs.Events.{Event, Step, Submit, Again, Makes, Cut, Stop, Restart}
+use Rattle.rp_model.specs.World.{World, Happening, event_effect, cut_step}
+use Rattle.rp_model.specs.Answers.{IsLeft, FailsBy, Steps, Happen}
+use Rattle.rp_world.specs.Going.{Fails, Answers, AnswersRestart, no_cut}
+use Rattle.rp_world.specs.Steps.{Setup, IsSameSetup, setting_of}
 
--- a world that stayed is left so
-left_same : (event : PlainEvent) (w left : World) → left ≡ w → IsLeft w (event_of event) left
-left_same (plain_events.Submit task node object operation arg) w left same = same
-left_same (plain_events.Node step) w left same = same
+module _ {S : Type 0} (s : Setting S) (w : World) (event : Event) (new : World) (cut : ℕ → Result Happening Fault)
+    (left : new ≡ w → IsLeft w event new) (fails : (fault : Fault) → Fails cut new fault → FailsBy s w event new) where
+  stepped : (answer : Result Effect Fault) → Answers w (event_effect s w event) cut new answer → Steps s w event new answer
+  stepped (Ok told) is = record { happening = is.happening; came = is.came; world = is.world; tells = is.tells }
+  stepped (Err fault) is =
+      elim is [
+        | inl refused ↦ inl (record { refusal = refused.came; unchanged = refused.unchanged })
+        | inr other ↦
+            elim other [
+              | inl wants ↦ inr (inl (wants.memory, record { wanted = wants.wanted; effect = wants.came; left_so = left wants.unchanged }))
+              | inr failed ↦ inr (inr (failed.device, fails fault failed))
+            ]
+      ]
+
+module _ {S : Type 0} (s : Setting S) (w new : World) (answer : Result Effect Fault) where
+  none_fails : (fault : Fault) → Fails no_cut new fault → ⊥
+  none_fails fault fails = absurd (let came = fails.came in cc)
+
+  pub submitted : (task node object : ℕ) (operation : _) (arg : _) → Answers w (event_effect s w (Submit task node object operation arg)) no_cut new answer → Steps s w (Submit task node object operation arg) new answer
+  submitted task node object operation arg is = stepped s w (Submit task node object operation arg) new no_cut (λ same. same) none_fails answer is
+
+  pub asked : (task node : ℕ) → Answers w (event_effect s w (Again task node)) no_cut new answer → Steps s w (Again task node) new answer
+  asked task node is = stepped s w (Again task node) new no_cut (λ same. same) none_fails answer is
+
+  pub made : (step : Step) → Answers w (event_effect s w (Makes step)) (λ kept. cut_step s w step kept) new answer → Steps s w (Makes step) new answer
+  made step is =
+      stepped s w (Makes step) new (λ kept. cut_step s w step kept) (λ same. same)
+      (λ fault f. (f.kept, record { happening = f.happening; effect = f.came; world = f.world })) answer is
+
+  pub was_cut : (step : Step) (kept : ℕ) → Answers w (event_effect s w (Cut step kept)) (λ less. cut_step s w step less) new answer → Steps s w (Cut step kept) new answer
+  was_cut step kept is =
+      stepped s w (Cut step kept) new (λ less. cut_step s w step less) (λ same. same)
+      (λ fault f. (f.kept, record { happening = f.happening; effect = f.came; world = f.world })) answer is
+
+  pub stopped : (node : ℕ) → Answers w (event_effect s w (Stop node)) no_cut new answer → Steps s w (Stop node) new answer
+  stopped node is = stepped s w (Stop node) new no_cut (λ same. same) none_fails answer is
+
+pub restarted : {S : Type 0} (s : Setting S) (w new : World) (answer : Result Effect Fault) (node : ℕ) → AnswersRestart w node (event_effect s w (Restart node)) new answer → Steps s w (Restart node) new answer
+restarted s w new (Ok told) node is = record { happening = is.happening; came = is.came; world = is.world; tells = is.tells }
+restarted s w new (Err fault) node is =
+    elim is [
+      | inl refused ↦ inl (record { refusal = refused.came; unchanged = refused.unchanged })
+      | inr failed ↦
+          elim failed.why [
+            | inl memory ↦ inr (inl (memory, record { wanted = failed.wanted; effect = failed.came; left_so = failed.left }))
+            | inr device ↦ inr (inr (device, failed.left))
+          ]
+    ]
 
 module _ {S : Type 0} (s : Setting S) where
-  by_wanted : (event : PlainEvent) (old new : World) (wanted : Result Happening Fault) (answer : Result Effect Fault)
-      → event_effect s old (event_of event) ≡ wanted → AnswersBy old new wanted answer → Steps s old (event_of event) new answer
-  by_wanted event old new (Ok happening) (Ok effect) is answers = record { happening = happening; came = is; world = answers.0; tells = answers.1 }
-  by_wanted event old new (Ok happening) (Err fault) is answers =
-      inr (inl (answers.1, record { wanted = happening; effect = is; left_so = left_same event old new answers.0 }))
-  by_wanted event old new (Err refusal) (Ok effect) is answers = absurd answers
-  by_wanted event old new (Err refusal) (Err fault) is answers = inl (record { refusal = is ∙ ap Err (sym answers.1); unchanged = answers.0 })
-
-  -- what was answered by the effect is a step's answer
-  pub answered : (event : PlainEvent) (old new : World) (answer : Result Effect Fault)
-      → AnswersBy old new (event_effect s old (event_of event)) answer → Steps s old (event_of event) new answer
-  answered event old new answer answers = by_wanted event old new (event_effect s old (event_of event)) answer refl answers
-
   -- one event more happens
   pub happen_more : (w : World) (events : List Event) (now after : World) (event : Event) (effect : Effect)
       → Happen s w events now → Steps s now event after (Ok effect) → Happen s w (events ++ event ∷ []) after
@@ -51,36 +75,3 @@ module _ {S P : Type 0} (next : S → Action → S) (answers : S → Action → 
   same_setting old new same =
       ap (λ (config : Config). let s : Setting S = record { config = config; next = next; answers = answers; begin = start new.program } in s) same.config
       ∙ ap (λ (program : P). let s : Setting S = record { config = old.config; next = next; answers = answers; begin = start program } in s) same.program
-
-module _ {S : Type 0} (s : Setting S) (w : World) (me : ℕ) (choice : Option ℕ) (part : NodePart) (running : Running)
-    (here : part_at w.nodes me ≡ Some part) (runs : part.running ≡ Some running) where
-  abbrev wanted : Result Turn Fault
-  wanted = on_lead s.next s.answers s.begin s.config me part.records running choice
-
-  turn_taken : (turn : Result Turn Fault) → wanted ≡ turn → node_takes s w me (nodes.Lead choice) (part_at w.nodes me) ≡ node_done_if w me (turned_if part turn)
-  turn_taken turn is =
-      ap (node_takes s w me (nodes.Lead choice)) here
-      ∙ ap (λ (o : Option Running). node_done_if w me (effect_while s me part (nodes.Lead choice) o)) runs
-      ∙ ap (λ (r : Result Turn Fault). node_done_if w me (turned_if part r)) is
-
-  -- a node led
-  pub led : (new : World) (turn : Turn) (answer : Result Effect Fault) → wanted ≡ Ok turn → AnswersBy w new (Ok (node_done w me (turned part turn))) answer
-      → AnswersBy w new (node_takes s w me (nodes.Lead choice) (part_at w.nodes me)) answer
-  led new turn answer is answers = subst (λ (r : Result Happening Fault). AnswersBy w new r answer) (sym (turn_taken (Ok turn) is)) answers
-
-  stays_by : (fault : Fault) (turn : Result Turn Fault) → wanted ≡ turn → IsOutcome (let r : Result Turn Fault = Err fault in r) turn
-      → AnswersBy w w (node_takes s w me (nodes.Lead choice) (part_at w.nodes me)) (Err fault)
-  stays_by fault (Ok turn) is outcome =
-      elim outcome [
-        | inl other ↦ absurd cc
-        | inr memory ↦ subst (λ (r : Result Happening Fault). AnswersBy w w r (Err fault)) (sym (turn_taken (Ok turn) is)) (refl, memory)
-      ]
-  stays_by fault (Err refusal) is outcome =
-      elim outcome [
-        | inl same ↦ let one : fault ≡ refusal = cc in subst (λ (r : Result Happening Fault). AnswersBy w w r (Err fault)) (sym (turn_taken (Err refusal) is)) (refl, one)
-        | inr none ↦ absurd none
-      ]
-
-  -- or did not
-  pub stays : (fault : Fault) → IsOutcome (let r : Result Turn Fault = Err fault in r) wanted → AnswersBy w w (node_takes s w me (nodes.Lead choice) (part_at w.nodes me)) (Err fault)
-  stays fault outcome = stays_by fault wanted refl outcome

@@ -1,6 +1,7 @@
-pub mod Answering
-pub mod PuttingBack
-pub mod Sounding
-pub mod Joined
 pub mod Standing
 pub mod Turning
+pub mod Joined
+pub mod Resting
+pub mod Moving
+pub mod Answering
+pub mod Sounding

@@ -1,68 +1,30 @@
--- The world of a cluster meets the invariant after each step.
-use Rattle.std.proofs.Common.{◌≡◌, ℕ, Option, Some, Result, Ok, Err, List, [], ◌∷◌, ◌++◌, length, inl, inr, refl, sym, ap, subst, ◌∙◌}
+-- The world of a cluster meets the invariant after each step, and what follows.
+use Rattle.std.proofs.Common.{◌≡◌, ℕ, suc, Option, Some, None, Result, Ok, Err, List, [], ◌∷◌, ◌++◌, length, inl, inr, refl, sym, ap, subst, ◌∙◌}
+use Rattle.std.specs.Prelude.{slice_get, unwrap_or}
 use Rattle.rp_base.specs.Config.{IsRightConfig}
-use Rattle.rp_base.specs.Sets.{Has}
-use Rattle.rp_base.specs.declared.fault.Fault.{Fault}
-use Rattle.rp_codec.specs.Message.{Message}
-use Rattle.rp_codec.specs.declared.packet.Party.TheVariants.{Node}
-use Rattle.rp_model.specs.declared.effect.Effect.{Effect}
-use Rattle.rp_model.specs.Parts.{NodePart}
-use Rattle.rp_model.specs.Parts.{Running}
-use Rattle.rp_model.specs.Parts.{Turn}
-use Rattle.rp_model.specs.Effect as nodes
-use Rattle.rp_model.specs.Effect.{Setting, turned, node_effect, effect_while}
-use Rattle.rp_model.specs.Events.{Event, IsEvent}
-use Rattle.rp_model.specs.Growing.{Grows}
-use Rattle.rp_model.specs.Receiving.{receives}
-use Rattle.rp_model.specs.World.{World, Happening, part_at, node_done, node_done_if, node_hears, node_is_told, arrives, delivers, event_effect}
-use Rattle.std.specs.Prelude.{suc, slice_get, unwrap_or}
 use Rattle.rp_base.specs.Records.{applied_of}
+use Rattle.rp_base.specs.Sets.{Has}
 use Rattle.rp_base.specs.declared.action.Action.{Action}
+use Rattle.rp_base.specs.declared.fault.Fault.{Fault}
 use Rattle.rp_base.specs.declared.reply.Answer.{Answer}
+use Rattle.rp_codec.specs.Message.{Message}
 use Rattle.rp_machine.specs.Calls.{CallName}
 use Rattle.rp_machine.specs.Places.{IsPlace, IsAnswerOf}
 use Rattle.rp_machine.specs.Replay.{replay_of}
+use Rattle.rp_model.specs.Answers.{untorn, IsLeft, FailsBy, ComesTo, Steps}
+use Rattle.rp_model.specs.declared.effect.Effect.{Effect}
+use Rattle.rp_model.specs.Effect.{Setting}
+use Rattle.rp_model.specs.Events.{Event, Submit, Again, Makes, Cut, Stop, Restart}
 use Rattle.rp_model.specs.Facts.{IsOrder}
-use Rattle.rp_model.specs.Parts.{TaskPart}
-use Rattle.rp_model.specs.Parts.{fresh_node, fresh_task}
+use Rattle.rp_model.specs.Growing.{Grows}
+use Rattle.rp_model.specs.Parts.{NodePart, TaskPart, fresh_node, fresh_task}
+use Rattle.rp_model.specs.World.{World, Happening, part_at, event_effect}
 use Rattle.rp_agreement.specs.Sound.{IsSound}
 use Rattle.rp_agreement.specs.Order.{AllSent, Begins, AreAlike}
 use Rattle.rp_agreement.specs.Computed.{order_of}
 use Rattle.rp_agreement.specs.Answered.{named, task_in, IsKept, IsKeptWorld}
 use Rattle.rp_agreement.specs.Worlds.{node_in}
 use Rattle.rp_world.specs.Agreeing.{Agree, IsOrdered}
-use Rattle.rp_world.specs.Shape.{IsCluster}
-use Rattle.rp_world.specs.Steps.{AnswersBy}
-
--- each event keeps the invariant
-abbrev pub Keeps : {S : Type 0} → Setting S → Type 0
-Keeps s = (world : World) (event : Event) (happening : Happening) → IsRightConfig s.config → IsKeptWorld s world
-    → IsEvent event → event_effect s world event ≡ Ok happening → IsKeptWorld s happening.world
-
-module _ {S : Type 0} (s : Setting S) (keeps : Keeps s) (w new : World) (event : Event) (ranges : IsEvent event) where
-  sound_by : (wanted : Result Happening Fault) (answer : Result Effect Fault) → event_effect s w event ≡ wanted → AnswersBy w new wanted answer
-      → IsCluster s w → IsCluster s new
-  sound_by (Ok happening) (Ok effect) came answers is =
-      let after = keeps w event happening is.right is.kept ranges came in
-      subst (IsCluster s) (sym answers.0) (record { right = is.right; kept = after })
-  sound_by (Ok happening) (Err fault) came answers is = subst (IsCluster s) (sym answers.0) is
-  sound_by (Err refusal) (Ok effect) came answers is = absurd answers
-  sound_by (Err refusal) (Err fault) came answers is = subst (IsCluster s) (sym answers.0) is
-
-  -- a cluster stays one, whatever a step answers
-  pub stays_cluster : (answer : Result Effect Fault) → AnswersBy w new (event_effect s w event) answer → IsCluster s w → IsCluster s new
-  stays_cluster answer answers is = sound_by (event_effect s w event) answer refl answers is
-
--- a packet is taken by a node that runs
-module _ {S : Type 0} (s : Setting S) (w : World) (number me : ℕ) (message : Message) (part : NodePart) (running : Running)
-    (sent : part_at w.sent number ≡ Some message) (to : message.to ≡ Node me) (here : part_at w.nodes me ≡ Some part) (runs : part.running ≡ Some running) where
-  pub heard : (turn : Turn) → receives s.next s.answers s.begin s.config me part.records running message ≡ turn
-      → delivers s w (part_at w.sent number) ≡ Ok (node_done w me (turned part turn))
-  heard turn is =
-      ap (delivers s w) sent ∙ ap (arrives s w message) to ∙ ap (node_is_told s w me message) here
-      ∙ ap (node_hears s w me message part) runs
-      ∙ ap (λ (o : Option Running). node_done_if w me (effect_while s me part (nodes.Receive message) o)) runs
-      ∙ ap (λ (t : Turn). let r : Result Happening Fault = Ok (node_done w me (turned part t)) in r) is
 
 -- what was sent stays
 module _ {S : Type 0} (s : Setting S) (grows : (before : World) (event : Event) (happening : Happening) → event_effect s before event ≡ Ok happening → Grows before happening) where
@@ -70,15 +32,48 @@ module _ {S : Type 0} (s : Setting S) (grows : (before : World) (event : Event) 
   has_left m [] ys h = absurd h
   has_left m (x ∷ xs) ys h = elim h [ inl same ↦ inl same | inr rest ↦ inr (has_left m xs ys rest) ]
 
-  sent_by : (w new : World) (event : Event) (wanted : Result Happening Fault) (answer : Result Effect Fault) → event_effect s w event ≡ wanted → AnswersBy w new wanted answer → AllSent w.sent new.sent
-  sent_by w new event (Ok happening) (Ok effect) came answers m h =
-      subst (λ (sent : List Message). Has m sent) (sym (ap (λ (x : World). x.sent) answers.0 ∙ (grows w event happening came).sent)) (has_left m w.sent happening.sends h)
-  sent_by w new event (Ok happening) (Err fault) came answers m h = subst (λ (x : World). Has m x.sent) (sym answers.0) h
-  sent_by w new event (Err refusal) (Ok effect) came answers m h = absurd answers
-  sent_by w new event (Err refusal) (Err fault) came answers m h = subst (λ (x : World). Has m x.sent) (sym answers.0) h
+  came_sent : (w new : World) (event : Event) (happening : Happening) → event_effect s w event ≡ Ok happening → new ≡ happening.world → AllSent w.sent new.sent
+  came_sent w new event happening came is m h =
+      subst (λ (sent : List Message). Has m sent) (sym (ap (λ (x : World). x.sent) is ∙ (grows w event happening came).sent)) (has_left m w.sent happening.sends h)
 
-  pub sent_stays : (w new : World) (event : Event) (answer : Result Effect Fault) → AnswersBy w new (event_effect s w event) answer → AllSent w.sent new.sent
-  sent_stays w new event answer answers = sent_by w new event (event_effect s w event) answer refl answers
+  same_sent : (w new : World) → new ≡ w → AllSent w.sent new.sent
+  same_sent w new same m h = subst (λ (x : World). Has m x.sent) (sym same) h
+
+  untorn_sent : (kept : ℕ) (w : World) (me : ℕ) (part : Option NodePart) → (untorn kept w me part).sent ≡ w.sent
+  untorn_sent kept w me None = refl
+  untorn_sent kept w me (Some part) = refl
+
+  torn_sent : (w new : World) (me : ℕ) → IsLeft w (Restart me) new → AllSent w.sent new.sent
+  torn_sent w new me left m h =
+      subst (λ (sent : List Message). Has m sent) (sym (ap (λ (x : World). x.sent) left.1 ∙ untorn_sent left.0 w me (part_at w.nodes me))) h
+
+  left_sent : (w new : World) (event : Event) → IsLeft w event new → AllSent w.sent new.sent
+  left_sent w new (Submit task node object operation arg) left = same_sent w new left
+  left_sent w new (Again task node) left = same_sent w new left
+  left_sent w new (Makes step) left = same_sent w new left
+  left_sent w new (Cut step kept) left = same_sent w new left
+  left_sent w new (Stop me) left = same_sent w new left
+  left_sent w new (Restart me) left = torn_sent w new me left
+
+  fails_sent : (w new : World) (event : Event) → FailsBy s w event new → AllSent w.sent new.sent
+  fails_sent w new (Submit task node object operation arg) fails = absurd fails
+  fails_sent w new (Again task node) fails = absurd fails
+  fails_sent w new (Makes step) fails = came_sent w new (Cut step fails.0) fails.1.happening fails.1.effect fails.1.world
+  fails_sent w new (Cut step kept) fails = came_sent w new (Cut step fails.0) fails.1.happening fails.1.effect fails.1.world
+  fails_sent w new (Stop me) fails = absurd fails
+  fails_sent w new (Restart me) fails = torn_sent w new me fails
+
+  pub sent_stays : (w new : World) (event : Event) (answer : Result Effect Fault) → Steps s w event new answer → AllSent w.sent new.sent
+  sent_stays w new event (Ok effect) step = came_sent w new event step.happening step.came step.world
+  sent_stays w new event (Err fault) step =
+      elim step [
+        | inl refused ↦ same_sent w new refused.unchanged
+        | inr other ↦
+            elim other [
+              | inl memory ↦ left_sent w new event memory.1.left_so
+              | inr device ↦ fails_sent w new event device.1
+            ]
+      ]
 
 -- nodes of worlds that meet the invariant agree
 module _ {S : Type 0} (next : S → Action → S) (answers : S → Action → List Answer) (begin : S) (nodes : ℕ)

@@ -1,5 +1,5 @@
 -- What stands for a node's part once it stops or starts again.
-use Rattle.std.proofs.Common.{◌≡◌, ℕ, min, Ok, Option, Some, List, [], ◌∷◌, ◌++◌, length, take, inl, inr, refl, sym, ap, subst, ◌∙◌, arith}
+use Rattle.std.proofs.Common.{◌≡◌, ℕ, min, Bool, true, false, Result, Ok, Err, Option, Some, None, List, [], ◌∷◌, ◌++◌, length, take, inl, inr, refl, sym, ap, subst, ◌∙◌, arith}
 use Rattle.std.proofs.lemmas.List.{append-nil, length-append, length-take}
 use Rattle.rp_base.specs.declared.config.Config.{Config}
 use Rattle.rp_base.specs.declared.fault.Fault.{Fault}
@@ -15,8 +15,26 @@ use Rattle.rp_model.specs.Effect.{goes_on_as, stop_part, stops_while, stop_effec
 use Rattle.rp_model.specs.Parts.{fresh_running, fresh_node, records_in_log}
 use Rattle.rp_replica.specs.Held.{Held}
 use Rattle.rp_replica.specs.Opening.{Opens, IsRefusedOpening}
+use Rattle.rp_replica.specs.Kept.{HoldsPart}
 use Rattle.rp_replica.specs.Tied.{IsOnDisk}
-use Rattle.rp_world.specs.Nodes.{Member, RunsAs, RestsAs}
+use Rattle.std.specs.Prelude.{IfOk, IfErr}
+use Rattle.rp_world.specs.declared.node.Node.{Node}
+use Rattle.rp_world.specs.Nodes.{Member, RunsAs, RestsAs, StandsWhile, StandsFor, GoesBy, IsLeftTorn, IsLengthOf, TellsOpened}
+
+-- ---- a replica that runs, or has failed
+
+module _ {S : Type 0} (member : Member S) (held : Held S) (part : NodePart) where
+  pub stands : RunsAs member held part → StandsWhile member held part held.failed
+  stands runs = subst (StandsWhile member held part) (sym runs.working) runs
+
+  pub stands_failed : held.failed ≡ true → RestsAs member.config.max_positions held.disk part → StandsWhile member held part held.failed
+  stands_failed failed rests = subst (StandsWhile member held part) (sym failed) rests
+
+  pub as_running : held.failed ≡ false → StandsWhile member held part held.failed → RunsAs member held part
+  as_running working is = subst (StandsWhile member held part) working is
+
+  pub as_resting : held.failed ≡ true → StandsWhile member held part held.failed → RestsAs member.config.max_positions held.disk part
+  as_resting failed is = subst (StandsWhile member held part) failed is
 
 no_records : (all : List Rec) (torn : List ℕ) → [] ≡ records_text all ++ torn → all ≡ []
 no_records [] torn is = refl
@@ -82,6 +100,29 @@ module _ (most : ℕ) (old new : Disk) (part : NodePart) (rests : RestsAs most o
       (kept.0, left kept.0 (take kept.0 rests.holds.torn) kept.1 e)
   refused _ why = absurd why
 
+-- what its device holds
+pub device_of : {S : Type 0} (member : Member S) (held : Held S) (part : NodePart) → RunsAs member held part → IsOnDisk held.config.max_positions held.disk held.failed held.records
+    → HoldsPart member.config.max_positions held.disk part
+device_of {S = S} member held part runs is_on =
+    let contents : held.disk.contents ≡ records_text is_on.all = is_on.contents ∙ ap (λ (l : List ℕ). records_text is_on.all ++ l) (is_on.whole runs.working) ∙ append-nil (records_text is_on.all) in
+    record {
+      all = is_on.all;
+      torn = [];
+      found = subst (λ (l : List ℕ). AreRecordsOf l is_on.all []) (sym contents) (only_records is_on.all is_on.each);
+      records = ap (λ (p : NodePart). p.records) runs.known ∙ is_on.counted ∙ ap (λ (c : Config). records_in_log c.max_positions is_on.all) runs.config;
+      bytes = ap (λ (p : NodePart). p.torn) runs.known;
+    }
+
+length_while : {S : Type 0} (member : Member S) (held : Held S) (part : NodePart) (len : ℕ) → IsOnDisk held.config.max_positions held.disk held.failed held.records → len ≡ length held.disk.contents
+    → (failed : Bool) → held.failed ≡ failed → StandsWhile member held part failed → IsLengthOf member.config.max_positions part len
+length_while member held part len is_on is true failed rests = (held.disk, rests.holds, is)
+length_while member held part len is_on is false working runs = (held.disk, device_of member held part runs is_on, is)
+
+-- and how long that is
+pub length_of : {S : Type 0} (member : Member S) (held : Held S) (part : NodePart) (len : ℕ) → IsOnDisk held.config.max_positions held.disk held.failed held.records → len ≡ length held.disk.contents
+    → StandsWhile member held part held.failed → IsLengthOf member.config.max_positions part len
+length_of member held part len is_on is so = length_while member held part len is_on is held.failed refl so
+
 -- a replica that is closed
 pub stops_as : {S : Type 0} (member : Member S) (held : Held S) (disk : Disk) (part : NodePart) → RunsAs member held part → IsOnDisk held.config.max_positions held.disk held.failed held.records
     → disk ≡ held.disk → (stop_effect part ≡ Ok (goes_on_as (stop_part part))) × RestsAs member.config.max_positions disk (stop_part part)
@@ -105,3 +146,20 @@ stops_as {S = S} member held disk part runs stands is =
 -- a replica that runs goes on
 pub goes_on_running : {S : Type 0} (member : Member S) (held : Held S) (part : NodePart) → RunsAs member held part → restart_part part ≡ goes_on_as part
 goes_on_running member held part runs = ap (restart_while part) (ap (λ (p : NodePart). p.running) runs.known)
+
+-- a node that starts over the device that it rested on
+module _ {S D P : Type 0} (disk : D → Disk) (member : Member S) (old new : Node S D P) (device : Disk)
+    (rests : (part : NodePart) → StandsFor disk member old part → RestsAs member.config.max_positions device part) where
+  pub started : (answer : Result (Option (ℕ × ℕ)) Fault)
+      → IfOk answer (λ opened. (part : NodePart) → RestsAs member.config.max_positions device part → StandsFor disk member new (restart_part part).part × TellsOpened opened (restart_part part))
+      → IfOk answer (λ opened. GoesBy disk member old new (λ part. Ok (restart_part part)) TellsOpened opened)
+  started (Ok opened) is = λ part so.
+      let after = is part (rests part so) in
+      (restart_part part, refl, after.0, after.1)
+  started (Err fault) is = tt
+
+  pub not_started : (answer : Result (Option (ℕ × ℕ)) Fault)
+      → IfErr answer (λ fault. (part : NodePart) → RestsAs member.config.max_positions device part → (kept : ℕ) × StandsFor disk member new (record part { torn = min kept part.torn }))
+      → IfErr answer (λ fault. IsLeftTorn disk member old new)
+  not_started (Ok opened) is = tt
+  not_started (Err fault) is = λ part so. is part (rests part so)

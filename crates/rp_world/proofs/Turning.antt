@@ -11,16 +11,20 @@ use Rattle.rp_codec.specs.Record.{record_text}
 use Rattle.rp_store.specs.Disk.{Disk}
 use Rattle.rp_model.specs.Parts.{NodePart}
 use Rattle.rp_model.specs.Parts.{Turn}
-use Rattle.rp_model.specs.Effect.{Setting, Done, NodeInput, running_effect, turned, turned_if, node_effect, cut_if, cut_part, goes_on_as, stop_part}
+use Rattle.rp_model.specs.Effect.{Setting, Done, NodeInput, running_effect, turned, turned_if, node_effect, cut_part, stop_part}
 use Rattle.rp_replica.specs.declared.sent.Sent.{Sent}
 use Rattle.rp_replica.specs.Held.{Held, part_of, setting_of}
 use Rattle.rp_replica.specs.Kept.{HoldsPart}
 use Rattle.rp_replica.specs.declared.input.Input.{Input}
 use Rattle.rp_replica.specs.Inputs.{given_by, effect_if_given, input_effect}
-use Rattle.rp_replica.specs.Turning.{Turns, TurnsIf, FailsAt, Stops, StopsIf, effect_of}
+use Rattle.rp_replica.specs.Turning.{Turns, TurnsIf, FailsAt, Stops, StopsIf, IsRefused, effect_of}
+use Rattle.rp_replica.specs.Cutting.{written_if, CutsIf, IsNotCutIf}
+use Rattle.rp_replica.specs.declared.cut.NotCut.{NotCut}
+use Rattle.rp_replica.specs.declared.cut.NotCut.TheVariants.{Failed as DeviceFailed, Refused}
 use Rattle.rp_world.specs.declared.node.Node.{Node}
 use Rattle.rp_world.specs.declared.node.Node.TheVariants.{Running, Stopped}
-use Rattle.rp_world.specs.Nodes.{Member, RunsAs, RestsAs, setting_at, node_step, IsComing, StandsFor, GoesBy, NotTaken, TellsSent}
+use Rattle.rp_world.specs.Nodes.{Member, RunsAs, RestsAs, setting_at, node_step, IsComing, StandsWhile, StandsFor, GoesBy, IsCutBy, NotTaken, TellsSent}
+use Rattle.rp_world.proofs.Standing.{stands, stands_failed, as_running}
 
 -- a node that was cut is stopped
 cut_stopped : (kept : ℕ) (part : NodePart) (written : Option Rec) → (cut_part kept part written).running ≡ None
@@ -76,91 +80,146 @@ module _ {S : Type 0} (next : S → Action → S) (answers : S → Action → Li
       (turned part turn, same_effect input ∙ ap (turned_if part) is, g.0, g.1)
   taken input new sent (Err refusal) is turns = absurd turns
 
-false_true : {b : Bool} → b ≡ false → b ≡ true → ⊥
+pub false_true : {b : Bool} → b ≡ false → b ≡ true → ⊥
 false_true one other = absurd cc
 
-module _ {S D P : Type 0} (next : S → Action → S) (answers : S → Action → List Answer) (disk : D → Disk) (input : NodeInput) (old new : Held S) (n : Node S D P)
-    (on : new.failed ≡ false → n ≡ Running new) where
-  taken_by : (sent : Sent) → TurnsIf (effect_of next answers old input) old new sent → (member : Member S) → GoesBy disk member (Running old) n (node_step next answers member input) TellsSent sent
-  taken_by sent turns member part runs =
-      let t = taken next answers member old part runs input new sent (effect_of next answers old input) refl turns in
-      (t.0, t.1, subst (λ (node : Node S D P). StandsFor disk member node t.0.part) (sym (on t.2.working)) t.2, t.3)
+module _ {S : Type 0} (D P : Type 0) (next : S → Action → S) (answers : S → Action → List Answer) (disk : D → Disk) (input : NodeInput) (old : Held S) (working : old.failed ≡ false) where
+  -- the node before
+  abbrev before : Node S D P
+  before = Running old
 
-  -- a step that was taken
-  pub answered : (answer : Result Sent Fault) → IfOk answer (λ sent. TurnsIf (effect_of next answers old input) old new sent)
-      → IfOk answer (λ sent. (member : Member S) → GoesBy disk member (Running old) n (node_step next answers member input) TellsSent sent)
-  answered (Ok sent) turns = taken_by sent turns
-  answered (Err fault) turns = tt
+  taken_by : (new : Held S) (sent : Sent) → TurnsIf (effect_of next answers old input) old new sent → (member : Member S)
+      → GoesBy disk member before (Running new) (node_step next answers member input) TellsSent sent
+  taken_by new sent turns member part is =
+      let t = taken next answers member old part (as_running member old part working is) input new sent (effect_of next answers old input) refl turns in
+      (t.0, t.1, stands member new t.0.part t.2, t.3)
 
-  module _ (off : new.failed ≡ true → (device : D) × (n ≡ Stopped device) × (disk device ≡ new.disk))
-      (member : Member S) (part : NodePart) (runs : RunsAs member old part) where
-    -- how the step was not taken
-    abbrev NotTakenHere : Fault → Type 0
-    NotTakenHere fault =
+  module _ (member : Member S) (part : NodePart) (is : StandsWhile member old part old.failed) where
+    runs : RunsAs member old part
+    runs = as_running member old part working is
+
+    -- how the step was not taken, and left the node so
+    abbrev NotTakenHere : Node S D P → Fault → Type 0
+    NotTakenHere n fault =
         ((node_step next answers member input part ≡ Err fault) × StandsFor disk member n part)
         ⊎ (((fault ≡ OutOfMemory) × IsComing (node_step next answers member input part) × StandsFor disk member n part)
-        ⊎ ((fault ≡ Device) × (kept : ℕ) × (done : Done NodePart) × (cut_if kept part (node_step next answers member input part) ≡ Ok done) × StandsFor disk member n done.part))
+        ⊎ ((fault ≡ Device) × (kept : ℕ) × (done : Done NodePart) × (node_step next answers member input part ≡ Ok done) × StandsFor disk member n (cut_part kept part done.written)))
 
-    stays_so : new ≡ old → StandsFor disk member n part
-    stays_so same =
-        subst (λ (node : Node S D P). StandsFor disk member node part) (sym (on (ap (λ (h : Held S). h.failed) same ∙ runs.working)))
-        (subst (λ (h : Held S). RunsAs member h part) (sym same) runs)
+    pub coming : (turn : Turn) → effect_of next answers old input ≡ Ok turn → node_step next answers member input part ≡ Ok (turned part turn)
+    coming turn came = same_effect next answers member old part runs input ∙ ap (turned_if part) came
 
-    coming : (turn : Turn) → effect_of next answers old input ≡ Ok turn → node_step next answers member input part ≡ Ok (turned part turn)
-    coming turn is = same_effect next answers member old part runs input ∙ ap (turned_if part) is
+    -- what some cut of the turn leaves on the device
+    pub rests_cut : (turn : Turn) (kept : ℕ) (d : Disk) → HoldsPart old.config.max_positions d (cut_part kept (part_of old) turn.written)
+        → RestsAs member.config.max_positions d (cut_part kept part (turned part turn).written)
+    rests_cut turn kept d holds = is_cut next answers member old part runs kept turn.written d holds
 
-    fails_so : (turn : Turn) → effect_of next answers old input ≡ Ok turn → FailsAt turn.written old new → NotTakenHere Device
-    fails_so turn is fails =
+    module _ (new : Held S) where
+      stays_so : new ≡ old → StandsWhile member new part new.failed
+      stays_so same = subst (λ (h : Held S). StandsWhile member h part h.failed) (sym same) is
+
+      fails_so : (turn : Turn) → effect_of next answers old input ≡ Ok turn → FailsAt turn.written old new → NotTakenHere (Running new) Device
+      fails_so turn came fails =
+          let kept = fails.holds.0 in
+          inr (inr (
+            refl,
+            kept,
+            turned part turn,
+            coming turn came,
+            stands_failed member new (cut_part kept part turn.written) (ap (λ (h : Held S). h.failed) fails.goes) (rests_cut turn kept new.disk fails.holds.1),
+          ))
+
+      stops_so : (turn : Turn) → effect_of next answers old input ≡ Ok turn → (fault : Fault) → Stops turn.written old new fault → NotTakenHere (Running new) fault
+      stops_so turn came OutOfMemory stops = inr (inl (refl, subst IsComing (sym (coming turn came)) tt, stays_so stops.0))
+      stops_so turn came Device stops = fails_so turn came stops.0
+      stops_so turn came Failed stops = absurd (false_true working stops.1)
+      stops_so turn came _ stops = absurd stops
+
+      refused_so : (refusal fault : Fault) → effect_of next answers old input ≡ Err refusal → IsRefused refusal old new fault → NotTakenHere (Running new) fault
+      refused_so refusal fault came stops =
+          elim stops.1 [
+            | inl told ↦
+                let refuses : node_step next answers member input part ≡ Err fault = same_effect next answers member old part runs input ∙ ap (turned_if part) came ∙ ap Err (sym told.0) in
+                inl (refuses, stays_so stops.0)
+            | inr gone ↦ absurd (false_true working gone.1)
+          ]
+
+      by_effect : (effect : Result Turn Fault) → effect_of next answers old input ≡ effect → (fault : Fault) → StopsIf effect old new fault → NotTakenHere (Running new) fault
+      by_effect (Ok turn) came fault stops = stops_so turn came fault stops
+      by_effect (Err refusal) came fault stops = refused_so refusal fault came stops
+
+    -- a step for which there would be a record, or none, comes
+    pub comes_by : (effect : Result Turn Fault) → effect_of next answers old input ≡ effect → (written : Option Rec) → Ok written ≡ written_if effect → IsComing (node_step next answers member input part)
+    comes_by (Ok turn) came written is_written = subst IsComing (sym (coming turn came)) tt
+    comes_by (Err refusal) came written is_written = absurd cc
+
+    -- a step that was cut
+    pub cut_by : (effect : Result Turn Fault) → effect_of next answers old input ≡ effect → (kept : ℕ) (device : D) → CutsIf effect kept old (disk device)
+        → (done : Done NodePart) × (node_step next answers member input part ≡ Ok done) × RestsAs member.config.max_positions (disk device) (cut_part kept part done.written)
+    cut_by (Ok turn) came kept device cuts = (turned part turn, coming turn came, rests_cut turn kept (disk device) cuts.holds)
+    cut_by (Err refusal) came kept device cuts = absurd cuts
+
+    -- or was not
+    pub fails_in_cut : (effect : Result Turn Fault) → effect_of next answers old input ≡ effect → (device : D) → IsNotCutIf disk effect old (let r : NotCut S D P = DeviceFailed device in r) → NotTakenHere (Stopped device) Device
+    fails_in_cut (Ok turn) came device fails =
         let kept = fails.holds.0 in
-        let after = cut_part kept part turn.written in
-        let rests = is_cut next answers member old part runs kept turn.written new.disk fails.holds.1 in
-        let device = off (ap (λ (h : Held S). h.failed) fails.goes) in
-        inr (inr (
-          refl,
-          kept,
-          goes_on_as after,
-          ap (cut_if kept part) (coming turn is),
-          subst (λ (node : Node S D P). StandsFor disk member node after) (sym device.1)
-              (subst (λ (d : Disk). RestsAs member.config.max_positions d after) (sym device.2) rests),
-        ))
+        inr (inr (refl, kept, turned part turn, coming turn came, rests_cut turn kept (disk device) fails.holds.1))
+    fails_in_cut (Err refusal) came device fails = absurd fails
 
-    stops_so : (turn : Turn) → effect_of next answers old input ≡ Ok turn → (fault : Fault) → Stops turn.written old new fault → NotTakenHere fault
-    stops_so turn is OutOfMemory stops = inr (inl (refl, subst IsComing (sym (coming turn is)) tt, stays_so stops.0))
-    stops_so turn is Device stops = fails_so turn is stops.0
-    stops_so turn is Failed stops = absurd (false_true runs.working stops.1)
-    stops_so turn is _ stops = absurd stops
-
-    by_effect : (effect : Result Turn Fault) → effect_of next answers old input ≡ effect → (fault : Fault) → StopsIf effect old new fault → NotTakenHere fault
-    by_effect (Ok turn) is fault stops = stops_so turn is fault stops
-    by_effect (Err refusal) is fault stops =
-        elim stops.1 [
-          | inl told ↦
-              let refuses : node_step next answers member input part ≡ Err fault = same_effect next answers member old part runs input ∙ ap (turned_if part) is ∙ ap Err (sym told.0) in
-              inl (refuses, stays_so stops.0)
-          | inr gone ↦ absurd (false_true runs.working gone.1)
-        ]
+    pub refused_cut : (effect : Result Turn Fault) → effect_of next answers old input ≡ effect → (fault : Fault) (new : Held S) → IsNotCutIf disk effect old (let r : NotCut S D P = Refused fault new in r) → NotTakenHere (Running new) fault
+    refused_cut (Ok turn) came fault new stops = by_effect new (Ok turn) came fault stops.0
+    refused_cut (Err refusal) came fault new stops = refused_so new refusal fault came stops
 
   -- a step that was not taken
-  pub not_answered : (off : new.failed ≡ true → (device : D) × (n ≡ Stopped device) × (disk device ≡ new.disk)) → (answer : Result Sent Fault) → IfErr answer (λ fault. StopsIf (effect_of next answers old input) old new fault)
-      → IfErr answer (λ fault. (member : Member S) → NotTaken disk member (Running old) n (node_step next answers member input) fault)
-  not_answered off (Ok sent) stops = tt
-  not_answered off (Err fault) stops = λ member part runs. by_effect off member part runs (effect_of next answers old input) refl fault stops
+  not_answered : (new : Held S) (fault : Fault) → StopsIf (effect_of next answers old input) old new fault
+      → (member : Member S) → NotTaken disk member before (Running new) (node_step next answers member input) fault
+  not_answered new fault stops = λ member part is. by_effect member part is new (effect_of next answers old input) refl fault stops
 
 -- the same of an input that gives this to the node
-module _ {S D P : Type 0} (next : S → Action → S) (answers : S → Action → List Answer) (disk : D → Disk) (old new : Held S) (n : Node S D P)
-    (on : new.failed ≡ false → n ≡ Running new) (input : Input) where
+module _ {S : Type 0} (D P : Type 0) (next : S → Action → S) (answers : S → Action → List Answer) (disk : D → Disk) (old : Held S) (working : old.failed ≡ false) (input : Input) where
+  abbrev was : Node S D P
+  was = Running old
+
   same_input : (given : NodeInput) → given_by input ≡ Ok given → input_effect next answers old input ≡ effect_of next answers old given
   same_input given is = ap (effect_if_given next answers old) is
 
-  pub turned_ok : (answer : Result Sent Fault) → IfOk answer (λ sent. TurnsIf (input_effect next answers old input) old new sent)
-      → IfOk answer (λ sent. (member : Member S) (given : NodeInput) → given_by input ≡ Ok given → GoesBy disk member (Running old) n (node_step next answers member given) TellsSent sent)
-  turned_ok (Ok sent) turns = λ member given is.
-      taken_by next answers disk given old new n on sent (subst (λ (r : Result Turn Fault). TurnsIf r old new sent) (same_input given is) turns) member
-  turned_ok (Err fault) turns = tt
+  pub turned_ok : (new : Held S) (answer : Result Sent Fault) → IfOk answer (λ sent. TurnsIf (input_effect next answers old input) old new sent)
+      → IfOk answer (λ sent. (member : Member S) (given : NodeInput) → given_by input ≡ Ok given → GoesBy disk member was (Running new) (node_step next answers member given) TellsSent sent)
+  turned_ok new (Ok sent) turns = λ member given is.
+      taken_by D P next answers disk given old working new sent (subst (λ (r : Result Turn Fault). TurnsIf r old new sent) (same_input given is) turns) member
+  turned_ok new (Err fault) turns = tt
 
-  pub turned_err : (off : new.failed ≡ true → (device : D) × (n ≡ Stopped device) × (disk device ≡ new.disk))
-      → (answer : Result Sent Fault) → IfErr answer (λ fault. StopsIf (input_effect next answers old input) old new fault)
-      → IfErr answer (λ fault. (member : Member S) (given : NodeInput) → given_by input ≡ Ok given → NotTaken disk member (Running old) n (node_step next answers member given) fault)
-  turned_err off (Ok sent) stops = tt
-  turned_err off (Err fault) stops = λ member given is.
-      not_answered next answers disk given old new n on off (Err fault) (subst (λ (r : Result Turn Fault). StopsIf r old new fault) (same_input given is) stops) member
+  pub turned_err : (new : Held S) (answer : Result Sent Fault) → IfErr answer (λ fault. StopsIf (input_effect next answers old input) old new fault)
+      → IfErr answer (λ fault. (member : Member S) (given : NodeInput) → given_by input ≡ Ok given → NotTaken disk member was (Running new) (node_step next answers member given) fault)
+  turned_err new (Ok sent) stops = tt
+  turned_err new (Err fault) stops = λ member given is.
+      not_answered D P next answers disk given old working new fault (subst (λ (r : Result Turn Fault). StopsIf r old new fault) (same_input given is) stops) member
+
+  -- why a step finds no memory, or would be refused
+  pub wants_memory : (written : Option Rec) → Ok written ≡ written_if (input_effect next answers old input)
+      → (member : Member S) (given : NodeInput) → given_by input ≡ Ok given → NotTaken disk member was was (node_step next answers member given) OutOfMemory
+  wants_memory written is member given gives part stands_now =
+      let comes = comes_by D P next answers disk given old working member part stands_now (effect_of next answers old given) refl written (is ∙ ap written_if (same_input given gives)) in
+      inr (inl (refl, comes, stands_now))
+
+  pub is_refused : (fault : Fault) → StopsIf (input_effect next answers old input) old old fault
+      → (member : Member S) (given : NodeInput) → given_by input ≡ Ok given → NotTaken disk member was was (node_step next answers member given) fault
+  is_refused fault stops member given gives =
+      not_answered D P next answers disk given old working old fault (subst (λ (r : Result Turn Fault). StopsIf r old old fault) (same_input given gives) stops) member
+
+  -- a step that was cut, or was not
+  pub is_cut_so : (kept : ℕ) (device : D) → CutsIf (input_effect next answers old input) kept old (disk device)
+      → (member : Member S) (given : NodeInput) → given_by input ≡ Ok given → IsCutBy disk member was (Stopped device) kept (node_step next answers member given)
+  is_cut_so kept device cuts member given gives part stands_now =
+      cut_by D P next answers disk given old working member part stands_now (effect_of next answers old given) refl kept device (subst (λ (r : Result Turn Fault). CutsIf r kept old (disk device)) (same_input given gives) cuts)
+
+  pub failed_in_cut : (device : D) → IsNotCutIf disk (input_effect next answers old input) old (let r : NotCut S D P = DeviceFailed device in r)
+      → (member : Member S) (given : NodeInput) → given_by input ≡ Ok given → NotTaken disk member was (Stopped device) (node_step next answers member given) Device
+  failed_in_cut device fails member given gives part stands_now =
+      fails_in_cut D P next answers disk given old working member part stands_now (effect_of next answers old given) refl device
+      (subst (λ (r : Result Turn Fault). IsNotCutIf disk r old (let n : NotCut S D P = DeviceFailed device in n)) (same_input given gives) fails)
+
+  pub refused_in_cut : (fault : Fault) (new : Held S) → IsNotCutIf disk (input_effect next answers old input) old (let r : NotCut S D P = Refused fault new in r)
+      → (member : Member S) (given : NodeInput) → given_by input ≡ Ok given → NotTaken disk member was (Running new) (node_step next answers member given) fault
+  refused_in_cut fault new stops member given gives part stands_now =
+      refused_cut D P next answers disk given old working member part stands_now (effect_of next answers old given) refl fault new
+      (subst (λ (r : Result Turn Fault). IsNotCutIf disk r old (let n : NotCut S D P = Refused fault new in n)) (same_input given gives) stops)

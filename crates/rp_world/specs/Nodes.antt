@@ -1,5 +1,6 @@
--- A node of a cluster: a replica that runs, or a device that rests (this project's own).
-use Rattle.std.specs.Prelude.{◌≡◌, ◌⊎◌, ℕ, min, false, Option, None, Result, Ok, Err, List, length}
+-- A node of a cluster: a replica that runs, or a device that rests. A replica whose device failed rests too
+-- (this project's own).
+use Rattle.std.specs.Prelude.{◌≡◌, ◌⊎◌, ℕ, min, Bool, true, false, Option, None, Result, Ok, Err, List, length}
 use Rattle.rp_base.specs.declared.action.Action.{Action}
 use Rattle.rp_base.specs.declared.reply.Answer.{Answer}
 use Rattle.rp_base.specs.declared.fault.Fault.TheVariants.{OutOfMemory, Device}
@@ -9,7 +10,7 @@ use Rattle.rp_base.specs.declared.config.Config.{Config}
 use Rattle.rp_base.specs.declared.fault.Fault.{Fault}
 use Rattle.rp_store.specs.Disk.{Disk}
 use Rattle.rp_model.specs.Parts.{NodePart}
-use Rattle.rp_model.specs.Effect.{Setting, Done, NodeInput, node_effect, cut_if}
+use Rattle.rp_model.specs.Effect.{Setting, Done, NodeInput, node_effect, cut_part}
 use Rattle.rp_replica.specs.Held.{Held, part_of}
 use Rattle.rp_replica.specs.Kept.{HoldsPart}
 use Rattle.rp_world.specs.declared.node.Node.{Node}
@@ -51,9 +52,14 @@ abbrev pub IsComing : Result (Done NodePart) Fault → Type 0
 IsComing (Ok done) = Unit {0}
 IsComing (Err refusal) = ⊥
 
+-- a replica is the part of the member: it runs as it, or has failed, and its device rests
+abbrev pub StandsWhile : {S : Type 0} → Member S → Held S → NodePart → Bool → Type 0
+StandsWhile member held part false = RunsAs member held part
+StandsWhile member held part true = RestsAs member.config.max_positions held.disk part
+
 -- the node is the part of the member
 abbrev pub StandsFor : {S D P : Type 0} → (D → Disk) → Member S → Node S D P → NodePart → Type 0
-StandsFor disk member (Running held) part = RunsAs member held part
+StandsFor disk member (Running held) part = StandsWhile member held part held.failed
 StandsFor disk member (Stopped device) part = RestsAs member.config.max_positions (disk device) part
 
 module _ {S D P : Type 0} (disk : D → Disk) (member : Member S) (old new : Node S D P) where
@@ -67,7 +73,7 @@ module _ {S D P : Type 0} (disk : D → Disk) (member : Member S) (old new : Nod
   abbrev pub IsCutBy : ℕ → (NodePart → Result (Done NodePart) Fault) → Type 0
   IsCutBy kept effect =
       (part : NodePart) → StandsFor disk member old part
-      → (done : Done NodePart) × (cut_if kept part (effect part) ≡ Ok done) × StandsFor disk member new done.part
+      → (done : Done NodePart) × (effect part ≡ Ok done) × StandsFor disk member new (cut_part kept part done.written)
 
   -- or the effect refuses it, and nothing changes
   abbrev pub RefusedBy : (NodePart → Result (Done NodePart) Fault) → Fault → Type 0
@@ -87,7 +93,11 @@ module _ {S D P : Type 0} (disk : D → Disk) (member : Member S) (old new : Nod
       (part : NodePart) → StandsFor disk member old part
       → ((effect part ≡ Err fault) × StandsFor disk member new part)
       ⊎ (((fault ≡ OutOfMemory) × IsComing (effect part) × StandsFor disk member new part)
-      ⊎ ((fault ≡ Device) × (kept : ℕ) × (done : Done NodePart) × (cut_if kept part (effect part) ≡ Ok done) × StandsFor disk member new done.part))
+      ⊎ ((fault ≡ Device) × (kept : ℕ) × (done : Done NodePart) × (effect part ≡ Ok done) × StandsFor disk member new (cut_part kept part done.written)))
+
+-- so many bytes are what some device holds that keeps the part
+abbrev pub IsLengthOf : ℕ → NodePart → ℕ → Type 0
+IsLengthOf most part len = (disk : Disk) × HoldsPart most disk part × (len ≡ length disk.contents)
 
 -- nothing else is told
 abbrev pub TellsNothing : Unit {0} → Done NodePart → Type 0

@@ -1,5 +1,5 @@
 -- A cluster as one value, and what a step of it answers.
-use Rattle.std.specs.Prelude.{◌≡◌, ◌⊎◌, Result, Ok, Err, Option, Some, None, List, length, IsOkAnd}
+use Rattle.std.specs.Prelude.{◌≡◌, ◌⊎◌, Bor, Result, Ok, Err, ℕ, Option, Some, None, List, IsOkAnd}
 use Rattle.rp_base.specs.declared.action.Action.{Action}
 use Rattle.rp_base.specs.declared.config.Config.{Config}
 use Rattle.rp_base.specs.declared.fault.Fault.{Fault}
@@ -12,8 +12,10 @@ use Rattle.rp_model.specs.Parts.{NodePart}
 use Rattle.rp_model.specs.Parts.{Running}
 use Rattle.rp_model.specs.Effect.{Setting}
 use Rattle.rp_model.specs.Events.{event_of}
-use Rattle.rp_model.specs.World.{World, Happening, event_effect}
-use Rattle.rp_model.specs.Answers.{Tells, Steps}
+use Rattle.rp_model.specs.World.{World}
+use Rattle.rp_model.specs.Answers.{Steps}
+use Rattle.rp_replica.specs.Held.{Held}
+use Rattle.rp_world.specs.Nodes.{IsLengthOf}
 
 -- a cluster: its configuration, the program that its nodes run, and its world
 pub record Setup (P : Type 0) : Type 0 where
@@ -26,24 +28,14 @@ pub record IsSameSetup {P : Type 0} (old new : Setup P) : Type 0 where
   pub config : new.config ≡ old.config
   pub program : new.program ≡ old.program
 
--- A step was answered by what the event comes to: so it happened, and was told; or it was refused so, or
--- memory was wanting for it, and nothing changed.
-abbrev pub AnswersBy : World → World → Result Happening Fault → Result Effect Fault → Type 0
-AnswersBy old new (Ok happening) (Ok effect) = (new ≡ happening.world) × Tells (length old.sent) happening effect
-AnswersBy old new (Ok happening) (Err fault) = (new ≡ old) × (fault ≡ OutOfMemory)
-AnswersBy old new (Err refusal) (Ok effect) = ⊥
-AnswersBy old new (Err refusal) (Err fault) = (new ≡ old) × (fault ≡ refusal)
-
 module _ {S P : Type 0} (next : S → Action → S) (answers : S → Action → List Answer) (start : P → S) where
   -- what the nodes of a cluster share
   abbrev pub setting_of : Setup P → Setting S
   setting_of c = record { config = c.config; next = next; answers = answers; begin = start c.program }
 
-  -- A step of a cluster: its world goes by the event, and all else stays. Plain nodes have no device that
-  -- may fail, so nothing but want of memory comes beside what the event comes to.
+  -- a step of a cluster: its world goes by the event, and all else stays
   pub record IsStep (old : Setup P) (event : Event) (new : Setup P) (answer : Result Effect Fault) : Type 0 where
     pub world : Steps (setting_of old) old.world (event_of event) new.world answer
-    pub plain : AnswersBy old.world new.world (event_effect (setting_of old) old.world (event_of event)) answer
     pub setup : IsSameSetup old new
 
 -- the same of a part that runs or is stopped
@@ -60,3 +52,12 @@ IsToldOf answer tells (Some part) = IsToldOfRunning answer tells part.records pa
 -- the same, unless memory ran out
 abbrev pub IsToldUnlessMemory : {A : Type 0} → Result A Fault → (A → List Rec → Type 0) → Option NodePart → Type 0
 IsToldUnlessMemory answer tells part = (answer ≡ Err OutOfMemory) ⊎ IsToldOf answer tells part
+
+-- how many bytes a node's device holds: BadConfig where there is no such node
+abbrev pub IsStored : ℕ → Result ℕ Fault → Option NodePart → Type 0
+IsStored most answer None = answer ≡ Err BadConfig
+IsStored most answer (Some part) = IsOkAnd answer (λ len. IsLengthOf most part len)
+
+-- the replica of a node that runs: refused by NotRunning at a stopped one, and by BadConfig where there is none
+abbrev pub IsReplicaOf : {S : Type 0} → Config → S → Result (Bor (Held S)) Fault → Option NodePart → Type 0
+IsReplicaOf config begin answer part = IsToldOf answer (λ held records. (held.now.begin ≡ begin) × (held.now.records ≡ records)) part

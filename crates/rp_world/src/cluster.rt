@@ -1,111 +1,102 @@
 //! The cluster: all nodes and tasks, and every message that was sent.
 
-ghost use Rattle.std.specs.Prelude.{◌≡◌, ◌<◌, ◌-◌, ◌^◌, min, ◌↔◌, ◌⊎◌, length, Some, None, IfOk, IfErr, IfSome, IsErrOf, OnOk};
+ghost use Rattle.std.specs.Prelude.{◌≡◌, ◌-◌, ◌^◌, min, ◌↔◌, ◌⊎◌, length, All, [], None, IfOk, IfErr, IfSome, IsErrOf, IsTrue};
 ghost use Rattle.rp_base.specs.Config.{IsRightConfig};
 ghost use Rattle.rp_base.specs.Records.{applied_of};
 ghost use Rattle.rp_codec.specs.Text.{text_of};
 ghost use Rattle.rp_machine.specs.Replay.{replay_state};
-ghost use Rattle.rp_model.specs.Effect as nodes;
-ghost use Rattle.rp_model.specs.Events.{Makes, Deliver, Lead, IsEvent, event_of};
-ghost use Rattle.rp_model.specs.World.{opening_world, delivers, node_takes, event_effect, part_at};
-ghost use Rattle.rp_world.specs.Steps.{AnswersBy, IsSameSetup, IsStep, setting_of, IsToldOf, IsToldUnlessMemory};
+ghost use Rattle.rp_model.specs.World.{opening_world, part_at};
 ghost use Rattle.rp_agreement.specs.Order.{AllSent};
-ghost use Rattle.rp_agreement.specs.Answered.{IsKeptWorld};
 ghost use Rattle.rp_world.specs.Agreeing.{Agree, IsOrdered};
 ghost use Rattle.rp_world.specs.Runs.{IsRun};
+ghost use Rattle.rp_world.specs.Shape.{IsCluster};
+ghost use Rattle.rp_world.specs.Steps.{IsStep, IsStored, IsToldOf, IsToldUnlessMemory, setting_of};
 
-use crate::effect::{Refused, nothing};
+use crate::effect::Refused;
 use crate::world::World;
 use rp_agreement::{
-    applied_lists_are_alike, applied_lists_begin_the_order, events_keep_replies,
-    replies_tell_the_order, states_are_alike, the_order_exists,
+    applied_lists_are_alike, applied_lists_begin_the_order, events_keep_ranges,
+    events_keep_replies, replies_tell_the_order, states_are_alike, the_order_exists,
 };
-use rp_base::{Answer, Config, Fault, NodeId, Position, TaskId};
-use rp_codec::{Body, Party, encode};
+use rp_base::{Answer, Config, Fault, NodeId, TaskId};
 use rp_machine::{Machine, a_call_has_one_place};
-use rp_model::{
-    Effect, Event, RightRecord, Step, applied_count, applied_of, on_lead, receives, replay,
-    worlds_grow,
-};
+use rp_model::{Effect, Event, worlds_grow};
+use rp_store::{CutDevice, Device};
 use std::alloc::Global;
 use std::marker::Model;
 
-/// Nodes that keep a machine alike, eight tasks that call it, and the messages between them. A
-/// message is sent once and stays, so that it may be delivered late, again, or never.
+/// Nodes that keep a machine alike, each over a device of its own, eight tasks that call it, and the
+/// messages between them. A message is sent once and stays, so that it may be delivered late, again,
+/// or never.
 #[derive(Drop)]
-pub struct Cluster<M: Machine> {
-    config: Config,
-    program: M::Program,
-    world: World,
+pub struct Cluster<M: Machine, D: CutDevice> {
+    world: World<M, D>,
 }
 
-impl<M: Machine> Model for Cluster<M> {
+impl<M: Machine, D: CutDevice> Model for Cluster<M, D> {
     ghost use Rattle.rp_world.specs.Steps.{Setup, setting_of};
     ghost use Rattle.rp_world.specs.Shape.{IsCluster};
 
     ghost Value = { Setup M.Program };
 
-    ghost view = { λ c. record { config = c.config; program = c.program; world = c.world } };
+    ghost view = { λ c. c.world };
 
-    ghost invariant = { λ c. IsCluster (setting_of M.next M.answers M.begin
-        (record { config = c.config; program = c.program; world = c.world })) c.world };
+    ghost invariant = { λ c. IsCluster (setting_of M.next M.answers M.begin c.world)
+        c.world.world };
 }
 
-impl<M: Machine> Cluster<M> {
-    /// The opening world: all nodes run, and nothing was called or sent. `BadConfig` where a number
-    /// is outside its limits; for now the log has one position.
-    pub fn new(alloc: Global, config: Config, program: M::Program) -> Result<Self, Fault>
+/// Whether each device is empty.
+fn are_empty<D: Device>(devices: &[D]) -> bool
+    ensures { IsTrue result ↔ All (λ device. (D.disk device).contents ≡ []) devices.now }
+{
+    devices.iter().all(|device| device.len() == 0)
+}
+
+impl<M: Machine, D: CutDevice> Cluster<M, D> {
+    /// The opening world: all nodes run, and nothing was called or sent. `BadConfig` where a number is
+    /// outside its limits, where there are not as many devices as nodes, or where one is not empty.
+    /// Refused, the program and the devices are dropped.
+    pub fn new(
+        alloc: Global,
+        config: Config,
+        program: M::Program,
+        devices: Vec<D>,
+    ) -> Result<Self, Fault>
         ensures opened { IfOk result (λ c. c
             ≡ record { config = config; program = program; world = opening_world config.nodes }) }
         ensures refused { IsErrOf result Fault.BadConfig
-            ↔ (¬ (IsRightConfig config × (config.max_positions ≡ 1))) }
-        ensures only { IfErr result (λ fault. (fault ≡ Fault.BadConfig) ⊎ (fault
-            ≡ Fault.OutOfMemory)) }
+            ↔ (¬ (IsRightConfig config × (length devices.items ≡ config.nodes)
+            × All (λ device. (D.disk device).contents ≡ []) devices.items)) }
+        ensures only { IfErr result (λ fault. (fault ≡ Fault.BadConfig) ⊎ ((fault
+            ≡ Fault.OutOfMemory) ⊎ (fault ≡ Fault.Device))) }
     {
-        if !config.is_right() || config.max_positions != 1 {
+        if !config.is_right()
+            || devices.len() != usize::from(config.nodes)
+            || !are_empty(&devices)
+        {
             return Err(Fault::BadConfig);
         }
         replies_tell_the_order::<M>();
+        events_keep_ranges::<M>();
         Ok(Cluster {
-            config,
-            program,
-            world: World::new(alloc, config.nodes)?,
+            world: World::new(alloc, config, program, devices)?,
         })
     }
 
-    /// One step of one actor, told by its effect. Refused, it changes nothing: `NotRunning` for a
-    /// stopped node, `NoSuchMessage` for a number above the last, `TaskBusy` while the task's last
-    /// call has no answer, `LogFull` and `BallotsSpent` for a leader, `NumbersSpent` for a task's
-    /// last number, `BadConfig` for a node above the last or a call that is not right, and
-    /// `OutOfMemory`.
+    /// One step of one actor, a stop or a restart, told by its effect. Refused, it changes nothing:
+    /// `NotRunning` for a stopped node or a cut that meets none, `NoSuchMessage` for a number above the
+    /// last, `TaskBusy` while the task's last call has no answer, `LogFull` and `BallotsSpent` for a
+    /// leader, `NumbersSpent` for a task's last number, `BadConfig` for a node above the last or a call
+    /// that is not right, and `OutOfMemory`. `Device` where a node's device fails: the node is stopped
+    /// then within the step; one that was to start again stays stopped, and some of its torn bytes may
+    /// be gone, as they may be after `OutOfMemory`.
     pub fn step(&mut self, alloc: Global, event: &Event) -> Result<Effect, Fault>
         ensures step { IsStep M.next M.answers M.begin self.old event.now self.new result }
     {
-        self.answer(alloc, event)
-    }
-
-    /// The same, by what the event comes to.
-    fn answer(&mut self, alloc: Global, event: &Event) -> Result<Effect, Fault>
-        ensures effect { AnswersBy self.old.world self.new.world
-            (event_effect (setting_of M.next M.answers M.begin self.old) self.old.world
-            (event_of event.now)) result }
-        ensures setup { IsSameSetup self.old self.new }
-    {
         event.keeps_ranges();
         events_keep_replies::<M>();
-        match *event {
-            Event::Submit {
-                task,
-                node,
-                object,
-                operation,
-                arg,
-            } => self
-                .world
-                .calls(self.config, task, node, object, operation, arg),
-            Event::Node(Step::Deliver(number)) => self.deliver(alloc, number),
-            Event::Node(Step::Lead { node, position }) => self.lead(alloc, node, position),
-        }
+        events_keep_ranges::<M>();
+        self.world.step(alloc, event)
     }
 
     /// The steps of these events one after another, up to the first that is refused. Whatever they
@@ -147,95 +138,14 @@ impl<M: Machine> Cluster<M> {
     /// The cluster's world meets the invariant by which nodes agree and replies are the order's. It
     /// does nothing: what it promises is for contracts.
     fn is_kept(&self)
-        ensures { IsKeptWorld (setting_of M.next M.answers M.begin self.now) self.now.world }
+        ensures { IsCluster (setting_of M.next M.answers M.begin self.now) self.now.world }
     {
         let _ = self.world.messages();
-    }
-
-    /// A message is taken by whom it is for.
-    fn deliver(&mut self, alloc: Global, number: u64) -> Result<Effect, Fault>
-        requires ranges { IsEvent (Makes (Deliver number)) }
-        ensures effect { AnswersBy self.old.world self.new.world
-            (delivers (setting_of M.next M.answers M.begin self.old) self.old.world
-            (part_at self.old.world.sent number)) result }
-        ensures setup { IsSameSetup self.old self.new }
-    {
-        events_keep_replies::<M>();
-        let first = self.world.next_number();
-        let Some(packet) = self.world.message(number) else {
-            return Err(Fault::NoSuchMessage);
-        };
-        match packet.to() {
-            Party::Node(node) => {
-                let Some(part) = self.world.node(node) else {
-                    return Ok(nothing(first));
-                };
-                let Some(running) = &part.running else {
-                    return Ok(nothing(first));
-                };
-                let records = part.records.as_slice();
-                let turn = receives::<M>(
-                    alloc,
-                    &self.program,
-                    self.config,
-                    node,
-                    records,
-                    running,
-                    packet,
-                )?;
-                self.world.turns(node, turn)
-            }
-            Party::Task(task) => {
-                let Body::Reply { number, reply } = *packet.body() else {
-                    return Ok(nothing(first));
-                };
-                self.world.takes(task, number, reply)
-            }
-            Party::Audit => Ok(nothing(first)),
-        }
-    }
-
-    /// A node leads.
-    fn lead(
-        &mut self,
-        alloc: Global,
-        node: NodeId,
-        position: Option<Position>,
-    ) -> Result<Effect, Fault>
-        requires ranges { IsEvent (Makes (Lead node position)) }
-        ensures effect { AnswersBy self.old.world self.new.world
-            (node_takes (setting_of M.next M.answers M.begin self.old) self.old.world node
-            (nodes.Lead position)
-            (part_at self.old.world.nodes node)) result }
-        ensures setup { IsSameSetup self.old self.new }
-    {
-        events_keep_replies::<M>();
-        let Some(part) = self.world.node(node) else {
-            return Err(Fault::BadConfig);
-        };
-        let Some(running) = &part.running else {
-            return Err(Fault::NotRunning);
-        };
-        let records = part.records.as_slice();
-        let led = on_lead::<M>(
-            alloc,
-            &self.program,
-            self.config,
-            node,
-            records,
-            running,
-            position,
-        );
-        match led {
-            Ok(turn) => self.world.turns(node, turn),
-            Err(fault) => Err(fault),
-        }
     }
 
     /// How many messages were sent.
     pub fn messages(&self) -> u64
         ensures value { result ≡ length self.now.world.sent }
-        ensures few { result < 2 ^ 63 }
     {
         self.world.messages()
     }
@@ -249,17 +159,17 @@ impl<M: Machine> Cluster<M> {
         ensures only { IfErr result (λ fault. (fault ≡ Fault.NoSuchMessage) ⊎ (fault
             ≡ Fault.OutOfMemory)) }
     {
-        let Some(packet) = self.world.message(number) else {
+        let Some(text) = self.world.text(number) else {
             return Err(Fault::NoSuchMessage);
         };
-        Ok(encode(alloc, packet)?)
+        Ok(Vec::from_slice(alloc, text)?)
     }
 
     /// The replies that a task got, in order.
     pub fn replies(&self, task: TaskId) -> &[Answer]
         ensures { IfSome (part_at self.now.world.tasks task) (λ part. result.now ≡ part.replies) }
     {
-        self.world.task(task).replies.as_slice()
+        self.world.replies(task)
     }
 
     /// How many actions a node has applied. `NotRunning` where it is stopped, `BadConfig` above the
@@ -268,8 +178,7 @@ impl<M: Machine> Cluster<M> {
         ensures { IsToldOf result (λ count records. count
             ≡ min (length (applied_of records)) (2 ^ 16 - 1)) (part_at self.now.world.nodes node) }
     {
-        let count = applied_count(self.records(node)?);
-        Ok(u16::try_from(count).unwrap_or(u16::MAX))
+        self.world.applied(node)
     }
 
     /// The lines that show a node's machine, each ended by a line feed. `NotRunning` where the node
@@ -279,22 +188,14 @@ impl<M: Machine> Cluster<M> {
             text.items ≡ M.image (replay_state M.next M.answers (M.begin self.now.program)
             (applied_of records))) (part_at self.now.world.nodes node) }
     {
-        let applied = applied_of(alloc, self.records(node)?)?;
-        let replayed = replay::<M>(alloc, &self.program, applied.as_slice())?;
-        Ok(replayed.machine.image(alloc)?)
+        self.world.image(alloc, node)
     }
 
-    /// The records of a node that runs.
-    fn records(&self, node: NodeId) -> Result<&[RightRecord], Fault>
-        ensures { IsToldOf result (λ records all. records.now
-            ≡ all) (part_at self.now.world.nodes node) }
+    /// How many bytes a node's device holds. `BadConfig` above the last node.
+    pub fn stored(&self, node: NodeId) -> Result<u64, Fault>
+        ensures { IsStored self.now.config.max_positions result
+            (part_at self.now.world.nodes node) }
     {
-        let Some(part) = self.world.node(node) else {
-            return Err(Fault::BadConfig);
-        };
-        if part.running.is_none() {
-            return Err(Fault::NotRunning);
-        }
-        Ok(part.records.as_slice())
+        self.world.stored(node)
     }
 }

@@ -1,10 +1,11 @@
 //! What an event came to, as a step tells it.
 
-ghost use Rattle.std.specs.Prelude.{◌≡◌, ◌-◌, ◌^◌, min, length, None, Some};
+ghost use Rattle.std.specs.Prelude.{◌≡◌, ◌-◌, ◌^◌, min, None};
 ghost use Rattle.rp_model.specs.declared.effect.Dropped.TheVariants.{No};
 
 use rp_base::{Answer, Fault};
-use rp_model::{Dropped, Effect, Turn};
+use rp_model::{Dropped, Effect};
+use rp_replica::Sent;
 
 /// Where a run stopped.
 #[derive(Clone, Copy, Debug, PartialEq, Eq)]
@@ -40,33 +41,42 @@ pub(crate) fn one_message(first: u64) -> Effect
     }
 }
 
-/// A reply was taken.
-pub(crate) fn one_reply(first: u64, answer: &Answer) -> Effect
-    ensures { result ≡ record {
-      first = first;
-      sent = 0;
-      dropped = No;
-      taken = Some answer.now;
-      opened = None;
-    } }
+/// A task took this, if anything.
+pub(crate) fn taken(first: u64, taken: Option<Answer>) -> Effect
+    ensures { result
+        ≡ record { first = first; sent = 0; dropped = No; taken = taken; opened = None } }
 {
     Effect {
-        taken: Some(*answer),
+        taken,
         ..nothing(first)
     }
 }
 
-/// What a node's turn sends and drops.
-pub(crate) fn of_turn(first: u64, turn: &Turn) -> Effect
-    ensures first { result.first ≡ first }
-    ensures count { result.sent ≡ min (length turn.now.sent) (2 ^ 32 - 1) }
-    ensures dropped { result.dropped ≡ turn.now.dropped }
-    ensures rest { (result.taken ≡ None) × (result.opened ≡ None) }
+/// A node started again, with so many records and torn bytes, or went on.
+pub(crate) fn opened(first: u64, opened: Option<(u64, u64)>) -> Effect
+    ensures { result
+        ≡ record { first = first; sent = 0; dropped = No; taken = None; opened = opened } }
+{
+    Effect {
+        opened,
+        ..nothing(first)
+    }
+}
+
+/// What a node's step sent and dropped.
+pub(crate) fn of_step(first: u64, sent: &Sent) -> Effect
+    ensures { result ≡ record {
+      first = first;
+      sent = min sent.now.packets (2 ^ 32 - 1);
+      dropped = sent.now.dropped;
+      taken = None;
+      opened = None;
+    } }
 {
     Effect {
         first,
-        sent: u32::try_from(turn.sent.len()).unwrap_or(u32::MAX),
-        dropped: turn.dropped,
+        sent: u32::try_from(sent.packets).unwrap_or(u32::MAX),
+        dropped: sent.dropped,
         taken: None,
         opened: None,
     }

@@ -1,18 +1,18 @@
 //! A node: a replica that runs, or a device that rests.
 
-ghost use Rattle.std.specs.Prelude.{◌≡◌, ◌⊎◌, ◌≤◌, [], true, false, Ok, Some, IfOk, IfErr};
+ghost use Rattle.std.specs.Prelude.{◌≡◌, ◌⊎◌, ◌≤◌, ℕ, [], false, min, Ok, Some, None, IfOk, IfErr, IfSome, IfNone, IsSome, IsTrue};
 ghost use Rattle.rp_base.specs.Config.{IsRightConfig};
 ghost use Rattle.rp_replica.specs.Inputs.{IsRightInput, given_by};
 ghost use Rattle.rp_base.specs.declared.fault.Fault.TheVariants as faults;
 ghost use Rattle.rp_model.specs.Effect.{NodeInput, stop_effect, restart_part};
 ghost use Rattle.rp_model.specs.Parts.{fresh_node};
-ghost use Rattle.rp_world.specs.declared.node.Node.TheVariants.{Running, Stopped};
-ghost use Rattle.rp_world.specs.Nodes.{Member, member_of, StandsFor, GoesBy, RefusedBy, IsLeftTorn, NotTaken, TellsNothing, TellsOpened, TellsSent, node_step};
+ghost use Rattle.rp_model.specs.Parts.{NodePart};
+ghost use Rattle.rp_world.specs.Nodes.{Member, member_of, RunsAs, RestsAs, StandsFor, GoesBy, IsCutBy, RefusedBy, IsLeftTorn, IsLengthOf, NotTaken, TellsNothing, TellsOpened, TellsSent, node_step};
 
 use rp_base::{Config, Fault, NodeId};
 use rp_machine::Machine;
-use rp_replica::{Input, Replica, Sent};
-use rp_store::CutDevice;
+use rp_replica::{Input, NotCut, Replica, Sent};
+use rp_store::{CutDevice, Device};
 use std::alloc::Global;
 
 /// What a node is between its steps.
@@ -45,6 +45,52 @@ impl<M: Machine, D: CutDevice> Node<M, D> {
         }
     }
 
+    /// Whether the node runs: one whose device failed does not.
+    pub(crate) fn is_running(&self) -> bool
+        ensures runs { IsTrue result → (member : Member M) (part : NodePart)
+            → StandsFor D.disk member self.now part → IsSome part.running }
+        ensures rests { result ≡ false → (member : Member M) (part : NodePart)
+            → StandsFor D.disk member self.now part → part.running ≡ None }
+    {
+        match self {
+            Node::Running(replica) => !replica.has_failed(),
+            Node::Stopped(_) => false,
+        }
+    }
+
+    /// The replica of a node that runs.
+    pub(crate) fn replica(&self) -> Option<&Replica<M, D>>
+        ensures runs { IfSome result (λ replica. (member : Member M) (part : NodePart)
+            → StandsFor D.disk member self.now part → RunsAs member replica.now part) }
+        ensures rests { IfNone result ((member : Member M) (part : NodePart)
+            → StandsFor D.disk member self.now part → part.running ≡ None) }
+    {
+        match self {
+            Node::Running(replica) => {
+                if replica.has_failed() {
+                    None
+                } else {
+                    Some(replica)
+                }
+            }
+            Node::Stopped(_) => None,
+        }
+    }
+
+    /// How many bytes the node's device holds.
+    pub(crate) fn stored(&self) -> u64
+        ensures { (member : Member M) (part : NodePart) → StandsFor D.disk member self.now part
+            → IsLengthOf member.config.max_positions part result }
+    {
+        match self {
+            Node::Running(replica) => {
+                replica.keeps_records();
+                replica.stored()
+            }
+            Node::Stopped(device) => device.len(),
+        }
+    }
+
     /// The node stops. `NotRunning` where it is stopped already.
     pub(crate) fn stop(self) -> (Self, Result<(), Fault>)
         ensures ok { IfOk result.1 (λ done. (member : Member M) → GoesBy D.disk member
@@ -54,6 +100,9 @@ impl<M: Machine, D: CutDevice> Node<M, D> {
     {
         match self {
             Node::Running(replica) => {
+                if replica.has_failed() {
+                    return (Node::Running(replica), Err(Fault::NotRunning));
+                }
                 replica.keeps_records();
                 (Node::Stopped(replica.close()), Ok(()))
             }
@@ -82,48 +131,119 @@ impl<M: Machine, D: CutDevice> Node<M, D> {
             ≡ faults.Device)) }
     {
         match self {
-            Node::Running(replica) => (Node::Running(replica), Ok(None)),
-            Node::Stopped(device) => match Replica::open(alloc, me, config, program, device) {
-                Ok(opening) => (
-                    Node::Running(opening.replica),
-                    Ok(Some((opening.records, opening.cut_bytes))),
-                ),
-                Err((fault, device)) => (Node::Stopped(device), Err(fault)),
-            },
+            Node::Running(replica) => {
+                if replica.has_failed() {
+                    return starts(alloc, me, config, program, replica.close());
+                }
+                (Node::Running(replica), Ok(None))
+            }
+            Node::Stopped(device) => starts(alloc, me, config, program, device),
         }
     }
 
     /// The node makes the step of an input. `NotRunning` where it is stopped, and else as the replica
     /// says; where its device failed it is stopped within the step.
-    pub(crate) fn turn(self, alloc: Global, input: &Input) -> (Self, Result<Sent, Fault>)
+    pub(crate) fn turn(&mut self, alloc: Global, input: &Input) -> Result<Sent, Fault>
         requires right { IsRightInput input.now }
-        ensures ok { IfOk result.1 (λ sent. (member : Member M) (given : NodeInput)
-            → given_by input.now ≡ Ok given → GoesBy D.disk member self result.0
+        ensures ok { IfOk result (λ sent. (member : Member M) (given : NodeInput)
+            → given_by input.now ≡ Ok given → GoesBy D.disk member self.old self.new
             (node_step M.next M.answers member given) TellsSent sent) }
+        ensures err { IfErr result (λ fault. (member : Member M) (given : NodeInput)
+            → given_by input.now ≡ Ok given → NotTaken D.disk member self.old self.new
+            (node_step M.next M.answers member given) fault) }
+    {
+        match self {
+            Node::Running(replica) => {
+                if replica.has_failed() {
+                    return Err(Fault::NotRunning);
+                }
+                replica.turn(alloc, input)
+            }
+            Node::Stopped(_) => Err(Fault::NotRunning),
+        }
+    }
+
+    /// Why the step of an input would not be made where memory runs out: as it would be refused with
+    /// memory enough, and else `OutOfMemory`.
+    pub(crate) fn refusal(&self, alloc: Global, input: &Input) -> Fault
+        requires right { IsRightInput input.now }
+        ensures { (member : Member M) (given : NodeInput) → given_by input.now ≡ Ok given
+            → NotTaken D.disk member self.now self.now
+            (node_step M.next M.answers member given) result }
+    {
+        match self {
+            Node::Running(replica) => {
+                if replica.has_failed() {
+                    return Fault::NotRunning;
+                }
+                match replica.record_of(alloc, input) {
+                    Ok(_) => Fault::OutOfMemory,
+                    Err(fault) => fault,
+                }
+            }
+            Node::Stopped(_) => Fault::NotRunning,
+        }
+    }
+
+    /// The node stops within the step of an input, where so many bytes of the step's record are kept.
+    /// `NotRunning` where it is stopped already, and else as the replica refuses the step; where its
+    /// device failed some bytes of the record are kept.
+    pub(crate) fn cut(
+        self,
+        alloc: Global,
+        input: &Input,
+        kept: u64,
+    ) -> (Self, Result<(), Fault>)
+        requires right { IsRightInput input.now }
+        ensures ok { IfOk result.1 (λ done. (member : Member M) (given : NodeInput)
+            → given_by input.now ≡ Ok given → IsCutBy D.disk member self result.0 kept
+            (node_step M.next M.answers member given)) }
         ensures err { IfErr result.1 (λ fault. (member : Member M) (given : NodeInput)
             → given_by input.now ≡ Ok given → NotTaken D.disk member self result.0
             (node_step M.next M.answers member given) fault) }
     {
         match self {
             Node::Running(replica) => {
-                let mut replica = replica;
-                let answer = replica.turn(alloc, input);
-                (rest_if_failed(replica), answer)
+                if replica.has_failed() {
+                    return (Node::Running(replica), Err(Fault::NotRunning));
+                }
+                match replica.torn(alloc, input, kept) {
+                    Ok(device) => (Node::Stopped(device), Ok(())),
+                    Err(NotCut::Failed(device)) => (Node::Stopped(device), Err(Fault::Device)),
+                    Err(NotCut::Refused(fault, replica)) => (Node::Running(replica), Err(fault)),
+                }
             }
             Node::Stopped(device) => (Node::Stopped(device), Err(Fault::NotRunning)),
         }
     }
 }
 
-/// The node goes on, or rests where its device failed.
-fn rest_if_failed<M: Machine, D: CutDevice>(replica: Replica<M, D>) -> Node<M, D>
-    ensures working { replica.failed ≡ false → result ≡ Running replica }
-    ensures failed { replica.failed ≡ true
-        → (device : D) × (result ≡ Stopped device) × (D.disk device ≡ replica.disk) }
+/// A node starts over a device.
+fn starts<M: Machine, D: CutDevice>(
+    alloc: Global,
+    me: NodeId,
+    config: Config,
+    program: &M::Program,
+    device: D,
+) -> (Node<M, D>, Result<Option<(u64, u64)>, Fault>)
+    requires config { IsRightConfig config }
+    requires member { me ≤ config.nodes }
+    ensures ok { IfOk result.1 (λ opened. (part : NodePart)
+        → RestsAs config.max_positions (D.disk device) part
+        → StandsFor D.disk (member_of me config (M.begin program.now)) result.0
+        (restart_part part).part × TellsOpened opened (restart_part part)) }
+    ensures err { IfErr result.1 (λ fault. (part : NodePart)
+        → RestsAs config.max_positions (D.disk device) part
+        → (kept : ℕ) × StandsFor D.disk (member_of me config (M.begin program.now)) result.0
+        (record part { torn = min kept part.torn })) }
+    ensures only { IfErr result.1 (λ fault. (fault ≡ faults.OutOfMemory) ⊎ (fault
+        ≡ faults.Device)) }
 {
-    if replica.has_failed() {
-        Node::Stopped(replica.close())
-    } else {
-        Node::Running(replica)
+    match Replica::open(alloc, me, config, program, device) {
+        Ok(opening) => (
+            Node::Running(opening.replica),
+            Ok(Some((opening.records, opening.cut_bytes))),
+        ),
+        Err((fault, device)) => (Node::Stopped(device), Err(fault)),
     }
 }

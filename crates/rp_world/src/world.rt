@@ -1,156 +1,185 @@
-//! A world as it lies in memory: the parts of the nodes and the tasks, and the messages.
+//! A world as it lies in memory: the nodes, the tasks, and the messages.
 
-ghost use Rattle.std.specs.Prelude.{◌≡◌, ◌+◌, ◌<◌, ◌^◌, length, option_copied, Ok, Some, IfOk, IfSome, IsSomeAnd};
-ghost use Rattle.rp_codec.specs.Message.{IsCallBy};
-ghost use Rattle.rp_model.specs.Effect.{turned};
-ghost use Rattle.rp_model.specs.Tasks.{Submit, calls_if, takes_reply};
-ghost use Rattle.rp_model.specs.World.{opening_world, part_at, node_done, task_done, task_done_if, task_takes};
-ghost use Rattle.rp_world.specs.Steps.{AnswersBy};
+ghost use Rattle.std.specs.Prelude.{◌≡◌, ◌<◌, ◌≤◌, ◌⊎◌, ◌-◌, ◌^◌, min, length, All, [], IfOk, IfErr, IfSome, insert, option_copied, option_map, vec_len, vec_capacity};
+ghost use Rattle.rp_base.specs.Config.{IsRightConfig};
+ghost use Rattle.rp_base.specs.declared.fault.Fault.TheVariants as faults;
+ghost use Rattle.rp_codec.specs.Text.{text_of};
+ghost use Rattle.rp_model.specs.World.{opening_world, part_at};
+ghost use Rattle.rp_world.specs.Shape.{AreFresh, AreFreshTasks};
+ghost use Rattle.rp_world.specs.Steps.{IsStored, IsToldOf, IsToldUnlessMemory, IsReplicaOf};
+ghost use Rattle.rp_base.specs.Records.{applied_of};
+ghost use Rattle.rp_machine.specs.Replay.{replay_state};
 
-use crate::effect::{nothing, of_turn, one_message, one_reply};
-use crate::parts::{answer_if, asks, fresh_nodes, fresh_tasks, next_call, take_effect};
-use rp_base::{Config, Fault, NodeId, Operation, Reply, TaskId};
-use rp_codec::Packet;
-use rp_model::{Effect, NodePart, RightAction, TaskPart, Turn};
+use crate::messages::Messages;
+use crate::node::Node;
+use crate::task::Task;
+use rp_base::{Answer, Config, Fault, NodeId, TaskId};
+use rp_machine::Machine;
+use rp_replica::Replica;
+use rp_store::CutDevice;
 use std::alloc::{AllocError, Global};
 use std::marker::Model;
 
 /// The nodes, the eight tasks, and every message that was sent.
 #[derive(Drop)]
-pub(crate) struct World {
-    nodes: Vec<NodePart>,
-    tasks: Vec<TaskPart>,
-    sent: Vec<Packet>,
+pub(crate) struct World<M: Machine, D: CutDevice> {
+    pub(crate) config: Config,
+    pub(crate) program: M::Program,
+    pub(crate) nodes: Vec<Node<M, D>>,
+    pub(crate) tasks: Vec<Task>,
+    pub(crate) messages: Messages,
 }
 
-impl Model for World {
-    ghost use Rattle.std.specs.Prelude.{◌≡◌, length};
-    ghost use Rattle.rp_model.specs.World as worlds;
+impl<M: Machine, D: CutDevice> Model for World<M, D> {
+    ghost use Rattle.rp_world.specs.Steps.{Setup};
+    ghost use Rattle.rp_world.specs.Shape.{world_of, IsWorld};
 
-    ghost Value = { worlds.World };
+    ghost Value = { Setup M.Program };
 
     ghost view = { λ w. record {
-      nodes = w.nodes.items;
-      tasks = w.tasks.items;
-      sent = w.sent.items;
+      config = w.config;
+      program = w.program;
+      world = world_of D.disk w.config.max_positions w.nodes.items w.tasks.items w.messages;
     } };
 
-    ghost invariant = { λ w. length w.tasks.items ≡ 8 };
+    ghost invariant = { λ w. IsWorld D.disk w.config (M.begin w.program) w.nodes.items w.tasks.items };
 }
 
-impl World {
+/// A node over each of these devices, which are empty.
+fn opened<M: Machine, D: CutDevice>(
+    alloc: Global,
+    config: Config,
+    program: &M::Program,
+    devices: Vec<D>,
+) -> Result<Vec<Node<M, D>>, Fault>
+    requires config { IsRightConfig config }
+    requires count { length devices.items ≡ config.nodes }
+    requires empty { All (λ device. (D.disk device).contents ≡ []) devices.items }
+    ensures nodes { IfOk result (λ nodes. AreFresh D.disk config (M.begin program.now) nodes.items) }
+    ensures only { IfErr result (λ fault. (fault ≡ faults.OutOfMemory) ⊎ (fault
+        ≡ faults.Device)) }
+{
+    let mut nodes = Vec::new(alloc);
+    for device in devices {
+        let node = NodeId::new(nodes.len() as u8 + 1).unwrap();
+        nodes.push(Node::open(alloc, node, config, program, device)?)?;
+    }
+    Ok(nodes)
+}
+
+/// The eight tasks, which called nothing.
+fn fresh_tasks(alloc: Global) -> Result<Vec<Task>, AllocError>
+    ensures { IfOk result (λ tasks. AreFreshTasks tasks.items) }
+{
+    let mut tasks = Vec::new(alloc);
+    for number in 1..=8u8 {
+        let task = TaskId::new(number).unwrap();
+        tasks.push(Task::new(alloc, task))?;
+    }
+    Ok(tasks)
+}
+
+/// Puts a node back to its place, which it was taken from.
+pub(crate) fn put_back<M: Machine, D: CutDevice>(
+    nodes: &mut Vec<Node<M, D>>,
+    place: usize,
+    node: Node<M, D>,
+)
+    requires place { place ≤ vec_len nodes.old }
+    requires room { vec_len nodes.old < vec_capacity nodes.old }
+    ensures { nodes.new.items ≡ insert nodes.old.items place node }
+{
+    nodes.insert(place, node).unwrap();
+}
+
+impl<M: Machine, D: CutDevice> World<M, D> {
     /// All nodes run, and nothing was called or sent.
-    pub(crate) fn new(alloc: Global, nodes: u8) -> Result<Self, AllocError>
-        ensures { IfOk result (λ world. world ≡ opening_world nodes) }
+    pub(crate) fn new(
+        alloc: Global,
+        config: Config,
+        program: M::Program,
+        devices: Vec<D>,
+    ) -> Result<Self, Fault>
+        requires config { IsRightConfig config }
+        requires count { length devices.items ≡ config.nodes }
+        requires empty { All (λ device. (D.disk device).contents ≡ []) devices.items }
+        ensures opened { IfOk result (λ w. w
+            ≡ record { config = config; program = program; world = opening_world config.nodes }) }
+        ensures only { IfErr result (λ fault. (fault ≡ faults.OutOfMemory) ⊎ (fault
+            ≡ faults.Device)) }
     {
+        let nodes = opened(alloc, config, &program, devices)?;
+        let tasks = fresh_tasks(alloc)?;
         Ok(World {
-            nodes: fresh_nodes(alloc, nodes)?,
-            tasks: fresh_tasks(alloc)?,
-            sent: Vec::new(alloc),
+            config,
+            program,
+            nodes,
+            tasks,
+            messages: Messages::new(alloc),
         })
     }
 
     /// How many messages were sent.
     pub(crate) fn messages(&self) -> u64
-        ensures value { result ≡ length self.now.sent }
-        ensures few { result < 2 ^ 63 }
+        ensures value { result ≡ length self.now.world.sent }
     {
-        self.sent.len() as u64
+        self.messages.count()
     }
 
-    /// The number of the next message.
-    pub(crate) fn next_number(&self) -> u64
-        ensures { result ≡ length self.now.sent + 1 }
+    /// The text of the message of this number, from 1.
+    pub(crate) fn text(&self, number: u64) -> Option<&[u8]>
+        ensures { option_copied result ≡ option_map text_of (part_at self.now.world.sent number) }
     {
-        self.messages() + 1
+        self.messages.text(number)
     }
 
-    /// The message of this number, from 1.
-    pub(crate) fn message(&self, number: u64) -> Option<&Packet>
-        ensures { option_copied result ≡ part_at self.now.sent number }
+    /// The replies that a task got, in order.
+    pub(crate) fn replies(&self, task: TaskId) -> &[Answer]
+        ensures { IfSome (part_at self.now.world.tasks task) (λ part. result.now ≡ part.replies) }
     {
-        if number == 0 || number > self.messages() {
-            return None;
-        }
-        self.sent.get((number - 1) as usize)
+        self.tasks[usize::from(task.get()) - 1].replies()
     }
 
-    /// The part of a node.
-    pub(crate) fn node(&self, node: NodeId) -> Option<&NodePart>
-        ensures { option_copied result ≡ part_at self.now.nodes node }
+    /// How many actions a node has applied. `NotRunning` where it is stopped, `BadConfig` above the
+    /// last node.
+    pub(crate) fn applied(&self, node: NodeId) -> Result<u16, Fault>
+        ensures { IsToldOf result (λ count records. count
+            ≡ min (length (applied_of records)) (2 ^ 16 - 1)) (part_at self.now.world.nodes node) }
     {
-        self.nodes.get(usize::from(node.get()) - 1)
+        let replica = self.replica(node)?;
+        Ok(u16::try_from(replica.applied()).unwrap_or(u16::MAX))
     }
 
-    /// The part of a task.
-    pub(crate) fn task(&self, task: TaskId) -> &TaskPart
-        ensures { part_at self.now.tasks task ≡ Some result.now }
+    /// The lines that show a node's machine, each ended by a line feed. `NotRunning` where the node
+    /// is stopped, `BadConfig` above the last node.
+    pub(crate) fn image(&self, alloc: Global, node: NodeId) -> Result<Vec<u8>, Fault>
+        ensures { IsToldUnlessMemory result (λ text records.
+            text.items ≡ M.image (replay_state M.next M.answers (M.begin self.now.program)
+            (applied_of records))) (part_at self.now.world.nodes node) }
     {
-        &self.tasks[usize::from(task.get()) - 1]
+        let replica = self.replica(node)?;
+        replica.image(alloc)
     }
 
-    /// A node's turn takes effect. Refused for memory, nothing changes.
-    pub(crate) fn turns(&mut self, node: NodeId, turn: Turn) -> Result<Effect, Fault>
-        ensures { IfSome (part_at self.old.nodes node) (λ part.
-            AnswersBy self.old self.new (Ok (node_done self.old node (turned part turn))) result) }
+    /// The replica of a node that runs.
+    fn replica(&self, node: NodeId) -> Result<&Replica<M, D>, Fault>
+        ensures { IsReplicaOf self.now.config (M.begin self.now.program) result
+            (part_at self.now.world.nodes node) }
     {
-        let first = self.next_number();
-        let effect = of_turn(first, &turn);
-        let Some(part) = self.nodes.get_mut(usize::from(node.get()) - 1) else {
-            return Ok(nothing(first));
+        let Some(node) = self.nodes.get(usize::from(node.get()) - 1) else {
+            return Err(Fault::BadConfig);
         };
-        take_effect(part, &mut self.sent, turn)?;
-        Ok(effect)
+        node.replica().ok_or(Fault::NotRunning)
     }
 
-    /// A task makes its next call and asks a node. `TaskBusy`, `NumbersSpent`, `BadConfig`, or
-    /// refused for memory: nothing changes.
-    pub(crate) fn calls(
-        &mut self,
-        config: Config,
-        task: TaskId,
-        node: NodeId,
-        object: u8,
-        operation: Operation,
-        arg: i64,
-    ) -> Result<Effect, Fault>
-        ensures { AnswersBy self.old self.new
-            (task_takes config self.old task (Submit node object operation arg)
-            (part_at self.old.tasks task)) result }
+    /// How many bytes a node's device holds. `BadConfig` above the last node.
+    pub(crate) fn stored(&self, node: NodeId) -> Result<u64, Fault>
+        ensures { IsStored self.now.config.max_positions result
+            (part_at self.now.world.nodes node) }
     {
-        match next_call(config, self.task(task), task, node, object, operation, arg) {
-            Ok(call) => self.asks(task, node, call),
-            Err(fault) => Err(fault),
+        match self.nodes.get(usize::from(node.get()) - 1) {
+            Some(node) => Ok(node.stored()),
+            None => Err(Fault::BadConfig),
         }
-    }
-
-    /// A task makes this call and asks a node. Refused for memory, nothing changes.
-    fn asks(&mut self, task: TaskId, node: NodeId, call: RightAction) -> Result<Effect, Fault>
-        requires { IsCallBy task call }
-        ensures { IfSome (part_at self.old.tasks task) (λ part.
-            AnswersBy self.old self.new (task_done_if self.old task (calls_if task node part
-            (Ok call))) result) }
-    {
-        let first = self.next_number();
-        self.sent.push(asks(task, node, call))?;
-        self.tasks[usize::from(task.get()) - 1].outstanding = Some(call);
-        Ok(one_message(first))
-    }
-
-    /// A reply comes to a task. Refused for memory, nothing changes.
-    pub(crate) fn takes(&mut self, task: TaskId, number: u32, reply: Reply) -> Result<Effect, Fault>
-        ensures { IsSomeAnd (part_at self.old.tasks task) (λ part.
-            AnswersBy self.old self.new (Ok (task_done self.old task
-            (takes_reply task part number reply))) result) }
-    {
-        let first = self.next_number();
-        let Some(answer) = answer_if(self.task(task), task, number, reply) else {
-            return Ok(nothing(first));
-        };
-        let effect = one_reply(first, &answer);
-        let part = &mut self.tasks[usize::from(task.get()) - 1];
-        part.replies.push(answer)?;
-        part.outstanding = None;
-        Ok(effect)
     }
 }

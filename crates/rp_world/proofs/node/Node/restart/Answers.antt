@@ -1,32 +1,53 @@
-use Rattle.std.proofs.Common.{None, refl, sym, subst}
-use Rattle.rp_model.specs.Parts.{NodePart}
+use Rattle.std.proofs.Common.{None, refl, sym, ap, subst, ◌∙◌}
 use Rattle.rp_model.specs.Effect.{Done, restart_part}
-use Rattle.rp_world.specs.Nodes.{member_of, RunsAs, StandsFor, TellsOpened}
-use Rattle.rp_world.proofs.Standing.{starts_again, refused, goes_on_running}
+use Rattle.rp_model.specs.Parts.{NodePart}
+use Rattle.rp_store.specs.Disk.{Disk}
+use Rattle.rp_world.specs.declared.node.Node.TheVariants.{Running}
+use Rattle.rp_world.specs.Nodes.{member_of, RestsAs, StandsFor, TellsOpened}
+use Rattle.rp_world.proofs.Standing.{stands, as_running, as_resting, goes_on_running, started, not_started}
 use Rattle.rp_world.proofs.node.Node.restart.Goals as goal
 
-pub returns-in-Running-clause-ok : goal.returns-in-Running-clause-ok
-returns-in-Running-clause-ok g c = λ part stands.
+pub returns-then-has_failed-clause-ok : goal.returns-then-has_failed-clause-ok
+returns-then-has_failed-clause-ok g c =
     let m = g.M.Machine in
     let disk = g.D.Device.disk in
     let member = member_of c.args.me c.args.config (m.begin c.args.program.now) in
-    let runs = subst (λ n. StandsFor disk member n part) c.in-Running.is stands in
+    started disk member c.args.self c.starts.result.0 (disk c.close.result)
+    (λ part is. subst (λ (d : Disk). RestsAs c.args.config.max_positions d part) (sym c.close.ensures.disk)
+    (as_resting member c.in-Running.replica part (sym c.has_failed.ensures ∙ c.if-has_failed.true) (subst (λ n. StandsFor disk member n part) c.in-Running.is is)))
+    c.starts.result.1 c.starts.ensures.ok
+
+pub returns-then-has_failed-clause-err : goal.returns-then-has_failed-clause-err
+returns-then-has_failed-clause-err g c =
+    let m = g.M.Machine in
+    let disk = g.D.Device.disk in
+    let member = member_of c.args.me c.args.config (m.begin c.args.program.now) in
+    not_started disk member c.args.self c.starts.result.0 (disk c.close.result)
+    (λ part is. subst (λ (d : Disk). RestsAs c.args.config.max_positions d part) (sym c.close.ensures.disk)
+    (as_resting member c.in-Running.replica part (sym c.has_failed.ensures ∙ c.if-has_failed.true) (subst (λ n. StandsFor disk member n part) c.in-Running.is is)))
+    c.starts.result.1 c.starts.ensures.err
+
+pub returns-else-has_failed-clause-ok : goal.returns-else-has_failed-clause-ok
+returns-else-has_failed-clause-ok g c = λ part is.
+    let m = g.M.Machine in
+    let disk = g.D.Device.disk in
+    let member = member_of c.args.me c.args.config (m.begin c.args.program.now) in
+    let runs = as_running member c.in-Running.replica part (sym c.has_failed.ensures ∙ c.if-has_failed.false) (subst (λ n. StandsFor disk member n part) c.in-Running.is is) in
     let same = goes_on_running member c.in-Running.replica part runs in
-    (restart_part part, refl, subst (λ (d : Done NodePart). RunsAs member c.in-Running.replica d.part) (sym same) runs, subst (λ (d : Done NodePart). TellsOpened None d) (sym same) refl)
+    (restart_part part, refl, subst (λ (d : Done NodePart). StandsFor {P = g.row.M-Program.Denot} disk member (Running c.in-Running.replica) d.part) (sym same) (stands member c.in-Running.replica part runs), subst (λ (d : Done NodePart). TellsOpened None d) (sym same) refl)
 
-pub returns-in-Ok-clause-ok : goal.returns-in-Ok-clause-ok
-returns-in-Ok-clause-ok g c = λ part stands.
+pub returns-in-Stopped-clause-ok : goal.returns-in-Stopped-clause-ok
+returns-in-Stopped-clause-ok g c =
     let m = g.M.Machine in
     let disk = g.D.Device.disk in
     let member = member_of c.args.me c.args.config (m.begin c.args.program.now) in
-    let rests = subst (λ n. StandsFor disk member n part) c.in-Stopped.is stands in
-    let again = starts_again member (disk c.in-Stopped.device) c.in-Ok.opening.replica c.in-Ok.opening.records c.in-Ok.opening.cut_bytes c.in-Ok.ensures.ok part rests in
-    (restart_part part, refl, again.0, again.1)
+    started disk member c.args.self c.starts-in-Stopped.result.0 (disk c.in-Stopped.device) (λ part is. subst (λ n. StandsFor disk member n part) c.in-Stopped.is is)
+    c.starts-in-Stopped.result.1 c.starts-in-Stopped.ensures.ok
 
-pub returns-in-Err-clause-err : goal.returns-in-Err-clause-err
-returns-in-Err-clause-err g c = λ part stands.
+pub returns-in-Stopped-clause-err : goal.returns-in-Stopped-clause-err
+returns-in-Stopped-clause-err g c =
     let m = g.M.Machine in
     let disk = g.D.Device.disk in
     let member = member_of c.args.me c.args.config (m.begin c.args.program.now) in
-    let rests = subst (λ n. StandsFor disk member n part) c.in-Stopped.is stands in
-    refused c.args.config.max_positions (disk c.in-Stopped.device) (disk c.in-Err.device) part rests c.in-Err.fault c.in-Err.ensures.err
+    not_started disk member c.args.self c.starts-in-Stopped.result.0 (disk c.in-Stopped.device) (λ part is. subst (λ n. StandsFor disk member n part) c.in-Stopped.is is)
+    c.starts-in-Stopped.result.1 c.starts-in-Stopped.ensures.err

@@ -1,12 +1,12 @@
-use Rattle.std.proofs.Common.{subst}
+use Rattle.std.proofs.Common.{sym, subst, ◌∙◌}
 use Rattle.rp_model.specs.Effect.{goes_on_as, stop_part}
 use Rattle.rp_world.specs.Nodes.{StandsFor}
-use Rattle.rp_world.proofs.Standing.{stops_as}
+use Rattle.rp_world.proofs.Standing.{as_running, stops_as}
 use Rattle.rp_world.proofs.node.Node.stop.Goals as goal
 
-pub returns-in-Running-clause-ok : goal.returns-in-Running-clause-ok
-returns-in-Running-clause-ok g c = λ member part stands.
+pub returns-else-has_failed-clause-ok : goal.returns-else-has_failed-clause-ok
+returns-else-has_failed-clause-ok g c = λ member part is.
     let disk = g.D.Device.disk in
-    let runs = subst (λ n. StandsFor disk member n part) c.in-Running.is stands in
+    let runs = as_running member c.in-Running.replica part (sym c.has_failed.ensures ∙ c.if-has_failed.false) (subst (λ n. StandsFor disk member n part) c.in-Running.is is) in
     let stopped = stops_as member c.in-Running.replica (disk c.close.result) part runs c.keeps_records.ensures c.close.ensures.disk in
     (goes_on_as (stop_part part), stopped.0, stopped.1, tt)

@@ -1,0 +1,180 @@
+-- The part of a node that rests is read off its device.
+use Rattle.std.proofs.Common.{◌≡◌, ℕ, zero, suc, ◌+◌, ◌-◌, ◌≤◌, ◌<◌, ◌%◌, ◌/◌, ◌^◌, Option, Bool, true, false, if◌then◌else◌, Result, Ok, Err, List, [], ◌∷◌, ◌++◌, length, refl, sym, ap, subst, ◌∙◌, append_assoc, length-append, arith}
+use Rattle.std.specs.Prelude.{nat_lt, get_or}
+use Rattle.std.specs.Int.{Width, byte_len, byte_at, bytes_high_first, cast_unsigned, w16, w32, w64}
+use Rattle.std.specs.List.{AllByRecursion}
+use Rattle.std.proofs.Math.Nat.{mod-lt}
+use Rattle.rp_base.specs.Action.{IsRight, IsRightOperation}
+use Rattle.rp_base.specs.declared.action.Action.{Action}
+use Rattle.rp_base.specs.declared.action.Action.TheVariants as actions
+use Rattle.rp_base.specs.declared.action.Operation.{Operation}
+use Rattle.rp_base.specs.declared.action.Operation.TheVariants as operations
+use Rattle.rp_base.specs.declared.fault.PacketReason.{PacketReason}
+use Rattle.rp_base.specs.declared.record.Rec.{Rec}
+use Rattle.rp_base.specs.declared.record.Rec.TheVariants.{Started, Promised, Voted, Learned}
+use Rattle.rp_codec.specs.Text.{number_text, operation_text, action_text}
+use Rattle.rp_codec.specs.Reading.{Read}
+use Rattle.rp_codec.specs.Record.{record_text, IsRecord, BeginsWithRecord}
+use Rattle.rp_codec.specs.RecordReading.{record_at}
+use Rattle.rp_codec.proofs.Steps.{IsBytes}
+use Rattle.rp_codec.proofs.RecordLaws.{record_again, front_found}
+use Rattle.rp_store.specs.Disk.{Disk}
+use Rattle.rp_store.specs.Records.{records_text, AreRecordsOf}
+use Rattle.rp_store.proofs.Whole.{record_long, all_end, text-end}
+use Rattle.rp_model.specs.Parts.{NodePart, Running as Known, records_in_log}
+use Rattle.rp_replica.specs.Held.{Held}
+use Rattle.rp_world.specs.declared.node.Node.{Node}
+use Rattle.rp_world.specs.declared.node.Node.TheVariants.{Running, Stopped}
+use Rattle.rp_world.specs.Nodes.{Member, RestsAs, StandsWhile, StandsFor}
+use Rattle.rp_world.specs.Shape.{byte_front, with_others, records_read, records_on, resting_part, part_while, part_by}
+
+-- ---- texts of records are bytes
+
+-- the front of such bytes, whatever stands behind them, has them all
+abbrev Passes : List ℕ → Type 0
+Passes xs = (rest : List ℕ) → byte_front (xs ++ rest) ≡ xs ++ byte_front rest
+
+none_pass : Passes []
+none_pass rest = refl
+
+byte_passes : (b : ℕ) (xs : List ℕ) → b < 256 → Passes xs → Passes (b ∷ xs)
+byte_passes b xs small pass rest =
+    let test : nat_lt b 256 ≡ true = omega (arith, small) in
+    rw test (ap (λ (l : List ℕ). b ∷ l) (pass rest))
+
+both_pass : (xs ys : List ℕ) → Passes xs → Passes ys → Passes (xs ++ ys)
+both_pass xs ys one other rest =
+    ap byte_front (append_assoc xs ys rest) ∙ one (ys ++ rest) ∙ ap (λ (l : List ℕ). xs ++ l) (other rest) ∙ sym (append_assoc xs ys (byte_front rest))
+
+byte_small : (i n : ℕ) → byte_at i n < 256
+byte_small zero n = mod-lt n (omega arith)
+byte_small (suc i) n = mod-lt (n / 256 ^ suc i) (omega arith)
+
+number_passes : (k n : ℕ) → Passes (bytes_high_first k n)
+number_passes zero n = none_pass
+number_passes (suc k) n = byte_passes (byte_at k n) (bytes_high_first k n) (byte_small k n) (number_passes k n)
+
+text_passes : (w : Width) (n : ℕ) → Passes (number_text w n)
+unfolding number_text
+text_passes w n = number_passes (byte_len w) n
+
+operation_passes : (operation : Operation) → IsRightOperation operation → Passes (operation_text operation)
+operation_passes (operations.Function i) is = byte_passes 1 (i ∷ []) (omega arith) (byte_passes i [] (omega (arith, is.1)) none_pass)
+operation_passes (operations.Procedure i) is = byte_passes 2 (i ∷ []) (omega arith) (byte_passes i [] (omega (arith, is.1)) none_pass)
+operation_passes (operations.Entry i) is = byte_passes 3 (0 ∷ []) (omega arith) (byte_passes 0 [] (omega arith) none_pass)
+operation_passes (operations.SetTimer i) is = byte_passes 4 (i ∷ []) (omega arith) (byte_passes i [] (omega (arith, is.1)) none_pass)
+operation_passes (operations.CancelTimer i) is = byte_passes 5 (i ∷ []) (omega arith) (byte_passes i [] (omega (arith, is.1)) none_pass)
+
+action_passes : (action : Action) → IsRight action → Passes (action_text action)
+action_passes actions.Noop is = byte_passes 0 [] (omega arith) none_pass
+action_passes (actions.Call task number object operation arg) is =
+    both_pass ((1 ∷ task ∷ number_text w32 number) ++ (object ∷ operation_text operation)) (number_text w64 (cast_unsigned w64 arg))
+    (both_pass (1 ∷ task ∷ number_text w32 number) (object ∷ operation_text operation)
+    (byte_passes 1 (task ∷ number_text w32 number) (omega arith) (byte_passes task (number_text w32 number) (omega (arith, is.0.1)) (text_passes w32 number)))
+    (byte_passes object (operation_text operation) (omega (arith, is.2.1)) (operation_passes operation is.3)))
+    (text_passes w64 (cast_unsigned w64 arg))
+action_passes (actions.Interrupt source occurrence) is =
+    byte_passes 2 (source ∷ number_text w32 occurrence) (omega arith) (byte_passes source (number_text w32 occurrence) (omega (arith, is.0.1)) (text_passes w32 occurrence))
+action_passes (actions.Tick now) is = byte_passes 3 (number_text w32 now) (omega arith) (text_passes w32 now)
+
+kind_passes : (kind : ℕ) → kind < 256 → Passes (1 ∷ kind ∷ [])
+kind_passes kind small = byte_passes 1 (kind ∷ []) (omega arith) (byte_passes kind [] small none_pass)
+
+record_passes : (r : Rec) → IsRecord r → Passes (record_text r)
+record_passes (Started ballot) is = both_pass (1 ∷ 1 ∷ []) (number_text w64 ballot) (kind_passes 1 (omega arith)) (text_passes w64 ballot)
+record_passes (Promised position ballot) is =
+    both_pass ((1 ∷ 2 ∷ []) ++ number_text w16 position) (number_text w64 ballot)
+    (both_pass (1 ∷ 2 ∷ []) (number_text w16 position) (kind_passes 2 (omega arith)) (text_passes w16 position)) (text_passes w64 ballot)
+record_passes (Voted position ballot action) is =
+    both_pass ((1 ∷ 3 ∷ []) ++ number_text w16 position ++ number_text w64 ballot) (action_text action)
+    (both_pass ((1 ∷ 3 ∷ []) ++ number_text w16 position) (number_text w64 ballot)
+    (both_pass (1 ∷ 3 ∷ []) (number_text w16 position) (kind_passes 3 (omega arith)) (text_passes w16 position)) (text_passes w64 ballot))
+    (action_passes action is.right)
+record_passes (Learned position action) is =
+    both_pass ((1 ∷ 4 ∷ []) ++ number_text w16 position) (action_text action)
+    (both_pass (1 ∷ 4 ∷ []) (number_text w16 position) (kind_passes 4 (omega arith)) (text_passes w16 position))
+    (action_passes action is.right)
+
+records_pass : (rs : List Rec) → AllByRecursion IsRecord rs → Passes (records_text rs)
+records_pass [] all = none_pass
+records_pass (r ∷ rs) all = both_pass (record_text r) (records_text rs) (record_passes r all.0) (records_pass rs all.1)
+
+-- ---- the front of bytes
+
+front_bytes : (xs : List ℕ) → IsBytes (byte_front xs)
+front_bytes [] i = omega arith
+front_bytes (b ∷ rest) i =
+    elim (nat_lt b 256) as (λ t. nat_lt b 256 ≡ t → get_or (if t then b ∷ byte_front rest else []) i 0 < 256) [
+      | true ↦ λ test. at b rest i (omega (arith, test))
+      | false ↦ λ test. omega arith
+    ] refl
+  where
+    at : (b : ℕ) (rest : List ℕ) (i : ℕ) → b < 256 → get_or (b ∷ byte_front rest) i 0 < 256
+    at b rest zero small = small
+    at b rest (suc i) small = front_bytes rest i
+
+-- what stands behind it
+front_of : (xs : List ℕ) → (more : List ℕ) × (xs ≡ byte_front xs ++ more)
+front_of [] = ([], refl)
+front_of (b ∷ rest) =
+    elim (nat_lt b 256) as (λ t. (more : List ℕ) × (b ∷ rest ≡ (if t then b ∷ byte_front rest else []) ++ more)) [
+      | true ↦ let f = front_of rest in (f.0, ap (λ (l : List ℕ). b ∷ l) f.1)
+      | false ↦ (b ∷ rest, refl)
+    ]
+
+begins_too : (xs : List ℕ) → BeginsWithRecord (byte_front xs) → BeginsWithRecord xs
+begins_too xs (r, rest, is, parts) =
+    let f = front_of xs in
+    (r, rest ++ f.0, is, f.1 ∙ ap (λ (l : List ℕ). l ++ f.0) parts ∙ append_assoc (record_text r) rest f.0)
+
+-- ---- the reading of what a device holds
+
+read_none : (most : ℕ) (bytes : List ℕ) → IsBytes bytes → (BeginsWithRecord bytes → ⊥) → (read : Read Rec) → record_at bytes ≡ read → with_others read (λ rest. records_read most rest) ≡ []
+read_none most bytes are none (Ok (r, rest)) is = let f = front_found bytes rest r are is in absurd (none (r, rest, f.0, f.1))
+read_none most bytes are none (Err reason) is = refl
+
+reads : (most : ℕ) (all : List Rec) (tail : List ℕ) → AllByRecursion IsRecord all → IsBytes tail → (BeginsWithRecord tail → ⊥) → length (records_text all) ≤ most
+    → records_read most (records_text all ++ tail) ≡ all
+reads zero [] tail each are none enough = refl
+reads (suc most) [] tail each are none enough = read_none most tail are none (record_at tail) refl
+reads zero (r ∷ rs) tail each are none enough = absurd (omega (arith, record_long r, length-append (record_text r) (records_text rs), enough))
+reads (suc most) (r ∷ rs) tail each are none enough =
+    let again : record_at ((record_text r ++ records_text rs) ++ tail) ≡ Ok (r, records_text rs ++ tail) =
+    ap record_at (append_assoc (record_text r) (records_text rs) tail) ∙ record_again r (records_text rs ++ tail) each.0 in
+    let deeper = reads most rs tail each.1 are none (omega (arith, record_long r, length-append (record_text r) (records_text rs), enough)) in
+    ap (λ (read : Read Rec). with_others read (λ rest. records_read most rest)) again ∙ ap (λ (l : List Rec). r ∷ l) deeper
+
+none_behind : (contents : List ℕ) (all : List Rec) (torn : List ℕ) → AreRecordsOf contents all torn → BeginsWithRecord torn → ⊥
+none_behind contents all torn are (r, rest, is, parts) =
+    let more = are.longest (all ++ r ∷ []) rest (all_end all r are.each is)
+    (are.whole ∙ ap (λ (l : List ℕ). records_text all ++ l) parts ∙ sym (append_assoc (records_text all) (record_text r) rest) ∙ ap (λ (l : List ℕ). l ++ rest) (sym (text-end all r))) in
+    absurd (omega (arith, more, ap length (text-end all r), length-append (records_text all) (record_text r), record_long r))
+
+-- the records that a device holds are those that are read
+pub all_read : (disk : Disk) (all : List Rec) (torn : List ℕ) → AreRecordsOf disk.contents all torn → records_on disk ≡ all
+all_read disk all torn are =
+    let front : byte_front disk.contents ≡ records_text all ++ byte_front torn = ap byte_front are.whole ∙ records_pass all are.each torn in
+    ap (records_read (length disk.contents)) front
+    ∙ reads (length disk.contents) all (byte_front torn) are.each (front_bytes torn) (λ begins. none_behind disk.contents all torn are (begins_too torn begins))
+    (omega (arith, ap length are.whole, length-append (records_text all) torn))
+
+-- so a device that rests is the part of one node alone
+pub resting_is : (most : ℕ) (disk : Disk) (part : NodePart) → RestsAs most disk part → part ≡ resting_part most disk
+resting_is most disk part rests =
+    let all = rests.holds.all in
+    let read = all_read disk all rests.holds.torn rests.holds.found in
+    let records : part.records ≡ records_in_log most (records_on disk) = rests.holds.records ∙ ap (records_in_log most) (sym read) in
+    let torn : part.torn ≡ length disk.contents - length (records_text (records_on disk)) =
+    omega (arith, rests.holds.bytes, ap length rests.holds.found.whole, length-append (records_text all) rests.holds.torn, ap (λ (rs : List Rec). length (records_text rs)) read) in
+    ap (λ (rs : List Rec). let p : NodePart = record { records = rs; torn = part.torn; running = part.running } in p) records
+    ∙ ap (λ (n : ℕ). let p : NodePart = record { records = records_in_log most (records_on disk); torn = n; running = part.running } in p) torn
+    ∙ ap (λ (o : Option Known). let p : NodePart = record { records = records_in_log most (records_on disk); torn = length disk.contents - length (records_text (records_on disk)); running = o } in p) rests.stopped
+
+while_is : {S : Type 0} (member : Member S) (held : Held S) (part : NodePart) (failed : Bool) → StandsWhile member held part failed → part ≡ part_while member.config.max_positions held failed
+while_is member held part false runs = runs.known
+while_is member held part true rests = resting_is member.config.max_positions held.disk part rests
+
+-- and so is a node
+pub part_is : {S D P : Type 0} (disk : D → Disk) (member : Member S) (node : Node S D P) (part : NodePart) → StandsFor disk member node part → part ≡ part_by disk member.config.max_positions node
+part_is disk member (Running held) part is = while_is member held part held.failed is
+part_is disk member (Stopped device) part is = resting_is member.config.max_positions (disk device) part is

@@ -1,0 +1,54 @@
+-- What a call of a cluster's parts comes to (no public clause names it).
+use Rattle.std.specs.Prelude.{◌≡◌, ◌⊎◌, ℕ, min, Option, None, Some, Result, Ok, Err, length}
+use Rattle.rp_base.specs.declared.fault.Fault.{Fault}
+use Rattle.rp_base.specs.declared.fault.Fault.TheVariants.{OutOfMemory, Device, NotRunning}
+use Rattle.rp_model.specs.Answers.{Tells, untorn}
+use Rattle.rp_model.specs.World.{World, Happening, part_at}
+use Rattle.rp_model.specs.declared.effect.Effect.{Effect}
+
+-- it happened, and was told so
+pub record Goes (w : World) (effect : Result Happening Fault) (new : World) (told : Effect) : Type 0 where
+  pub happening : Happening
+  pub came : effect ≡ Ok happening
+  pub world : new ≡ happening.world
+  pub tells : Tells (length w.sent) happening told
+
+-- memory was wanting for what it comes to, and nothing changed
+pub record Wants (w : World) (effect : Result Happening Fault) (new : World) (fault : Fault) : Type 0 where
+  pub memory : fault ≡ OutOfMemory
+  pub wanted : Happening
+  pub came : effect ≡ Ok wanted
+  pub unchanged : new ≡ w
+
+-- the device failed, and it is cut where some number of bytes is kept
+pub record Fails (cut : ℕ → Result Happening Fault) (new : World) (fault : Fault) : Type 0 where
+  pub device : fault ≡ Device
+  pub kept : ℕ
+  pub happening : Happening
+  pub came : cut kept ≡ Ok happening
+  pub world : new ≡ happening.world
+
+-- it is refused so, and nothing changed
+pub record Refuses (w : World) (effect : Result Happening Fault) (new : World) (fault : Fault) : Type 0 where
+  pub came : effect ≡ Err fault
+  pub unchanged : new ≡ w
+
+-- what a call that comes to an effect answers, where a failing device cuts it so
+abbrev pub Answers : World → Result Happening Fault → (ℕ → Result Happening Fault) → World → Result Effect Fault → Type 0
+Answers w effect cut new (Ok told) = Goes w effect new told
+Answers w effect cut new (Err fault) = Refuses w effect new fault ⊎ (Wants w effect new fault ⊎ Fails cut new fault)
+
+-- there is no device to fail
+abbrev pub no_cut : ℕ → Result Happening Fault
+no_cut kept = Err NotRunning
+
+-- a restart that failed: some torn bytes may be gone
+pub record StartsNot (w : World) (me : ℕ) (effect : Result Happening Fault) (new : World) (fault : Fault) : Type 0 where
+  pub why : (fault ≡ OutOfMemory) ⊎ (fault ≡ Device)
+  pub wanted : Happening
+  pub came : effect ≡ Ok wanted
+  pub left : (kept : ℕ) × (new ≡ untorn kept w me (part_at w.nodes me))
+
+abbrev pub AnswersRestart : World → ℕ → Result Happening Fault → World → Result Effect Fault → Type 0
+AnswersRestart w me effect new (Ok told) = Goes w effect new told
+AnswersRestart w me effect new (Err fault) = Refuses w effect new fault ⊎ StartsNot w me effect new fault

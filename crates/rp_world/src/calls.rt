@@ -1,0 +1,85 @@
+//! What tasks ask for, and what they are told.
+
+ghost use Rattle.std.specs.Prelude.{◌≡◌};
+ghost use Rattle.rp_model.specs.Tasks as tasks;
+ghost use Rattle.rp_model.specs.World.{part_at, task_takes};
+ghost use Rattle.rp_codec.specs.Message.{IsCallBy};
+ghost use Rattle.rp_base.specs.Action.{IsRight};
+ghost use Rattle.rp_agreement.specs.Ranges.{IsRangedWorld};
+ghost use Rattle.rp_world.specs.Going.{Answers, no_cut};
+ghost use Rattle.rp_world.specs.Steps.{IsSameSetup};
+
+use crate::effect::{nothing, one_message};
+use crate::world::World;
+use rp_base::{Action, Fault, NodeId, Operation, TaskId};
+use rp_codec::{Body, Packet, Party};
+use rp_machine::Machine;
+use rp_model::Effect;
+use rp_store::CutDevice;
+use std::alloc::Global;
+
+/// A task's call, as a packet to a node.
+fn asks(task: TaskId, node: NodeId, call: Action) -> Packet
+    requires own { IsCallBy task call }
+    requires right { IsRight call }
+    ensures { result ≡ tasks.asks task node call }
+{
+    Packet::new(
+        Party::Task(task),
+        Party::Node(node),
+        Body::Call { action: call },
+    )
+}
+
+impl<M: Machine, D: CutDevice> World<M, D> {
+    /// A task makes its next call and asks a node. `TaskBusy`, `NumbersSpent`, `BadConfig`, or
+    /// refused for memory: nothing changes.
+    pub(crate) fn submit(
+        &mut self,
+        alloc: Global,
+        task: TaskId,
+        node: NodeId,
+        object: u8,
+        operation: Operation,
+        arg: i64,
+    ) -> Result<Effect, Fault>
+        ensures answer { Answers self.old.world
+            (task_takes self.old.config self.old.world task (tasks.Submit node object operation arg)
+            (part_at self.old.world.tasks task)) no_cut self.new.world result }
+        ensures setup { IsSameSetup self.old self.new }
+    {
+        let first = self.messages() + 1;
+        let caller = &mut self.tasks[usize::from(task.get()) - 1];
+        let call = caller.next(self.config, node, object, operation, arg)?;
+        self.messages.settle()?;
+        self.messages.say(alloc, &asks(task, node, call))?;
+        caller.call(object, operation, arg);
+        Ok(one_message(first))
+    }
+
+    /// A task asks a node once more for the call that it waits for, if it waits. `BadConfig` above
+    /// the last node, or refused for memory: nothing changes.
+    pub(crate) fn again(
+        &mut self,
+        alloc: Global,
+        task: TaskId,
+        node: NodeId,
+    ) -> Result<Effect, Fault>
+        requires ranged { IsRangedWorld self.old.config.nodes self.old.world }
+        ensures answer { Answers self.old.world
+            (task_takes self.old.config self.old.world task (tasks.Again node)
+            (part_at self.old.world.tasks task)) no_cut self.new.world result }
+        ensures setup { IsSameSetup self.old self.new }
+    {
+        let first = self.messages() + 1;
+        if node.get() > self.config.nodes {
+            return Err(Fault::BadConfig);
+        }
+        let Some(call) = self.tasks[usize::from(task.get()) - 1].outstanding() else {
+            return Ok(nothing(first));
+        };
+        self.messages.settle()?;
+        self.messages.say(alloc, &asks(task, node, call))?;
+        Ok(one_message(first))
+    }
+}

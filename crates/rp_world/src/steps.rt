@@ -1,0 +1,275 @@
+//! What an event comes to: steps of nodes, and stops within them.
+
+ghost use Rattle.std.specs.Prelude.{◌≡◌, ℕ, Ok, Some};
+ghost use Rattle.std.specs.List.{AllByRecursion};
+ghost use Rattle.rp_codec.specs.Message.{Message, IsPacket};
+ghost use Rattle.rp_codec.specs.Text.{text_of};
+ghost use Rattle.rp_model.specs.Effect.{Done, NodeInput, node_effect};
+ghost use Rattle.rp_model.specs.Parts.{NodePart};
+ghost use Rattle.rp_model.specs.Events as events;
+ghost use Rattle.rp_model.specs.Events.{IsEvent, event_of, step_of};
+ghost use Rattle.rp_model.specs.World.{part_at, node_takes, node_is_cut, delivers, delivery_is_cut, step_effect, cut_step};
+ghost use Rattle.rp_agreement.specs.Ranges.{IsRangedWorld};
+ghost use Rattle.rp_replica.specs.Inputs.{IsRightInput, given_by};
+ghost use Rattle.rp_world.specs.Going.{Answers};
+ghost use Rattle.rp_world.specs.Steps.{IsStep, IsSameSetup, setting_of};
+
+use crate::effect::{nothing, of_step, taken};
+use crate::world::{World, put_back};
+use rp_agreement::events_keep_ranges;
+use rp_base::{Fault, NodeId, TaskId};
+use rp_codec::{Body, Party, decode};
+use rp_machine::Machine;
+use rp_model::{Effect, Event, Interrupt, Step};
+use rp_replica::{Input, texts_are_packets};
+use rp_store::CutDevice;
+use std::alloc::Global;
+
+/// To whom a packet is, by its text.
+fn receiver(text: &[u8]) -> Party
+    requires { (m : Message) × IsPacket m × (text.now ≡ text_of m) }
+    ensures { (m : Message) → IsPacket m → text.now ≡ text_of m → result ≡ m.to }
+{
+    let number = text[3];
+    if let Some(node) = NodeId::new(number) {
+        return Party::Node(node);
+    }
+    match TaskId::new(number.wrapping_sub(16)) {
+        Some(task) => Party::Task(task),
+        None => Party::Audit,
+    }
+}
+
+impl<M: Machine, D: CutDevice> World<M, D> {
+    /// What an event comes to.
+    pub(crate) fn step(&mut self, alloc: Global, event: &Event) -> Result<Effect, Fault>
+        requires ranged { IsRangedWorld self.old.config.nodes self.old.world }
+        requires event { IsEvent (event_of event.now) }
+        ensures step { IsStep M.next M.answers M.begin self.old event.now self.new result }
+    {
+        match *event {
+            Event::Submit {
+                task,
+                node,
+                object,
+                operation,
+                arg,
+            } => self.submit(alloc, task, node, object, operation, arg),
+            Event::Again { task, node } => self.again(alloc, task, node),
+            Event::Node(step) => self.makes(alloc, step),
+            Event::Cut { step, kept } => self.cuts(alloc, step, kept),
+            Event::Stop(node) => self.stop(node),
+            Event::Restart(node) => self.restart(alloc, node),
+        }
+    }
+}
+
+/// What an interrupt gives to a node.
+fn input_of(interrupt: Interrupt) -> Input<'static>
+    ensures right { IsRightInput result }
+    ensures given { given_by result
+        ≡ Ok (NodeInput.Interrupt interrupt.source interrupt.occurrence) }
+{
+    Input::Interrupt {
+        source: interrupt.source,
+        occurrence: interrupt.occurrence,
+    }
+}
+
+impl<M: Machine, D: CutDevice> World<M, D> {
+    /// A node makes a step: refused as one that is given an input, or as a delivery.
+    pub(crate) fn makes(&mut self, alloc: Global, step: Step) -> Result<Effect, Fault>
+        requires ranged { IsRangedWorld self.old.config.nodes self.old.world }
+        requires step { events.IsStep (step_of step) }
+        ensures answer { let setting = setting_of M.next M.answers M.begin self.old in
+            Answers self.old.world (step_effect setting self.old.world (step_of step))
+            (λ kept. cut_step setting self.old.world (step_of step) kept) self.new.world result }
+        ensures setup { IsSameSetup self.old self.new }
+    {
+        events_keep_ranges::<M>();
+        match step {
+            Step::Deliver(number) => self.deliver(alloc, number),
+            Step::Lead { node, position } => self.gives(alloc, node, &Input::Lead(position)),
+            Step::Interrupt { node, interrupt } => {
+                self.gives(alloc, node, &input_of(interrupt))
+            }
+            Step::Tick { node, now } => self.gives(alloc, node, &Input::Tick { now }),
+            Step::Report { node, first } => self.gives(alloc, node, &Input::Report(first)),
+        }
+    }
+
+    /// A node stops within a step, where so many bytes of its record are kept. Refused as the step,
+    /// and with `NotRunning` where it is a delivery to no node that runs.
+    pub(crate) fn cuts(&mut self, alloc: Global, step: Step, kept: u64) -> Result<Effect, Fault>
+        requires ranged { IsRangedWorld self.old.config.nodes self.old.world }
+        ensures answer { let setting = setting_of M.next M.answers M.begin self.old in
+            Answers self.old.world (cut_step setting self.old.world (step_of step) kept)
+            (λ less. cut_step setting self.old.world (step_of step) less) self.new.world result }
+        ensures setup { IsSameSetup self.old self.new }
+    {
+        match step {
+            Step::Deliver(number) => self.cut_delivery(alloc, number, kept),
+            Step::Lead { node, position } => {
+                self.cut_input(alloc, node, &Input::Lead(position), kept)
+            }
+            Step::Interrupt { node, interrupt } => {
+                self.cut_input(alloc, node, &input_of(interrupt), kept)
+            }
+            Step::Tick { node, now } => self.cut_input(alloc, node, &Input::Tick { now }, kept),
+            Step::Report { node, first } => {
+                self.cut_input(alloc, node, &Input::Report(first), kept)
+            }
+        }
+    }
+
+    /// A node is given an input that comes from no message. `BadConfig` above the last node,
+    /// `NotRunning` where the node is stopped, `LogFull` or `BallotsSpent` where it cannot lead, or
+    /// refused for memory: nothing changes. `Device` where its device fails: then it is stopped.
+    fn gives(
+        &mut self,
+        alloc: Global,
+        node: NodeId,
+        input: &Input<'_>,
+    ) -> Result<Effect, Fault>
+        requires right { IsRightInput input.now }
+        requires sends { (given : NodeInput) (part : NodePart) (done : Done NodePart)
+            → given_by input.now ≡ Ok given → part_at self.old.world.nodes node ≡ Some part
+            → node_effect (setting_of M.next M.answers M.begin self.old) node part given ≡ Ok done
+            → AllByRecursion IsPacket done.sends }
+        ensures answer { (given : NodeInput) → given_by input.now ≡ Ok given
+            → let setting = setting_of M.next M.answers M.begin self.old in
+            Answers self.old.world
+            (node_takes setting self.old.world node given (part_at self.old.world.nodes node))
+            (λ kept. node_is_cut setting self.old.world node given kept
+                (part_at self.old.world.nodes node))
+            self.new.world result }
+        ensures setup { IsSameSetup self.old self.new }
+    {
+        let first = self.messages() + 1;
+        let Some(node) = self.nodes.get_mut(usize::from(node.get()) - 1) else {
+            return Err(Fault::BadConfig);
+        };
+        if self.messages.settle().is_err() {
+            return Err(node.refusal(alloc, input));
+        }
+        let sent = node.turn(alloc, input)?;
+        let effect = of_step(first, &sent);
+        self.messages.put(sent.bytes, sent.packets);
+        Ok(effect)
+    }
+
+    /// A node stops within the step of an input that comes from no message, where so many bytes of
+    /// its record are kept. Refused as the step; `Device` where its device fails within it.
+    fn cut_input(
+        &mut self,
+        alloc: Global,
+        node: NodeId,
+        input: &Input<'_>,
+        kept: u64,
+    ) -> Result<Effect, Fault>
+        requires right { IsRightInput input.now }
+        ensures answer { (given : NodeInput) → given_by input.now ≡ Ok given
+            → let setting = setting_of M.next M.answers M.begin self.old in
+            Answers self.old.world
+            (node_is_cut setting self.old.world node given kept (part_at self.old.world.nodes node))
+            (λ less. node_is_cut setting self.old.world node given less
+                (part_at self.old.world.nodes node))
+            self.new.world result }
+        ensures setup { IsSameSetup self.old self.new }
+    {
+        let first = self.messages() + 1;
+        let place = usize::from(node.get()) - 1;
+        if place >= self.nodes.len() {
+            return Err(Fault::BadConfig);
+        }
+        let (node, answer) = self.nodes.remove(place).cut(alloc, input, kept);
+        put_back(&mut self.nodes, place, node);
+        answer?;
+        Ok(nothing(first))
+    }
+
+    /// A message is taken by whom it is for; by none where that is no node that runs and no task.
+    /// `NoSuchMessage` above the last one, or refused for memory: nothing changes. `Device` where the
+    /// device of its node fails: then the node is stopped.
+    fn deliver(&mut self, alloc: Global, number: u64) -> Result<Effect, Fault>
+        requires ranged { IsRangedWorld self.old.config.nodes self.old.world }
+        ensures answer { let setting = setting_of M.next M.answers M.begin self.old in
+            Answers self.old.world
+            (delivers setting self.old.world (part_at self.old.world.sent number))
+            (λ kept. delivery_is_cut setting self.old.world (part_at self.old.world.sent number) kept)
+            self.new.world result }
+        ensures setup { IsSameSetup self.old self.new }
+    {
+        events_keep_ranges::<M>();
+        texts_are_packets();
+        let first = self.messages() + 1;
+        if number == 0 || number >= first {
+            return Err(Fault::NoSuchMessage);
+        }
+        self.messages.settle()?;
+        let Some(text) = self.messages.text(number) else {
+            return Err(Fault::NoSuchMessage);
+        };
+        match receiver(text) {
+            Party::Node(node) => {
+                let Some(node) = self.nodes.get_mut(usize::from(node.get()) - 1) else {
+                    return Ok(nothing(first));
+                };
+                if !node.is_running() {
+                    return Ok(nothing(first));
+                }
+                let sent = node.turn(alloc, &Input::Receive(text))?;
+                let effect = of_step(first, &sent);
+                self.messages.put(sent.bytes, sent.packets);
+                Ok(effect)
+            }
+            Party::Task(task) => {
+                let Ok(packet) = decode(alloc, text)? else {
+                    return Ok(nothing(first));
+                };
+                let Body::Reply { number, reply } = *packet.body() else {
+                    return Ok(nothing(first));
+                };
+                let task = &mut self.tasks[usize::from(task.get()) - 1];
+                Ok(taken(first, task.take(number, reply)?))
+            }
+            Party::Audit => Ok(nothing(first)),
+        }
+    }
+
+    /// A node stops within the step by which it takes a message, where so many bytes of its record are
+    /// kept. `NoSuchMessage` above the last one, `NotRunning` where it is for no node or for one that
+    /// is stopped; `Device` where the device fails within it.
+    fn cut_delivery(
+        &mut self,
+        alloc: Global,
+        number: u64,
+        kept: u64,
+    ) -> Result<Effect, Fault>
+        requires ranged { IsRangedWorld self.old.config.nodes self.old.world }
+        ensures answer { let setting = setting_of M.next M.answers M.begin self.old in
+            Answers self.old.world
+            (delivery_is_cut setting self.old.world (part_at self.old.world.sent number) kept)
+            (λ less. delivery_is_cut setting self.old.world (part_at self.old.world.sent number) less)
+            self.new.world result }
+        ensures setup { IsSameSetup self.old self.new }
+    {
+        texts_are_packets();
+        let first = self.messages() + 1;
+        let Some(text) = self.messages.text(number) else {
+            return Err(Fault::NoSuchMessage);
+        };
+        let Party::Node(node) = receiver(text) else {
+            return Err(Fault::NotRunning);
+        };
+        let place = usize::from(node.get()) - 1;
+        if place >= self.nodes.len() {
+            return Err(Fault::NotRunning);
+        }
+        let input = Input::Receive(text);
+        let (node, answer) = self.nodes.remove(place).cut(alloc, &input, kept);
+        put_back(&mut self.nodes, place, node);
+        answer?;
+        Ok(nothing(first))
+    }
+}

@@ -1,0 +1,53 @@
+//! Stops and restarts of nodes.
+
+ghost use Rattle.std.specs.Prelude.{◌≡◌};
+ghost use Rattle.rp_model.specs.World.{part_at, stops, restarts};
+ghost use Rattle.rp_world.specs.Going.{Answers, AnswersRestart, no_cut};
+ghost use Rattle.rp_world.specs.Steps.{IsSameSetup};
+
+use crate::effect::{nothing, opened};
+use crate::world::{World, put_back};
+use rp_base::{Fault, NodeId};
+use rp_machine::Machine;
+use rp_model::Effect;
+use rp_store::CutDevice;
+use std::alloc::Global;
+
+impl<M: Machine, D: CutDevice> World<M, D> {
+    /// A node stops. `BadConfig` above the last node, `NotRunning` where it is stopped.
+    pub(crate) fn stop(&mut self, node: NodeId) -> Result<Effect, Fault>
+        ensures answer { Answers self.old.world
+            (stops self.old.world node (part_at self.old.world.nodes node)) no_cut
+            self.new.world result }
+        ensures setup { IsSameSetup self.old self.new }
+    {
+        let first = self.messages() + 1;
+        let place = usize::from(node.get()) - 1;
+        if place >= self.nodes.len() {
+            return Err(Fault::BadConfig);
+        }
+        let (node, answer) = self.nodes.remove(place).stop();
+        put_back(&mut self.nodes, place, node);
+        answer?;
+        Ok(nothing(first))
+    }
+
+    /// A node starts again; one that runs goes on. `BadConfig` above the last node; `OutOfMemory` or
+    /// `Device` where it could not: it stays stopped, and some of its torn bytes may be gone.
+    pub(crate) fn restart(&mut self, alloc: Global, node: NodeId) -> Result<Effect, Fault>
+        ensures answer { AnswersRestart self.old.world node
+            (restarts self.old.world node (part_at self.old.world.nodes node))
+            self.new.world result }
+        ensures setup { IsSameSetup self.old self.new }
+    {
+        let first = self.messages() + 1;
+        let place = usize::from(node.get()) - 1;
+        if place >= self.nodes.len() {
+            return Err(Fault::BadConfig);
+        }
+        let stopped = self.nodes.remove(place);
+        let (node, found) = stopped.restart(alloc, node, self.config, &self.program);
+        put_back(&mut self.nodes, place, node);
+        Ok(opened(first, found?))
+    }
+}

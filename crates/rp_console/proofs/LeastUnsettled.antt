@@ -8,7 +8,8 @@ use Rattle.rp_machine.specs.Replay.{one_to}
 use Rattle.rp_console.specs.Output.{Play, is_among, least_unsettled}
 use Rattle.rp_console.specs.Runs.{Follows}
 use Rattle.rp_console.specs.Settled.{is_settled}
-use Rattle.rp_console.specs.declared.run.Run.{Run}
+use Rattle.rp_console.specs.declared.settled.Settled.{Settled}
+use Rattle.rp_model.specs.World.{World}
 
 -- one number more
 find_more : (test : ℕ → Bool) (n : ℕ) → find test (one_to n) ≡ None → find test (one_to (suc n)) ≡ cond (test (suc n)) (Some (suc n)) None
@@ -37,20 +38,20 @@ first_at test least (suc n) one within fails passes =
     ]
 
 -- what a run's settled messages say of a play that it follows
-module _ (run : Run) (play : Play) (follows : Follows run play) (least : ℕ)
-    (settled : (m : ℕ) → 1 ≤ m → m < least → is_settled run.settled m ≡ true) where
+module _ (world : World) (known : Settled) (play : Play) (follows : Follows world known play) (least : ℕ)
+    (settled : (m : ℕ) → 1 ≤ m → m < least → is_settled known m ≡ true) where
   fails : (m : ℕ) → 1 ≤ m → m < least → not (is_among play.settled m) ≡ false
-  fails m one below = ap not (sym (follows.settled m) ∙ settled m one below)
+  fails m one below = ap not (sym (follows.settled_are m) ∙ settled m one below)
 
-  sent : length run.cluster.world.sent ≡ length play.world.sent
-  sent = ap (λ w. length w.sent) follows.world
+  sent : length world.sent ≡ length play.world.sent
+  sent = ap (λ w. length w.sent) follows.world_is
 
   -- none is left
-  pub none_is_left : length run.cluster.world.sent < least → least_unsettled play ≡ None
+  pub none_is_left : length world.sent < least → least_unsettled play ≡ None
   none_is_left past = none_below (λ m. not (is_among play.settled m)) least (length play.world.sent) (omega (arith, sent)) fails
 
   -- the least number is the one
-  pub least_is_left : 1 ≤ least → least ≤ length run.cluster.world.sent → is_settled run.settled least ≡ false → least_unsettled play ≡ Some least
+  pub least_is_left : 1 ≤ least → least ≤ length world.sent → is_settled known least ≡ false → least_unsettled play ≡ Some least
   least_is_left one within unsettled =
       first_at (λ m. not (is_among play.settled m)) least (length play.world.sent) one (omega (arith, sent)) fails
-      (ap not (sym (follows.settled least) ∙ unsettled))
+      (ap not (sym (follows.settled_are least) ∙ unsettled))

@@ -1,8 +1,11 @@
 mod CommandLineLemmas
 mod WordsLemmas
 mod StreamLemmas
+mod Writing
+mod Telling
+mod Among
+mod Tracing
+mod Refusing
 mod LeastUnsettled
 mod Saying
-mod Refusing
-mod Telling
 mod Stepping

@@ -16,20 +16,20 @@ use Rattle.rp_codec.specs.Message.{Message}
 use Rattle.rp_codec.specs.declared.packet.Party.{Party}
 use Rattle.rp_codec.specs.declared.packet.Party.TheVariants.{Node, Task, Audit}
 use Rattle.rp_model.specs.declared.event.Event.{Event}
-use Rattle.rp_model.specs.declared.event.Event.TheVariants.{Submit, Node as NodeStep}
-use Rattle.rp_model.specs.declared.event.Step.TheVariants.{Deliver, Lead}
+use Rattle.rp_model.specs.declared.event.Event.TheVariants.{Submit, Again, Node as NodeStep, Cut, Stop, Restart}
+use Rattle.rp_model.specs.declared.event.Step.{Step}
+use Rattle.rp_model.specs.declared.event.Step.TheVariants.{Deliver, Lead, Interrupt, Tick, Report}
 use Rattle.rp_model.specs.Parts.{NodePart}
 use Rattle.rp_model.specs.Parts.{Running}
 use Rattle.rp_model.specs.Parts.{TaskPart}
 use Rattle.rp_model.specs.Parts.{Turn}
-use Rattle.rp_model.specs.Receiving.{receives}
 use Rattle.rp_model.specs.Effect as nodes
-use Rattle.rp_model.specs.Effect.{Setting, Done, turned, turned_if, effect_while}
+use Rattle.rp_model.specs.Effect.{Setting, Done, NodeInput, turned, turned_if, effect_while, node_effect, cut_if, cut_effect, stops_while, restart_while, goes_on_as, stop_part, cut_part}
 use Rattle.rp_model.specs.Tasks as tasks
-use Rattle.rp_model.specs.Tasks.{next_call, may_call, calls_if, task_hears}
-use Rattle.rp_model.specs.Events.{event_of}
-use Rattle.rp_model.specs.World.{World, Happening, part_at, with_part, nothing_happens, node_done, task_done, node_done_if, task_done_if, task_takes, task_is_told, node_takes, node_hears, node_is_told, arrives, delivers, event_effect}
-use Rattle.rp_console.specs.Runs.{IsEventWithin}
+use Rattle.rp_model.specs.Tasks.{next_call, may_call, calls_if, asks_again, task_hears}
+use Rattle.rp_model.specs.Events.{event_of, step_of}
+use Rattle.rp_model.specs.World.{World, Happening, part_at, with_part, nothing_happens, node_done, task_done, node_done_if, task_done_if, task_takes, task_is_told, node_takes, node_hears, node_is_told, arrives, delivers, stops, restarts, step_effect, cut_step, delivery_is_cut, arrival_is_cut, hearing_is_cut, node_is_cut, event_effect}
+use Rattle.rp_console.specs.Script.{IsStepWithin, IsEventWithin}
 
 -- the number is one of those by which a script's step is refused
 abbrev pub IsNumbered : Fault → Type 0
@@ -111,28 +111,58 @@ submit_keeps config w task node object operation arg (Some part) one most within
     call_keeps w task node part (may_call config node part call part.outstanding)
     (λ fault is. may_numbered config node part call part.outstanding fault within (call_is_right task object part operation arg one most first last right) is)
 
--- ---- a message
+again_by : (config : Config) (w : World) (task node : ℕ) (part : TaskPart) (beyond : Bool) → beyond ≡ false
+    → Keeps w (task_done_if w task (cond beyond (Err BadConfig) (Ok (asks_again task node part part.outstanding))))
+again_by config w task node part true right = absurd (cc)
+again_by config w task node part false right = task_keeps w task (asks_again task node part part.outstanding)
 
-nothing_keeps : (w : World) → Keeps w (Ok (nothing_happens w))
-nothing_keeps w = (refl, refl)
+again_keeps : (config : Config) (w : World) (task node : ℕ) (part : Option TaskPart) → node ≤ config.nodes → (found : TaskPart) → part ≡ Some found
+    → Keeps w (task_takes config w task (tasks.Again node) part)
+again_keeps config w task node None within found there = absurd (cc)
+again_keeps config w task node (Some part) within found there = again_by config w task node part (nat_lt config.nodes node) (test_of_node config.nodes node within)
 
-lead_by : (w : World) (me : ℕ) (part : NodePart) (learned full spent : Bool) (quiet begins : Turn)
-    → Keeps w (node_done_if w me (turned_if part (cond learned (Ok quiet) (cond full (Err LogFull) (cond spent (Err BallotsSpent) (Ok begins))))))
-lead_by w me part true full spent quiet begins = node_keeps w me (turned part quiet)
-lead_by w me part false true spent quiet begins = (omega arith, omega arith)
-lead_by w me part false false true quiet begins = (omega arith, omega arith)
-lead_by w me part false false false quiet begins = node_keeps w me (turned part begins)
+-- ---- a node's input
+
+-- what comes of it, or a refusal of such a number
+abbrev pub IsAllowed : Result (Done NodePart) Fault → Type 0
+IsAllowed (Ok done) = Unit {0}
+IsAllowed (Err fault) = IsNumbered fault
+
+allowed_keeps : (w : World) (me : ℕ) (answer : Result (Done NodePart) Fault) → IsAllowed answer → Keeps w (node_done_if w me answer)
+allowed_keeps w me (Ok done) allowed = node_keeps w me done
+allowed_keeps w me (Err fault) allowed = allowed
+
+cut_allowed : (kept : ℕ) (part : NodePart) (answer : Result (Done NodePart) Fault) → IsAllowed answer → IsAllowed (cut_if kept part answer)
+cut_allowed kept part (Ok done) allowed = tt
+cut_allowed kept part (Err fault) allowed = allowed
+
+lead_by : (part : NodePart) (learned full spent : Bool) (quiet begins : Turn)
+    → IsAllowed (turned_if part (cond learned (Ok quiet) (cond full (Err LogFull) (cond spent (Err BallotsSpent) (Ok begins)))))
+lead_by part true full spent quiet begins = tt
+lead_by part false true spent quiet begins = (omega arith, omega arith)
+lead_by part false false true quiet begins = (omega arith, omega arith)
+lead_by part false false false quiet begins = tt
 
 module _ {S : Type 0} (s : Setting S) where
-  receive_keeps : (w : World) (me : ℕ) (message : Message) (part : NodePart) (running : Option Running)
-      → Keeps w (node_done_if w me (effect_while s me part (nodes.Receive message) running))
-  receive_keeps w me message part None = (omega arith, omega arith)
-  receive_keeps w me message part (Some running) =
-      node_keeps w me (turned part (receives s.next s.answers s.begin s.config me part.records running message))
+  running_allowed : (me : ℕ) (part : NodePart) (input : NodeInput) (running : Running) → IsAllowed (effect_while s me part input (Some running))
+  running_allowed me part (nodes.Receive message) running = tt
+  running_allowed me part (nodes.Lead choice) running = lead_by part _ _ _ _ _
+  running_allowed me part (nodes.Interrupt source occurrence) running = tt
+  running_allowed me part (nodes.Tick now) running = tt
+  running_allowed me part (nodes.Report first) running = tt
+
+  input_allowed : (me : ℕ) (part : NodePart) (input : NodeInput) (running : Option Running) → IsAllowed (effect_while s me part input running)
+  input_allowed me part input None = (omega arith, omega arith)
+  input_allowed me part input (Some running) = running_allowed me part input running
+
+  -- ---- a message
+
+  nothing_keeps : (w : World) → Keeps w (Ok (nothing_happens w))
+  nothing_keeps w = (refl, refl)
 
   hears_keep : (w : World) (me : ℕ) (message : Message) (part : NodePart) (running : Option Running) → Keeps w (node_hears s w me message part running)
   hears_keep w me message part None = nothing_keeps w
-  hears_keep w me message part (Some running) = receive_keeps w me message part part.running
+  hears_keep w me message part (Some running) = allowed_keeps w me _ (input_allowed me part (nodes.Receive message) part.running)
 
   told_keeps : (w : World) (me : ℕ) (message : Message) (part : Option NodePart) → Keeps w (node_is_told s w me message part)
   told_keeps w me message None = nothing_keeps w
@@ -151,25 +181,67 @@ module _ {S : Type 0} (s : Setting S) where
   delivery_keeps w None = (omega arith, omega arith)
   delivery_keeps w (Some message) = arrival_keeps w message message.to
 
-  -- ---- a leader
+  -- ---- a node's step, whole or cut
 
-  leads_keep : (w : World) (me : ℕ) (choice : Option ℕ) (part : NodePart) (running : Option Running)
-      → Keeps w (node_done_if w me (effect_while s me part (nodes.Lead choice) running))
-  leads_keep w me choice part None = (omega arith, omega arith)
-  leads_keep w me choice part (Some running) = lead_by w me part _ _ _ _ _
+  takes_keep : (w : World) (me : ℕ) (input : NodeInput) (part : Option NodePart) (found : NodePart) → part ≡ Some found → Keeps w (node_takes s w me input part)
+  takes_keep w me input None found there = absurd (cc)
+  takes_keep w me input (Some part) found there = allowed_keeps w me _ (input_allowed me part input part.running)
 
-  node_leads_keep : (w : World) (me : ℕ) (choice : Option ℕ) (part : Option NodePart) (found : NodePart) → part ≡ Some found
-      → Keeps w (node_takes s w me (nodes.Lead choice) part)
-  node_leads_keep w me choice None found there = absurd (cc)
-  node_leads_keep w me choice (Some part) found there = leads_keep w me choice part part.running
+  cut_keeps : (w : World) (me : ℕ) (input : NodeInput) (kept : ℕ) (part : Option NodePart) (found : NodePart) → part ≡ Some found → Keeps w (node_is_cut s w me input kept part)
+  cut_keeps w me input kept None found there = absurd (cc)
+  cut_keeps w me input kept (Some part) found there = allowed_keeps w me _ (cut_allowed kept part _ (input_allowed me part input part.running))
+
+  hearing_cut_keeps : (w : World) (message : Message) (me kept : ℕ) (part : Option NodePart) → Keeps w (hearing_is_cut s w message me part kept)
+  hearing_cut_keeps w message me kept None = (omega arith, omega arith)
+  hearing_cut_keeps w message me kept (Some part) = allowed_keeps w me _ (cut_allowed kept part _ (input_allowed me part (nodes.Receive message) part.running))
+
+  arrival_cut_keeps : (w : World) (message : Message) (kept : ℕ) (party : Party) → Keeps w (arrival_is_cut s w message party kept)
+  arrival_cut_keeps w message kept (Node me) = hearing_cut_keeps w message me kept (part_at w.nodes me)
+  arrival_cut_keeps w message kept (Task task) = (omega arith, omega arith)
+  arrival_cut_keeps w message kept Audit = (omega arith, omega arith)
+
+  delivery_cut_keeps : (w : World) (kept : ℕ) (message : Option Message) → Keeps w (delivery_is_cut s w message kept)
+  delivery_cut_keeps w kept None = (omega arith, omega arith)
+  delivery_cut_keeps w kept (Some message) = arrival_cut_keeps w message kept message.to
+
+  step_keeps : (w : World) (step : Step) → length w.nodes ≡ s.config.nodes → IsStepWithin s.config.nodes step → Keeps w (step_effect s w (step_of step))
+  step_keeps w (Deliver message) many fits = delivery_keeps w (part_at w.sent message)
+  step_keeps w (Lead node position) many fits = let there = part_there w.nodes node fits.0 (omega arith) in takes_keep w node (nodes.Lead position) (part_at w.nodes node) there.0 there.1
+  step_keeps w (Interrupt node interrupt) many fits = let there = part_there w.nodes node fits.0 (omega arith) in takes_keep w node (nodes.Interrupt interrupt.source interrupt.occurrence) (part_at w.nodes node) there.0 there.1
+  step_keeps w (Tick node now) many fits = let there = part_there w.nodes node fits.0 (omega arith) in takes_keep w node (nodes.Tick now) (part_at w.nodes node) there.0 there.1
+  step_keeps w (Report node first) many fits = let there = part_there w.nodes node fits.0 (omega arith) in takes_keep w node (nodes.Report first) (part_at w.nodes node) there.0 there.1
+
+  cut_step_keeps : (w : World) (step : Step) (kept : ℕ) → length w.nodes ≡ s.config.nodes → IsStepWithin s.config.nodes step → Keeps w (cut_step s w (step_of step) kept)
+  cut_step_keeps w (Deliver message) kept many fits = delivery_cut_keeps w kept (part_at w.sent message)
+  cut_step_keeps w (Lead node position) kept many fits = let there = part_there w.nodes node fits.0 (omega arith) in cut_keeps w node (nodes.Lead position) kept (part_at w.nodes node) there.0 there.1
+  cut_step_keeps w (Interrupt node interrupt) kept many fits = let there = part_there w.nodes node fits.0 (omega arith) in cut_keeps w node (nodes.Interrupt interrupt.source interrupt.occurrence) kept (part_at w.nodes node) there.0 there.1
+  cut_step_keeps w (Tick node now) kept many fits = let there = part_there w.nodes node fits.0 (omega arith) in cut_keeps w node (nodes.Tick now) kept (part_at w.nodes node) there.0 there.1
+  cut_step_keeps w (Report node first) kept many fits = let there = part_there w.nodes node fits.0 (omega arith) in cut_keeps w node (nodes.Report first) kept (part_at w.nodes node) there.0 there.1
+
+  -- ---- stops and restarts
+
+  stop_by : (w : World) (me : ℕ) (part : NodePart) (running : Option Running) → Keeps w (node_done_if w me (stops_while part running))
+  stop_by w me part None = (omega arith, omega arith)
+  stop_by w me part (Some running) = node_keeps w me (goes_on_as (stop_part part))
+
+  stop_keeps : (w : World) (me : ℕ) (part : Option NodePart) (found : NodePart) → part ≡ Some found → Keeps w (stops w me part)
+  stop_keeps w me None found there = absurd (cc)
+  stop_keeps w me (Some part) found there = stop_by w me part part.running
+
+  restart_keeps : (w : World) (me : ℕ) (part : Option NodePart) (found : NodePart) → part ≡ Some found → Keeps w (restarts w me part)
+  restart_keeps w me None found there = absurd (cc)
+  restart_keeps w me (Some part) found there = node_keeps w me (restart_while part part.running)
 
   -- an event that names what there is
-  pub event_keeps : (w : World) (tasks objects : ℕ) (event : Event) → length w.nodes ≡ s.config.nodes → length w.tasks ≡ 8 → tasks ≤ 8 → objects ≤ 8
-      → IsEventWithin s.config.nodes tasks objects event → Keeps w (event_effect s w (event_of event))
-  event_keeps w tasks objects (Submit task node object operation arg) nodes eight few some event =
-      let there = part_there w.tasks task event.0 (omega arith) in
-      submit_keeps s.config w task node object operation arg (part_at w.tasks task) event.0 (omega arith) event.3 event.4 (omega arith) event.6 there.0 there.1
-  event_keeps w tasks objects (NodeStep (Deliver message)) nodes eight few some event = delivery_keeps w (part_at w.sent message)
-  event_keeps w tasks objects (NodeStep (Lead node position)) nodes eight few some event =
-      let there = part_there w.nodes node event.0 (omega arith) in
-      node_leads_keep w node position (part_at w.nodes node) there.0 there.1
+  pub event_keeps : (w : World) (event : Event) → length w.nodes ≡ s.config.nodes → length w.tasks ≡ 8
+      → IsEventWithin s.config.nodes 8 8 event → Keeps w (event_effect s w (event_of event))
+  event_keeps w (Submit task node object operation arg) nodes eight fits =
+      let there = part_there w.tasks task fits.0.0 (omega arith) in
+      submit_keeps s.config w task node object operation arg (part_at w.tasks task) fits.0.0 fits.0.1 fits.1.1 fits.2.0 fits.2.1 fits.3 there.0 there.1
+  event_keeps w (Again task node) nodes eight fits =
+      let there = part_there w.tasks task fits.0.0 (omega arith) in
+      again_keeps s.config w task node (part_at w.tasks task) fits.1.1 there.0 there.1
+  event_keeps w (NodeStep step) nodes eight fits = step_keeps w step nodes fits
+  event_keeps w (Cut step kept) nodes eight fits = cut_step_keeps w step kept nodes fits
+  event_keeps w (Stop node) nodes eight fits = let there = part_there w.nodes node fits.0 (omega arith) in stop_keeps w node (part_at w.nodes node) there.0 there.1
+  event_keeps w (Restart node) nodes eight fits = let there = part_there w.nodes node fits.0 (omega arith) in restart_keeps w node (part_at w.nodes node) there.0 there.1

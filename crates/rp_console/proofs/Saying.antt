@@ -1,132 +1,234 @@
 -- What a run has come to so far, and what is left of it.
-use Rattle.std.proofs.Common.{◌≡◌, ℕ, suc, ◌+◌, ◌-◌, ◌<◌, ◌≤◌, Bool, ◌||◌, Option, Some, None, Result, Ok, Err, List, [], ◌∷◌, ◌++◌, arith, refl, sym, ap, subst, ◌∙◌, append_assoc}
-use Rattle.std.specs.Prelude.{nat_eq}
+use Rattle.std.proofs.Common.{inl, inr, ◌≡◌, ℕ, suc, ◌+◌, ◌-◌, ◌<◌, ◌≤◌, Bool, true, false, cond, ◌&&◌, ◌||◌, Option, Some, None, Result, Ok, Err, List, [], ◌∷◌, ◌++◌, drop, length, arith, refl, sym, ap, subst, ◌∙◌, append_assoc, IsErr}
+use Rattle.std.specs.Prelude.{◌⊎◌, nat_eq, nat_le}
 use Rattle.std.specs.Io.KnownBytes.{Appends}
 use Rattle.std.proofs.KnownBytes.{Appends-nil, Appends-trans}
 use Rattle.std.proofs.lemmas.List.Folds.{list_any-append}
-use Rattle.rp_base.specs.Fault.{code_of}
+use Rattle.std.proofs.lemmas.Bool.{le-leb}
+use Rattle.std.proofs.lemmas.Bool.Decides.{nat_tests}
 use Rattle.rp_base.specs.declared.fault.Fault.{Fault}
-use Rattle.rp_base.specs.declared.fault.Fault.TheVariants.{OutOfMemory}
+use Rattle.rp_base.specs.declared.fault.Fault.TheVariants.{NoSuchMessage}
 use Rattle.rp_base.specs.declared.reply.Answer.{Answer}
+use Rattle.rp_codec.specs.Message.{Message}
+use Rattle.rp_model.specs.declared.effect.Dropped.{Dropped}
+use Rattle.rp_model.specs.declared.effect.Effect.{Effect}
 use Rattle.rp_model.specs.declared.event.Event.{Event}
 use Rattle.rp_model.specs.declared.event.Event.TheVariants.{Node as NodeStep}
 use Rattle.rp_model.specs.declared.event.Step.TheVariants.{Deliver}
-use Rattle.rp_model.specs.World.{Happening}
-use Rattle.rp_world.specs.Steps.{AnswersBy}
-use Rattle.rp_model.specs.declared.effect.Effect.{Effect}
-use Rattle.rp_console.specs.Output.{RunSetting, Play, Said, nothing_said, and_then, is_among, least_unsettled, settled_by, taken_text, effect_of, effect_said, event_said, drain_from, drained, command_said, script_said}
+use Rattle.rp_model.specs.Events.{event_of}
+use Rattle.rp_model.specs.Growing.{Grows}
+use Rattle.rp_model.specs.World.{World, Happening, event_effect}
+use Rattle.rp_model.specs.Answers.{IsDone, IsRefused}
+use Rattle.rp_console.specs.Output.{RunSetting, Play, Said, nothing_said, line_said, and_then, is_among, from_to, least_unsettled, settled_by, lost, traced_text, effect_text, effect_of, effect_said, event_said, drain_from, drained, command_said, script_said}
 use Rattle.rp_console.specs.Printed.{refused_line_of, limit_line_of}
-use Rattle.rp_console.specs.Runs.{Follows, Came}
+use Rattle.rp_console.specs.Runs.{Follows, Says}
 use Rattle.rp_console.specs.Settled.{is_settled}
 use Rattle.rp_console.specs.Status.{with_line_feed}
+use Rattle.rp_console.specs.Stream.{Begins, Writes}
 use Rattle.rp_console.specs.declared.deck.Line.{Line}
-use Rattle.rp_console.specs.declared.run.Run.{Run}
+use Rattle.rp_console.specs.declared.settled.Settled.{Settled}
+use Rattle.rp_console.proofs.Writing.{begins_longer, begins_behind}
+
+-- what is said, by what is written
+pub says_by : (world : World) (settled : Settled) (old new : Option (List ℕ)) (said : Said) (answer : Result Unit Fault)
+    → Follows world settled said.play → Writes old new said.text answer → Says world settled old new said answer
+says_by world settled old new said (Ok done) follows written = (follows, written)
+says_by world settled old new said (Err fault) follows written = written
+
+pub says_failed : (world : World) (settled : Settled) (old new : Option (List ℕ)) (said : Said) (answer : Result Unit Fault)
+    → IsErr answer → Begins old new said.text → Says world settled old new said answer
+says_failed world settled old new said (Ok done) failed begun = absurd (cc)
+says_failed world settled old new said (Err fault) failed begun = begun
 
 -- ---- so far, and what is left
 
 -- the run has come to a part of the whole, and the rest of it begins at the play that the run follows
-pub record Underway (run : Run) (old new : Option (List ℕ)) (whole : Said) (rest : Play → Said) : Type 0 where
+pub record Underway (world : World) (settled : Settled) (old new : Option (List ℕ)) (whole : Said) (rest : Play → Said) : Type 0 where
   pub said : Said
-  pub came : Came run old new said
+  pub follows : Follows world settled said.play
+  pub written : Appends old new said.text
   pub parts : whole ≡ and_then said rest
 
 -- nothing is said yet
-pub sets_out : (run : Run) (old : Option (List ℕ)) (play : Play) (rest : Play → Said) → Follows run play → Underway run old old (rest play) rest
-sets_out run old play rest follows = record {
+pub sets_out : (world : World) (settled : Settled) (old : Option (List ℕ)) (play : Play) (rest : Play → Said) → Follows world settled play
+    → Underway world settled old old (rest play) rest
+sets_out world settled old play rest follows = record {
   said = nothing_said play;
-  came = record { follows = follows; written = Appends-nil old };
+  follows = follows;
+  written = Appends-nil old;
   parts = refl;
 }
 
-module _ (run after : Run) (old middle new : Option (List ℕ)) (whole : Said) (rest : Play → Said) (so_far : Underway run old middle whole rest) where
+module _ (world later : World) (settled after : Settled) (old middle new : Option (List ℕ)) (whole : Said) (rest : Play → Said)
+    (so_far : Underway world settled old middle whole rest) where
+  behind : (here : Said) (further : Play → Said) → rest so_far.said.play ≡ and_then here further
+      → whole ≡ record { text = (so_far.said.text ++ here.text) ++ (further here.play).text; play = (further here.play).play }
+  behind here further next =
+      so_far.parts
+      ∙ ap (λ (s : Said). record { text = so_far.said.text ++ s.text; play = s.play }) next
+      ∙ ap (λ (t : List ℕ). record { text = t; play = (further here.play).play }) (sym (append_assoc so_far.said.text here.text (further here.play).text))
+
   -- one thing more
-  pub goes_on : (here : Said) (further : Play → Said) → rest so_far.said.play ≡ and_then here further → Came after middle new here → Underway after old new whole further
-  goes_on here further next came = record {
+  pub goes_on : (here : Said) (further : Play → Said) → rest so_far.said.play ≡ and_then here further → Follows later after here.play → Appends middle new here.text
+      → Underway later after old new whole further
+  goes_on here further next follows written = record {
     said = record { text = so_far.said.text ++ here.text; play = here.play };
-    came = record {
-      follows = came.follows;
-      written = Appends-trans old middle new so_far.said.text here.text so_far.came.written came.written;
-    };
-    parts = so_far.parts
-        ∙ ap (λ (s : Said). record { text = so_far.said.text ++ s.text; play = s.play }) next
-        ∙ ap (λ (t : List ℕ). record { text = t; play = (further here.play).play }) (sym (append_assoc so_far.said.text here.text (further here.play).text));
+    follows = follows;
+    written = Appends-trans old middle new so_far.said.text here.text so_far.written written;
+    parts = behind here further next;
   }
 
+  -- one thing more, which failed
+  pub fails : (here : Said) (further : Play → Said) → rest so_far.said.play ≡ and_then here further → Begins middle new here.text → Begins old new whole.text
+  fails here further next begun =
+      subst (λ (s : Said). Begins old new s.text) (sym (behind here further next))
+      (begins_longer old new (so_far.said.text ++ here.text) (further here.play).text (begins_behind old middle new so_far.said.text here.text so_far.written begun))
+
   -- the last thing
-  pub ends_by : (here : Said) → rest so_far.said.play ≡ here → Came after middle new here → Came after old new whole
-  ends_by here last came =
+  pub ends_by : (here : Said) (answer : Result Unit Fault) → rest so_far.said.play ≡ here → Says later after middle new here answer → Says later after old new whole answer
+  ends_by here answer last came =
       let all : whole ≡ record { text = so_far.said.text ++ here.text; play = here.play } =
       so_far.parts ∙ ap (λ (s : Said). record { text = so_far.said.text ++ s.text; play = s.play }) last in
-      subst (λ (s : Said). Came after old new s) (sym all) (record {
-        follows = came.follows;
-        written = Appends-trans old middle new so_far.said.text here.text so_far.came.written came.written;
-      })
+      subst (λ (s : Said). Says later after old new s answer) (sym all) (at answer came)
+    where
+      at : (answer : Result Unit Fault) → Says later after middle new here answer
+          → Says later after old new (record { text = so_far.said.text ++ here.text; play = here.play }) answer
+      at (Ok done) came = (came.0, Appends-trans old middle new so_far.said.text here.text so_far.written came.1)
+      at (Err fault) came = begins_behind old middle new so_far.said.text here.text so_far.written came
 
 -- nothing more
-pub ends : (run : Run) (old new : Option (List ℕ)) (whole : Said) (rest : Play → Said) (so_far : Underway run old new whole rest)
-    → rest so_far.said.play ≡ nothing_said so_far.said.play → Came run old new whole
-ends run old new whole rest so_far last =
-    ends_by run run old new new whole rest so_far (nothing_said so_far.said.play) last
-    (record { follows = so_far.came.follows; written = Appends-nil new })
+pub ends : (world : World) (settled : Settled) (old new : Option (List ℕ)) (whole : Said) (rest : Play → Said) (so_far : Underway world settled old new whole rest) (done : Unit)
+    → rest so_far.said.play ≡ nothing_said so_far.said.play → Says world settled old new whole (Ok done)
+ends world settled old new whole rest so_far done last =
+    ends_by world world settled settled old new new whole rest so_far (nothing_said so_far.said.play) (Ok done) last (so_far.follows, Appends-nil new)
 
 -- ---- a step
 
--- a step that happened
-pub happened : (s : RunSetting) (line : ℕ) (play : Play) (settles : List ℕ) (wanted : Result Happening Fault) (run after : Run) (effect : Effect) (old new : Option (List ℕ))
-    → Follows run play → AnswersBy run.cluster.world after.cluster.world wanted (Ok effect)
-    → ((m : ℕ) → is_settled after.settled m ≡ (is_among settles m || is_settled run.settled m))
-    → Appends old new (taken_text s.names effect.taken)
-    → Came after old new (effect_said s line play settles wanted)
-happened s line play settles (Ok happening) run after effect old new follows steps settled written = record {
-  follows = record {
-    world = steps.0;
-    settled = λ m. settled m
-        ∙ ap (λ (b : Bool). is_among settles m || b) (follows.settled m)
-        ∙ sym (list_any-append (nat_eq m) settles play.settled);
-  };
-  written = subst (λ (taken : Option Answer). Appends old new (taken_text s.names taken)) steps.1.taken written;
-}
-happened s line play settles (Err refusal) run after effect old new follows steps settled written = absurd steps
+drop_front : {A : Type 0} (xs ys : List A) → drop (length xs) (xs ++ ys) ≡ ys
+drop_front [] ys = refl
+drop_front (x ∷ xs) ys = drop_front xs ys
 
--- a step that was refused by one of the numbers 5 to 10
-pub was_refused : (s : RunSetting) (line : ℕ) (play : Play) (settles : List ℕ) (wanted : Result Happening Fault) (run after : Run) (fault : Fault) (old new : Option (List ℕ))
-    → Follows run play → AnswersBy run.cluster.world after.cluster.world wanted (Err fault) → after.settled ≡ run.settled → 5 ≤ code_of fault
-    → Appends old new (with_line_feed (refused_line_of line fault))
-    → Came after old new (effect_said s line play settles wanted)
-was_refused s line play settles (Ok happening) run after fault old new follows steps same numbered written =
-    absurd (memory (subst (λ (f : Fault). 5 ≤ code_of f) steps.1 numbered))
-  where
-    memory : 5 ≤ code_of OutOfMemory → ⊥
-    memory le = omega arith
-was_refused s line play settles (Err refusal) run after fault old new follows steps same numbered written = record {
-  follows = record {
-    world = steps.0 ∙ follows.world;
-    settled = λ m. ap (λ t. is_settled t m) same ∙ follows.settled m;
-  };
-  written = subst (λ (f : Fault). Appends old new (with_line_feed (refused_line_of line f))) steps.1 written;
-}
+-- what is told of an effect is what is told of the happening
+told_same : (traced : Bool) (names : List (List ℕ)) (event : Event) (before after sends : List Message) (first : ℕ)
+    (opened found : Option (ℕ × ℕ)) (dropped lacking : Dropped) (taken reply : Option Answer)
+    → first ≡ length before + 1 → after ≡ before ++ sends → opened ≡ found → dropped ≡ lacking → taken ≡ reply
+    → traced_text traced names first (drop (first - 1) after) ++ effect_text names after event opened dropped taken
+    ≡ traced_text traced names (length before + 1) sends ++ effect_text names after event found lacking reply
+told_same traced names event before after sends first opened found dropped lacking taken reply is grown e1 e2 e3 =
+    let place : first - 1 ≡ length before = omega (arith, is) in
+    let packets : drop (first - 1) after ≡ sends = ap (λ (i : ℕ). drop i after) place ∙ ap (λ (l : List Message). drop (length before) l) grown ∙ drop_front before sends in
+    ap (λ (l : List Message). traced_text traced names first l ++ effect_text names after event opened dropped taken) packets
+    ∙ ap (λ (n : ℕ). traced_text traced names n sends ++ effect_text names after event opened dropped taken) is
+    ∙ ap (λ (o : Option (ℕ × ℕ)). traced_text traced names (length before + 1) sends ++ effect_text names after event o dropped taken) e1
+    ∙ ap (λ (d : Dropped). traced_text traced names (length before + 1) sends ++ effect_text names after event found d taken) e2
+    ∙ ap (λ (t : Option Answer). traced_text traced names (length before + 1) sends ++ effect_text names after event found lacking t) e3
+
+module _ {S : Type 0} (s : RunSetting S) (line : ℕ) (play : Play) (event : Event) (world : World) (settled : Settled) (follows : Follows world settled play) where
+  event_is : event_said s line play event ≡ effect_said s line play event (effect_of s play.world event)
+  unfolding event_said
+  event_is = refl
+
+  at_play : event_said s line play event ≡ effect_said s line play event (event_effect s.setting world (event_of event))
+  at_play = event_is ∙ ap (λ (w : World). effect_said s line play event (event_effect s.setting w (event_of event))) (sym follows.world_is)
+
+  -- an event that happened
+  pub happened : (later : World) (after : Settled) (effect : Effect) (old new : Option (List ℕ)) (answer : Result Unit Fault)
+      → (done : IsDone s.setting world (event_of event) later effect) → Grows world done.happening
+      → ((m : ℕ) → is_settled after m ≡ (is_among (settled_by event) m || is_settled settled m))
+      → Writes old new (traced_text s.traced s.names effect.first (drop (effect.first - 1) later.sent) ++ effect_text s.names later.sent event effect.opened effect.dropped effect.taken) answer
+      → Says later after old new (event_said s line play event) answer
+  happened later after effect old new answer done grows settles told =
+      let happening = done.happening in
+      let said : Said = effect_said s line play event (Ok happening) in
+      let is : event_said s line play event ≡ said = at_play ∙ ap (λ (r : Result Happening Fault). effect_said s line play event r) done.came in
+      let grown : later.sent ≡ world.sent ++ happening.sends = ap (λ (w : World). w.sent) done.world ∙ grows.sent in
+      let text : traced_text s.traced s.names effect.first (drop (effect.first - 1) later.sent) ++ effect_text s.names later.sent event effect.opened effect.dropped effect.taken ≡ said.text =
+      told_same s.traced s.names event world.sent later.sent happening.sends effect.first effect.opened happening.opened effect.dropped happening.dropped effect.taken happening.taken
+      done.tells.first grown done.tells.opened done.tells.dropped done.tells.taken
+      ∙ ap (λ (l : List Message). traced_text s.traced s.names (length world.sent + 1) happening.sends ++ effect_text s.names l event happening.opened happening.dropped happening.taken) (ap (λ (w : World). w.sent) done.world)
+      ∙ ap (λ (w : World). traced_text s.traced s.names (length w.sent + 1) happening.sends ++ effect_text s.names happening.world.sent event happening.opened happening.dropped happening.taken) follows.world_is in
+      subst (λ (x : Said). Says later after old new x answer) (sym is)
+      (says_by later after old new said answer
+      (record {
+        world_is = done.world;
+        settled_are = λ m. settles m
+            ∙ ap (λ (b : Bool). is_among (settled_by event) m || b) (follows.settled_are m)
+            ∙ sym (list_any-append (nat_eq m) (settled_by event) play.settled);
+      })
+      (subst (λ (l : List ℕ). Writes old new l answer) text told))
+
+  -- an event that was refused
+  pub was_refused : (left : World) (fault : Fault) (old new : Option (List ℕ)) (answer : Result Unit Fault)
+      → IsRefused s.setting world (event_of event) left fault → Writes old new (with_line_feed (refused_line_of line fault)) answer
+      → Says left settled old new (event_said s line play event) answer
+  was_refused left fault old new answer refused told =
+      let said : Said = line_said play (refused_line_of line fault) in
+      let is : event_said s line play event ≡ said = at_play ∙ ap (λ (r : Result Happening Fault). effect_said s line play event r) refused.refusal in
+      subst (λ (x : Said). Says left settled old new x answer) (sym is)
+      (says_by left settled old new said answer (record { world_is = refused.unchanged ∙ follows.world_is; settled_are = follows.settled_are }) told)
+
+-- ---- messages that are lost
+
+lost_by : (one other : Bool) (there not_there : Said) → one ≡ true → other ≡ true → cond (one && other) there not_there ≡ there
+lost_by true true there not_there first second = refl
+lost_by true false there not_there first second = absurd (cc)
+lost_by false other there not_there first second = absurd (cc)
+
+module _ (line first last : ℕ) (play : Play) (world : World) (settled : Settled) (follows : Follows world settled play) where
+  sent_is : length world.sent ≡ length play.world.sent
+  sent_is = ap (λ (w : World). length w.sent) follows.world_is
+
+  pub was_lost : (after : Settled) (old : Option (List ℕ)) (answer : Result Unit Fault) → first ≤ length world.sent → last ≤ length world.sent
+      → ((m : ℕ) → is_settled after m ≡ (is_among (from_to first last) m || is_settled settled m))
+      → Says world after old old (lost line play first last) (Ok tt)
+  was_lost after old answer low high settles =
+      let here : Said = record { text = []; play = record { world = play.world; settled = from_to first last ++ play.settled } } in
+      let is : lost line play first last ≡ here =
+      lost_by (nat_le first (length play.world.sent)) (nat_le last (length play.world.sent)) here (line_said play (refused_line_of line NoSuchMessage))
+      (le-leb first (length play.world.sent) (omega (arith, low, sent_is))) (le-leb last (length play.world.sent) (omega (arith, high, sent_is))) in
+      subst (λ (x : Said). Says world after old old x (Ok tt)) (sym is) (
+        record {
+          world_is = follows.world_is;
+          settled_are = λ m. settles m
+              ∙ ap (λ (b : Bool). is_among (from_to first last) m || b) (follows.settled_are m)
+              ∙ sym (list_any-append (nat_eq m) (from_to first last) play.settled);
+        },
+        Appends-nil old,
+      )
+
+  none_lost : (one other : Bool) (there : Said) → one ≡ nat_le first (length play.world.sent) → other ≡ nat_le last (length play.world.sent)
+      → (length play.world.sent < first) ⊎ (length play.world.sent < last) → cond (one && other) there (line_said play (refused_line_of line NoSuchMessage)) ≡ line_said play (refused_line_of line NoSuchMessage)
+  none_lost true true there first_is last_is (inl above) = absurd (grind (arith, nat_tests, first_is, above))
+  none_lost true true there first_is last_is (inr above) = absurd (grind (arith, nat_tests, last_is, above))
+  none_lost true false there first_is last_is above = refl
+  none_lost false other there first_is last_is above = refl
+
+  pub was_not_lost : (old new : Option (List ℕ)) (answer : Result Unit Fault) → (length world.sent < first) ⊎ (length world.sent < last)
+      → Writes old new (with_line_feed (refused_line_of line NoSuchMessage)) answer → Says world settled old new (lost line play first last) answer
+  was_not_lost old new answer above told =
+      let at_play : (length play.world.sent < first) ⊎ (length play.world.sent < last) = subst (λ (n : ℕ). (n < first) ⊎ (n < last)) sent_is above in
+      let said : Said = line_said play (refused_line_of line NoSuchMessage) in
+      let there : Said = record { text = []; play = record { world = play.world; settled = from_to first last ++ play.settled } } in
+      subst (λ (x : Said). Says world settled old new x answer) (sym (none_lost (nat_le first (length play.world.sent)) (nat_le last (length play.world.sent)) there refl refl at_play))
+      (says_by world settled old new said answer follows told)
 
 -- ---- the definitions, one step on
 
-pub event_is : (s : RunSetting) (line : ℕ) (play : Play) (event : Event) → event_said s line play event ≡ effect_said s line play (settled_by event) (effect_of s play.world event)
-unfolding event_said
-event_is s line play event = refl
-
-pub script_ends : (s : RunSetting) (most : ℕ) (play : Play) → script_said s most play [] ≡ nothing_said play
+pub script_ends : {S : Type 0} (s : RunSetting S) (most : ℕ) (play : Play) → script_said s most play [] ≡ nothing_said play
 unfolding script_said
 script_ends s most play = refl
 
-pub script_more : (s : RunSetting) (most : ℕ) (play : Play) (line : Line) (rest : List Line)
+pub script_more : {S : Type 0} (s : RunSetting S) (most : ℕ) (play : Play) (line : Line) (rest : List Line)
     → script_said s most play (line ∷ rest) ≡ and_then (command_said s most line.number play line.command) (λ after. script_said s most after rest)
 unfolding script_said
 script_more s most play line rest = refl
 
-module _ (s : RunSetting) (line : ℕ) (play : Play) where
+module _ {S : Type 0} (s : RunSetting S) (line : ℕ) (play : Play) where
   drain_ends : (most : ℕ) → drain_from s line play None most ≡ nothing_said play
   unfolding drain_from
   drain_ends most = refl
 
-  drain_stops : (message : ℕ) → drain_from s line play (Some message) 0 ≡ record { text = with_line_feed (limit_line_of line); play = play }
+  drain_stops : (message : ℕ) → drain_from s line play (Some message) 0 ≡ line_said play (limit_line_of line)
   unfolding drain_from
   drain_stops message = refl
 
@@ -141,7 +243,7 @@ module _ (s : RunSetting) (line : ℕ) (play : Play) where
 
   -- one is left, and no more may be delivered
   pub drained_full : (most done message : ℕ) → most ≤ done → least_unsettled play ≡ Some message
-      → drained s line (most - done) play ≡ record { text = with_line_feed (limit_line_of line); play = play }
+      → drained s line (most - done) play ≡ line_said play (limit_line_of line)
   drained_full most done message full left =
       let spent : most - done ≡ 0 = omega arith in
       ap (λ (o : Option ℕ). drain_from s line play o (most - done)) left

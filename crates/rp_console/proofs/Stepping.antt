@@ -1,113 +1,90 @@
 -- A step of a run.
-use Rattle.std.proofs.Common.{◌≡◌, ℕ, ℤ, ◌≤◌, ◌||◌, pos, false, Option, Result, Ok, Err, List, length, replicate, sym, ap, subst, ◌∙◌}
-use Rattle.std.specs.Io.KnownBytes.{Appends}
+use Rattle.std.proofs.Common.{inl, inr, ◌≡◌, ℕ, ◌≤◌, Result, Ok, Err, List, length, OnOk, arith, sym, ap, subst, ◌∙◌}
 use Rattle.std.proofs.lemmas.List.{length-replicate}
-use Rattle.indexmap.specs.IndexMap.{index_map_len}
 use Rattle.rp_base.specs.Fault.{code_of}
+use Rattle.rp_base.specs.declared.action.Action.{Action}
 use Rattle.rp_base.specs.declared.config.Config.{Config}
 use Rattle.rp_base.specs.declared.fault.Fault.{Fault}
-use Rattle.rp_machine.specs.TallyRule.{tally_next, tally_answers}
+use Rattle.rp_base.specs.declared.fault.Fault.TheVariants.{OutOfMemory, Device}
+use Rattle.rp_base.specs.declared.reply.Answer.{Answer}
+use Rattle.rp_model.specs.declared.effect.Effect.{Effect}
 use Rattle.rp_model.specs.declared.event.Event.{Event}
-use Rattle.rp_model.specs.World.{World, Happening, event_effect, opening_world}
-use Rattle.rp_model.specs.Effect as nodes
+use Rattle.rp_model.specs.Answers.{IsDone, IsFaulted, IsRefused}
+use Rattle.rp_model.specs.Effect.{Setting}
 use Rattle.rp_model.specs.Events.{event_of}
 use Rattle.rp_model.specs.Parts.{fresh_node, fresh_task}
-use Rattle.rp_world.specs.Steps.{AnswersBy, Setup}
-use Rattle.rp_model.specs.declared.effect.Effect.{Effect}
-use Rattle.rp_console.specs.Deck.{IsRightDeck}
-use Rattle.rp_console.specs.Output.{Play, Said, setting_of, names_of, is_among, settled_by, taken_text, effect_of, event_said, opening_play}
-use Rattle.rp_console.specs.Printed.{refused_line_of}
-use Rattle.rp_console.specs.Runs.{IsRunOf, Follows, Came, IsEventOf, IsEventWithin}
+use Rattle.rp_model.specs.World.{World, Happening, event_effect, opening_world}
+use Rattle.rp_world.specs.Steps.{Setup, IsSameSetup, setting_of}
 use Rattle.rp_console.specs.Faults.{IsRunFault}
-use Rattle.rp_console.specs.Settled.{is_settled}
-use Rattle.rp_console.specs.Status.{with_line_feed}
-use Rattle.rp_console.specs.declared.deck.Deck.{Deck}
-use Rattle.rp_console.specs.declared.run.Run.{Run}
+use Rattle.rp_console.specs.Runs.{HasParts, run_setting}
+use Rattle.rp_console.specs.Script.{IsEventWithin}
+use Rattle.rp_console.specs.declared.options.RunOptions.{RunOptions}
 use Rattle.rp_console.proofs.Refusing.{IsNumbered, Keeps, event_keeps}
-use Rattle.rp_console.proofs.Saying.{happened, was_refused, event_is}
 
-kept_lengths : (old new : World) (wanted : Result Happening Fault) (answer : Result Effect Fault) → Keeps old wanted → AnswersBy old new wanted answer
-    → (length new.nodes ≡ length old.nodes) × (length new.tasks ≡ length old.tasks)
-kept_lengths old new (Ok happening) (Ok effect) keeps steps =
-    (ap (λ (w : World). length w.nodes) steps.0 ∙ keeps.0, ap (λ (w : World). length w.tasks) steps.0 ∙ keeps.1)
-kept_lengths old new (Ok happening) (Err fault) keeps steps = (ap (λ (w : World). length w.nodes) steps.0, ap (λ (w : World). length w.tasks) steps.0)
-kept_lengths old new (Err refusal) (Ok effect) keeps steps = absurd steps
-kept_lengths old new (Err refusal) (Err fault) keeps steps = (ap (λ (w : World). length w.nodes) steps.0, ap (λ (w : World). length w.tasks) steps.0)
+-- what is true is so where all goes well
+pub always_ok : {P : Type 0} (answer : Result Unit Fault) → P → OnOk answer P
+always_ok (Ok done) p = p
+always_ok (Err fault) p = tt
 
--- a fault that is no refusal is that memory ran out
-memory_fault : (old new : World) (wanted : Result Happening Fault) (fault : Fault) → Keeps old wanted → AnswersBy old new wanted (Err fault) → (IsNumbered fault → ⊥) → IsRunFault fault
-memory_fault old new (Ok happening) fault keeps steps other = subst IsRunFault (sym steps.1) tt
-memory_fault old new (Err refusal) fault keeps steps other =
-    absurd (other (subst IsNumbered (sym steps.1) keeps))
+kept_lengths : (w : World) (answer : Result Happening Fault) (happening : Happening) → answer ≡ Ok happening → Keeps w answer
+    → (length happening.world.nodes ≡ length w.nodes) × (length happening.world.tasks ≡ length w.tasks)
+kept_lengths w answer happening is keeps = subst (Keeps w) is keeps
 
--- the tally of so many objects in a configuration
-abbrev pub at_setting : Config → ℕ → nodes.Setting (List ℤ)
-at_setting config objects = record { config = config; next = tally_next; answers = tally_answers; begin = replicate objects (pos 0) }
-
--- the effect of an event at a run
-abbrev pub effect_at : Run → Event → Result Happening Fault
-effect_at run event = event_effect (at_setting run.cluster.config run.cluster.program) run.cluster.world (event_of event)
-
-module _ (deck : Deck) (run after : Run) (event : Event) (right : IsRightDeck deck) (of_deck : IsRunOf deck run) (named : IsEventOf deck event) where
-  keeps : Keeps run.cluster.world (effect_at run event)
+module _ {S P : Type 0} (next : S → Action → S) (answers : S → Action → List Answer) (start : P → S) (nodes : ℕ) (old new : Setup P) (event : Event)
+    (parts : HasParts nodes old) (fits : IsEventWithin nodes 8 8 event) where
+  keeps : Keeps old.world (event_effect (setting_of next answers start old) old.world (event_of event))
   keeps =
-      event_keeps (at_setting run.cluster.config run.cluster.program) run.cluster.world
-      (index_map_len deck.tasks) (index_map_len deck.objects) event
-      (of_deck.nodes ∙ ap (λ (c : Config). c.nodes) (sym of_deck.config)) of_deck.tasks right.tasks.few right.objects.few
-      (subst (λ (c : Config). IsEventWithin c.nodes (index_map_len deck.tasks) (index_map_len deck.objects) event) (sym of_deck.config) named)
+      event_keeps (setting_of next answers start old) old.world event (parts.nodes_there ∙ sym parts.config) parts.tasks
+      (subst (λ (n : ℕ). IsEventWithin n 8 8 event) (sym parts.config) fits)
 
-  -- it stays a run of the deck
-  pub stays_of : (answer : Result Effect Fault) → after.cluster.config ≡ run.cluster.config → after.cluster.program ≡ run.cluster.program
-      → AnswersBy run.cluster.world after.cluster.world (effect_at run event) answer → IsRunOf deck after
-  stays_of answer config program steps =
-      let lengths = kept_lengths run.cluster.world after.cluster.world (effect_at run event) answer keeps steps in
+  -- nodes and tasks neither come nor go
+  pub parts_stay : (effect : Effect) → IsSameSetup old new → IsDone (setting_of next answers start old) old.world (event_of event) new.world effect → HasParts nodes new
+  parts_stay effect same done =
+      let lengths = kept_lengths old.world (event_effect (setting_of next answers start old) old.world (event_of event)) done.happening done.came keeps in
       record {
-        config = config ∙ of_deck.config;
-        program = program ∙ of_deck.program;
-        nodes = lengths.0 ∙ of_deck.nodes;
-        tasks = lengths.1 ∙ of_deck.tasks;
+        config = ap (λ (c : Config). c.nodes) same.config ∙ parts.config;
+        nodes_there = ap (λ (w : World). length w.nodes) done.world ∙ lengths.0 ∙ parts.nodes_there;
+        tasks = ap (λ (w : World). length w.tasks) done.world ∙ lengths.1 ∙ parts.tasks;
       }
 
+  pub parts_left : (fault : Fault) → IsSameSetup old new → IsRefused (setting_of next answers start old) old.world (event_of event) new.world fault → HasParts nodes new
+  parts_left fault same refused = record {
+    config = ap (λ (c : Config). c.nodes) same.config ∙ parts.config;
+    nodes_there = ap (λ (w : World). length w.nodes) refused.unchanged ∙ parts.nodes_there;
+    tasks = ap (λ (w : World). length w.tasks) refused.unchanged ∙ parts.tasks;
+  }
+
   -- a fault that is no refusal ends the run
-  pub ends_with : (fault : Fault) → AnswersBy run.cluster.world after.cluster.world (effect_at run event) (Err fault) → (IsNumbered fault → ⊥) → IsRunFault fault
-  ends_with fault steps other = memory_fault run.cluster.world after.cluster.world (effect_at run event) fault keeps steps other
+  pub ends_with : (fault : Fault) → IsFaulted (setting_of next answers start old) old.world (event_of event) new.world fault → (IsNumbered fault → ⊥) → IsRunFault fault
+  ends_with fault (inl refused) other = absurd (other (subst (Keeps old.world) refused.refusal keeps))
+  ends_with fault (inr (inl memory)) other = subst IsRunFault (sym memory.0) tt
+  ends_with fault (inr (inr device)) other = subst IsRunFault (sym device.0) tt
 
-module _ (deck : Deck) (line : ℕ) (play : Play) (event : Event) (run after : Run) (old new : Option (List ℕ)) (of_deck : IsRunOf deck run) (follows : Follows run play) where
-  -- the effect at the run is that at the play
-  same_effect : effect_at run event ≡ effect_of (setting_of deck) play.world event
-  same_effect =
-      ap (λ (objects : ℕ). event_effect (at_setting run.cluster.config objects) run.cluster.world (event_of event)) of_deck.program
-      ∙ ap (λ (c : Config). event_effect (at_setting c deck.program) run.cluster.world (event_of event)) of_deck.config
-      ∙ ap (λ (w : World). event_effect (at_setting deck.config deck.program) w (event_of event)) follows.world
+-- a fault with one of the numbers of refusals is a refusal
+pub refused_of : {S : Type 0} (s : Setting S) (w left : World) (event : Event) (fault : Fault) → IsFaulted s w (event_of event) left fault → 5 ≤ code_of fault → IsRefused s w (event_of event) left fault
+refused_of s w left event fault (inl refused) numbered = refused
+refused_of s w left event fault (inr (inl memory)) numbered = absurd (at (subst (λ (f : Fault). 5 ≤ code_of f) memory.0 numbered))
+  where
+    at : 5 ≤ code_of OutOfMemory → ⊥
+    at le = omega arith
+refused_of s w left event fault (inr (inr device)) numbered = absurd (at (subst (λ (f : Fault). 5 ≤ code_of f) device.0 numbered))
+  where
+    at : 5 ≤ code_of Device → ⊥
+    at le = omega arith
 
-  at_play : (answer : Result Effect Fault) → AnswersBy run.cluster.world after.cluster.world (effect_at run event) answer
-      → AnswersBy run.cluster.world after.cluster.world (effect_of (setting_of deck) play.world event) answer
-  at_play answer steps = subst (λ (wanted : Result Happening Fault). AnswersBy run.cluster.world after.cluster.world wanted answer) same_effect steps
+-- one setting for clusters of one configuration and program
+pub same_setting : {S P : Type 0} (next : S → Action → S) (answers : S → Action → List Answer) (start : P → S) (image : S → List ℕ) (options : RunOptions) (old new : Setup P)
+    → IsSameSetup old new → run_setting next answers start image new options ≡ run_setting next answers start image old options
+same_setting next answers start image options old new same =
+    ap (λ c. run_setting next answers start image (record { config = c; program = new.program; world = new.world }) options) same.config
+    ∙ ap (λ p. run_setting next answers start image (record { config = old.config; program = p; world = new.world }) options) same.program
 
-  pub event_happened : (effect : Effect) → AnswersBy run.cluster.world after.cluster.world (effect_at run event) (Ok effect)
-      → ((m : ℕ) → is_settled after.settled m ≡ (is_among (settled_by event) m || is_settled run.settled m))
-      → Appends old new (taken_text (names_of deck.tasks) effect.taken) → Came after old new (event_said (setting_of deck) line play event)
-  event_happened effect steps settled written =
-      subst (λ (said : Said). Came after old new said) (sym (event_is (setting_of deck) line play event))
-      (happened (setting_of deck) line play (settled_by event) (effect_of (setting_of deck) play.world event) run after effect old new follows (at_play (Ok effect) steps) settled written)
+pub same_trans : {P : Type 0} (a b c : Setup P) → IsSameSetup a b → IsSameSetup b c → IsSameSetup a c
+same_trans a b c first second = record { config = second.config ∙ first.config; program = second.program ∙ first.program }
 
-  pub event_was_refused : (fault : Fault) → AnswersBy run.cluster.world after.cluster.world (effect_at run event) (Err fault) → after.settled ≡ run.settled → 5 ≤ code_of fault
-      → Appends old new (with_line_feed (refused_line_of line fault)) → Came after old new (event_said (setting_of deck) line play event)
-  event_was_refused fault steps same numbered written =
-      subst (λ (said : Said). Came after old new said) (sym (event_is (setting_of deck) line play event))
-      (was_refused (setting_of deck) line play (settled_by event) (effect_of (setting_of deck) play.world event) run after fault old new follows (at_play (Err fault) steps) same numbered written)
-
--- the opening cluster of a deck
-abbrev pub opening_of : Deck → Setup ℕ
-opening_of deck = record { config = deck.config; program = deck.program; world = opening_world deck.config.nodes }
-
-pub opens_of : (deck : Deck) (run : Run) → run.cluster ≡ opening_of deck → IsRunOf deck run
-opens_of deck run same = record {
-  config = ap (λ (k : Setup ℕ). k.config) same;
-  program = ap (λ (k : Setup ℕ). k.program) same;
-  nodes = ap (λ (k : Setup ℕ). length k.world.nodes) same ∙ length-replicate deck.config.nodes fresh_node;
-  tasks = ap (λ (k : Setup ℕ). length k.world.tasks) same ∙ length-replicate 8 fresh_task;
+pub opening_parts : {P : Type 0} (nodes : ℕ) (cluster : Setup P) → cluster.config.nodes ≡ nodes → cluster.world ≡ opening_world nodes → HasParts nodes cluster
+opening_parts nodes cluster config opened = record {
+  config = config;
+  nodes_there = ap (λ (w : World). length w.nodes) opened ∙ length-replicate nodes fresh_node;
+  tasks = ap (λ (w : World). length w.tasks) opened ∙ length-replicate 8 fresh_task;
 }
-
-pub opens_at : (deck : Deck) (run : Run) → run.cluster ≡ opening_of deck → ((m : ℕ) → is_settled run.settled m ≡ false) → Follows run (opening_play (setting_of deck))
-opens_at deck run same none = record { world = ap (λ (k : Setup ℕ). k.world) same; settled = none }

@@ -3,10 +3,10 @@ use Rattle.std.specs.Prelude.{◌⊎◌}
 use Rattle.rp_base.specs.declared.fault.Fault.{Fault}
 use Rattle.rp_base.specs.declared.fault.Fault.TheVariants.{OutOfMemory, Device, Failed, BadPacket, NotRunning, BallotsSpent, LogFull, NoSuchMessage, TaskBusy, NumbersSpent, BadDeck, BadConfig, Io}
 
--- a fault that ends a run: memory ran out, or a write failed
+-- a fault that ends a run: memory ran out, a device failed, or a write did
 abbrev pub IsRunFault : Fault → Type 0
 IsRunFault OutOfMemory = Unit {0}
-IsRunFault Device = ⊥
+IsRunFault Device = Unit {0}
 IsRunFault Failed = ⊥
 IsRunFault (BadPacket reason) = ⊥
 IsRunFault NotRunning = ⊥

@@ -11,4 +11,6 @@ pub mod Script
 pub mod Settled
 pub mod Status
 pub mod Stream
+pub mod Telling
+pub mod Trace
 pub mod Words

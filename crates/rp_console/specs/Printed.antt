@@ -25,6 +25,19 @@ abbrev pub refused_line_of : ℕ → Fault → List ℕ
 refused_line_of line fault =
     codes "line " ++ (decimal line ++ (codes ": refused " ++ (decimal (code_of fault) ++ (codes " " ++ name_of fault))))
 
+-- a stopped node runs again: how many records it found, and how many bytes it cut
+abbrev pub opened_line_of : ℕ → ℕ → ℕ → List ℕ
+opened_line_of node records bytes =
+    codes "node " ++ (decimal node ++ (codes " open records " ++ (decimal records ++ (codes " cut " ++ decimal bytes))))
+
+-- a node that is to start again runs
+abbrev pub running_line_of : ℕ → List ℕ
+running_line_of node = codes "node " ++ (decimal node ++ codes " already running")
+
+-- a node has no place for one more pending item
+abbrev pub full_line_of : ℕ → List ℕ
+full_line_of node = codes "node " ++ (decimal node ++ codes " pending full")
+
 -- how many actions a node has applied
 abbrev pub applied_line_of : ℕ → ℕ → List ℕ
 applied_line_of node applied = codes "node " ++ (decimal node ++ (codes " applied " ++ decimal applied))

@@ -1,40 +1,44 @@
--- How a run in memory stands to its deck and to a play.
-use Rattle.std.specs.Prelude.{◌≡◌, ◌≤◌, ◌<◌, ◌^◌, ℕ, Option, List, length}
+-- How a run in memory stands to a play, and what it writes.
+use Rattle.std.specs.Prelude.{◌≡◌, ℕ, Option, Result, Ok, Err, List, length}
 use Rattle.std.specs.Io.KnownBytes.{Appends}
-use Rattle.indexmap.specs.IndexMap.{index_map_len}
-use Rattle.rp_base.specs.Action.{IsRightOperation}
-use Rattle.rp_model.specs.declared.event.Event.{Event}
-use Rattle.rp_model.specs.declared.event.Event.TheVariants.{Submit, Node as NodeStep}
-use Rattle.rp_model.specs.declared.event.Step.TheVariants.{Deliver, Lead}
-use Rattle.rp_console.specs.Output.{Play, Said, is_among}
+use Rattle.rp_base.specs.declared.action.Action.{Action}
+use Rattle.rp_base.specs.declared.config.Config.{Config}
+use Rattle.rp_base.specs.declared.fault.Fault.{Fault}
+use Rattle.rp_base.specs.declared.reply.Answer.{Answer}
+use Rattle.rp_model.specs.World.{World, opening_world}
+use Rattle.rp_world.specs.Steps.{Setup, setting_of}
+use Rattle.rp_console.specs.Output.{RunSetting, Play, Said, names_of, is_among}
 use Rattle.rp_console.specs.Settled.{is_settled}
-use Rattle.rp_console.specs.declared.deck.Deck.{Deck}
-use Rattle.rp_console.specs.declared.run.Run.{Run}
+use Rattle.rp_console.specs.Stream.{Begins}
+use Rattle.rp_console.specs.declared.options.RunOptions.{RunOptions}
+use Rattle.rp_console.specs.declared.settled.Settled.{Settled}
 
--- the run is one of the deck: its cluster has the deck's configuration and program, and eight tasks
-pub record IsRunOf (deck : Deck) (run : Run) : Type 0 where
-  pub config : run.cluster.config ≡ deck.config
-  pub program : run.cluster.program ≡ deck.program
-  pub nodes : length run.cluster.world.nodes ≡ deck.config.nodes
-  pub tasks : length run.cluster.world.tasks ≡ 8
+-- what stays through a run of a cluster
+abbrev pub run_setting : {S P : Type 0} → (S → Action → S) → (S → Action → List Answer) → (P → S) → (S → List ℕ) → Setup P → RunOptions → RunSetting S
+run_setting next answers start image cluster options = record {
+  setting = setting_of next answers start cluster;
+  image = image;
+  names = names_of options.tasks.now;
+  traced = options.traced;
+}
 
--- the run stands where the play does
-pub record Follows (run : Run) (play : Play) : Type 0 where
-  pub world : run.cluster.world ≡ play.world
-  pub settled : (m : ℕ) → is_settled run.settled m ≡ is_among play.settled m
+-- a cluster that opens
+abbrev pub opening_setup : {P : Type 0} → Config → P → Setup P
+opening_setup config program = record { config = config; program = program; world = opening_world config.nodes }
 
--- the run has come to the play that is said, and what it wrote is the text
-pub record Came (run : Run) (old new : Option (List ℕ)) (said : Said) : Type 0 where
-  pub follows : Follows run said.play
-  pub written : Appends old new said.text
+-- the cluster has so many nodes, and eight tasks
+pub record HasParts {P : Type 0} (nodes : ℕ) (cluster : Setup P) : Type 0 where
+  pub config : cluster.config.nodes ≡ nodes
+  pub nodes_there : length cluster.world.nodes ≡ nodes
+  pub tasks : length cluster.world.tasks ≡ 8
 
--- an event names nodes, tasks and objects of so many
-abbrev pub IsEventWithin : ℕ → ℕ → ℕ → Event → Type 0
-IsEventWithin nodes tasks objects (Submit task node object operation arg) =
-    (1 ≤ task) × (task ≤ tasks) × (1 ≤ node) × (node ≤ nodes) × (1 ≤ object) × (object ≤ objects) × IsRightOperation operation
-IsEventWithin nodes tasks objects (NodeStep (Deliver message)) = (1 ≤ message) × (message < 2 ^ 63)
-IsEventWithin nodes tasks objects (NodeStep (Lead node position)) = (1 ≤ node) × (node ≤ nodes)
+-- a world and what is settled of it stand where the play does
+pub record Follows (world : World) (settled : Settled) (play : Play) : Type 0 where
+  pub world_is : world ≡ play.world
+  pub settled_are : (m : ℕ) → is_settled settled m ≡ is_among play.settled m
 
--- an event names what the deck declares
-abbrev pub IsEventOf : Deck → Event → Type 0
-IsEventOf deck event = IsEventWithin deck.config.nodes (index_map_len deck.tasks) (index_map_len deck.objects) event
+-- The run has come to the play that is said, and what it wrote is the text; or it wrote a beginning of the
+-- text where something failed.
+abbrev pub Says : World → Settled → Option (List ℕ) → Option (List ℕ) → Said → Result Unit Fault → Type 0
+Says world settled old new said (Ok done) = Follows world settled said.play × Appends old new said.text
+Says world settled old new said (Err fault) = Begins old new said.text

@@ -7,18 +7,29 @@
 //! - `words`: the lines of a deck and their words
 //! - `declarations`: reads the declarations of a deck
 //! - `script`: reads the script of a deck
+//! - `calls`: reads the lines of a script by which tasks call
+//! - `operands`: reads the words of a script's line that name nodes, tasks and positions
 //! - `deck`: what a deck declares and asks for
-//! - `run`: runs the script of a deck
+//! - `deck_run`: runs the script of a deck
+//! - `options`: how a script is run
+//! - `run`: runs the lines of a script, at any machine and over any devices
+//! - `effects`: prints what an event came to
 //! - `settled`: which messages of a run are settled
 //! - `printed`: the lines that a run prints
+//! - `trace`: the line that a trace tells of a packet
 //! - `stream`: reads a deck whole, and writes what a run prints
 //! - `status`: what the program says of a fault, and the status that it ends with
 #![tactic(auto)]
 
 mod args;
+mod calls;
 mod deck;
+mod deck_run;
 mod declarations;
+mod effects;
 mod lines;
+mod operands;
+mod options;
 mod printed;
 mod reading;
 mod run;
@@ -26,12 +37,13 @@ mod script;
 mod settled;
 mod status;
 mod stream;
+mod trace;
 mod words;
 
 use args::{Args, read_args, words_status};
 use clap::error::ErrorKind;
+use deck_run::run_script;
 use rp_base::Fault;
-use run::run_script;
 use status::{status, tell};
 use std::env;
 use std::process::ExitCode;
@@ -57,7 +69,7 @@ fn given_words(rt: &HostRuntime) -> Result<Vec<String>, Fault> {
 /// Does what the words ask for, or tells why they are wrong.
 fn obey(rt: &HostRuntime, words: &[String]) -> u8 {
     match read_args(rt.alloc(), words) {
-        Ok(Args::Script) => match run_script(rt.alloc(), &mut rt.stdin(), &mut rt.stdout()) {
+        Ok(Args::Script) => match run_script(rt.alloc(), &mut rt.stdin(), false, &mut rt.stdout()) {
             Ok(()) => 0,
             Err(fault) => fail(rt, fault),
         },

@@ -1,7 +1,7 @@
 //! The lines that a run prints. The caller ends each by a line feed.
 
 ghost use Rattle.std.specs.Prelude.{Some};
-ghost use Rattle.rp_console.specs.Printed.{reply_text_of, reply_line_of, refused_line_of, applied_line_of, stopped_line_of, limit_line_of};
+ghost use Rattle.rp_console.specs.Printed.{reply_text_of, reply_line_of, refused_line_of, opened_line_of, running_line_of, full_line_of, applied_line_of, stopped_line_of, limit_line_of};
 
 use rp_base::{Fault, NodeId, Reply};
 use std::fmt;
@@ -61,6 +61,57 @@ impl fmt::Display for RefusedLine {
         let code = self.fault.code();
         let name = self.fault.name();
         write!(f, "line {line}: refused {code} {name}")
+    }
+}
+
+/// A stopped node runs again: `node 2 open records 3 cut 5`.
+#[derive(Clone, Copy, Debug, PartialEq, Eq)]
+pub struct OpenedLine {
+    pub node: NodeId,
+    /// How many records it found.
+    pub records: u64,
+    /// How many bytes behind them it cut.
+    pub bytes: u64,
+}
+
+impl fmt::Display for OpenedLine {
+    ghost output = { λ l. Some (opened_line_of l.node l.records l.bytes) };
+
+    fn fmt<W: fmt::Write>(&self, f: &mut fmt::Formatter<W>) -> fmt::Result {
+        let node = self.node.get();
+        let records = self.records;
+        let bytes = self.bytes;
+        write!(f, "node {node} open records {records} cut {bytes}")
+    }
+}
+
+/// A node that is to start again runs: `node 2 already running`.
+#[derive(Clone, Copy, Debug, PartialEq, Eq)]
+pub struct RunningLine {
+    pub node: NodeId,
+}
+
+impl fmt::Display for RunningLine {
+    ghost output = { λ l. Some (running_line_of l.node) };
+
+    fn fmt<W: fmt::Write>(&self, f: &mut fmt::Formatter<W>) -> fmt::Result {
+        let node = self.node.get();
+        write!(f, "node {node} already running")
+    }
+}
+
+/// A node has no place for one more pending item: `node 2 pending full`.
+#[derive(Clone, Copy, Debug, PartialEq, Eq)]
+pub struct FullLine {
+    pub node: NodeId,
+}
+
+impl fmt::Display for FullLine {
+    ghost output = { λ l. Some (full_line_of l.node) };
+
+    fn fmt<W: fmt::Write>(&self, f: &mut fmt::Formatter<W>) -> fmt::Result {
+        let node = self.node.get();
+        write!(f, "node {node} pending full")
     }
 }
 

@@ -1,136 +1,92 @@
-//! Runs the script of a deck.
+//! Runs the lines of a script, at any machine and over any devices.
 
-ghost use Rattle.std.specs.Prelude.{◌≡◌, ◌≤◌, OnOk, IfErr};
-ghost use Rattle.std.specs.Io.KnownBytes.{Appends};
-ghost use Rattle.indexmap.specs.IndexMap.{index_map_len};
+ghost use Rattle.std.specs.Prelude.{◌≡◌, ◌≤◌, ◌<◌, ◌^◌, [], length, All, IfErr, OnOk};
 ghost use Rattle.rp_model.specs.World.{part_at};
-ghost use Rattle.rp_console.specs.Deck.{IsRightDeck};
-ghost use Rattle.rp_console.specs.Script.{FitsIn};
-ghost use Rattle.rp_console.specs.Output.{Play, names_of, setting_of, answer_text, taken_text, event_said, drained, part_text, nodes_text, command_said, output_of};
-ghost use Rattle.rp_console.specs.Runs.{IsRunOf, Follows, Came, IsEventOf};
-ghost use Rattle.rp_console.specs.Faults.{IsRunFault, IsScriptFault, IsBadDeck};
-ghost use Rattle.rp_console.specs.declared.deck.Deck.{Deck};
+ghost use Rattle.rp_world.specs.Steps.{IsSameSetup};
+ghost use Rattle.rp_console.specs.Script.{FitsIn, IsEventWithin};
+ghost use Rattle.rp_console.specs.Output.{Play, event_said, lost, drained, part_text, nodes_text, command_said, run_said};
+ghost use Rattle.rp_console.specs.Runs.{run_setting, opening_setup, HasParts, Follows, Says};
+ghost use Rattle.rp_console.specs.Stream.{Writes};
+ghost use Rattle.rp_console.specs.Faults.{IsRunFault};
 
-use crate::deck::{Command, Deck, Line};
-use crate::printed::{AppliedLine, DrainLimitLine, RefusedLine, ReplyLine, StoppedLine};
-use crate::reading::read_deck;
+use crate::deck::{Command, Line};
+use crate::effects::tell_effect;
+use crate::options::RunOptions;
+use crate::printed::{AppliedLine, DrainLimitLine, RefusedLine, StoppedLine};
 use crate::settled::Settled;
 use crate::status::is_refusal;
-use crate::stream::{print, read_whole, write_whole};
-use rp_base::{Answer, Fault, NodeId};
-use rp_machine::Tally;
-use rp_world::{Cluster, Effect, Event, Step};
+use crate::stream::{print, write_whole};
+use rp_base::{Fault, NodeId};
+use rp_machine::Machine;
+use rp_model::{Event, Step, worlds_grow};
+use rp_store::CutDevice;
+use rp_world::Cluster;
 use std::alloc::Global;
-use std::io::{Read, Write};
+use std::io::Write;
 
-/// The most messages that one `drain` delivers.
-const DRAIN_LIMIT: u32 = 100_000;
-
-/// Reads a deck and runs its script. Nothing runs where the deck is bad.
-pub fn run_script<R: Read, W: Write>(
+/// Runs the lines of a script over a cluster of new devices, and writes what they print. A fault ends the
+/// run where it comes, and then a beginning of that is written: `OutOfMemory`, `Device`, or `Io` where
+/// the writer fails.
+pub fn run_lines<M: Machine, D: CutDevice, W: Write>(
     alloc: Global,
-    reader: &mut R,
+    options: &RunOptions<'_>,
+    program: M::Program,
+    devices: Vec<D>,
+    lines: &[Line],
     writer: &mut W,
 ) -> Result<(), Fault>
-    ensures output { OnOk result ((deck : Deck) × IsRightDeck deck
-        × Appends (W.contents writer.old) (W.contents writer.new) (output_of DRAIN_LIMIT deck)) }
-    ensures bad { IfErr result (λ fault. IsBadDeck fault
-        → W.contents writer.new ≡ W.contents writer.old) }
-    ensures fault { IfErr result IsScriptFault }
-{
-    let text = read_whole(alloc, reader)?;
-    let deck = read_deck(alloc, &text)?;
-    run_deck(alloc, &deck, writer)
-}
-
-/// Runs the script of a deck, and writes what it prints. A fault ends the run where it comes:
-/// `OutOfMemory`, or `Io` where the writer fails. What was written before it stands.
-pub fn run_deck<W: Write>(alloc: Global, deck: &Deck, writer: &mut W) -> Result<(), Fault>
-    requires { IsRightDeck deck.now }
-    ensures output { OnOk result (Appends (W.contents writer.old) (W.contents writer.new)
-        (output_of DRAIN_LIMIT deck.now)) }
-    ensures fault { IfErr result IsRunFault }
-{
-    run_within(alloc, deck, DRAIN_LIMIT, writer)
-}
-
-/// Runs a deck, with a limit on the messages of one `drain`.
-pub fn run_within<W: Write>(
-    alloc: Global,
-    deck: &Deck,
-    most: u32,
-    writer: &mut W,
-) -> Result<(), Fault>
-    requires { IsRightDeck deck.now }
-    ensures output { OnOk result (Appends (W.contents writer.old) (W.contents writer.new)
-        (output_of most deck.now)) }
+    requires devices { length devices.items ≡ options.now.config.nodes }
+    requires empty { All (λ d. (D.disk d).contents ≡ []) devices.items }
+    requires lines { All (λ line. FitsIn options.now.config.nodes 8 8 line.command) lines.now }
+    ensures output { Writes (W.contents writer.old) (W.contents writer.new)
+        (run_said (run_setting M.next M.answers M.begin M.image
+        (opening_setup options.now.config program) options.now)
+        options.now.most lines.now).text result }
     ensures fault { IfErr result IsRunFault }
 {
     let mut run = Run {
-        cluster: Cluster::new(alloc, deck.config, deck.program)?,
+        cluster: Cluster::<M, D>::new(alloc, options.config, program, devices)?,
         settled: Settled::new(alloc),
     };
-    for line in &deck.script {
-        run.take(alloc, deck, most, line, writer)?;
+    for line in lines {
+        run.take(alloc, options, line, writer)?;
     }
     Ok(())
 }
 
 /// A run of a script.
 #[derive(Drop)]
-struct Run {
-    cluster: Cluster<Tally>,
+struct Run<M: Machine, D: CutDevice> {
+    cluster: Cluster<M, D>,
     settled: Settled,
 }
 
-impl Run {
-    /// Does what a line asks for. A `drain` delivers at most so many messages.
+impl<M: Machine, D: CutDevice> Run<M, D> {
+    /// Does what a line asks for.
     fn take<W: Write>(
         &mut self,
         alloc: Global,
-        deck: &Deck,
-        most: u32,
+        options: &RunOptions<'_>,
         line: &Line,
         writer: &mut W,
     ) -> Result<(), Fault>
-        requires right { IsRightDeck deck.now }
-        requires run { IsRunOf deck.now self.old }
-        requires line { FitsIn deck.now.config.nodes (index_map_len deck.now.tasks)
-            (index_map_len deck.now.objects) line.now.command }
-        ensures run { IsRunOf deck.now self.new }
-        ensures said { OnOk result ((play : Play) → Follows self.old play
-            → Came self.new (W.contents writer.old) (W.contents writer.new)
-            (command_said (setting_of deck.now) most line.now.number play line.now.command)) }
+        requires parts { HasParts options.now.config.nodes self.old.cluster }
+        requires line { FitsIn options.now.config.nodes 8 8 line.now.command }
+        ensures parts { OnOk result (HasParts options.now.config.nodes self.new.cluster) }
+        ensures setup { IsSameSetup self.old.cluster self.new.cluster }
+        ensures said { (play : Play) → Follows self.old.cluster.world self.old.settled play
+            → Says self.new.cluster.world self.new.settled
+            (W.contents writer.old) (W.contents writer.new)
+            (command_said (run_setting M.next M.answers M.begin M.image self.old.cluster options.now)
+            options.now.most line.now.number play line.now.command) result }
         ensures fault { IfErr result IsRunFault }
     {
         let number = line.number;
         match line.command {
-            Command::Call {
-                task,
-                node,
-                object,
-                operation,
-                arg,
-            } => {
-                let event = Event::Submit {
-                    task,
-                    node,
-                    object,
-                    operation,
-                    arg,
-                };
-                self.step(alloc, deck, number, &event, writer)
-            }
-            Command::Lead { node, position } => {
-                let event = Event::Node(Step::Lead { node, position });
-                self.step(alloc, deck, number, &event, writer)
-            }
-            Command::Deliver { message } => {
-                let event = Event::Node(Step::Deliver(message));
-                self.step(alloc, deck, number, &event, writer)
-            }
-            Command::Drain => self.drain(alloc, deck, most, number, writer),
-            Command::Show => self.show(alloc, deck, writer),
+            Command::Take(event) => self.step(alloc, options, number, &event, writer),
+            Command::Lose { first, last } => self.lose(alloc, number, first, last, writer),
+            Command::Drain => self.drain(alloc, options, number, writer),
+            Command::Show => self.show(alloc, options, writer),
         }
     }
 
@@ -138,72 +94,106 @@ impl Run {
     fn step<W: Write>(
         &mut self,
         alloc: Global,
-        deck: &Deck,
+        options: &RunOptions<'_>,
         line: u32,
         event: &Event,
         writer: &mut W,
     ) -> Result<(), Fault>
-        requires right { IsRightDeck deck.now }
-        requires run { IsRunOf deck.now self.old }
-        requires event { IsEventOf deck.now event.now }
-        ensures run { IsRunOf deck.now self.new }
-        ensures said { OnOk result ((play : Play) → Follows self.old play
-            → Came self.new (W.contents writer.old) (W.contents writer.new)
-            (event_said (setting_of deck.now) line play event.now)) }
+        requires parts { HasParts options.now.config.nodes self.old.cluster }
+        requires event { IsEventWithin options.now.config.nodes 8 8 event.now }
+        ensures parts { OnOk result (HasParts options.now.config.nodes self.new.cluster) }
+        ensures setup { IsSameSetup self.old.cluster self.new.cluster }
+        ensures said { (play : Play) → Follows self.old.cluster.world self.old.settled play
+            → Says self.new.cluster.world self.new.settled
+            (W.contents writer.old) (W.contents writer.new)
+            (event_said (run_setting M.next M.answers M.begin M.image self.old.cluster options.now)
+            line play event.now) result }
         ensures fault { IfErr result IsRunFault }
     {
+        worlds_grow::<M>();
         match self.cluster.step(alloc, event) {
             Ok(effect) => {
                 self.settled.settle_by(event)?;
-                tell_effect(alloc, deck, &effect, writer)
+                tell_effect(alloc, &self.cluster, options, event, &effect, writer)
             }
             Err(fault) if is_refusal(&fault) => print(alloc, writer, RefusedLine { line, fault }),
             Err(fault) => Err(fault),
         }
     }
 
+    /// The messages from the first to the last count as settled, where all of them were sent.
+    fn lose<W: Write>(
+        &mut self,
+        alloc: Global,
+        line: u32,
+        first: u64,
+        last: u64,
+        writer: &mut W,
+    ) -> Result<(), Fault>
+        requires first { 1 ≤ first }
+        requires last { last < 2 ^ 63 }
+        ensures cluster { self.new.cluster ≡ self.old.cluster }
+        ensures said { (play : Play) → Follows self.old.cluster.world self.old.settled play
+            → Says self.new.cluster.world self.new.settled
+            (W.contents writer.old) (W.contents writer.new) (lost line play first last) result }
+        ensures fault { IfErr result IsRunFault }
+    {
+        let sent = self.cluster.messages();
+        if first > sent || last > sent {
+            let fault = Fault::NoSuchMessage;
+            return print(alloc, writer, RefusedLine { line, fault });
+        }
+        Ok(self.settled.settle_all(first, last)?)
+    }
+
     /// Delivers the least message that is not settled, until none is left or so many were delivered.
     fn drain<W: Write>(
         &mut self,
         alloc: Global,
-        deck: &Deck,
-        most: u32,
+        options: &RunOptions<'_>,
         line: u32,
         writer: &mut W,
     ) -> Result<(), Fault>
-        requires right { IsRightDeck deck.now }
-        requires run { IsRunOf deck.now self.old }
-        ensures run { IsRunOf deck.now self.new }
-        ensures said { OnOk result ((play : Play) → Follows self.old play
-            → Came self.new (W.contents writer.old) (W.contents writer.new)
-            (drained (setting_of deck.now) line most play)) }
+        requires parts { HasParts options.now.config.nodes self.old.cluster }
+        ensures parts { OnOk result (HasParts options.now.config.nodes self.new.cluster) }
+        ensures setup { IsSameSetup self.old.cluster self.new.cluster }
+        ensures said { (play : Play) → Follows self.old.cluster.world self.old.settled play
+            → Says self.new.cluster.world self.new.settled
+            (W.contents writer.old) (W.contents writer.new)
+            (drained (run_setting M.next M.answers M.begin M.image self.old.cluster options.now)
+            line options.now.most play) result }
         ensures fault { IfErr result IsRunFault }
     {
-        for delivered in 0..most {
+        for delivered in 0..options.most {
             let message = self.settled.least();
             if message > self.cluster.messages() {
                 return Ok(());
             }
             let event = Event::Node(Step::Deliver(message));
-            self.step(alloc, deck, line, &event, writer)?;
+            self.step(alloc, options, line, &event, writer)?;
         }
-        if self.settled.least() <= self.cluster.messages() {
-            print(alloc, writer, DrainLimitLine { line })?;
+        if self.settled.least() > self.cluster.messages() {
+            return Ok(());
         }
-        Ok(())
+        print(alloc, writer, DrainLimitLine { line })
     }
 
     /// Prints every node's state.
-    fn show<W: Write>(&self, alloc: Global, deck: &Deck, writer: &mut W) -> Result<(), Fault>
-        requires right { IsRightDeck deck.now }
-        requires run { IsRunOf deck.now self.now }
-        ensures shown { OnOk result (Appends (W.contents writer.old) (W.contents writer.new)
-            (nodes_text (setting_of deck.now) self.now.cluster.world deck.now.config.nodes)) }
+    fn show<W: Write>(
+        &self,
+        alloc: Global,
+        options: &RunOptions<'_>,
+        writer: &mut W,
+    ) -> Result<(), Fault>
+        requires { HasParts options.now.config.nodes self.now.cluster }
+        ensures shown { Writes (W.contents writer.old) (W.contents writer.new)
+            (nodes_text (run_setting M.next M.answers M.begin M.image self.now.cluster options.now)
+            self.now.cluster.world options.now.config.nodes) result }
         ensures fault { IfErr result IsRunFault }
     {
-        for place in 0..deck.config.nodes {
+        for place in 0..options.config.nodes {
             let node = NodeId::new(place + 1).unwrap();
-            self.show_node(alloc, deck, node, writer)?;
+            self.show_node(alloc, options, node, writer)?;
         }
         Ok(())
     }
@@ -212,14 +202,15 @@ impl Run {
     fn show_node<W: Write>(
         &self,
         alloc: Global,
-        deck: &Deck,
+        options: &RunOptions<'_>,
         node: NodeId,
         writer: &mut W,
     ) -> Result<(), Fault>
-        requires run { IsRunOf deck.now self.now }
-        requires node { node ≤ deck.now.config.nodes }
-        ensures shown { OnOk result (Appends (W.contents writer.old) (W.contents writer.new)
-            (part_text (setting_of deck.now) node (part_at self.now.cluster.world.nodes node))) }
+        requires parts { HasParts options.now.config.nodes self.now.cluster }
+        requires node { node ≤ options.now.config.nodes }
+        ensures shown { Writes (W.contents writer.old) (W.contents writer.new)
+            (part_text (run_setting M.next M.answers M.begin M.image self.now.cluster options.now)
+            node (part_at self.now.cluster.world.nodes node)) result }
         ensures fault { IfErr result IsRunFault }
     {
         match self.cluster.applied(node) {
@@ -228,51 +219,7 @@ impl Run {
                 let image = self.cluster.image(alloc, node)?;
                 write_whole(writer, &image)
             }
-            Err(Fault::NotRunning) => print(alloc, writer, StoppedLine { node }),
-            Err(fault) => Err(fault),
+            Err(_) => print(alloc, writer, StoppedLine { node }),
         }
-    }
-}
-
-/// Prints what a step did: the reply that a task takes. (Nothing is dropped for want of a pending
-/// place yet: at most eight calls are outstanding.)
-fn tell_effect<W: Write>(
-    alloc: Global,
-    deck: &Deck,
-    effect: &Effect,
-    writer: &mut W,
-) -> Result<(), Fault>
-    ensures told { OnOk result (Appends (W.contents writer.old) (W.contents writer.new)
-        (taken_text (names_of deck.now.tasks) effect.now.taken)) }
-    ensures fault { IfErr result IsRunFault }
-{
-    match effect.taken {
-        Some(answer) => tell_reply(alloc, deck, answer, writer),
-        None => Ok(()),
-    }
-}
-
-/// Prints a reply under the name of its task.
-fn tell_reply<W: Write>(
-    alloc: Global,
-    deck: &Deck,
-    answer: Answer,
-    writer: &mut W,
-) -> Result<(), Fault>
-    ensures told { OnOk result (Appends (W.contents writer.old) (W.contents writer.new)
-        (answer_text answer (part_at (names_of deck.now.tasks) answer.task))) }
-    ensures fault { IfErr result IsRunFault }
-{
-    let index = usize::from(answer.task.get()) - 1;
-    match deck.tasks.get_index(index) {
-        Some((name, _)) => {
-            let line = ReplyLine {
-                task: name.as_str(),
-                number: answer.number,
-                reply: answer.reply,
-            };
-            print(alloc, writer, line)
-        }
-        None => Ok(()),
     }
 }

@@ -4,11 +4,11 @@ ghost use Rattle.std.specs.Prelude.{◌≡◌, ℕ, ◌+◌, ◌-◌, ◌^◌, �
 ghost use Rattle.std.specs.Ordering.{nat_cmp};
 ghost use Rattle.std.specs.BTreeSet.{contains};
 
-use rp_world::{Event, Step};
+use rp_model::{Event, Step};
 use std::alloc::{AllocError, Global};
 use std::collections::BTreeSet;
 
-/// The messages that were delivered, by their numbers from 1.
+/// The messages that were delivered, cut at or lost, by their numbers from 1.
 #[derive(Drop)]
 pub struct Settled {
     /// Not settled, and all from 1 to the one before it are.
@@ -22,7 +22,7 @@ pub struct Settled {
 impl Settled {
     ghost use Rattle.std.specs.Prelude.{All};
     ghost use Rattle.rp_console.specs.Settled.{is_settled, least_of};
-    ghost use Rattle.rp_console.specs.Output.{is_among, settled_by};
+    ghost use Rattle.rp_console.specs.Output.{is_among, from_to, delivered_by, settled_by};
 
     /// No message is settled.
     pub fn new(alloc: Global) -> Self
@@ -59,6 +59,19 @@ impl Settled {
         Ok(())
     }
 
+    /// The messages from the first to the last are settled from now on.
+    pub fn settle_all(&mut self, first: u64, last: u64) -> Result<(), AllocError>
+        requires from_one { 1 ≤ first }
+        requires not_last { last + 1 < 2 ^ 64 }
+        ensures { OnOk result ((m : ℕ) → is_settled self.new m
+            ≡ (is_among (from_to first last) m || is_settled self.old m)) }
+    {
+        for message in first..last + 1 {
+            self.settle(message)?;
+        }
+        Ok(())
+    }
+
     /// The messages that an event settles are settled from now on.
     pub fn settle_by(&mut self, event: &Event) -> Result<(), AllocError>
         requires { All (λ m. (1 ≤ m) × (m < 2 ^ 63)) (settled_by event.now) }
@@ -67,8 +80,23 @@ impl Settled {
             ≡ (is_among (settled_by event.now) m || is_settled self.old m)) }
     {
         match *event {
-            Event::Node(Step::Deliver(message)) => self.settle(message),
-            Event::Submit { .. } | Event::Node(Step::Lead { .. }) => Ok(()),
+            Event::Node(step) | Event::Cut { step, .. } => self.settle_step(step),
+            Event::Submit { .. } | Event::Again { .. } | Event::Stop(_) | Event::Restart(_) => {
+                Ok(())
+            }
+        }
+    }
+
+    /// The same of a step, whole or cut.
+    fn settle_step(&mut self, step: Step) -> Result<(), AllocError>
+        requires { All (λ m. (1 ≤ m) × (m < 2 ^ 63)) (delivered_by step) }
+        ensures { OnOk result ((m : ℕ)
+            → is_settled self.new m ≡ (is_among (delivered_by step) m || is_settled self.old m)) }
+    {
+        match step {
+            Step::Deliver(message) => self.settle(message),
+            Step::Lead { .. } | Step::Interrupt { .. } | Step::Tick { .. } | Step::Report { .. } =>
+                { Ok(()) }
         }
     }
 

@@ -2,7 +2,7 @@
 
 ghost use Rattle.std.specs.Prelude.{◌≡◌, ◌≤◌, ◌++◌, [], ◌∷◌, length, Some, IfSome, IfOk, IfErr, OnOk};
 ghost use Rattle.std.specs.Io.KnownBytes.{Appends};
-ghost use Rattle.rp_console.specs.Stream.{IsReadFault, IsWriteFault};
+ghost use Rattle.rp_console.specs.Stream.{IsReadFault, IsWriteFault, Writes};
 
 use rp_base::Fault;
 use std::alloc::Global;
@@ -43,17 +43,17 @@ pub fn read_whole<R: Read>(alloc: Global, reader: &mut R) -> Result<Vec<u8>, Fau
     Err(Fault::Io)
 }
 
-/// Writes all bytes. `Io` where a write fails or takes nothing.
+/// Writes all bytes. `Io` where a write fails or takes nothing, and then a beginning of them stands.
 pub fn write_whole<W: Write>(writer: &mut W, bytes: &[u8]) -> Result<(), Fault>
-    ensures written { OnOk result (Appends (W.contents writer.old)
-        (W.contents writer.new) bytes.now) }
+    ensures written { Writes (W.contents writer.old) (W.contents writer.new) bytes.now result }
     ensures fault { IfErr result IsWriteFault }
 {
     let mut written = 0;
     while written < bytes.len() {
         match writer.write(&bytes[written..]) {
-            Ok(0) | Err(_) => return Err(Fault::Io),
+            Ok(0) => return Err(Fault::Io),
             Ok(count) => written += count,
+            Err(_) => return Err(Fault::Io),
         }
     }
     Ok(())
@@ -65,8 +65,8 @@ pub fn print<W: Write, D: Display + Drop>(
     writer: &mut W,
     line: D,
 ) -> Result<(), Fault>
-    ensures printed { OnOk result (IfSome (D.output line) (λ text.
-        Appends (W.contents writer.old) (W.contents writer.new) (text ++ 10 ∷ []))) }
+    ensures printed { IfSome (D.output line) (λ text.
+        Writes (W.contents writer.old) (W.contents writer.new) (text ++ 10 ∷ []) result) }
     ensures fault { IfErr result IsReadFault }
 {
     let text = format!(in alloc; "{line}\n")?;

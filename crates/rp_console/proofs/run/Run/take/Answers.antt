@@ -1,10 +1,11 @@
 -- The command is the one that was matched.
-use Rattle.std.proofs.Common.{w64}
-use Rattle.std.specs.Prelude.{FitsSigned}
-use Rattle.std.proofs.lemmas.Int.{to_z-of_z}
 use Rattle.rp_console.proofs.run.Run.take.Goals as goal
 
-pub returns-in-Call-clause-said : goal.returns-in-Call-clause-said
-returns-in-Call-clause-said g c =
-    let fits : FitsSigned w64 c.in-Call.arg = (rw c.in-Call.is at c.requires.line).7 in
-    rw (c.in-Call.is, ← to_z-of_z w64 c.in-Call.arg fits) c.step.ensures.said
+pub returns-in-Take-clause-said : goal.returns-in-Take-clause-said
+returns-in-Take-clause-said g c = rw c.in-Take.is c.step.ensures.said
+
+pub returns-in-Lose-clause-said : goal.returns-in-Lose-clause-said
+returns-in-Lose-clause-said g c = rw c.in-Lose.is c.lose.ensures.said
+
+pub returns-in-Drain-clause-said : goal.returns-in-Drain-clause-said
+returns-in-Drain-clause-said g c = rw c.in-Drain.is c.drain.ensures.said

@@ -1,0 +1,56 @@
+-- The line that a trace tells of a packet, without its end (this project's own).
+use Rattle.std.specs.Prelude.{ℕ, Option, Some, None, List, [], ◌++◌, codes, decimal}
+use Rattle.rp_base.specs.declared.action.Action.{Action}
+use Rattle.rp_base.specs.declared.action.Action.TheVariants as actions
+use Rattle.rp_codec.specs.Message.{Message}
+use Rattle.rp_codec.specs.declared.packet.Body.{Body}
+use Rattle.rp_codec.specs.declared.packet.Body.TheVariants.{Call, Prepare, Promise, Accept, Accepted, Decided, Ask, Nack, Reply, Report}
+use Rattle.rp_codec.specs.declared.packet.Party.{Party}
+use Rattle.rp_codec.specs.declared.packet.Party.TheVariants.{Node, Task, Audit}
+use Rattle.rp_model.specs.World.{part_at}
+
+abbrev pub or_nothing : Option (List ℕ) → List ℕ
+or_nothing None = []
+or_nothing (Some name) = name
+
+-- the name of the task of this number, from 1
+abbrev pub task_name : List (List ℕ) → ℕ → List ℕ
+task_name names task = or_nothing (part_at names task)
+
+-- a node's number, a task's name, or the audit
+abbrev pub party_text_of : List (List ℕ) → Party → List ℕ
+party_text_of names (Node node) = decimal node
+party_text_of names (Task task) = task_name names task
+party_text_of names Audit = codes "audit"
+
+-- the number of the call that an action is
+abbrev pub call_number : Action → ℕ
+call_number actions.Noop = 0
+call_number (actions.Call task number object operation arg) = number
+call_number (actions.Interrupt source occurrence) = 0
+call_number (actions.Tick now) = 0
+
+-- a position and a ballot
+abbrev pub ballot_text_of : ℕ → ℕ → List ℕ
+ballot_text_of position ballot = decimal position ++ (codes " " ++ decimal ballot)
+
+-- the kind of a packet, and what tells it from others of its kind
+abbrev pub body_text_of : Body → List ℕ
+body_text_of (Call action) = codes "call " ++ decimal (call_number action)
+body_text_of (Prepare position ballot) = codes "prepare " ++ ballot_text_of position ballot
+body_text_of (Promise position ballot last) = codes "promise " ++ ballot_text_of position ballot
+body_text_of (Accept position ballot action) = codes "accept " ++ ballot_text_of position ballot
+body_text_of (Accepted position ballot action) = codes "accepted " ++ ballot_text_of position ballot
+body_text_of (Decided position action) = codes "decided " ++ decimal position
+body_text_of (Ask position) = codes "ask " ++ decimal position
+body_text_of (Nack position ballot bound) = codes "nack " ++ ballot_text_of position ballot
+body_text_of (Reply number reply) = codes "reply " ++ decimal number
+body_text_of (Report first applied told) = codes "report " ++ decimal first
+
+-- the message of a number: who says what to whom
+abbrev pub trace_line_of : ℕ → List ℕ → List ℕ → Body → List ℕ
+trace_line_of number from to body =
+    codes "m" ++ (decimal number ++ (codes " " ++ (from ++ (codes ">" ++ (to ++ (codes " " ++ body_text_of body))))))
+
+abbrev pub message_line_of : List (List ℕ) → ℕ → Message → List ℕ
+message_line_of names number m = trace_line_of number (party_text_of names m.from) (party_text_of names m.to) m.body

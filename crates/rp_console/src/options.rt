@@ -1,0 +1,19 @@
+//! How a script is run.
+
+ghost use Rattle.rp_base.specs.Config.{IsRightConfig};
+
+use crate::deck::Task;
+use indexmap::IndexMap;
+use rp_base::Config;
+
+/// How a script is run.
+#[derive(Clone, Copy)]
+pub struct RunOptions<'a> {
+    pub config: Config,
+    pub tasks: &'a IndexMap<String, Task>,
+    /// Whether the packets are told.
+    pub traced: bool,
+    /// The most messages that one `drain` delivers.
+    pub most: u32,
+    ghost right: { IsRightConfig config },
+}

@@ -1,14 +1,9 @@
-pub mod CommandLine
 pub mod Deck
 pub mod Declarations
 pub mod Faults
 pub mod Left
 pub mod Lines
-pub mod Output
-pub mod Printed
-pub mod Runs
 pub mod Script
-pub mod Settled
 pub mod Status
 pub mod Stream
 pub mod Words

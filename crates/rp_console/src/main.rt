@@ -1,76 +1,33 @@
-//! The program: reads a deck on standard input, runs its script and prints.
-//!
-//! In reading order:
-//! - `args`: what the words of the command line ask for
-//! - `reading`: reads a deck
-//! - `lines`: the lines of a deck
-//! - `words`: the lines of a deck and their words
-//! - `declarations`: reads the declarations of a deck
-//! - `script`: reads the script of a deck
-//! - `deck`: what a deck declares and asks for
-//! - `run`: runs the script of a deck
-//! - `settled`: which messages of a run are settled
-//! - `printed`: the lines that a run prints
-//! - `stream`: reads a deck whole, and writes what a run prints
-//! - `status`: what the program says of a fault, and the status that it ends with
+//! Cut: reads a deck.
 #![tactic(auto)]
 
-mod args;
 mod deck;
 mod declarations;
 mod lines;
-mod printed;
 mod reading;
-mod run;
 mod script;
-mod settled;
 mod status;
 mod stream;
 mod words;
 
-use args::{Args, read_args, words_status};
-use clap::error::ErrorKind;
+use reading::read_deck;
 use rp_base::Fault;
-use run::run_script;
 use status::{status, tell};
-use std::env;
 use std::process::ExitCode;
+use stream::read_whole;
 
 fn main(rt: HostRuntime) -> ExitCode {
-    ExitCode::from(console(&rt))
-}
-
-/// Does what the words of the command line ask for. The status that the program ends with.
-fn console(rt: &HostRuntime) -> u8 {
-    match given_words(rt) {
-        Ok(words) => obey(rt, words.as_slice()),
-        Err(fault) => fail(rt, fault),
-    }
-}
-
-/// The words of the command line.
-fn given_words(rt: &HostRuntime) -> Result<Vec<String>, Fault> {
-    let words = env::args(rt).map_err(|_| Fault::Io)?;
-    Ok(words.collect(rt.alloc())?)
-}
-
-/// Does what the words ask for, or tells why they are wrong.
-fn obey(rt: &HostRuntime, words: &[String]) -> u8 {
-    match read_args(rt.alloc(), words) {
-        Ok(Args::Script) => match run_script(rt.alloc(), &mut rt.stdin(), &mut rt.stdout()) {
-            Ok(()) => 0,
-            Err(fault) => fail(rt, fault),
-        },
-        Err(error) if error.kind() == ErrorKind::OutOfMemory => fail(rt, Fault::OutOfMemory),
-        Err(error) => {
-            let _ = error.print(rt);
-            words_status(&error)
+    match read(&rt) {
+        Ok(()) => ExitCode::from(0),
+        Err(fault) => {
+            let _ = tell(&fault, &mut rt.stderr());
+            ExitCode::from(status(&fault))
         }
     }
 }
 
-/// Tells a fault on standard error. The status that it ends the program with.
-fn fail(rt: &HostRuntime, fault: Fault) -> u8 {
-    let _ = tell(&fault, &mut rt.stderr());
-    status(&fault)
+fn read(rt: &HostRuntime) -> Result<(), Fault> {
+    let bytes = read_whole(rt.alloc(), &mut rt.stdin())?;
+    read_deck(rt.alloc(), &bytes)?;
+    Ok(())
 }

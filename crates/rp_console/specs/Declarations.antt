@@ -2,22 +2,7 @@
 use Rattle.std.specs.Prelude.{ℕ, ◌≡◌, ◌≤◌, IfSome, String}
 use Rattle.std.specs.String.{string_eq}
 use Rattle.indexmap.specs.IndexMap.{IndexMap, index_map_len, IsUnique}
-use Rattle.rp_base.specs.declared.fault.Fault.{Fault}
-use Rattle.rp_base.specs.declared.fault.Fault.TheVariants as fault
-use Rattle.rp_console.specs.declared.declarations.LineError.{LineError}
-use Rattle.rp_console.specs.declared.declarations.LineError.TheVariants.{OutOfMemory, Bad}
 use Rattle.rp_console.specs.declared.declarations.Declared.{Declared}
-
--- the fault of a line that was not read
-abbrev pub fault_at : ℕ → LineError → Fault
-fault_at line OutOfMemory = fault.OutOfMemory
-fault_at line (Bad reason) = fault.BadDeck line reason
-
--- memory ran out, or the deck is bad
-abbrev pub IsDeckFault : Fault → Type 0
-IsDeckFault fault.OutOfMemory = Unit {0}
-IsDeckFault (fault.BadDeck line reason) = Unit {0}
-IsDeckFault _ = ⊥
 
 abbrev pub IsNodeCount : ℕ → Type 0
 IsNodeCount n = (3 ≤ n) × (n ≤ 7)

@@ -2,6 +2,7 @@ pub mod Deck
 pub mod Declarations
 pub mod Faults
 pub mod Left
+pub mod LineFaults
 pub mod Lines
 pub mod Script
 pub mod Status

@@ -2,16 +2,17 @@
 
 ghost use Rattle.std.specs.Prelude.{◌≡◌, ◌≤◌, IfOk, IfErr, OnOk};
 ghost use Rattle.rp_base.specs.declared.fault.Fault.TheVariants.{BadDeck};
-ghost use Rattle.rp_console.specs.declared.declarations.LineError.TheVariants.{OutOfMemory, Bad};
 ghost use Rattle.indexmap.specs.IndexMap.{index_map_len};
-ghost use Rattle.rp_console.specs.Declarations.{fault_at, IsDeckFault, IsNodeCount, IsNameTable, IsDeclared, IsComplete};
+ghost use Rattle.rp_console.specs.Declarations.{IsNodeCount, IsNameTable, IsDeclared, IsComplete};
+ghost use Rattle.rp_console.specs.LineFaults.{IsDeckFault};
 
 use crate::deck::{Object, Task};
+use crate::line_error::LineError;
 use crate::lines::{Lines, TextLine};
 use crate::words::Words;
 use indexmap::IndexMap;
 use rp_base::{DeckReason, Fault, Position};
-use std::alloc::{AllocError, AllocFailed, Global};
+use std::alloc::{AllocError, Global};
 
 /// The most tasks that a deck declares.
 const MOST_TASKS: usize = 8;
@@ -21,49 +22,6 @@ const MOST_OBJECTS: u64 = 8;
 
 /// The most positions that a log has.
 const MOST_POSITIONS: u64 = 1;
-
-/// Why a line was not read.
-#[derive(Clone, Copy, Debug, PartialEq, Eq)]
-pub enum LineError {
-    OutOfMemory,
-    Bad(DeckReason),
-}
-
-impl LineError {
-    /// The fault, for the line of this number.
-    pub fn at(self, line: u32) -> Fault
-        ensures { result ≡ fault_at line self }
-    {
-        match self {
-            LineError::OutOfMemory => Fault::OutOfMemory,
-            LineError::Bad(reason) => Fault::BadDeck { line, reason },
-        }
-    }
-}
-
-impl From<DeckReason> for LineError {
-    ghost from_gives = { λ reason e. e ≡ Bad reason };
-
-    fn from(reason: DeckReason) -> LineError {
-        LineError::Bad(reason)
-    }
-}
-
-impl From<AllocError> for LineError {
-    ghost from_gives = { λ _ e. e ≡ OutOfMemory };
-
-    fn from(_e: AllocError) -> LineError {
-        LineError::OutOfMemory
-    }
-}
-
-impl<T: Drop> From<AllocFailed<T>> for LineError {
-    ghost from_gives = { λ _ e. e ≡ OutOfMemory };
-
-    fn from(_e: AllocFailed<T>) -> LineError {
-        LineError::OutOfMemory
-    }
-}
 
 /// What a deck declares before its script.
 #[derive(Drop)]

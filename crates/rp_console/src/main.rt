@@ -3,7 +3,10 @@
 
 mod deck;
 mod declarations;
+mod expressions;
+mod line_error;
 mod lines;
+mod names;
 mod reading;
 mod script;
 mod status;

@@ -1,7 +1,7 @@
 //! Reads a deck.
 
 ghost use Rattle.std.specs.Prelude.{◌+◌, ◌^◌, ◌<◌, length, IfOk, IfErr};
-ghost use Rattle.rp_console.specs.Declarations.{IsDeckFault};
+ghost use Rattle.rp_console.specs.LineFaults.{IsDeckFault};
 ghost use Rattle.rp_console.specs.Deck.{IsRightDeck};
 
 use crate::deck::Deck;

@@ -1,7 +1,8 @@
 //! Reads the script of a deck.
 
 ghost use Rattle.std.specs.Prelude.{◌≡◌, ℕ, ◌∷◌, ◌++◌, ◌≤◌, All, IfOk, IfErr};
-ghost use Rattle.rp_console.specs.Declarations.{IsComplete, IsDeckFault};
+ghost use Rattle.rp_console.specs.Declarations.{IsComplete};
+ghost use Rattle.rp_console.specs.LineFaults.{IsDeckFault};
 ghost use Rattle.rp_console.specs.Script.{IsRightCommand, IsRightLine, FitsIn};
 ghost use Rattle.rp_console.specs.Words.{IsName};
 ghost use Rattle.indexmap.specs.IndexMap.{index_map_len};

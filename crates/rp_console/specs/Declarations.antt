@@ -1,5 +1,5 @@
 -- What a deck declares (the limits are this project's own).
-use Rattle.std.specs.Prelude.{ℕ, ◌≡◌, ◌≤◌, IfSome, String}
+use Rattle.std.specs.Prelude.{ℕ, ◌≤◌, String}
 use Rattle.std.specs.String.{string_eq}
 use Rattle.indexmap.specs.IndexMap.{IndexMap, index_map_len, IsUnique}
 use Rattle.rp_console.specs.declared.declarations.Declared.{Declared}
@@ -16,7 +16,6 @@ module _ {Y X S : Type 0} where
 -- what is declared so far keeps the limits
 pub record IsDeclared (declared : Declared) : Type 0 where
   pub nodes : IsNodeCount declared.nodes
-  pub positions : IfSome declared.positions (λ most. most ≡ 1)
   pub tasks : IsNameTable declared.tasks
   pub objects : IsNameTable declared.objects
 

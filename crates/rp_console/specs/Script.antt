@@ -1,23 +1,55 @@
 -- What a script asks for.
-use Rattle.std.specs.Prelude.{ℕ, ◌<◌, ◌≤◌, ◌^◌, FitsSigned}
-use Rattle.std.specs.Int.{w64}
+use Rattle.std.specs.Prelude.{ℕ, ◌<◌, ◌≤◌, ◌^◌}
 use Rattle.indexmap.specs.IndexMap.{index_map_len}
 use Rattle.rp_base.specs.Action.{IsRightOperation}
+use Rattle.rp_model.specs.declared.event.Event.{Event}
+use Rattle.rp_model.specs.declared.event.Event.TheVariants.{Submit, Again, Node, Cut, Stop, Restart}
+use Rattle.rp_model.specs.declared.event.Step.{Step}
+use Rattle.rp_model.specs.declared.event.Step.TheVariants.{Deliver, Lead, Interrupt, Tick, Report}
 use Rattle.rp_console.specs.declared.deck.Command.{Command}
-use Rattle.rp_console.specs.declared.deck.Command.TheVariants.{Call, Lead, Deliver, Drain, Show}
+use Rattle.rp_console.specs.declared.deck.Command.TheVariants.{Take, Lose, Drain, Show}
 use Rattle.rp_console.specs.declared.deck.Line.{Line}
 use Rattle.rp_console.specs.declared.declarations.Declared.{Declared}
 
--- what a command names lies within the numbers of nodes, tasks and objects, and what it passes has 64 signed bits
+-- the number is 1 to the last one
+abbrev pub IsUpTo : ℕ → ℕ → Type 0
+IsUpTo last number = (1 ≤ number) × (number ≤ last)
+
+-- a message that a script may name
+abbrev pub IsMessage : ℕ → Type 0
+IsMessage message = (1 ≤ message) × (message < 2 ^ 63)
+
+-- a step names nodes of so many
+abbrev pub IsStepWithin : ℕ → Step → Type 0
+IsStepWithin nodes (Deliver message) = IsMessage message
+IsStepWithin nodes (Lead node position) = IsUpTo nodes node
+IsStepWithin nodes (Interrupt node interrupt) = IsUpTo nodes node
+IsStepWithin nodes (Tick node now) = IsUpTo nodes node
+IsStepWithin nodes (Report node first) = IsUpTo nodes node
+
+-- an event names nodes, tasks and objects of so many
+abbrev pub IsEventWithin : ℕ → ℕ → ℕ → Event → Type 0
+IsEventWithin nodes tasks objects (Submit task node object operation arg) =
+    IsUpTo tasks task × IsUpTo nodes node × IsUpTo objects object × IsRightOperation operation
+IsEventWithin nodes tasks objects (Again task node) = IsUpTo tasks task × IsUpTo nodes node
+IsEventWithin nodes tasks objects (Node step) = IsStepWithin nodes step
+IsEventWithin nodes tasks objects (Cut step kept) = IsStepWithin nodes step
+IsEventWithin nodes tasks objects (Stop node) = IsUpTo nodes node
+IsEventWithin nodes tasks objects (Restart node) = IsUpTo nodes node
+
+-- and so does a command
 abbrev pub FitsIn : ℕ → ℕ → ℕ → Command → Type 0
-FitsIn nodes tasks objects (Call task node object operation arg) =
-    (1 ≤ task) × (task ≤ tasks) × (1 ≤ node) × (node ≤ nodes) × (1 ≤ object) × (object ≤ objects) × IsRightOperation operation × FitsSigned w64 arg
-FitsIn nodes tasks objects (Lead node position) = (1 ≤ node) × (node ≤ nodes)
-FitsIn nodes tasks objects (Deliver message) = (1 ≤ message) × (message < 2 ^ 63)
+FitsIn nodes tasks objects (Take event) = IsEventWithin nodes tasks objects event
+FitsIn nodes tasks objects (Lose first last) = IsMessage first × IsMessage last
 FitsIn nodes tasks objects Drain = Unit {0}
 FitsIn nodes tasks objects Show = Unit {0}
 
--- a command names what is declared
+-- an event names what is declared
+abbrev pub IsRightEvent : Declared → Event → Type 0
+IsRightEvent declared event =
+    IsEventWithin declared.nodes (index_map_len declared.tasks) (index_map_len declared.objects) event
+
+-- and so does a command
 abbrev pub IsRightCommand : Declared → Command → Type 0
 IsRightCommand declared command =
     FitsIn declared.nodes (index_map_len declared.tasks) (index_map_len declared.objects) command

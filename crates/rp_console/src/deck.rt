@@ -4,8 +4,10 @@ ghost use Rattle.std.specs.Prelude.{◌≡◌, ◌≤◌, codes};
 ghost use Rattle.std.specs.Option.{SomeIff};
 
 use indexmap::IndexMap;
-use rp_base::{Config, NodeId, Operation, Position, TaskId};
+use rp_base::{Config, Operation};
 use rp_machine::TallyProgram;
+use rp_model::Event;
+use rp_object::Program;
 
 /// A task that is declared.
 #[derive(Clone, Copy, Debug, PartialEq, Eq)]
@@ -36,23 +38,10 @@ impl Object {
 /// What a line of the script asks for.
 #[derive(Clone, Copy, Debug, PartialEq, Eq)]
 pub enum Command {
-    /// A task calls an operation of an object by way of a node.
-    Call {
-        task: TaskId,
-        node: NodeId,
-        object: u8,
-        operation: Operation,
-        arg: i64,
-    },
-    /// A node leads, at a position or where it sees fit.
-    Lead {
-        node: NodeId,
-        position: Option<Position>,
-    },
-    /// A message is delivered.
-    Deliver {
-        message: u64,
-    },
+    /// An event of the cluster.
+    Take(Event),
+    /// The messages of these numbers, from the first to the last, count as settled.
+    Lose { first: u64, last: u64 },
     /// Messages are delivered until none is left.
     Drain,
     /// Every node's state is printed.
@@ -67,11 +56,20 @@ pub struct Line {
     pub command: Command,
 }
 
+/// What the tasks call.
+#[derive(Debug, Drop)]
+pub enum DeckProgram {
+    /// So many sums.
+    Tally(TallyProgram),
+    /// Protected objects.
+    Objects(Program),
+}
+
 /// A deck: a cluster, a program and a script.
 #[derive(Drop)]
 pub struct Deck {
     pub config: Config,
-    pub program: TallyProgram,
+    pub program: DeckProgram,
     /// In declared order, which numbers them from 1.
     pub tasks: IndexMap<String, Task>,
     pub objects: IndexMap<String, Object>,

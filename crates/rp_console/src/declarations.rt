@@ -21,7 +21,7 @@ const MOST_TASKS: usize = 8;
 const MOST_OBJECTS: u64 = 8;
 
 /// The most positions that a log has.
-const MOST_POSITIONS: u64 = 1;
+const MOST_POSITIONS: u64 = 65_535;
 
 /// What a deck declares before its script.
 #[derive(Drop)]

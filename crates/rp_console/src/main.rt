@@ -1,14 +1,19 @@
 //! Cut: reads a deck.
 #![tactic(auto)]
 
+mod calls;
 mod deck;
 mod declarations;
 mod expressions;
 mod line_error;
 mod lines;
 mod names;
+mod objects;
+mod operands;
+mod program;
 mod reading;
 mod script;
+mod statements;
 mod status;
 mod stream;
 mod words;

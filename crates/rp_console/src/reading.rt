@@ -4,7 +4,7 @@ ghost use Rattle.std.specs.Prelude.{◌+◌, ◌^◌, ◌<◌, length, IfOk, IfE
 ghost use Rattle.rp_console.specs.LineFaults.{IsDeckFault};
 ghost use Rattle.rp_console.specs.Deck.{IsRightDeck};
 
-use crate::deck::Deck;
+use crate::deck::{Deck, DeckProgram};
 use crate::declarations::{read_declarations, read_nodes};
 use crate::lines::Lines;
 use crate::script::read_script;
@@ -13,7 +13,7 @@ use rp_machine::TallyProgram;
 use std::alloc::Global;
 
 /// How long the log gets where the deck says nothing of it.
-const POSITIONS: u16 = 1;
+const POSITIONS: u16 = 1000;
 
 /// Reads a deck, or tells its first bad line.
 pub fn read_deck(alloc: Global, text: &[u8]) -> Result<Deck, Fault>
@@ -29,12 +29,13 @@ pub fn read_deck(alloc: Global, text: &[u8]) -> Result<Deck, Fault>
         Some(position) => position.get(),
         None => POSITIONS,
     };
+    let program = TallyProgram::new(declared.objects.len() as u8).unwrap();
     Ok(Deck {
         config: Config {
             nodes: declared.nodes,
             max_positions,
         },
-        program: TallyProgram::new(declared.objects.len() as u8).unwrap(),
+        program: DeckProgram::Tally(program),
         tasks: declared.tasks,
         objects: declared.objects,
         script,

@@ -1,3 +1,4 @@
+pub mod Bodies
 pub mod Deck
 pub mod Declarations
 pub mod Faults

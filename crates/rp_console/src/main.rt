@@ -8,6 +8,7 @@ mod expressions;
 mod line_error;
 mod lines;
 mod names;
+mod objects;
 mod operands;
 mod reading;
 mod script;

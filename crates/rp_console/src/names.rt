@@ -1,10 +1,12 @@
 //! What the names of a deck stand for.
 
-ghost use Rattle.std.specs.Prelude.{◌≡◌, ◌<◌, ◌+◌, SomeIff};
+ghost use Rattle.std.specs.Prelude.{◌≡◌, ◌↔◌, ◌<◌, ◌+◌, IsSome, IfSome, IfOk};
 ghost use Rattle.rp_base.specs.Action.{IsIndex, IsRightOperation};
+ghost use Rattle.rp_console.specs.Words.{IsName};
 
+use crate::words::Words;
 use indexmap::IndexMap;
-use rp_base::Operation;
+use rp_base::{DeckReason, Operation};
 
 /// The most that is declared of each kind.
 const MOST: usize = 8;
@@ -19,7 +21,8 @@ pub struct Index {
 impl Index {
     /// The one after so many, or `None` where there are 8 already.
     pub fn after(count: usize) -> Option<Index>
-        ensures { SomeIff result (count < 8) (record { number = count + 1 }) }
+        ensures some { IsSome result ↔ (count < 8) }
+        ensures value { IfSome result (λ index. index.number ≡ count + 1) }
     {
         if count < MOST {
             Some(Index {
@@ -64,3 +67,17 @@ pub type ComponentNames = IndexMap<String, Component>;
 
 /// The operations of an object by their names.
 pub type OperationNames = IndexMap<String, OperationName>;
+
+/// The next word, a name that the table does not have.
+pub fn take_new_name<'w, V>(
+    words: &mut Words<'w>,
+    table: &IndexMap<String, V>,
+) -> Result<&'w str, DeckReason>
+    ensures name { IfOk result (λ name. IsName name.now) }
+{
+    let name = words.take_name()?;
+    if table.contains_key(name) {
+        return Err(DeckReason::DuplicateName);
+    }
+    Ok(name)
+}

@@ -18,11 +18,12 @@ pub fn read_call(words: &mut Words<'_>, declared: &Declared) -> Result<Event, De
     let task = read_task(words, declared)?;
     let node = read_node(words, declared.nodes)?;
     let (name, operation) = read_dotted(words.take()?)?;
-    let (index, _, object) = declared
+    let place = declared
         .objects
-        .get_full(name)
+        .get_index_of(name)
         .ok_or(DeckReason::UnknownName)?;
-    let operation = object.operation(operation).ok_or(DeckReason::UnknownName)?;
+    let names = declared.operations.get(place).ok_or(DeckReason::UnknownName)?;
+    let operation = names.get(operation).ok_or(DeckReason::UnknownName)?;
     let arg = match words.next() {
         Some(word) => read_number(word).ok_or(DeckReason::BadNumber)?,
         None => 0,
@@ -30,8 +31,8 @@ pub fn read_call(words: &mut Words<'_>, declared: &Declared) -> Result<Event, De
     Ok(Event::Submit {
         task,
         node,
-        object: index as u8 + 1,
-        operation,
+        object: place as u8 + 1,
+        operation: operation.operation(),
         arg,
     })
 }

@@ -4,12 +4,14 @@
 mod calls;
 mod deck;
 mod declarations;
+mod draft;
 mod expressions;
 mod line_error;
 mod lines;
 mod names;
 mod objects;
 mod operands;
+mod program;
 mod reading;
 mod script;
 mod statements;

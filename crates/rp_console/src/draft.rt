@@ -1,6 +1,6 @@
 //! What a deck declares so far, and the lines by which it goes on.
 
-ghost use Rattle.std.specs.Prelude.{◌≡◌, ◌≤◌, length, IfOk, IfErr, OnOk};
+ghost use Rattle.std.specs.Prelude.{◌≡◌, ◌≤◌, false, length, IfSome, IfOk, IfErr, OnOk};
 ghost use Rattle.indexmap.specs.IndexMap.{index_map_len};
 ghost use Rattle.indexmap.specs.IndexSet.{index_set_len};
 ghost use Rattle.rp_console.specs.Left.{left};
@@ -45,6 +45,17 @@ pub struct Draft {
     pub timers: IndexMap<String, Handler>,
 }
 
+/// A declaration of the deck's own, which belongs to no object.
+#[derive(Clone, Copy, Debug, PartialEq, Eq)]
+enum Kind {
+    Positions,
+    Task,
+    Tally,
+    Object,
+    Interrupt,
+    Timer,
+}
+
 impl Draft {
     /// Nothing but the nodes.
     pub fn new(alloc: Global, nodes: u8) -> Self
@@ -81,21 +92,48 @@ impl Draft {
         ensures lines { length (left lines.new) ≤ length (left lines.old) }
         ensures fault { IfErr result IsDeckFault }
     {
-        let number = line.number;
-        let read = match line.first {
-            b"positions" if self.is_new() => self.read_positions(line.words),
-            b"task" => self.read_task(alloc, line.words),
-            b"tally" if !self.is_tally && self.objects.is_empty() => {
-                self.read_tally(alloc, line.words)
-            }
-            b"object" if !self.is_tally => self.read_object(alloc, line.words),
-            b"interrupt" if !self.is_tally => self.read_interrupt(alloc, line.words),
-            b"timer" if !self.is_tally => self.read_timer(alloc, line.words),
-            _ => return self.read_object_line(alloc, line, lines),
+        let Some(kind) = self.kind_of(line.first) else {
+            return self.read_object_line(alloc, line, lines);
         };
-        match read {
+        match self.read_declaration(alloc, kind, line.words) {
             Ok(()) => Ok(()),
-            Err(error) => Err(error.at(number)),
+            Err(error) => Err(error.at(line.number)),
+        }
+    }
+
+    /// The declaration that begins with this word, where it is one of the deck's own that may stand
+    /// here.
+    fn kind_of(&self, first: &[u8]) -> Option<Kind>
+        ensures { IfSome result (λ kind. kind ≡ Kind.Object → self.now.is_tally ≡ false) }
+    {
+        match first {
+            b"positions" if self.is_new() => Some(Kind::Positions),
+            b"task" => Some(Kind::Task),
+            b"tally" if !self.is_tally && self.objects.is_empty() => Some(Kind::Tally),
+            b"object" if !self.is_tally => Some(Kind::Object),
+            b"interrupt" if !self.is_tally => Some(Kind::Interrupt),
+            b"timer" if !self.is_tally => Some(Kind::Timer),
+            _ => None,
+        }
+    }
+
+    /// Reads a declaration of this kind, behind its first word.
+    fn read_declaration(
+        &mut self,
+        alloc: Global,
+        kind: Kind,
+        words: Words<'_>,
+    ) -> Result<(), LineError>
+        requires { IsDraft self.old × (kind ≡ Kind.Object → self.old.is_tally ≡ false) }
+        ensures { OnOk result (IsDraft self.new × (self.new.nodes ≡ self.old.nodes)) }
+    {
+        match kind {
+            Kind::Positions => self.read_positions(words),
+            Kind::Task => self.read_task(alloc, words),
+            Kind::Tally => self.read_tally(alloc, words),
+            Kind::Object => self.read_object(alloc, words),
+            Kind::Interrupt => self.read_interrupt(alloc, words),
+            Kind::Timer => self.read_timer(alloc, words),
         }
     }
 

@@ -1,2 +1,3 @@
+mod HandlerLemmas
 mod WordsLemmas
 mod StreamLemmas

@@ -1,12 +1,11 @@
 -- What a deck declares (the limits are this project's own).
 use Rattle.std.specs.Prelude.{ℕ, ◌≡◌, ◌≤◌, Bool, false, String, length}
-use Rattle.std.specs.Arc.{arc_value}
 use Rattle.std.specs.String.{string_eq}
 use Rattle.indexmap.specs.IndexMap.{IndexMap, index_map_len, IsUnique}
 use Rattle.indexmap.specs.IndexSet.{IndexSet, index_set_len}
 use Rattle.indexmap.specs.IndexSet as sets
 use Rattle.rp_console.specs.declared.deck.DeckProgram.{DeckProgram}
-use Rattle.rp_console.specs.declared.deck.DeckProgram.TheVariants.{Tally, Objects}
+use Rattle.rp_console.specs.Programs.{object_count}
 use Rattle.rp_console.specs.declared.declarations.Declared.{Declared}
 use Rattle.rp_console.specs.declared.draft.Draft.{Draft}
 
@@ -27,8 +26,7 @@ module _ {Y S : Type 0} where
 
 -- the program has so many objects
 abbrev pub HasObjects : ℕ → DeckProgram → Type 0
-HasObjects objects (Tally program) = program ≡ objects
-HasObjects objects (Objects program) = length (arc_value program.declarations).objects.items ≡ objects
+HasObjects objects program = object_count program ≡ objects
 
 -- what is declared so far keeps the limits
 pub record IsDraft (draft : Draft) : Type 0 where

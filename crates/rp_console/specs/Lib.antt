@@ -5,6 +5,7 @@ pub mod Faults
 pub mod Left
 pub mod LineFaults
 pub mod Lines
+pub mod Programs
 pub mod Script
 pub mod Status
 pub mod Stream

@@ -1,6 +1,6 @@
 //! What a deck declares and asks for.
 
-ghost use Rattle.std.specs.Prelude.{◌≤◌};
+ghost use Rattle.std.specs.Prelude.{◌≤◌, IfSome};
 
 use indexmap::{IndexMap, IndexSet};
 use rp_base::Config;
@@ -43,6 +43,24 @@ pub enum DeckProgram {
     Tally(TallyProgram),
     /// Protected objects.
     Objects(Program),
+}
+
+impl DeckProgram {
+    ghost use Rattle.rp_console.specs.Programs.{object_count};
+
+    /// The handler of the timing event at this place.
+    pub fn timer(&self, place: usize) -> Option<Handler>
+        ensures { IfSome result (λ handler. (1 ≤ handler.object)
+            × (handler.object ≤ object_count self.now)) }
+    {
+        match self {
+            DeckProgram::Tally(_) => None,
+            DeckProgram::Objects(program) => {
+                let timer = program.declarations().timers.get(place)?;
+                Some(timer.handler)
+            }
+        }
+    }
 }
 
 /// A deck: a cluster, a program and a script.

@@ -1,3 +1,2 @@
-mod HandlerLemmas
 mod WordsLemmas
 mod StreamLemmas

@@ -1,2 +1,8 @@
+mod CommandLineLemmas
 mod WordsLemmas
 mod StreamLemmas
+mod LeastUnsettled
+mod Saying
+mod Refusing
+mod Telling
+mod Stepping

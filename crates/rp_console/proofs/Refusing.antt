@@ -1,0 +1,175 @@
+-- What the effects of the events of a right deck keep, and what they are refused by.
+use Rattle.std.proofs.Common.{length-set, ◌≡◌, ℕ, zero, suc, ◌-◌, ◌<◌, ◌≤◌, ◌^◌, Bool, true, false, not, cond, ◌&&◌, ◌||◌, ℤ, Result, Ok, Err, Option, Some, None, List, [], ◌∷◌, length, arith, refl, ap, subst, ◌∙◌}
+use Rattle.std.specs.Prelude.{slice_get, nat_lt, nat_le}
+use Rattle.std.proofs.lemmas.Bool.{le-leb}
+use Rattle.std.proofs.lemmas.Bool.Decides.{nat_tests}
+use Rattle.rp_base.specs.Number.{in_range}
+use Rattle.rp_base.specs.Action.{IsRightOperation, is_right, is_right_operation}
+use Rattle.rp_base.specs.Fault.{code_of}
+use Rattle.rp_base.specs.declared.action.Action.{Action}
+use Rattle.rp_base.specs.declared.action.Operation.{Operation}
+use Rattle.rp_base.specs.declared.action.Operation.TheVariants.{Function, Procedure, Entry, SetTimer, CancelTimer}
+use Rattle.rp_base.specs.declared.config.Config.{Config}
+use Rattle.rp_base.specs.declared.fault.Fault.{Fault}
+use Rattle.rp_base.specs.declared.fault.Fault.TheVariants.{BallotsSpent, LogFull, TaskBusy, NumbersSpent, BadConfig}
+use Rattle.rp_codec.specs.Message.{Message}
+use Rattle.rp_codec.specs.declared.packet.Party.{Party}
+use Rattle.rp_codec.specs.declared.packet.Party.TheVariants.{Node, Task, Audit}
+use Rattle.rp_model.specs.declared.event.Event.{Event}
+use Rattle.rp_model.specs.declared.event.Event.TheVariants.{Submit, Node as NodeStep}
+use Rattle.rp_model.specs.declared.event.Step.TheVariants.{Deliver, Lead}
+use Rattle.rp_model.specs.Parts.{NodePart}
+use Rattle.rp_model.specs.Parts.{Running}
+use Rattle.rp_model.specs.Parts.{TaskPart}
+use Rattle.rp_model.specs.Parts.{Turn}
+use Rattle.rp_model.specs.Receiving.{receives}
+use Rattle.rp_model.specs.Effect as nodes
+use Rattle.rp_model.specs.Effect.{Setting, Done, turned, turned_if, effect_while}
+use Rattle.rp_model.specs.Tasks as tasks
+use Rattle.rp_model.specs.Tasks.{next_call, may_call, calls_if, task_hears}
+use Rattle.rp_model.specs.Events.{event_of}
+use Rattle.rp_model.specs.World.{World, Happening, part_at, with_part, nothing_happens, node_done, task_done, node_done_if, task_done_if, task_takes, task_is_told, node_takes, node_hears, node_is_told, arrives, delivers, event_effect}
+use Rattle.rp_console.specs.Runs.{IsEventWithin}
+
+-- the number is one of those by which a script's step is refused
+abbrev pub IsNumbered : Fault → Type 0
+IsNumbered fault = (5 ≤ code_of fault) × (code_of fault ≤ 10)
+
+-- nodes and tasks neither come nor go, and a refusal has one of these numbers
+abbrev pub Keeps : World → Result Happening Fault → Type 0
+Keeps w (Ok happening) = (length happening.world.nodes ≡ length w.nodes) × (length happening.world.tasks ≡ length w.tasks)
+Keeps w (Err fault) = IsNumbered fault
+
+-- there is a part of each number from 1 to the number of parts
+pub part_there : {A : Type 0} (parts : List A) (place : ℕ) → 1 ≤ place → place ≤ length parts → (part : A) × (part_at parts place ≡ Some part)
+part_there parts zero one within = absurd (omega arith)
+part_there parts (suc place) one within = at parts place (omega arith)
+  where
+    at : {A : Type 0} (xs : List A) (i : ℕ) → i < length xs → (part : A) × (slice_get xs i ≡ Some part)
+    at [] i below = absurd (omega arith)
+    at (x ∷ xs) zero below = (x, refl)
+    at (x ∷ xs) (suc i) below = at xs i (omega arith)
+
+-- ---- a call
+
+operation_is_right : (operation : Operation) → IsRightOperation operation → is_right_operation operation ≡ true
+operation_is_right (Function index) right = grind (arith, nat_tests)
+operation_is_right (Procedure index) right = grind (arith, nat_tests)
+operation_is_right (Entry index) right = grind (arith, nat_tests)
+operation_is_right (SetTimer index) right = grind (arith, nat_tests)
+operation_is_right (CancelTimer index) right = grind (arith, nat_tests)
+
+in_range_is : (n : ℕ) → 1 ≤ n → n ≤ 8 → in_range 1 8 n ≡ true
+in_range_is n low high = ap (λ (b : Bool). b && nat_le n 8) (le-leb 1 n low) ∙ le-leb n 8 high
+
+call_is_right : (task object : ℕ) (part : TaskPart) (operation : Operation) (arg : ℤ) → 1 ≤ task → task ≤ 8 → 1 ≤ object → object ≤ 8 → IsRightOperation operation
+    → is_right (next_call task part object operation arg) ≡ true
+call_is_right task object part operation arg one most first last right =
+    let tasks = in_range_is task one most in
+    let numbers = le-leb 1 (suc (length part.replies)) (omega arith) in
+    let objects = in_range_is object first last in
+    let operations = operation_is_right operation right in
+    cc
+
+test_of_node : (nodes node : ℕ) → node ≤ nodes → nat_lt nodes node ≡ false
+test_of_node nodes node within = grind (arith, nat_tests)
+
+length_with : {A : Type 0} (parts : List A) (me : ℕ) (part : A) → length (with_part parts me part) ≡ length parts
+length_with {A = A} parts zero part = refl
+length_with {A = A} parts (suc i) part = length-set parts i part
+
+node_keeps : (w : World) (me : ℕ) (done : Done NodePart) → Keeps w (Ok (node_done w me done))
+node_keeps w me done = (length_with w.nodes me done.part, refl)
+
+task_keeps : (w : World) (task : ℕ) (done : Done TaskPart) → Keeps w (Ok (task_done w task done))
+task_keeps w task done = (refl, length_with w.tasks task done.part)
+
+-- what a call comes to
+call_keeps : (w : World) (task node : ℕ) (part : TaskPart) (call : Result Action Fault) → ((fault : Fault) → call ≡ Err fault → IsNumbered fault)
+    → Keeps w (task_done_if w task (calls_if task node part call))
+call_keeps w task node part (Err fault) numbered = numbered fault refl
+call_keeps w task node part (Ok call) numbered = (refl, length_with w.tasks task (record part { outstanding = Some call }))
+
+may_by : (spent beyond : Bool) (call : Action) (fault : Fault) → beyond ≡ false → cond spent (Err NumbersSpent) (cond beyond (Err BadConfig) (Ok call)) ≡ Err fault → IsNumbered fault
+may_by true beyond call fault right is = let same : NumbersSpent ≡ fault = cc in subst IsNumbered same (omega arith, omega arith)
+may_by false true call fault right is = absurd (cc)
+may_by false false call fault right is = absurd (cc)
+
+may_numbered : (config : Config) (node : ℕ) (part : TaskPart) (call : Action) (outstanding : Option Action) (fault : Fault) → node ≤ config.nodes → is_right call ≡ true
+    → may_call config node part call outstanding ≡ Err fault → IsNumbered fault
+may_numbered config node part call (Some waits) fault within right is = let same : TaskBusy ≡ fault = cc in subst IsNumbered same (omega arith, omega arith)
+may_numbered config node part call None fault within right is =
+    may_by (nat_le (2 ^ 32 - 1) (length part.replies)) (nat_lt config.nodes node || not (is_right call)) call fault
+    (ap (λ (b : Bool). b || not (is_right call)) (test_of_node config.nodes node within) ∙ ap not right) is
+
+submit_keeps : (config : Config) (w : World) (task node object : ℕ) (operation : Operation) (arg : ℤ) (part : Option TaskPart)
+    → 1 ≤ task → task ≤ 8 → node ≤ config.nodes → 1 ≤ object → object ≤ 8 → IsRightOperation operation → (found : TaskPart) → part ≡ Some found
+    → Keeps w (task_takes config w task (tasks.Submit node object operation arg) part)
+submit_keeps config w task node object operation arg None one most within first last right found there = absurd (cc)
+submit_keeps config w task node object operation arg (Some part) one most within first last right found there =
+    let call = next_call task part object operation arg in
+    call_keeps w task node part (may_call config node part call part.outstanding)
+    (λ fault is. may_numbered config node part call part.outstanding fault within (call_is_right task object part operation arg one most first last right) is)
+
+-- ---- a message
+
+nothing_keeps : (w : World) → Keeps w (Ok (nothing_happens w))
+nothing_keeps w = (refl, refl)
+
+lead_by : (w : World) (me : ℕ) (part : NodePart) (learned full spent : Bool) (quiet begins : Turn)
+    → Keeps w (node_done_if w me (turned_if part (cond learned (Ok quiet) (cond full (Err LogFull) (cond spent (Err BallotsSpent) (Ok begins))))))
+lead_by w me part true full spent quiet begins = node_keeps w me (turned part quiet)
+lead_by w me part false true spent quiet begins = (omega arith, omega arith)
+lead_by w me part false false true quiet begins = (omega arith, omega arith)
+lead_by w me part false false false quiet begins = node_keeps w me (turned part begins)
+
+module _ {S : Type 0} (s : Setting S) where
+  receive_keeps : (w : World) (me : ℕ) (message : Message) (part : NodePart) (running : Option Running)
+      → Keeps w (node_done_if w me (effect_while s me part (nodes.Receive message) running))
+  receive_keeps w me message part None = (omega arith, omega arith)
+  receive_keeps w me message part (Some running) =
+      node_keeps w me (turned part (receives s.next s.answers s.begin s.config me part.records running message))
+
+  hears_keep : (w : World) (me : ℕ) (message : Message) (part : NodePart) (running : Option Running) → Keeps w (node_hears s w me message part running)
+  hears_keep w me message part None = nothing_keeps w
+  hears_keep w me message part (Some running) = receive_keeps w me message part part.running
+
+  told_keeps : (w : World) (me : ℕ) (message : Message) (part : Option NodePart) → Keeps w (node_is_told s w me message part)
+  told_keeps w me message None = nothing_keeps w
+  told_keeps w me message (Some part) = hears_keep w me message part part.running
+
+  task_told_keeps : (w : World) (task : ℕ) (message : Message) (part : Option TaskPart) → Keeps w (task_is_told s.config w task message part)
+  task_told_keeps w task message None = nothing_keeps w
+  task_told_keeps w task message (Some part) = task_keeps w task (task_hears task part message.body)
+
+  arrival_keeps : (w : World) (message : Message) (party : Party) → Keeps w (arrives s w message party)
+  arrival_keeps w message (Node me) = told_keeps w me message (part_at w.nodes me)
+  arrival_keeps w message (Task task) = task_told_keeps w task message (part_at w.tasks task)
+  arrival_keeps w message Audit = nothing_keeps w
+
+  delivery_keeps : (w : World) (message : Option Message) → Keeps w (delivers s w message)
+  delivery_keeps w None = (omega arith, omega arith)
+  delivery_keeps w (Some message) = arrival_keeps w message message.to
+
+  -- ---- a leader
+
+  leads_keep : (w : World) (me : ℕ) (choice : Option ℕ) (part : NodePart) (running : Option Running)
+      → Keeps w (node_done_if w me (effect_while s me part (nodes.Lead choice) running))
+  leads_keep w me choice part None = (omega arith, omega arith)
+  leads_keep w me choice part (Some running) = lead_by w me part _ _ _ _ _
+
+  node_leads_keep : (w : World) (me : ℕ) (choice : Option ℕ) (part : Option NodePart) (found : NodePart) → part ≡ Some found
+      → Keeps w (node_takes s w me (nodes.Lead choice) part)
+  node_leads_keep w me choice None found there = absurd (cc)
+  node_leads_keep w me choice (Some part) found there = leads_keep w me choice part part.running
+
+  -- an event that names what there is
+  pub event_keeps : (w : World) (tasks objects : ℕ) (event : Event) → length w.nodes ≡ s.config.nodes → length w.tasks ≡ 8 → tasks ≤ 8 → objects ≤ 8
+      → IsEventWithin s.config.nodes tasks objects event → Keeps w (event_effect s w (event_of event))
+  event_keeps w tasks objects (Submit task node object operation arg) nodes eight few some event =
+      let there = part_there w.tasks task event.0 (omega arith) in
+      submit_keeps s.config w task node object operation arg (part_at w.tasks task) event.0 (omega arith) event.3 event.4 (omega arith) event.6 there.0 there.1
+  event_keeps w tasks objects (NodeStep (Deliver message)) nodes eight few some event = delivery_keeps w (part_at w.sent message)
+  event_keeps w tasks objects (NodeStep (Lead node position)) nodes eight few some event =
+      let there = part_there w.nodes node event.0 (omega arith) in
+      node_leads_keep w node position (part_at w.nodes node) there.0 there.1

@@ -1,0 +1,37 @@
+-- Names, lines and nodes as they are printed.
+use Rattle.std.proofs.Common.{◌≡◌, ℕ, zero, suc, ◌+◌, ◌-◌, ◌≤◌, Option, List, [], ◌++◌, map, arith, refl, sym, ap, ◌∙◌, add-one}
+use Rattle.std.specs.Prelude.{slice_get, String, string_bytes}
+use Rattle.std.specs.Option.{option_map}
+use Rattle.std.proofs.lemmas.List.{flat_map_more}
+use Rattle.std.proofs.lemmas.Option.{slice_get-map}
+use Rattle.rp_machine.specs.Replay.{one_to}
+use Rattle.rp_model.specs.World.{World, part_at}
+use Rattle.rp_console.specs.Output.{RunSetting, part_text, nodes_text}
+
+module _ {Y X : Type 0} (entries : List (String Y × X)) where
+  name_of_entry : (place : ℕ) → slice_get (map string_bytes (map (λ (e : String Y × X). e.0) entries)) place ≡ option_map string_bytes (option_map (λ (e : String Y × X). e.0) (slice_get entries place))
+  name_of_entry place =
+      slice_get-map string_bytes (map (λ (e : String Y × X). e.0) entries) place
+      ∙ ap (option_map string_bytes) (slice_get-map (λ (e : String Y × X). e.0) entries place)
+
+  -- the name of the entry of a number from 1
+  pub name_at : (number : ℕ) (entry : Option (String Y × X)) → 1 ≤ number → slice_get entries (number - 1) ≡ entry
+      → part_at (map string_bytes (map (λ (e : String Y × X). e.0) entries)) number ≡ option_map string_bytes (option_map (λ (e : String Y × X). e.0) entry)
+  name_at zero entry one here = absurd (omega arith)
+  name_at (suc place) entry one here =
+      let same : place ≡ suc place - 1 = omega arith in
+      name_of_entry place
+      ∙ ap (λ (i : ℕ). option_map string_bytes (option_map (λ (e : String Y × X). e.0) (slice_get entries i))) same
+      ∙ ap (λ (o : Option (String Y × X)). option_map string_bytes (option_map (λ (e : String Y × X). e.0) o)) here
+
+pub no_nodes : (s : RunSetting) (world : World) → nodes_text s world 0 ≡ []
+unfolding nodes_text
+no_nodes s world = refl
+
+one_node_more : (s : RunSetting) (world : World) (n : ℕ) → nodes_text s world (suc n) ≡ nodes_text s world n ++ part_text s (suc n) (part_at world.nodes (suc n))
+unfolding nodes_text
+one_node_more s world n = sym (flat_map_more (λ (node : ℕ). part_text s node (part_at world.nodes node)) [] (one_to n) (suc n))
+
+-- one node more
+pub nodes_more : (s : RunSetting) (world : World) (n : ℕ) → nodes_text s world (n + 1) ≡ nodes_text s world n ++ part_text s (n + 1) (part_at world.nodes (n + 1))
+nodes_more s world n = rw (add-one n) (one_node_more s world n)

@@ -1,0 +1,38 @@
+-- The lines that a run prints, without their ends (this project's own).
+use Rattle.std.specs.Prelude.{ℕ, List, ◌++◌, codes, decimal, true, false}
+use Rattle.std.specs.Fmt.{signed_decimal}
+use Rattle.rp_base.specs.Fault.{code_of, name_of}
+use Rattle.rp_base.specs.declared.fault.Fault.{Fault}
+use Rattle.rp_base.specs.declared.reply.Reply.{Reply}
+use Rattle.rp_base.specs.declared.reply.Reply.TheVariants.{Value, Truth, ConstraintError, ProgramError, NoSuchOperation}
+
+-- what a call is answered
+abbrev pub reply_text_of : Reply → List ℕ
+reply_text_of (Value v) = codes "value " ++ signed_decimal v
+reply_text_of (Truth true) = codes "truth true"
+reply_text_of (Truth false) = codes "truth false"
+reply_text_of ConstraintError = codes "Constraint_Error"
+reply_text_of ProgramError = codes "Program_Error"
+reply_text_of NoSuchOperation = codes "No_Such_Operation"
+
+-- a task takes the reply to one of its calls
+abbrev pub reply_line_of : List ℕ → ℕ → Reply → List ℕ
+reply_line_of task number reply =
+    codes "reply " ++ (task ++ (codes " " ++ (decimal number ++ (codes " " ++ reply_text_of reply))))
+
+-- a step of the script was refused
+abbrev pub refused_line_of : ℕ → Fault → List ℕ
+refused_line_of line fault =
+    codes "line " ++ (decimal line ++ (codes ": refused " ++ (decimal (code_of fault) ++ (codes " " ++ name_of fault))))
+
+-- how many actions a node has applied
+abbrev pub applied_line_of : ℕ → ℕ → List ℕ
+applied_line_of node applied = codes "node " ++ (decimal node ++ (codes " applied " ++ decimal applied))
+
+-- a node is stopped
+abbrev pub stopped_line_of : ℕ → List ℕ
+stopped_line_of node = codes "node " ++ (decimal node ++ codes " stopped")
+
+-- `drain` delivered as many messages as it may, and more are left
+abbrev pub limit_line_of : ℕ → List ℕ
+limit_line_of line = codes "line " ++ (decimal line ++ codes ": drain limit")

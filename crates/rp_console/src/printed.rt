@@ -1,0 +1,112 @@
+//! The lines that a run prints. The caller ends each by a line feed.
+
+ghost use Rattle.std.specs.Prelude.{Some};
+ghost use Rattle.rp_console.specs.Printed.{reply_text_of, reply_line_of, refused_line_of, applied_line_of, stopped_line_of, limit_line_of};
+
+use rp_base::{Fault, NodeId, Reply};
+use std::fmt;
+
+/// What a call is answered, as `value 5`.
+#[derive(Clone, Copy, Debug, PartialEq, Eq)]
+pub struct ReplyText {
+    pub reply: Reply,
+}
+
+impl fmt::Display for ReplyText {
+    ghost output = { λ l. Some (reply_text_of l.reply) };
+
+    fn fmt<W: fmt::Write>(&self, f: &mut fmt::Formatter<W>) -> fmt::Result {
+        match self.reply {
+            Reply::Value(value) => write!(f, "value {value}"),
+            Reply::Truth(true) => write!(f, "truth true"),
+            Reply::Truth(false) => write!(f, "truth false"),
+            Reply::ConstraintError => write!(f, "Constraint_Error"),
+            Reply::ProgramError => write!(f, "Program_Error"),
+            Reply::NoSuchOperation => write!(f, "No_Such_Operation"),
+        }
+    }
+}
+
+/// A task takes the reply to one of its calls: `reply a 1 value 5`.
+#[derive(Clone, Copy, Debug)]
+pub struct ReplyLine<'a> {
+    pub task: &'a str,
+    pub number: u32,
+    pub reply: Reply,
+}
+
+impl fmt::Display for ReplyLine<'_> {
+    ghost output = { λ l. Some (reply_line_of l.task.now l.number l.reply) };
+
+    fn fmt<W: fmt::Write>(&self, f: &mut fmt::Formatter<W>) -> fmt::Result {
+        let task = self.task;
+        let number = self.number;
+        let text = ReplyText { reply: self.reply };
+        write!(f, "reply {task} {number} {text}")
+    }
+}
+
+/// A step of the script was refused: `line 11: refused 7 LogFull`.
+#[derive(Clone, Copy, Debug, PartialEq, Eq)]
+pub struct RefusedLine {
+    pub line: u32,
+    pub fault: Fault,
+}
+
+impl fmt::Display for RefusedLine {
+    ghost output = { λ l. Some (refused_line_of l.line l.fault) };
+
+    fn fmt<W: fmt::Write>(&self, f: &mut fmt::Formatter<W>) -> fmt::Result {
+        let line = self.line;
+        let code = self.fault.code();
+        let name = self.fault.name();
+        write!(f, "line {line}: refused {code} {name}")
+    }
+}
+
+/// How many actions a node has applied: `node 2 applied 1`.
+#[derive(Clone, Copy, Debug, PartialEq, Eq)]
+pub struct AppliedLine {
+    pub node: NodeId,
+    pub applied: u16,
+}
+
+impl fmt::Display for AppliedLine {
+    ghost output = { λ l. Some (applied_line_of l.node l.applied) };
+
+    fn fmt<W: fmt::Write>(&self, f: &mut fmt::Formatter<W>) -> fmt::Result {
+        let node = self.node.get();
+        let applied = self.applied;
+        write!(f, "node {node} applied {applied}")
+    }
+}
+
+/// A node is stopped: `node 2 stopped`.
+#[derive(Clone, Copy, Debug, PartialEq, Eq)]
+pub struct StoppedLine {
+    pub node: NodeId,
+}
+
+impl fmt::Display for StoppedLine {
+    ghost output = { λ l. Some (stopped_line_of l.node) };
+
+    fn fmt<W: fmt::Write>(&self, f: &mut fmt::Formatter<W>) -> fmt::Result {
+        let node = self.node.get();
+        write!(f, "node {node} stopped")
+    }
+}
+
+/// `drain` delivered as many messages as it may, and more are left: `line 8: drain limit`.
+#[derive(Clone, Copy, Debug, PartialEq, Eq)]
+pub struct DrainLimitLine {
+    pub line: u32,
+}
+
+impl fmt::Display for DrainLimitLine {
+    ghost output = { λ l. Some (limit_line_of l.line) };
+
+    fn fmt<W: fmt::Write>(&self, f: &mut fmt::Formatter<W>) -> fmt::Result {
+        let line = self.line;
+        write!(f, "line {line}: drain limit")
+    }
+}

@@ -1,11 +1,11 @@
 -- What a deck declares (the limits are this project's own).
-use Rattle.std.specs.Prelude.{ℕ, ◌≡◌, ◌≤◌, Bool, false, String, length}
+use Rattle.std.specs.Prelude.{ℕ, ◌≡◌, ◌≤◌, false, String, length, map}
 use Rattle.std.specs.String.{string_eq}
-use Rattle.indexmap.specs.IndexMap.{IndexMap, index_map_len, IsUnique}
+use Rattle.indexmap.specs.IndexMap.{IndexMap, index_map_len, values, IsUnique}
 use Rattle.indexmap.specs.IndexSet.{IndexSet, index_set_len}
 use Rattle.indexmap.specs.IndexSet as sets
 use Rattle.rp_console.specs.declared.deck.DeckProgram.{DeckProgram}
-use Rattle.rp_console.specs.Programs.{object_count}
+use Rattle.rp_console.specs.Programs.{object_count, DeclaresAll}
 use Rattle.rp_console.specs.declared.declarations.Declared.{Declared}
 use Rattle.rp_console.specs.declared.draft.Draft.{Draft}
 
@@ -51,6 +51,7 @@ pub record IsComplete (declared : Declared) : Type 0 where
   pub objects : IsNameSet declared.objects
   pub some_object : 1 ≤ index_set_len declared.objects
   pub program : HasObjects (index_set_len declared.objects) declared.program
+  pub kept : DeclaresAll (map (λ task. task.priority) (values declared.tasks)) (values declared.interrupts) (values declared.timers) declared.program
   pub operations : length declared.operations.items ≡ index_set_len declared.objects
   pub interrupts : IsNameTable declared.interrupts
   pub timers : IsNameTable declared.timers

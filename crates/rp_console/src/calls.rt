@@ -24,7 +24,10 @@ pub fn read_call(words: &mut Words<'_>, declared: &Declared) -> Result<Event, De
         .objects
         .get_index_of(name)
         .ok_or(DeckReason::UnknownName)?;
-    let names = declared.operations.get(place).ok_or(DeckReason::UnknownName)?;
+    let names = declared
+        .operations
+        .get(place)
+        .ok_or(DeckReason::UnknownName)?;
     let operation = names.get(operation).ok_or(DeckReason::UnknownName)?;
     let arg = match words.next() {
         Some(word) => read_number(word).ok_or(DeckReason::BadNumber)?,
@@ -91,7 +94,10 @@ fn read_timer(words: &mut Words<'_>, declared: &Declared) -> Result<Timer, DeckR
         .timers
         .get_index_of(name)
         .ok_or(DeckReason::UnknownName)?;
-    let handler = declared.program.timer(place).ok_or(DeckReason::UnknownName)?;
+    let handler = declared
+        .program
+        .timer(place)
+        .ok_or(DeckReason::UnknownName)?;
     Ok(Timer {
         index: Index {
             number: place as u8 + 1,

@@ -51,11 +51,7 @@ pub fn bool_named(word: &[u8], names: &ComponentNames) -> Result<u8, DeckReason>
 }
 
 /// Reads an expression, behind which no word is left.
-pub fn read_expr(
-    alloc: Global,
-    words: Words<'_>,
-    names: &ComponentNames,
-) -> Result<Expr, LineError>
+pub fn read_expr(alloc: Global, words: Words<'_>, names: &ComponentNames) -> Result<Expr, LineError>
     ensures { IfOk result (λ expr. expr_nodes expr ≤ 32) }
 {
     let mut nodes = Nodes::new(alloc, words, names);
@@ -65,11 +61,7 @@ pub fn read_expr(
 }
 
 /// Reads a condition, behind which no word is left.
-pub fn read_cond(
-    alloc: Global,
-    words: Words<'_>,
-    names: &ComponentNames,
-) -> Result<Cond, LineError>
+pub fn read_cond(alloc: Global, words: Words<'_>, names: &ComponentNames) -> Result<Cond, LineError>
     ensures { IfOk result (λ cond. cond_nodes cond ≤ 32) }
 {
     let mut nodes = Nodes::new(alloc, words, names);

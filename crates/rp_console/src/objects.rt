@@ -7,7 +7,9 @@ ghost use Rattle.rp_console.specs.LineFaults.{IsDeckFault};
 use crate::expressions::{bool_named, is_of_expressions, read_cond, read_expr};
 use crate::line_error::LineError;
 use crate::lines::{Lines, TextLine};
-use crate::names::{Component, ComponentNames, Index, OperationName, OperationNames, take_new_name};
+use crate::names::{
+    Component, ComponentNames, Index, OperationName, OperationNames, take_new_name,
+};
 use crate::statements::read_body;
 use crate::words::Words;
 use indexmap::IndexMap;

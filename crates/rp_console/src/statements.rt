@@ -126,8 +126,14 @@ impl<'n> Body<'n> {
                     };
                     Stmt::If(cond, first.statements, second)
                 }
-                Ok(BodyLine::Else) => return Ok(Part { statements, is_followed: true }),
-                Ok(BodyLine::End) => return Ok(Part { statements, is_followed: false }),
+                Ok(BodyLine::Else) => return Ok(Part {
+                    statements,
+                    is_followed: true,
+                }),
+                Ok(BodyLine::End) => return Ok(Part {
+                    statements,
+                    is_followed: false,
+                }),
             };
             statements.push(statement)?;
         }
@@ -137,7 +143,12 @@ impl<'n> Body<'n> {
     }
 
     /// Reads a line of a body.
-    fn line(&mut self, mut line: TextLine<'_>, place: Place, depth: u8) -> Result<BodyLine, LineError>
+    fn line(
+        &mut self,
+        mut line: TextLine<'_>,
+        place: Place,
+        depth: u8,
+    ) -> Result<BodyLine, LineError>
         ensures { IfOk result (IsWithinDepth depth) }
     {
         match FirstWord::of(line.first, place)? {

@@ -106,7 +106,7 @@ fn tally_operations(alloc: Global) -> Result<OperationNames, LineError> {
     Ok(names)
 }
 
-/// The program of these declarations.
+/// The program of these declarations, whose lines were read within its limits.
 fn protected_objects(
     alloc: Global,
     declarations: Declarations,

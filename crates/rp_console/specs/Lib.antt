@@ -1,11 +1,14 @@
+pub mod Bodies
 pub mod CommandLine
 pub mod Deck
 pub mod Declarations
 pub mod Faults
 pub mod Left
+pub mod LineFaults
 pub mod Lines
 pub mod Output
 pub mod Printed
+pub mod Programs
 pub mod Runs
 pub mod Script
 pub mod Settled

@@ -1,6 +1,7 @@
 -- What a script asks for.
 use Rattle.std.specs.Prelude.{ℕ, ◌<◌, ◌≤◌, ◌^◌}
 use Rattle.indexmap.specs.IndexMap.{index_map_len}
+use Rattle.indexmap.specs.IndexSet.{index_set_len}
 use Rattle.rp_base.specs.Action.{IsRightOperation}
 use Rattle.rp_model.specs.declared.event.Event.{Event}
 use Rattle.rp_model.specs.declared.event.Event.TheVariants.{Submit, Again, Node, Cut, Stop, Restart}
@@ -47,12 +48,12 @@ FitsIn nodes tasks objects Show = Unit {0}
 -- an event names what is declared
 abbrev pub IsRightEvent : Declared → Event → Type 0
 IsRightEvent declared event =
-    IsEventWithin declared.nodes (index_map_len declared.tasks) (index_map_len declared.objects) event
+    IsEventWithin declared.nodes (index_map_len declared.tasks) (index_set_len declared.objects) event
 
 -- and so does a command
 abbrev pub IsRightCommand : Declared → Command → Type 0
 IsRightCommand declared command =
-    FitsIn declared.nodes (index_map_len declared.tasks) (index_map_len declared.objects) command
+    FitsIn declared.nodes (index_map_len declared.tasks) (index_set_len declared.objects) command
 
 -- and so does a line
 abbrev pub IsRightLine : Declared → Line → Type 0

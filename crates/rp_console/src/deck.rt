@@ -1,38 +1,18 @@
 //! What a deck declares and asks for.
 
-ghost use Rattle.std.specs.Prelude.{◌≡◌, ◌≤◌, codes};
-ghost use Rattle.std.specs.Option.{SomeIff};
+ghost use Rattle.std.specs.Prelude.{◌≤◌, IfSome};
 
-use indexmap::IndexMap;
-use rp_base::{Config, Operation};
+use indexmap::{IndexMap, IndexSet};
+use rp_base::Config;
 use rp_machine::TallyProgram;
 use rp_model::Event;
-use rp_object::Program;
+use rp_object::{Handler, Program};
 
 /// A task that is declared.
 #[derive(Clone, Copy, Debug, PartialEq, Eq)]
 pub struct Task {
     pub priority: u8,
     ghost in_range: { (1 ≤ priority) × (priority ≤ 30) },
-}
-
-/// An object that is declared.
-#[derive(Clone, Copy, Debug, PartialEq, Eq)]
-pub enum Object {
-    /// A sum, whose one procedure is `add`.
-    Tally,
-}
-
-impl Object {
-    /// The operation of this name.
-    pub fn operation(self, name: &str) -> Option<Operation>
-        ensures { SomeIff result (name.now ≡ codes "add") (Operation.Procedure 1) }
-    {
-        match self {
-            Object::Tally if name == "add" => Some(Operation::Procedure(1)),
-            Object::Tally => None,
-        }
-    }
 }
 
 /// What a line of the script asks for.
@@ -65,13 +45,33 @@ pub enum DeckProgram {
     Objects(Program),
 }
 
+impl DeckProgram {
+    ghost use Rattle.rp_console.specs.Programs.{object_count};
+
+    /// The handler of the timing event at this place.
+    pub fn timer(&self, place: usize) -> Option<Handler>
+        ensures { IfSome result (λ handler. (1 ≤ handler.object)
+            × (handler.object ≤ object_count self.now)) }
+    {
+        match self {
+            DeckProgram::Tally(_) => None,
+            DeckProgram::Objects(program) => {
+                let timer = program.declarations().timers.get(place)?;
+                Some(timer.handler)
+            }
+        }
+    }
+}
+
 /// A deck: a cluster, a program and a script.
 #[derive(Drop)]
 pub struct Deck {
     pub config: Config,
     pub program: DeckProgram,
-    /// In declared order, which numbers them from 1.
+    /// In declared order, which numbers them from 1, as each kind of name.
     pub tasks: IndexMap<String, Task>,
-    pub objects: IndexMap<String, Object>,
+    pub objects: IndexSet<String>,
+    pub interrupts: IndexMap<String, Handler>,
+    pub timers: IndexMap<String, Handler>,
     pub script: Vec<Line>,
 }

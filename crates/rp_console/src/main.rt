@@ -6,8 +6,15 @@
 //! - `lines`: the lines of a deck
 //! - `words`: the lines of a deck and their words
 //! - `declarations`: reads the declarations of a deck
+//! - `draft`: what a deck declares so far, and the lines by which it goes on
+//! - `objects`: reads the lines that belong to an object
+//! - `statements`: reads the bodies of operations
+//! - `expressions`: reads the expressions and conditions of a deck
+//! - `names`: what the names of a deck stand for
+//! - `program`: makes the program of what a deck declares
+//! - `line_error`: why a line of a deck was not read
 //! - `script`: reads the script of a deck
-//! - `calls`: reads the lines of a script by which tasks call
+//! - `calls`: reads the lines of a script by which tasks call and interrupts occur
 //! - `operands`: reads the words of a script's line that name nodes, tasks and positions
 //! - `deck`: what a deck declares and asks for
 //! - `deck_run`: runs the script of a deck
@@ -26,15 +33,22 @@ mod calls;
 mod deck;
 mod deck_run;
 mod declarations;
+mod draft;
 mod effects;
+mod expressions;
+mod line_error;
 mod lines;
+mod names;
+mod objects;
 mod operands;
 mod options;
 mod printed;
+mod program;
 mod reading;
 mod run;
 mod script;
 mod settled;
+mod statements;
 mod status;
 mod stream;
 mod trace;

@@ -1,15 +1,14 @@
 //! Reads a deck.
 
 ghost use Rattle.std.specs.Prelude.{◌+◌, ◌^◌, ◌<◌, length, IfOk, IfErr};
-ghost use Rattle.rp_console.specs.Declarations.{IsDeckFault};
+ghost use Rattle.rp_console.specs.LineFaults.{IsDeckFault};
 ghost use Rattle.rp_console.specs.Deck.{IsRightDeck};
 
-use crate::deck::{Deck, DeckProgram};
+use crate::deck::Deck;
 use crate::declarations::{read_declarations, read_nodes};
 use crate::lines::Lines;
 use crate::script::read_script;
 use rp_base::{Config, Fault};
-use rp_machine::TallyProgram;
 use std::alloc::Global;
 
 /// How long the log gets where the deck says nothing of it.
@@ -29,15 +28,16 @@ pub fn read_deck(alloc: Global, text: &[u8]) -> Result<Deck, Fault>
         Some(position) => position.get(),
         None => POSITIONS,
     };
-    let program = TallyProgram::new(declared.objects.len() as u8).unwrap();
     Ok(Deck {
         config: Config {
             nodes: declared.nodes,
             max_positions,
         },
-        program: DeckProgram::Tally(program),
+        program: declared.program,
         tasks: declared.tasks,
         objects: declared.objects,
+        interrupts: declared.interrupts,
+        timers: declared.timers,
         script,
     })
 }

@@ -1,10 +1,11 @@
 //! Reads the script of a deck.
 
 ghost use Rattle.std.specs.Prelude.{ℕ, ◌≤◌, All, IfOk, IfErr};
-ghost use Rattle.rp_console.specs.Declarations.{IsComplete, IsDeckFault};
+ghost use Rattle.rp_console.specs.Declarations.{IsComplete};
+ghost use Rattle.rp_console.specs.LineFaults.{IsDeckFault};
 ghost use Rattle.rp_console.specs.Script.{IsRightCommand, IsRightLine, IsRightEvent, IsStepWithin, IsEventWithin, IsMessage, FitsIn};
 
-use crate::calls::read_call;
+use crate::calls::{read_arm, read_call, read_disarm, read_interrupt};
 use crate::deck::{Command, Line};
 use crate::declarations::Declared;
 use crate::lines::{Lines, TextLine};
@@ -77,6 +78,9 @@ fn read_event(first: &[u8], words: &mut Words<'_>, declared: &Declared) -> Resul
 {
     match first {
         b"call" => read_call(words, declared),
+        b"arm" => read_arm(words, declared),
+        b"disarm" => read_disarm(words, declared),
+        b"irq" => Ok(Event::Node(read_interrupt(words, declared)?)),
         b"again" => read_again(words, declared),
         b"cut" => read_cut(words, declared.nodes),
         b"stop" => Ok(Event::Stop(read_node(words, declared.nodes)?)),

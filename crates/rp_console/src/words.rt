@@ -124,6 +124,14 @@ impl<'a> Words<'a> {
         Ok(number)
     }
 
+    /// The next word, any number.
+    pub fn take_integer(&mut self) -> Result<i64, DeckReason>
+        ensures value { IfOk result (λ number. number_read (first_word (unread self.old)) ≡ number) }
+        ensures rest { OnOk result (unread self.new ≡ after_word (unread self.old)) }
+    {
+        read_number(self.take()?).ok_or(DeckReason::BadNumber)
+    }
+
     /// The next word, a name.
     pub fn take_name(&mut self) -> Result<&'a str, DeckReason>
         ensures word { IfOk result (λ name. name.now ≡ first_word (unread self.old)) }

@@ -1,0 +1,160 @@
+//! Reads the expressions and conditions of a deck.
+
+ghost use Rattle.std.specs.Prelude.{◌≡◌, ◌≤◌, ◌<◌, ◌+◌, OnOk, IfOk};
+ghost use Rattle.rp_body.specs.Check.{expr_nodes, cond_nodes};
+
+use crate::line_error::LineError;
+use crate::names::{Component, ComponentNames};
+use crate::words::{Words, read_name, read_number};
+use rp_base::DeckReason;
+use rp_body::{Cond, Expr};
+use std::alloc::Global;
+
+/// The most nodes of an expression or a condition.
+const MOST_NODES: u8 = 32;
+
+/// Whether the word has a meaning of its own in expressions and conditions, so that no component may be
+/// named by it.
+pub fn is_of_expressions(word: &str) -> bool {
+    matches!(
+        word,
+        "arg" | "out" | "add" | "sub" | "true" | "false" | "lt" | "le" | "eq" | "not" | "and" | "or"
+    )
+}
+
+/// Whether the word is read as a number: it begins with a digit or `-`.
+fn begins_as_number(word: &[u8]) -> bool {
+    word.first()
+        .is_some_and(|byte| *byte == b'-' || byte.is_ascii_digit())
+}
+
+/// The component of this name.
+fn component_named(word: &[u8], names: &ComponentNames) -> Result<Component, DeckReason> {
+    let name = read_name(word)?;
+    names.get(name).copied().ok_or(DeckReason::UnknownName)
+}
+
+/// The whole-number component of this name.
+pub fn int_named(word: &[u8], names: &ComponentNames) -> Result<u8, DeckReason> {
+    match component_named(word, names)? {
+        Component::Int(place) => Ok(place),
+        Component::Bool(_) => Err(DeckReason::UnknownName),
+    }
+}
+
+/// The Boolean component of this name.
+pub fn bool_named(word: &[u8], names: &ComponentNames) -> Result<u8, DeckReason> {
+    match component_named(word, names)? {
+        Component::Bool(place) => Ok(place),
+        Component::Int(_) => Err(DeckReason::UnknownName),
+    }
+}
+
+/// Reads an expression, behind which no word is left.
+pub fn read_expr(alloc: Global, words: Words<'_>, names: &ComponentNames) -> Result<Expr, LineError>
+    ensures { IfOk result (λ expr. expr_nodes expr ≤ 32) }
+{
+    let mut nodes = Nodes::new(alloc, words, names);
+    let expr = nodes.expr()?;
+    nodes.words.end()?;
+    Ok(expr)
+}
+
+/// Reads a condition, behind which no word is left.
+pub fn read_cond(alloc: Global, words: Words<'_>, names: &ComponentNames) -> Result<Cond, LineError>
+    ensures { IfOk result (λ cond. cond_nodes cond ≤ 32) }
+{
+    let mut nodes = Nodes::new(alloc, words, names);
+    let cond = nodes.cond()?;
+    nodes.words.end()?;
+    Ok(cond)
+}
+
+/// The nodes of an expression or a condition that are still to be read, a word each, those of a node
+/// behind it.
+#[derive(Drop)]
+struct Nodes<'w, 'n> {
+    alloc: Global,
+    words: Words<'w>,
+    names: &'n ComponentNames,
+    /// How many more there may be.
+    left: u8,
+}
+
+impl<'w, 'n> Nodes<'w, 'n> {
+    fn new(alloc: Global, words: Words<'w>, names: &'n ComponentNames) -> Self
+        ensures { result.left ≡ 32 }
+    {
+        Nodes {
+            alloc,
+            words,
+            names,
+            left: MOST_NODES,
+        }
+    }
+
+    /// The word of the next node.
+    fn next(&mut self) -> Result<&'w [u8], DeckReason>
+        ensures { OnOk result (self.new.left + 1 ≡ self.old.left) }
+    {
+        let word = self.words.take()?;
+        self.left = self.left.checked_sub(1).ok_or(DeckReason::BadExpression)?;
+        Ok(word)
+    }
+
+    /// Reads an expression.
+    fn expr(&mut self) -> Result<Expr, LineError>
+        ensures { IfOk result (λ expr. self.new.left + expr_nodes expr ≡ self.old.left) }
+    {
+        let alloc = self.alloc;
+        match self.next()? {
+            b"arg" => Ok(Expr::Arg),
+            b"out" => Ok(Expr::Out),
+            b"add" => {
+                let first = Box::new(alloc, self.expr()?)?;
+                Ok(Expr::Add(first, Box::new(alloc, self.expr()?)?))
+            }
+            b"sub" => {
+                let first = Box::new(alloc, self.expr()?)?;
+                Ok(Expr::Sub(first, Box::new(alloc, self.expr()?)?))
+            }
+            word if begins_as_number(word) => {
+                Ok(Expr::Number(read_number(word).ok_or(DeckReason::BadNumber)?))
+            }
+            word => Ok(Expr::Int(int_named(word, self.names)?)),
+        }
+    }
+
+    /// Reads a condition.
+    fn cond(&mut self) -> Result<Cond, LineError>
+        ensures { IfOk result (λ cond. self.new.left + cond_nodes cond ≡ self.old.left) }
+    {
+        let alloc = self.alloc;
+        match self.next()? {
+            b"true" => Ok(Cond::Constant(true)),
+            b"false" => Ok(Cond::Constant(false)),
+            b"lt" => {
+                let first = self.expr()?;
+                Ok(Cond::Less(first, self.expr()?))
+            }
+            b"le" => {
+                let first = self.expr()?;
+                Ok(Cond::LessOrEqual(first, self.expr()?))
+            }
+            b"eq" => {
+                let first = self.expr()?;
+                Ok(Cond::Equal(first, self.expr()?))
+            }
+            b"not" => Ok(Cond::Not(Box::new(alloc, self.cond()?)?)),
+            b"and" => {
+                let first = Box::new(alloc, self.cond()?)?;
+                Ok(Cond::And(first, Box::new(alloc, self.cond()?)?))
+            }
+            b"or" => {
+                let first = Box::new(alloc, self.cond()?)?;
+                Ok(Cond::Or(first, Box::new(alloc, self.cond()?)?))
+            }
+            word => Ok(Cond::Bool(bool_named(word, self.names)?)),
+        }
+    }
+}

@@ -18,7 +18,6 @@ use Rattle.rp_base.specs.declared.voting.PrepareAnswer.{PrepareAnswer}
 use Rattle.rp_base.specs.declared.voting.PrepareAnswer.TheVariants as prepares
 use Rattle.rp_base.specs.declared.voting.AcceptAnswer.{AcceptAnswer}
 use Rattle.rp_base.specs.declared.voting.AcceptAnswer.TheVariants as accepts
-use Rattle.rp_base.specs.Action.{equal_items}
 use Rattle.rp_base.specs.Ballot.{round_of, next_ballot, greatest_with}
 use Rattle.rp_base.specs.Sets.{Has, with_member}
 use Rattle.rp_base.specs.Records.{applied_of, learned_at}
@@ -37,7 +36,7 @@ use Rattle.rp_model.specs.Parts.{Turn}
 use Rattle.rp_model.specs.Parts.{with_record}
 use Rattle.rp_model.specs.Says.{says, says_to_all, says_to_others, says_to_task, sends, notes, drops_foreign, drops_full}
 use Rattle.rp_model.specs.Acceptor.{tells_promise, tells_vote}
-use Rattle.rp_model.specs.Pending.{most_pending, adds_pending, on_numbered, on_call, is_answered_by, replies_to}
+use Rattle.rp_model.specs.Pending.{most_pending, adds_pending, on_numbered, on_call, is_answered_by, replies_to, is_same_call}
 use Rattle.rp_model.specs.Leader.{chosen_position, is_out_of_reach, starts_above, begins, on_lead, counts_promise, on_promise_to}
 use Rattle.rp_model.specs.Learner.{missing_position, asks_for, tells_learned, learns, on_vote, on_decision}
 use Rattle.rp_model.specs.Receiving.{is_for_node, party_number, on_body}
@@ -133,7 +132,7 @@ module _ {S : Type 0} (s : Setting S) where
   adds_answers records running item =
       let known = record running { pending = running.pending ++ item ∷ [] } in
       let room = nat_lt (length running.pending) most_pending in
-      choice records (list_any (equal_items item) running.pending) (notes running) (if room then notes known else drops_full running) (silent records running)
+      choice records (list_any (is_same_call item) running.pending) (notes running) (if room then notes known else drops_full running) (silent records running)
       (choice records room (notes known) (drops_full running) (silent records known) (λ m h. absurd h))
 
   numbered_answers : (me : ℕ) (records : List Rec) (running : Running) (task number : ℕ) (call : Action) (reply : Option Reply)

@@ -16,7 +16,6 @@ use Rattle.rp_base.specs.declared.voting.PrepareAnswer.{PrepareAnswer}
 use Rattle.rp_base.specs.declared.voting.PrepareAnswer.TheVariants as prepares
 use Rattle.rp_base.specs.declared.voting.AcceptAnswer.{AcceptAnswer}
 use Rattle.rp_base.specs.declared.voting.AcceptAnswer.TheVariants as accepts
-use Rattle.rp_base.specs.Action.{equal_items}
 use Rattle.rp_base.specs.Ballot.{next_ballot, round_of}
 use Rattle.rp_base.specs.Promises.{Promise, offer_of, same_heard, makes_majority}
 use Rattle.rp_base.specs.Proposals.{Proposal, proposal_at, is_in, takes_promise, with_promise, is_promised}
@@ -35,7 +34,7 @@ use Rattle.rp_model.specs.Says.{says, says_to_all, says_to_others, says_to_task}
 use Rattle.rp_model.specs.Acceptor.{tells_promise, tells_vote}
 use Rattle.rp_model.specs.Leader.{chosen_position, is_out_of_reach, starts_above, on_promise_to}
 use Rattle.rp_model.specs.Learner.{missing_position, asks_for, tells_learned, learns, on_vote, on_decision}
-use Rattle.rp_model.specs.Pending.{adds_pending, most_pending, is_answered_by, replies_to, on_numbered, on_call}
+use Rattle.rp_model.specs.Pending.{adds_pending, most_pending, is_answered_by, replies_to, on_numbered, on_call, is_same_call}
 use Rattle.rp_model.specs.Receiving.{is_for_node, party_number, on_body}
 use Rattle.rp_model.specs.Effect.{Setting, NodeInput, Receive, Lead, Interrupt, Tick, Report, running_effect}
 
@@ -116,7 +115,7 @@ module _ {S : Type 0} (next : S → Action → S) (answers : S → Action → Li
 
   few_pending : (running : Running) (item : Action) → IsFew (adds_pending running item)
   few_pending running item =
-      few_either (list_any (equal_items item) running.pending) _ _ (omega arith) (few_either (nat_lt (length running.pending) most_pending) _ _ (omega arith) (omega arith))
+      few_either (list_any (is_same_call item) running.pending) _ _ (omega arith) (few_either (nat_lt (length running.pending) most_pending) _ _ (omega arith) (omega arith))
 
   few_numbered : (me : ℕ) (kept : List Action) (running : Running) (task number : ℕ) (call : Action) (reply : Option Reply) → IsFew (on_numbered me kept running task number call reply)
   few_numbered me kept running task number call None = few_either (nat_lt number (last_number task kept)) _ _ (omega arith) (few_pending running call)

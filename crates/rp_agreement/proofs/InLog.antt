@@ -13,7 +13,7 @@ use Rattle.rp_base.specs.declared.record.Rec.{Rec}
 use Rattle.rp_base.specs.declared.record.Rec.TheVariants.{Promised, Voted}
 use Rattle.rp_base.specs.declared.voting.PrepareAnswer.TheVariants as prepares
 use Rattle.rp_base.specs.declared.voting.AcceptAnswer.TheVariants as accepts
-use Rattle.rp_base.specs.Action.{same_action, equal_items}
+use Rattle.rp_base.specs.Action.{same_action}
 use Rattle.rp_base.specs.Ballot.{owner_of, next_ballot, round_of}
 use Rattle.rp_base.specs.Promises.{Promise, same_heard, makes_majority}
 use Rattle.rp_base.specs.Proposals.{Proposal, proposal_at, is_in, takes_promise, with_promise, is_promised}
@@ -34,7 +34,7 @@ use Rattle.rp_model.specs.Acceptor.{tells_promise, tells_vote}
 use Rattle.rp_model.specs.Leader.{chosen_position, is_out_of_reach, starts_above, on_promise_to}
 use Rattle.rp_model.specs.Says.{drops_foreign}
 use Rattle.rp_model.specs.Learner.{tells_learned, on_vote, on_decision}
-use Rattle.rp_model.specs.Pending.{adds_pending, most_pending, on_numbered, on_call}
+use Rattle.rp_model.specs.Pending.{adds_pending, most_pending, on_numbered, on_call, is_same_call}
 use Rattle.rp_model.specs.Receiving.{is_node, is_no_node_above, party_number, is_allowed, is_for_node, on_body, receives}
 use Rattle.rp_model.specs.Effect.{Setting, NodeInput, Receive, Lead, Interrupt, Tick, Report, running_effect}
 
@@ -85,7 +85,7 @@ told_in_log most me running from i (Some v) = tt
 
 pending_in_log : (most : ℕ) (running : Running) (item : Action) → TurnInLog most (adds_pending running item)
 pending_in_log most running item =
-    either_in_log most (list_any (equal_items item) running.pending) _ _ tt (either_in_log most (nat_lt (length running.pending) most_pending) _ _ tt tt)
+    either_in_log most (list_any (is_same_call item) running.pending) _ _ tt (either_in_log most (nat_lt (length running.pending) most_pending) _ _ tt tt)
 
 numbered_in_log : (most me : ℕ) (kept : List Action) (running : Running) (task number : ℕ) (call : Action) (reply : Option Reply)
     → TurnInLog most (on_numbered me kept running task number call reply)

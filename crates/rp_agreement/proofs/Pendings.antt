@@ -7,7 +7,7 @@ use Rattle.rp_base.specs.declared.action.Action.TheVariants.{Noop, Call, Interru
 use Rattle.rp_base.specs.declared.reply.Answer.{Answer}
 use Rattle.rp_base.specs.declared.reply.Reply.{Reply}
 use Rattle.rp_base.specs.declared.record.Rec.{Rec}
-use Rattle.rp_base.specs.Action.{IsRight, IsIndex, IsCount, equal_items}
+use Rattle.rp_base.specs.Action.{IsRight, IsIndex, IsCount}
 use Rattle.rp_base.specs.Sets.{Has}
 use Rattle.rp_base.proofs.Members.{has_split}
 use Rattle.rp_codec.specs.Message.{Message, IsCallBy}
@@ -17,7 +17,7 @@ use Rattle.rp_machine.specs.Calls.{CallName}
 use Rattle.rp_machine.specs.Asked.{last_number, last_occurrence, kept_reply}
 use Rattle.rp_model.specs.Parts.{Running}
 use Rattle.rp_model.specs.Says.{says_to_task, notes, drops_full}
-use Rattle.rp_model.specs.Pending.{most_pending, adds_pending, on_numbered, on_call, on_interrupt, on_tick}
+use Rattle.rp_model.specs.Pending.{most_pending, adds_pending, on_numbered, on_call, on_interrupt, on_tick, is_same_call}
 use Rattle.rp_agreement.specs.Told.{Asks, IsAsked}
 use Rattle.rp_agreement.specs.Sound.{IsRunning}
 use Rattle.rp_agreement.proofs.Turns.{IsSoundTurn, one_plain, quiet, full, sending, either}
@@ -40,7 +40,7 @@ adds_sound : (nodes x : ℕ) (records : List Rec) (sent : List Message) (running
 adds_sound nodes x records sent running item runs asked =
     let more = notes (record running { pending = running.pending ++ item ∷ [] }) in
     let room = nat_lt (length running.pending) most_pending in
-    either nodes x records sent (list_any (equal_items item) running.pending) (notes running) (if room then more else drops_full running)
+    either nodes x records sent (list_any (is_same_call item) running.pending) (notes running) (if room then more else drops_full running)
     (λ _. quiet nodes x records sent running runs)
     (λ _. either nodes x records sent room more (drops_full running)
     (λ _. quiet nodes x records sent (record running { pending = running.pending ++ item ∷ [] }) (runs_pending sent records running item runs asked))

@@ -14,7 +14,7 @@ use Rattle.rp_base.specs.declared.voting.PrepareAnswer.{PrepareAnswer}
 use Rattle.rp_base.specs.declared.voting.PrepareAnswer.TheVariants as prepares
 use Rattle.rp_base.specs.declared.voting.AcceptAnswer.{AcceptAnswer}
 use Rattle.rp_base.specs.declared.voting.AcceptAnswer.TheVariants as accepts
-use Rattle.rp_base.specs.Action.{IsRight, IsCount, equal_items, same_action}
+use Rattle.rp_base.specs.Action.{IsRight, IsCount, same_action}
 use Rattle.rp_base.specs.Ballot.{IsBallot}
 use Rattle.rp_base.specs.Number.{IsNode, IsTask, IsPosition}
 use Rattle.rp_base.specs.Promises.{Promise, offer_of}
@@ -38,7 +38,7 @@ use Rattle.rp_model.specs.Says.{says, says_to_all, says_to_others, says_to_task,
 use Rattle.rp_model.specs.Acceptor.{tells_promise, tells_vote, on_prepare, on_accept}
 use Rattle.rp_model.specs.Leader.{counts_promise, on_promise_to, on_promise, on_nack}
 use Rattle.rp_model.specs.Learner.{tells_learned}
-use Rattle.rp_model.specs.Pending.{most_pending, adds_pending, on_numbered, on_call, is_answered_by, replies_to}
+use Rattle.rp_model.specs.Pending.{most_pending, adds_pending, on_numbered, on_call, is_answered_by, replies_to, is_same_call}
 use Rattle.rp_agreement.specs.Ranges.{IsRangedProposal, IsRangedRunning}
 use Rattle.rp_agreement.proofs.AnswerTurns.{kept_is_given}
 use Rattle.rp_agreement.proofs.Lists.{found_has}
@@ -228,7 +228,7 @@ nack_ranged running i b bound runs =
 pub adds_ranged : (running : Running) (item : Action) → IsRangedRunning running → IsRight item → IsRangedTurn (adds_pending running item)
 adds_ranged running item runs right =
     let more = record running { pending = running.pending ++ item ∷ [] } in
-    choice (list_any (equal_items item) running.pending) (notes running) _ (noted running runs)
+    choice (list_any (is_same_call item) running.pending) (notes running) _ (noted running runs)
     (choice (nat_lt (length running.pending) most_pending) (notes more) (drops_full running)
     (noted more (record {
       proposals = runs.proposals;

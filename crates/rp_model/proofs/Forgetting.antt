@@ -26,7 +26,6 @@ use Rattle.rp_model.specs.declared.effect.Dropped.{Dropped}
 use Rattle.rp_model.specs.declared.effect.Dropped.TheVariants.{No, Full, Foreign}
 use Rattle.rp_model.specs.Parts.{with_record}
 use Rattle.rp_base.specs.Ballot.{greatest_with, next_ballot, round_of}
-use Rattle.rp_base.specs.Action.{equal_items}
 use Rattle.rp_base.specs.Proposals.{Proposal, proposal_at, without_proposal, with_proposal, is_in, takes_promise, with_promise, is_promised, after_promise}
 use Rattle.rp_base.specs.Voting.{prepare_answer, accept_answer}
 use Rattle.rp_base.specs.declared.fault.Fault.TheVariants.{BallotsSpent, LogFull}
@@ -37,7 +36,7 @@ use Rattle.rp_machine.specs.Asked.{last_number, last_occurrence, kept_reply}
 use Rattle.rp_machine.specs.Replay.{kept_of, replay_answers}
 use Rattle.rp_model.specs.Says.{says, says_to_all, says_to_others, says_to_task, sends, notes, drops_foreign, drops_full}
 use Rattle.rp_model.specs.Acceptor.{tells_promise, tells_vote}
-use Rattle.rp_model.specs.Pending.{most_pending, adds_pending, on_numbered, on_call, on_interrupt}
+use Rattle.rp_model.specs.Pending.{most_pending, is_same_call, adds_pending, on_numbered, on_call, on_interrupt}
 use Rattle.rp_model.specs.Leader.{chosen_position, is_out_of_reach, starts_above, begins, on_lead, counts_promise, on_promise_to, on_nack}
 use Rattle.rp_model.specs.Learner.{missing_position, asks_for, tells_learned, learns, on_vote, on_decision}
 use Rattle.rp_model.specs.Receiving.{is_for_node, party_number, on_body, receives}
@@ -201,7 +200,7 @@ module _ (grown : (records : List Rec) (rec : Rec) (i : ℕ) → learned_at (rec
     adds_alike : (item : Action) → AreAlikeTurns records (adds_pending one item) (adds_pending other item)
     adds_alike item =
         let known : Running = record one { pending = one.pending ++ item ∷ [] } in
-        elim (list_any (equal_items item) one.pending)
+        elim (list_any (is_same_call item) one.pending)
         as (λ t. AreAlikeTurns records (if t then notes one else if nat_lt (length one.pending) most_pending then notes known else drops_full one)
         (if t then notes other else if nat_lt (length one.pending) most_pending then notes (record known { heard = heard }) else drops_full other)) [
           | true ↦ nothing

@@ -18,10 +18,15 @@ use Rattle.rp_model.specs.Says.{says_to_task, sends, notes, drops_full}
 abbrev pub most_pending : ℕ
 most_pending = 32
 
--- an item is added behind the others, unless its equal is there or no place is left
+-- the two are one call, by its task and number
+abbrev pub is_same_call : Action → Action → Bool
+is_same_call (Call task number o p a) (Call other same q r b) = nat_eq task other && nat_eq number same
+is_same_call item other = false
+
+-- an item is added behind the others, unless it is a call that is there or no place is left
 abbrev pub adds_pending : Running → Action → Turn
 adds_pending running item =
-    if list_any (equal_items item) running.pending then notes running
+    if list_any (is_same_call item) running.pending then notes running
     else if nat_lt (length running.pending) most_pending then notes (record running { pending = running.pending ++ item ∷ [] })
     else drops_full running
 

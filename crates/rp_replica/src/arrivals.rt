@@ -91,7 +91,7 @@ impl<M: Machine, D: Device> Replica<M, D> {
         self.add(alloc, RightAction::new(call))
     }
 
-    /// An item becomes pending, unless its equal is or 32 are.
+    /// An item becomes pending, unless it is a call that is, or 32 are.
     fn add(&mut self, alloc: Global, item: RightAction) -> Sent
         ensures { Turns (adds_pending self.old.running item) self.old self.new result }
     {

@@ -2,10 +2,10 @@
 
 ghost use Rattle.std.specs.Prelude.{◌≡◌, ◌<◌, ◌≤◌, [], ◌∷◌, ◌++◌, length, drop, filter, slice_get, nat_lt, not, IfOk, IsTrue, IsOkUnless};
 ghost use Rattle.std.specs.List.{list_any};
-ghost use Rattle.rp_base.specs.Action.{IsCount, same_action, equal_items};
+ghost use Rattle.rp_base.specs.Action.{IsCount, same_action};
 ghost use Rattle.rp_base.specs.declared.fault.Fault.TheVariants as faults;
 ghost use Rattle.rp_machine.specs.Numbered.{outcome};
-ghost use Rattle.rp_model.specs.Pending.{most_pending, is_answered_by, stays};
+ghost use Rattle.rp_model.specs.Pending.{most_pending, is_same_call, is_answered_by, stays};
 
 use circular_buffer::HeapCircularBuffer;
 use rp_base::{Action, Answer, Fault};
@@ -46,11 +46,13 @@ impl Pending {
         })
     }
 
-    /// Whether an equal item is pending.
+    /// Whether the item is a call that is pending.
     pub(crate) fn has(&self, item: Action) -> bool
-        ensures { result ≡ list_any (equal_items item) self.now }
+        ensures { result ≡ list_any (is_same_call item) self.now }
     {
-        self.items.iter().any(|other| is_equal(item, other.get()))
+        self.items
+            .iter()
+            .any(|other| is_same_call(item, other.get()))
     }
 
     /// Whether a place is left.
@@ -116,9 +118,9 @@ impl Pending {
     }
 }
 
-/// Whether the items are equal: calls by task and number, all else whole.
-pub(crate) fn is_equal(item: Action, other: Action) -> bool
-    ensures { result ≡ equal_items item other }
+/// Whether the two are one call, by its task and number.
+fn is_same_call(item: Action, other: Action) -> bool
+    ensures { result ≡ is_same_call item other }
 {
     match item {
         Action::Call { task, number, .. } => match other {
@@ -129,7 +131,7 @@ pub(crate) fn is_equal(item: Action, other: Action) -> bool
             } => task == caller && number == same,
             _ => false,
         },
-        _ => item == other,
+        _ => false,
     }
 }
 

@@ -1,17 +1,18 @@
 -- What clap's faults say of the words that it takes.
 use Rattle.std.proofs.Common.{◌≡◌, List, [], ◌∷◌, Bool, true, false, not, ◌&&◌, Option, Some, None, is_some, codes, refl, cond, ap, sym, subst, ◌∙◌}
-use Rattle.std.specs.Prelude.{option_map}
-use Rattle.clap.specs.Words.{App, Shape, Row, Text, Kinds, fault_of, subcommand_of, built}
+use Rattle.std.specs.Prelude.{option_map, option_and_then}
+use Rattle.clap.specs.Words.{App, Shape, Row, Text, Kinds, fault_of, subcommand_of, built, found_of, one_of, one_text, rows_of}
 use Rattle.clap.specs.Kinds.{or_else, check_kinds}
 use Rattle.clap.specs.Faults.{level_fault, walk_fault, settle_fault, defaults_fault, check_fault}
 use Rattle.clap.specs.Simple.{entered, rows_at, names_of, argument_words}
 use Rattle.clap.specs.Walk.{Held, Names, walk, walk_from, settled, finished, stop_after}
 use Rattle.clap.specs.declared.error.Error.{Error}
 use Rattle.clap.proofs.OnLiterals.{clap_on_literals}
+use Rattle.clap.proofs.WalkLemmas.{one_text-rows}
 use Rattle.clap.specs.Words.{is_simple, is_simple_and_free, HasKind, subcommand_rows_of, subcommand_name_of}
 use Rattle.clap.specs.declared.parser.matches.ArgMatches.{ArgMatches}
 use Rattle.clap.specs.declared.parser.matches.ArgMatches.TheViews.{out-ArgMatches}
-use Rattle.rp_console.specs.CommandLine.{console}
+use Rattle.rp_console.specs.CommandLine.{console, trace_of}
 
 or_else_second : (first second : Kinds) → or_else first second ≡ [] → second ≡ []
 or_else_second [] second e = e
@@ -83,3 +84,16 @@ pub met_script : (a : App) (words : List Text) (m : ArgMatches) (rows : Type 0) 
     → (is_simple a ≡ true → rows × (subcommand_rows_of m ≡ subcommand_of a words)) → subcommand_name_of m ≡ Some (codes "script")
 met_script a words m rows same none met = sym (name_of_rows m) ∙ ap (option_map (λ found. found.0))
     ((met (ap is_simple same ∙ is_simple_console)).1 ∙ ap (λ b. subcommand_of b words) same) ∙ subcommand_name words none
+
+option_at : (found : Option (Text × List Row)) (rows : List Row) → option_map (λ p. p.1) found ≡ Some rows
+    → one_of (codes "trace") rows ≡ option_and_then (λ p. one_of (codes "trace") p.1) found
+option_at None rows e = cc
+option_at (Some p) rows e = let same : p.1 ≡ rows = cc in ap (one_of (codes "trace")) (sym same)
+
+-- what the subcommand's matches have of the option
+pub trace_read : (a : App) (words : List Text) (m inner : ArgMatches) (rows : Type 0) → a ≡ console
+    → (is_simple a ≡ true → rows × (subcommand_rows_of m ≡ subcommand_of a words)) → option_map (λ p. p.1) (subcommand_rows_of m) ≡ Some (rows_of (found_of inner))
+    → one_text (found_of inner) (codes "trace") ≡ trace_of words
+trace_read a words m inner rows same met there =
+    let found : subcommand_rows_of m ≡ subcommand_of console words = (met (ap is_simple same ∙ is_simple_console)).1 ∙ ap (λ b. subcommand_of b words) same in
+    one_text-rows (found_of inner) (codes "trace") ∙ option_at (subcommand_of console words) _ (ap (option_map (λ p. p.1)) (sym found) ∙ there)

@@ -43,7 +43,7 @@ pub fn run_script<R: Read, W: Write>(
 }
 
 /// Runs the script of a deck, and writes what it prints. A fault ends the run where it comes, and then a
-/// beginning of that is written: `OutOfMemory`, or `Io` where the writer fails.
+/// beginning of that is written: `OutOfMemory`, `Device`, or `Io` where the writer fails.
 pub fn run_deck<W: Write>(
     alloc: Global,
     deck: Deck,

@@ -83,7 +83,12 @@ fn given_words(rt: &HostRuntime) -> Result<Vec<String>, Fault> {
 /// Does what the words ask for, or tells why they are wrong.
 fn obey(rt: &HostRuntime, words: &[String]) -> u8 {
     match read_args(rt.alloc(), words) {
-        Ok(Args::Script) => match run_script(rt.alloc(), &mut rt.stdin(), false, &mut rt.stdout()) {
+        Ok(Args::Script { traced }) => match run_script(
+            rt.alloc(),
+            &mut rt.stdin(),
+            traced,
+            &mut rt.stdout(),
+        ) {
             Ok(()) => 0,
             Err(fault) => fail(rt, fault),
         },

@@ -1,11 +1,11 @@
-use Rattle.std.proofs.Common.{◌≡◌, ◌∙◌, [], map, rules, Some, codes}
-use Rattle.std.specs.Prelude.{option_map}
-use Rattle.clap.specs.Words.{fault_of}
-use Rattle.rp_console.specs.CommandLine.{console}
-use Rattle.rp_console.proofs.CommandLineLemmas.{subcommand_name, no_fault, has_fault, met_script}
+use Rattle.std.proofs.Common.{◌≡◌, ◌∙◌, [], map, rules, true, false, codes, ap}
+use Rattle.clap.specs.Words.{fault_of, found_of, one_text}
+use Rattle.rp_console.specs.CommandLine.{console, trace_of}
+use Rattle.rp_console.proofs.CommandLineLemmas.{no_fault, has_fault, met_script, trace_read}
+use Rattle.rp_console.specs.declared.args.Args.TheVariants.{Script}
 use Rattle.rp_console.proofs.args.read_args.Given as given
 use Rattle.rp_console.proofs.args.read_args.Goals as goal
-use Rattle.rp_console.proofs.args.read_args.Goals.{In_ok-matches, in_default-via-in-Some+in_default, in_default-via-in_default}
+use Rattle.rp_console.proofs.args.read_args.Goals.{In_ok-matches}
 
 taken : (g : given.Over) (c : In_ok-matches g) → fault_of console (map g.S.AsStr.text c.args.words.now) ≡ []
 taken g c = no_fault _ _ c.in_ok-command.ensures c.in_ok-matches.ensures.kinds
@@ -18,11 +18,20 @@ returns-in_err-matches-clause-refused g c =
 pub unreachable-requires : goal.unreachable-requires
 unreachable-requires g c =
     let met = met_script _ (map g.S.AsStr.text c.args.words.now) c.in_ok-matches.matches _ c.in_ok-command.ensures (taken g (goal.at.unreachable-requires g c).In_ok-matches) c.in_ok-matches.ensures.matches in
-    let name : option_map (λ s. s.now) c.subcommand_name.result ≡ Some (codes "script") = c.subcommand_name.ensures ∙ met in
-    elim c.in_default.branch [ in_default-via-in-Some+in_default w ↦ search (rules, name) | in_default-via-in_default w ↦ search (rules, name) ]
+    let is : false ≡ true = c.in-None.ensures.found.1 met in
+    cc
 
-pub returns-clause-named : goal.returns-clause-named
-returns-clause-named g c = subcommand_name (map g.S.AsStr.text c.args.words.now) (taken g (goal.at.returns-clause-named g c).In_ok-matches)
+pub returns-clause-traced : goal.returns-clause-traced
+returns-clause-traced g c asked =
+    let text : one_text (found_of c.in-Some.found.now) (codes "trace") ≡ trace_of (map g.S.AsStr.text c.args.words.now) =
+    trace_read _ _ c.in_ok-matches.matches c.in-Some.found.now _ c.in_ok-command.ensures c.in_ok-matches.ensures.matches c.in-Some.ensures.rows in
+    ap Script (c.get_flag.ensures.value (text ∙ asked))
+
+pub returns-clause-quiet : goal.returns-clause-quiet
+returns-clause-quiet g c asked =
+    let text : one_text (found_of c.in-Some.found.now) (codes "trace") ≡ trace_of (map g.S.AsStr.text c.args.words.now) =
+    trace_read _ _ c.in_ok-matches.matches c.in-Some.found.now _ c.in_ok-command.ensures c.in_ok-matches.ensures.matches c.in-Some.ensures.rows in
+    ap Script (c.get_flag.ensures.other (text ∙ asked))
 
 pub returns-clause-refused : goal.returns-clause-refused
 returns-clause-refused g c = taken g (goal.at.returns-clause-refused g c).In_ok-matches

@@ -12,3 +12,8 @@ pub returns-in-Tally-clause-output : goal.returns-in-Tally-clause-output
 returns-in-Tally-clause-output g c =
     let output = c.run_lines.ensures.output in
     writes_same _ _ _ _ c.run_lines.result (ap (output_by DRAIN_LIMIT c.args.traced c.args.deck) (sym c.in-Tally.is)) (rw c.as_slice-lines.ensures.value at output)
+
+pub returns-clause-output : goal.returns-clause-output
+returns-clause-output g c =
+    let output = c.run_lines-in-Objects.ensures.output in
+    writes_same _ _ _ _ c.run_lines-in-Objects.result (ap (output_by DRAIN_LIMIT c.args.traced c.args.deck) (sym c.in-Objects.is)) (rw c.as_slice-lines.ensures.value at output)

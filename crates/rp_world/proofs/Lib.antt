@@ -7,3 +7,4 @@ pub mod Answering
 pub mod Sounding
 pub mod Ending
 pub mod Taking
+pub mod Calling

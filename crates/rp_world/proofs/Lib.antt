@@ -8,3 +8,4 @@ pub mod Sounding
 pub mod Ending
 pub mod Taking
 pub mod Calling
+pub mod Asked

@@ -9,3 +9,4 @@ pub mod Ending
 pub mod Taking
 pub mod Calling
 pub mod Asked
+pub mod Fresh

@@ -1,6 +1,6 @@
 -- What a question about one node is told.
 use Rattle.std.specs.Borrow.{Bor}
-use Rattle.std.proofs.Common.{◌≡◌, ℕ, suc, ◌+◌, ◌-◌, ◌<◌, Option, Some, None, Result, Ok, Err, List, length, slice_get, refl, sym, ap, subst, ◌∙◌, ok_or}
+use Rattle.std.proofs.Common.{◌≡◌, ℕ, suc, ◌-◌, Option, Some, None, Result, Ok, Err, List, slice_get, refl, sym, subst, ok_or}
 use Rattle.std.specs.Prelude.{IfSome, IfNone}
 use Rattle.rp_base.specs.declared.config.Config.{Config}
 use Rattle.rp_base.specs.declared.fault.Fault.{Fault}
@@ -9,7 +9,7 @@ use Rattle.rp_base.specs.declared.record.Rec.{Rec}
 use Rattle.rp_store.specs.Disk.{Disk}
 use Rattle.rp_model.specs.Parts.{NodePart, Running as Known}
 use Rattle.rp_model.specs.World.{part_at}
-use Rattle.rp_replica.specs.Held.{Held, part_of}
+use Rattle.rp_replica.specs.Held.{Held}
 use Rattle.rp_world.specs.Callers.{Caller}
 use Rattle.rp_world.specs.Messages.{Sending}
 use Rattle.rp_world.specs.Nodes.{Member, member_of, RunsAs, StandsFor, IsLengthOf}

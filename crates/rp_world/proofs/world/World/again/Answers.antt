@@ -1,11 +1,9 @@
-use Rattle.std.proofs.Common.{◌≡◌, ℕ, suc, ◌+◌, ◌-◌, ◌<◌, ◌≤◌, Result, Ok, Err, Some, length, slice_get, slice_set, inl, refl, sym, ap, subst, ◌∙◌, arith}
+use Rattle.std.proofs.Common.{◌≡◌, ℕ, suc, ◌+◌, ◌-◌, ◌<◌, ◌≤◌, Some, length, inl, refl, sym, ap, subst, ◌∙◌, arith}
 use Rattle.rp_model.specs.Tasks.{Again}
 use Rattle.rp_model.specs.World.{part_at, task_takes}
-use Rattle.rp_model.specs.declared.effect.Effect.{Effect}
-use Rattle.rp_world.specs.Callers.{Caller}
 use Rattle.rp_world.specs.Going.{Answers, Goes, no_cut}
 use Rattle.rp_world.specs.Shape.{world_of}
-use Rattle.rp_world.proofs.Moving.{here_of, task_here, number_here}
+use Rattle.rp_world.proofs.Moving.{here_of, task_here}
 use Rattle.rp_world.proofs.Calling.{told_of, above, asks_nothing, again_wants, asks_more}
 use Rattle.rp_world.proofs.world.World.again.Goals as goal
 

@@ -1,4 +1,4 @@
-use Rattle.std.proofs.Common.{◌≡◌, ap}
+use Rattle.std.proofs.Common.{ap}
 use Rattle.rp_model.specs.World.{World}
 use Rattle.rp_world.specs.Messages.{Sending}
 use Rattle.rp_world.specs.Steps.{Setup}

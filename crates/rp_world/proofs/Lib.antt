@@ -8,3 +8,6 @@ pub mod Sounding
 pub mod Ending
 pub mod Taking
 pub mod Hearing
+pub mod Calling
+pub mod Asked
+pub mod Fresh

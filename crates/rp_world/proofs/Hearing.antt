@@ -70,6 +70,9 @@ message_found (Some m) text is = (m, refl, some_is text (text_of m) is)
 pub to_whom : (p : Option Message) (m : Message) (party : Party) → p ≡ Some m → party ≡ m.to → (let o : Option Party = Some party in o ≡ option_map (λ (x : Message). x.to) p)
 to_whom p m party is to = ap (λ (q : Party). let o : Option Party = Some q in o) to ∙ sym (ap (option_map (λ (x : Message). x.to)) is)
 
+pub same_input : (one other : NodeInput) → (let a : Result NodeInput Fault = Ok one in let b : Result NodeInput Fault = Ok other in a ≡ b) → one ≡ other
+same_input one other same = cc
+
 -- ---- nothing happens
 
 pub nothing_goes : (w : World) (whole : Result Happening Fault) (after : World) (told : Effect) → whole ≡ Ok (nothing_happens w) → after ≡ w → told ≡ told_of (length w.sent + 1) None → Goes w whole after told

@@ -2,6 +2,7 @@
 
 ghost use Rattle.std.specs.Prelude.{◌≡◌, ℕ, Ok, Some, IfOk, option_map};
 ghost use Rattle.std.specs.List.{AllByRecursion};
+ghost use Rattle.rp_base.specs.Config.{IsRightConfig};
 ghost use Rattle.rp_codec.specs.Message.{Message, IsPacket};
 ghost use Rattle.rp_codec.specs.declared.packet.Party.TheVariants.{Node, Task};
 ghost use Rattle.rp_codec.specs.Text.{text_of};
@@ -44,6 +45,7 @@ fn receiver(text: &[u8]) -> Party
 impl<M: Machine, D: CutDevice> World<M, D> {
     /// What an event comes to.
     pub(crate) fn step(&mut self, alloc: Global, event: &Event) -> Result<Effect, Fault>
+        requires config { IsRightConfig self.old.config }
         requires ranged { IsRangedWorld self.old.config.nodes self.old.world }
         requires event { IsEvent (event_of event.now) }
         ensures step { IsStep M.next M.answers M.begin self.old event.now self.new result }
@@ -80,6 +82,7 @@ fn input_of(interrupt: Interrupt) -> Input<'static>
 impl<M: Machine, D: CutDevice> World<M, D> {
     /// A node makes a step: refused as one that is given an input, or as a delivery.
     pub(crate) fn makes(&mut self, alloc: Global, step: Step) -> Result<Effect, Fault>
+        requires config { IsRightConfig self.old.config }
         requires ranged { IsRangedWorld self.old.config.nodes self.old.world }
         requires step { events.IsStep (step_of step) }
         ensures answer { let setting = setting_of M.next M.answers M.begin self.old in
@@ -218,11 +221,13 @@ impl<M: Machine, D: CutDevice> World<M, D> {
             self.new.world result }
         ensures setup { IsSameSetup self.old self.new }
     {
-        match self.receiver_of(number) {
-            None => Err(Fault::NoSuchMessage),
-            Some(Party::Node(node)) => self.hears(alloc, number, node),
-            Some(Party::Task(task)) => self.is_told(alloc, number, task),
-            Some(Party::Audit) => Ok(nothing(self.messages() + 1)),
+        let Some(receiver) = self.receiver_of(number) else {
+            return Err(Fault::NoSuchMessage);
+        };
+        match receiver {
+            Party::Node(node) => self.hears(alloc, number, node),
+            Party::Task(task) => self.is_told(alloc, number, task),
+            Party::Audit => Ok(nothing(self.messages() + 1)),
         }
     }
 
@@ -299,10 +304,12 @@ impl<M: Machine, D: CutDevice> World<M, D> {
             self.new.world result }
         ensures setup { IsSameSetup self.old self.new }
     {
-        match self.receiver_of(number) {
-            None => Err(Fault::NoSuchMessage),
-            Some(Party::Node(node)) => self.cut_hearing(alloc, number, node, kept),
-            Some(Party::Task(_)) | Some(Party::Audit) => Err(Fault::NotRunning),
+        let Some(receiver) = self.receiver_of(number) else {
+            return Err(Fault::NoSuchMessage);
+        };
+        match receiver {
+            Party::Node(node) => self.cut_hearing(alloc, number, node, kept),
+            Party::Task(_) | Party::Audit => Err(Fault::NotRunning),
         }
     }
 

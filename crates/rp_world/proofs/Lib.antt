@@ -7,3 +7,7 @@ pub mod Answering
 pub mod Sounding
 pub mod Ending
 pub mod Taking
+pub mod Hearing
+pub mod Calling
+pub mod Asked
+pub mod Fresh

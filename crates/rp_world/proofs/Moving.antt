@@ -1,13 +1,13 @@
 -- What a change of one node or of one task is for the world.
 use Rattle.std.proofs.Common.{◌≡◌, ℕ, zero, suc, ◌+◌, ◌-◌, ◌<◌, ◌≤◌, Option, Some, None, Result, Ok, Err, List, [], ◌∷◌, ◌++◌, length, map, take, drop, slice_get, slice_set, option_map, inl, inr, refl, sym, ap, subst, ◌∙◌, arith}
 use Rattle.std.specs.Prelude.{IfSome, insert, remove, get_or}
-use Rattle.std.proofs.lemmas.List.{append-nil}
+use Rattle.std.proofs.lemmas.List.{append-nil, length-map}
 use Rattle.std.proofs.lemmas.Option.{slice_get-get_or}
 use Rattle.rp_base.specs.declared.config.Config.{Config}
 use Rattle.rp_base.specs.declared.fault.Fault.{Fault}
 use Rattle.rp_codec.specs.Message.{Message}
 use Rattle.rp_store.specs.Disk.{Disk}
-use Rattle.rp_model.specs.Parts.{NodePart, TaskPart}
+use Rattle.rp_model.specs.Parts.{NodePart, TaskPart, fresh_task}
 use Rattle.rp_model.specs.Answers.{Tells}
 use Rattle.rp_model.specs.declared.effect.Effect.{Effect}
 use Rattle.rp_model.specs.Effect.{Done, cut_if, cut_part, goes_on_as}
@@ -207,6 +207,12 @@ module _ {S D P : Type 0} (disk : D → Disk) (config : Config) (begin : S) (nod
         set_map (λ (c : Caller). c.part) tasks i new
         ∙ subst (λ (k : ℕ). slice_set (map (λ (c : Caller). c.part) tasks) i new.part ≡ with_part (map (λ (c : Caller). c.part) tasks) k new.part) placed refl
 
+    pub tasks_stay : (new : Caller) → new.part ≡ t.part → map (λ (c : Caller). c.part) (slice_set tasks i new) ≡ map (λ (c : Caller). c.part) tasks
+    tasks_stay new same =
+        let parts = map (λ (c : Caller). c.part) tasks in
+        tasks_moved new ∙ ap (with_part parts me) same
+        ∙ subst (λ (k : ℕ). with_part parts k t.part ≡ parts) placed (part_same parts i t.part (get_map (λ (c : Caller). c.part) tasks i ∙ ap (option_map (λ (c : Caller). c.part)) here))
+
     pub still_tasks : (new : Caller) → new.task ≡ t.task → IsWorld disk config begin nodes tasks → IsWorld disk config begin nodes (slice_set tasks i new)
     still_tasks new same is = record {
       right = is.right;
@@ -215,3 +221,13 @@ module _ {S D P : Type 0} (disk : D → Disk) (config : Config) (begin : S) (nod
       eight = length_set tasks i new ∙ is.eight;
       numbered = set_keeps (λ k (c : Caller). c.task ≡ suc k) tasks i new is.numbered (same ∙ number_here is ∙ sym placed);
     }
+
+-- each of the eight tasks has its part
+pub task_at : {S D P : Type 0} (disk : D → Disk) (config : Config) (begin : S) (nodes : List (Node S D P)) (tasks : List Caller) → IsWorld disk config begin nodes tasks → (me : ℕ) → (1 ≤ me) × (me ≤ 8)
+    → (part : TaskPart) × (part_at (map (λ (c : Caller). c.part) tasks) me ≡ Some part) × (with_part (map (λ (c : Caller). c.part) tasks) me part ≡ map (λ (c : Caller). c.part) tasks)
+task_at disk config begin nodes tasks is zero within = absurd (omega (arith, within.0))
+task_at disk config begin nodes tasks is (suc i) within =
+    let parts = map (λ (c : Caller). c.part) tasks in
+    let short : i < length parts = omega (arith, within.1, is.eight, length-map tasks (λ (c : Caller). c.part)) in
+    let here = slice_get-get_or parts i fresh_task short in
+    (get_or parts i fresh_task, here, part_same parts i (get_or parts i fresh_task) here)

@@ -1,5 +1,8 @@
 -- What a call of a cluster's parts comes to (no public clause names it).
 use Rattle.std.specs.Prelude.{◌≡◌, ◌⊎◌, ℕ, min, Option, None, Some, Result, Ok, Err, length}
+use Rattle.rp_base.specs.declared.reply.Reply.{Reply}
+use Rattle.rp_codec.specs.declared.packet.Body.{Body}
+use Rattle.rp_codec.specs.declared.packet.Body.TheVariants.{Call, Prepare, Promise, Accept, Accepted, Decided, Ask, Nack, Reply as Answer, Report}
 use Rattle.rp_base.specs.declared.fault.Fault.{Fault}
 use Rattle.rp_base.specs.declared.fault.Fault.TheVariants.{OutOfMemory, Device, NotRunning}
 use Rattle.rp_model.specs.Answers.{Tells, untorn}
@@ -52,3 +55,16 @@ pub record StartsNot (w : World) (me : ℕ) (effect : Result Happening Fault) (n
 abbrev pub AnswersRestart : World → ℕ → Result Happening Fault → World → Result Effect Fault → Type 0
 AnswersRestart w me effect new (Ok told) = Goes w effect new told
 AnswersRestart w me effect new (Err fault) = Refuses w effect new fault ⊎ StartsNot w me effect new fault
+
+-- the number and the reply that a body tells, if it is a reply
+abbrev pub reply_told : Body → Option (ℕ × Reply)
+reply_told (Call action) = None
+reply_told (Prepare position ballot) = None
+reply_told (Promise position ballot last) = None
+reply_told (Accept position ballot action) = None
+reply_told (Accepted position ballot action) = None
+reply_told (Decided position action) = None
+reply_told (Ask position) = None
+reply_told (Nack position ballot bound) = None
+reply_told (Answer number reply) = Some (number, reply)
+reply_told (Report first applied actions) = None

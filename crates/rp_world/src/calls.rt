@@ -1,6 +1,6 @@
 //! What tasks ask for, and what they are told.
 
-ghost use Rattle.std.specs.Prelude.{◌≡◌};
+ghost use Rattle.std.specs.Prelude.{◌≡◌, ◌∷◌, ◌++◌, [], OnOk, OnErr};
 ghost use Rattle.rp_model.specs.Tasks as tasks;
 ghost use Rattle.rp_model.specs.World.{part_at, task_takes};
 ghost use Rattle.rp_codec.specs.Message.{IsCallBy};
@@ -10,13 +10,14 @@ ghost use Rattle.rp_world.specs.Going.{Answers, no_cut};
 ghost use Rattle.rp_world.specs.Steps.{IsSameSetup};
 
 use crate::effect::{nothing, one_message};
+use crate::messages::Messages;
 use crate::world::World;
 use rp_base::{Action, Fault, NodeId, Operation, TaskId};
 use rp_codec::{Body, Packet, Party};
 use rp_machine::Machine;
 use rp_model::Effect;
 use rp_store::CutDevice;
-use std::alloc::Global;
+use std::alloc::{AllocError, Global};
 
 /// A task's call, as a packet to a node.
 fn asks(task: TaskId, node: NodeId, call: Action) -> Packet
@@ -29,6 +30,24 @@ fn asks(task: TaskId, node: NodeId, call: Action) -> Packet
         Party::Node(node),
         Body::Call { action: call },
     )
+}
+
+/// A task's call goes to a node. Refused for memory, nothing is sent.
+fn send(
+    messages: &mut Messages,
+    alloc: Global,
+    task: TaskId,
+    node: NodeId,
+    call: Action,
+) -> Result<(), AllocError>
+    requires own { IsCallBy task call }
+    requires right { IsRight call }
+    ensures ok { OnOk result (messages.new.sent
+        ≡ messages.old.sent ++ tasks.asks task node call ∷ []) }
+    ensures err { OnErr result (messages.new.sent ≡ messages.old.sent) }
+{
+    messages.settle()?;
+    messages.say(alloc, &asks(task, node, call))
 }
 
 impl<M: Machine, D: CutDevice> World<M, D> {
@@ -51,8 +70,7 @@ impl<M: Machine, D: CutDevice> World<M, D> {
         let first = self.messages() + 1;
         let caller = &mut self.tasks[usize::from(task.get()) - 1];
         let call = caller.next(self.config, node, object, operation, arg)?;
-        self.messages.settle()?;
-        self.messages.say(alloc, &asks(task, node, call))?;
+        send(&mut self.messages, alloc, task, node, call)?;
         caller.call(object, operation, arg);
         Ok(one_message(first))
     }
@@ -78,8 +96,7 @@ impl<M: Machine, D: CutDevice> World<M, D> {
         let Some(call) = self.tasks[usize::from(task.get()) - 1].outstanding() else {
             return Ok(nothing(first));
         };
-        self.messages.settle()?;
-        self.messages.say(alloc, &asks(task, node, call))?;
+        send(&mut self.messages, alloc, task, node, call)?;
         Ok(one_message(first))
     }
 }

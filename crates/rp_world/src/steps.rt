@@ -1,8 +1,10 @@
 //! What an event comes to: steps of nodes, and stops within them.
 
-ghost use Rattle.std.specs.Prelude.{◌≡◌, ℕ, Ok, Some};
+ghost use Rattle.std.specs.Prelude.{◌≡◌, ℕ, Ok, Some, IfOk, option_map};
 ghost use Rattle.std.specs.List.{AllByRecursion};
+ghost use Rattle.rp_base.specs.Config.{IsRightConfig};
 ghost use Rattle.rp_codec.specs.Message.{Message, IsPacket};
+ghost use Rattle.rp_codec.specs.declared.packet.Party.TheVariants.{Node, Task};
 ghost use Rattle.rp_codec.specs.Text.{text_of};
 ghost use Rattle.rp_model.specs.Effect.{Done, NodeInput, node_effect};
 ghost use Rattle.rp_model.specs.Parts.{NodePart};
@@ -11,19 +13,19 @@ ghost use Rattle.rp_model.specs.Events.{IsEvent, event_of, step_of};
 ghost use Rattle.rp_model.specs.World.{part_at, node_takes, node_is_cut, delivers, delivery_is_cut, step_effect, cut_step};
 ghost use Rattle.rp_agreement.specs.Ranges.{IsRangedWorld};
 ghost use Rattle.rp_replica.specs.Inputs.{IsRightInput, given_by};
-ghost use Rattle.rp_world.specs.Going.{Answers};
+ghost use Rattle.rp_world.specs.Going.{Answers, reply_told};
 ghost use Rattle.rp_world.specs.Steps.{IsStep, IsSameSetup, setting_of};
 
 use crate::effect::{nothing, of_step, taken};
 use crate::world::{World, put_back};
 use rp_agreement::events_keep_ranges;
-use rp_base::{Fault, NodeId, TaskId};
+use rp_base::{Fault, NodeId, Reply, TaskId};
 use rp_codec::{Body, Party, decode};
 use rp_machine::Machine;
 use rp_model::{Effect, Event, Interrupt, Step};
 use rp_replica::{Input, texts_are_packets};
 use rp_store::CutDevice;
-use std::alloc::Global;
+use std::alloc::{AllocError, Global};
 
 /// To whom a packet is, by its text.
 fn receiver(text: &[u8]) -> Party
@@ -43,6 +45,7 @@ fn receiver(text: &[u8]) -> Party
 impl<M: Machine, D: CutDevice> World<M, D> {
     /// What an event comes to.
     pub(crate) fn step(&mut self, alloc: Global, event: &Event) -> Result<Effect, Fault>
+        requires config { IsRightConfig self.old.config }
         requires ranged { IsRangedWorld self.old.config.nodes self.old.world }
         requires event { IsEvent (event_of event.now) }
         ensures step { IsStep M.next M.answers M.begin self.old event.now self.new result }
@@ -79,6 +82,7 @@ fn input_of(interrupt: Interrupt) -> Input<'static>
 impl<M: Machine, D: CutDevice> World<M, D> {
     /// A node makes a step: refused as one that is given an input, or as a delivery.
     pub(crate) fn makes(&mut self, alloc: Global, step: Step) -> Result<Effect, Fault>
+        requires config { IsRightConfig self.old.config }
         requires ranged { IsRangedWorld self.old.config.nodes self.old.world }
         requires step { events.IsStep (step_of step) }
         ensures answer { let setting = setting_of M.next M.answers M.begin self.old in
@@ -196,6 +200,15 @@ impl<M: Machine, D: CutDevice> World<M, D> {
         }
     }
 
+    /// To whom the message of this number is, from 1.
+    fn receiver_of(&self, number: u64) -> Option<Party>
+        requires ranged { IsRangedWorld self.now.config.nodes self.now.world }
+        ensures { result ≡ option_map (λ m. m.to) (part_at self.now.world.sent number) }
+    {
+        let text = self.messages.text(number)?;
+        Some(receiver(text))
+    }
+
     /// A message is taken by whom it is for; by none where that is no node that runs and no task.
     /// `NoSuchMessage` above the last one, or refused for memory: nothing changes. `Device` where the
     /// device of its node fails: then the node is stopped.
@@ -208,57 +221,109 @@ impl<M: Machine, D: CutDevice> World<M, D> {
             self.new.world result }
         ensures setup { IsSameSetup self.old self.new }
     {
+        let Some(receiver) = self.receiver_of(number) else {
+            return Err(Fault::NoSuchMessage);
+        };
+        match receiver {
+            Party::Node(node) => self.hears(alloc, number, node),
+            Party::Task(task) => self.is_told(alloc, number, task),
+            Party::Audit => Ok(nothing(self.messages() + 1)),
+        }
+    }
+
+    /// A message comes to its node.
+    fn hears(&mut self, alloc: Global, number: u64, node: NodeId) -> Result<Effect, Fault>
+        requires ranged { IsRangedWorld self.old.config.nodes self.old.world }
+        requires to { (m : Message) × (part_at self.old.world.sent number ≡ Some m)
+            × (m.to ≡ Node node) }
+        ensures answer { let setting = setting_of M.next M.answers M.begin self.old in
+            Answers self.old.world
+            (delivers setting self.old.world (part_at self.old.world.sent number))
+            (λ kept. delivery_is_cut setting self.old.world (part_at self.old.world.sent number) kept)
+            self.new.world result }
+        ensures setup { IsSameSetup self.old self.new }
+    {
         events_keep_ranges::<M>();
         texts_are_packets();
         let first = self.messages() + 1;
-        if number == 0 || number >= first {
-            return Err(Fault::NoSuchMessage);
-        }
-        self.messages.settle()?;
-        let Some(text) = self.messages.text(number) else {
-            return Err(Fault::NoSuchMessage);
+        let Some(node) = self.nodes.get_mut(usize::from(node.get()) - 1) else {
+            return Ok(nothing(first));
         };
-        match receiver(text) {
-            Party::Node(node) => {
-                let Some(node) = self.nodes.get_mut(usize::from(node.get()) - 1) else {
-                    return Ok(nothing(first));
-                };
-                if !node.is_running() {
-                    return Ok(nothing(first));
-                }
-                match node.turn(alloc, &Input::Receive(text)) {
-                    Ok(sent) => {
-                        let effect = of_step(first, &sent);
-                        self.messages.put(sent.bytes, sent.packets);
-                        Ok(effect)
-                    }
-                    Err(fault) => Err(fault),
-                }
+        if !node.is_running() {
+            return Ok(nothing(first));
+        }
+        if self.messages.settle().is_err() {
+            return Err(Fault::OutOfMemory);
+        }
+        let text = self.messages.text(number).unwrap();
+        match node.turn(alloc, &Input::Receive(text)) {
+            Ok(sent) => {
+                let effect = of_step(first, &sent);
+                self.messages.put(sent.bytes, sent.packets);
+                Ok(effect)
             }
-            Party::Task(task) => {
-                let Ok(packet) = decode(alloc, text)? else {
-                    return Ok(nothing(first));
-                };
-                let Body::Reply { number, reply } = *packet.body() else {
-                    return Ok(nothing(first));
-                };
-                let task = &mut self.tasks[usize::from(task.get()) - 1];
-                Ok(taken(first, task.take(number, reply)?))
-            }
-            Party::Audit => Ok(nothing(first)),
+            Err(fault) => Err(fault),
+        }
+    }
+
+    /// A message comes to its task, which takes a reply to the call that it waits for.
+    fn is_told(&mut self, alloc: Global, number: u64, task: TaskId) -> Result<Effect, Fault>
+        requires ranged { IsRangedWorld self.old.config.nodes self.old.world }
+        requires to { (m : Message) × (part_at self.old.world.sent number ≡ Some m)
+            × (m.to ≡ Task task) }
+        ensures answer { let setting = setting_of M.next M.answers M.begin self.old in
+            Answers self.old.world
+            (delivers setting self.old.world (part_at self.old.world.sent number))
+            (λ kept. delivery_is_cut setting self.old.world (part_at self.old.world.sent number) kept)
+            self.new.world result }
+        ensures setup { IsSameSetup self.old self.new }
+    {
+        let first = self.messages() + 1;
+        let text = self.messages.text(number).unwrap();
+        let Ok(reply) = read_reply(alloc, text) else {
+            return Err(Fault::OutOfMemory);
+        };
+        let Some((number, reply)) = reply else {
+            return Ok(nothing(first));
+        };
+        match self.tasks[usize::from(task.get()) - 1].take(number, reply) {
+            Ok(answer) => Ok(taken(first, answer)),
+            Err(_) => Err(Fault::OutOfMemory),
         }
     }
 
     /// A node stops within the step by which it takes a message, where so many bytes of its record are
     /// kept. `NoSuchMessage` above the last one, `NotRunning` where it is for no node or for one that
     /// is stopped; `Device` where the device fails within it.
-    fn cut_delivery(
+    fn cut_delivery(&mut self, alloc: Global, number: u64, kept: u64) -> Result<Effect, Fault>
+        requires ranged { IsRangedWorld self.old.config.nodes self.old.world }
+        ensures answer { let setting = setting_of M.next M.answers M.begin self.old in
+            Answers self.old.world
+            (delivery_is_cut setting self.old.world (part_at self.old.world.sent number) kept)
+            (λ less. delivery_is_cut setting self.old.world (part_at self.old.world.sent number) less)
+            self.new.world result }
+        ensures setup { IsSameSetup self.old self.new }
+    {
+        let Some(receiver) = self.receiver_of(number) else {
+            return Err(Fault::NoSuchMessage);
+        };
+        match receiver {
+            Party::Node(node) => self.cut_hearing(alloc, number, node, kept),
+            Party::Task(_) | Party::Audit => Err(Fault::NotRunning),
+        }
+    }
+
+    /// A message comes to its node, which stops within that step.
+    fn cut_hearing(
         &mut self,
         alloc: Global,
         number: u64,
+        node: NodeId,
         kept: u64,
     ) -> Result<Effect, Fault>
         requires ranged { IsRangedWorld self.old.config.nodes self.old.world }
+        requires to { (m : Message) × (part_at self.old.world.sent number ≡ Some m)
+            × (m.to ≡ Node node) }
         ensures answer { let setting = setting_of M.next M.answers M.begin self.old in
             Answers self.old.world
             (delivery_is_cut setting self.old.world (part_at self.old.world.sent number) kept)
@@ -268,22 +333,31 @@ impl<M: Machine, D: CutDevice> World<M, D> {
     {
         texts_are_packets();
         let first = self.messages() + 1;
-        let Some(text) = self.messages.text(number) else {
-            return Err(Fault::NoSuchMessage);
-        };
-        let Party::Node(node) = receiver(text) else {
-            return Err(Fault::NotRunning);
-        };
         let place = usize::from(node.get()) - 1;
         if place >= self.nodes.len() {
             return Err(Fault::NotRunning);
         }
-        let input = Input::Receive(text);
-        let (node, answer) = self.nodes.remove(place).cut(alloc, &input, kept);
+        let text = self.messages.text(number).unwrap();
+        let (node, answer) = self.nodes.remove(place).cut(alloc, &Input::Receive(text), kept);
         put_back(&mut self.nodes, place, node);
         match answer {
             Ok(()) => Ok(nothing(first)),
             Err(fault) => Err(fault),
         }
+    }
+}
+
+/// The number and the reply that the text of a packet tells, if it is a reply.
+fn read_reply(alloc: Global, text: &[u8]) -> Result<Option<(u32, Reply)>, AllocError>
+    requires { (m : Message) × IsPacket m × (text.now ≡ text_of m) }
+    ensures { IfOk result (λ told. (m : Message) → IsPacket m → text.now ≡ text_of m
+        → told ≡ reply_told m.body) }
+{
+    let Ok(packet) = decode(alloc, text)? else {
+        return Ok(None);
+    };
+    match *packet.body() {
+        Body::Reply { number, reply } => Ok(Some((number, reply))),
+        _ => Ok(None),
     }
 }

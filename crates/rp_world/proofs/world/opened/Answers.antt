@@ -1,40 +1,41 @@
-use Rattle.std.proofs.Common.{rules, ◌≡◌, ◌<◌, ◌≤◌, ◌⊎◌, length, All, [], IfOk, IfErr, IfSome, insert, option_copied, option_map, vec_len, vec_capacity, ℕ, ◌+◌, ◌-◌, ◌*◌, ◌/◌, ◌%◌, Bool, true, false, nat_eq, nat_lt, List, ◌∷◌, ◌++◌, slice_index_or, slice_set, bit_and, bit_or, Fits, w8, w32, w64, Bor, MutBor}
-use Rattle.rp_base.specs.Config.{IsRightConfig}
-use Rattle.rp_base.specs.declared.fault.Fault.TheVariants as faults
-use Rattle.rp_codec.specs.Text.{text_of}
-use Rattle.rp_model.specs.World.{opening_world, part_at}
-use Rattle.rp_world.specs.Shape.{AreFresh, AreFreshTasks}
-use Rattle.rp_world.specs.Steps.{IsStored}
+use Rattle.std.proofs.Common.{◌≡◌, ◌+◌, ℕ, suc, length, slice_get, All, [], ◌∷◌, sym, ap, subst, arith}
+use Rattle.std.specs.Prelude.{IfSome}
+use Rattle.std.proofs.lemmas.List.{length-append}
+use Rattle.rp_model.specs.Parts.{fresh_node}
+use Rattle.rp_world.specs.Nodes.{member_of, StandsFor}
+use Rattle.rp_world.proofs.Moving.{at_if}
+use Rattle.rp_world.proofs.Fresh.{first_of, rest_of, one_more}
 use Rattle.rp_world.proofs.world.opened.Goals as goal
 
--- src/world.rt:60:5
 pub loop-device-init : goal.loop-device-init
-loop-device-init g c = ?
+loop-device-init g c =
+    let disk = g.D.Device.disk in
+    let begin = g.M.Machine.begin c.args.program.now in
+    let devices = c.into_iter-device-iterator.ensures.into_iter_gives.0 in
+    record {
+      count = omega (arith, ap length c.new-nodes.ensures.items, ap length devices, c.requires.count);
+      each = subst (λ l. (place : ℕ) → IfSome (slice_get l place) (λ node. StandsFor disk (member_of (suc place) c.args.config begin) node fresh_node)) (sym c.new-nodes.ensures.items) (λ place. tt);
+      empty = subst (All (λ device. (disk device).contents ≡ [])) (sym devices) c.requires.empty;
+    }
 
--- src/world.rt:61:32
-pub overflow_cast-len : goal.overflow_cast-len
-overflow_cast-len g c = ?
-
--- src/world.rt:61:32
-pub overflow_add-len : goal.overflow_add-len
-overflow_add-len g c = ?
-
--- src/world.rt:61:13
-pub unwrap-node-requires : goal.unwrap-node-requires
-unwrap-node-requires g c = ?
-
--- src/world.rt:62:20
-pub open-requires-clause-member : goal.open-requires-clause-member
-open-requires-clause-member g c = ?
-
--- src/world.rt:62:20
 pub open-requires-clause-empty : goal.open-requires-clause-empty
-open-requires-clause-empty g c = ?
+open-requires-clause-empty g c =
+    first_of (λ device. (g.D.Device.disk device).contents ≡ []) c.loop-device.device-iterator.rest.items c.in-Some.device c.next.new.self.rest.items c.in-Some.ensures.steps.0 c.loop-device.invariant.empty
 
--- src/world.rt:60:5
 pub loop-device-preserved : goal.loop-device-preserved
-loop-device-preserved g c = ?
-
--- src/world.rt:46:1
-pub returns-clause-nodes : goal.returns-clause-nodes
-returns-clause-nodes g c = ?
+loop-device-preserved g c =
+    let disk = g.D.Device.disk in
+    let begin = g.M.Machine.begin c.args.program.now in
+    let nodes = c.loop-device.nodes.items in
+    let node = c.in_ok-open.field-0 in
+    let grown = c.in_ok-push.ensures.items in
+    let steps = c.in-Some.ensures.steps.0 in
+    let number = at_if (λ id. id ≡ c.len.result + 1) c.new.result c.unwrap-node.result c.unwrap-node.ensures c.new.ensures.value in
+    let next : c.unwrap-node.result ≡ suc (length nodes) = omega (arith, number, c.len.ensures, c.loop-device.nodes.ok.0) in
+    record {
+      count = omega (arith, ap length grown, length-append nodes (node ∷ []), ap length steps, c.loop-device.invariant.count);
+      each = subst (λ l. (place : ℕ) → IfSome (slice_get l place) (λ n. StandsFor disk (member_of (suc place) c.args.config begin) n fresh_node)) (sym grown)
+          (one_more (λ place n. StandsFor disk (member_of (suc place) c.args.config begin) n fresh_node) nodes node c.loop-device.invariant.each
+          (subst (λ (k : ℕ). StandsFor disk (member_of k c.args.config begin) node fresh_node) next c.in_ok-open.ensures.ok));
+      empty = rest_of (λ device. (disk device).contents ≡ []) c.loop-device.device-iterator.rest.items c.in-Some.device c.next.new.self.rest.items steps c.loop-device.invariant.empty;
+    }

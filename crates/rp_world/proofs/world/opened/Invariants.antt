@@ -1,11 +1,13 @@
-use Rattle.std.proofs.Common.{◌≡◌, ◌<◌, ◌≤◌, ◌⊎◌, length, All, [], IfOk, IfErr, IfSome, insert, option_copied, option_map, vec_len, vec_capacity, ℕ, ◌+◌, ◌-◌, ◌*◌}
-use Rattle.rp_base.specs.Config.{IsRightConfig}
-use Rattle.rp_base.specs.declared.fault.Fault.TheVariants as faults
-use Rattle.rp_codec.specs.Text.{text_of}
-use Rattle.rp_model.specs.World.{opening_world, part_at}
-use Rattle.rp_world.specs.Shape.{AreFresh, AreFreshTasks}
-use Rattle.rp_world.specs.Steps.{IsStored}
+use Rattle.std.proofs.Common.{◌≡◌, ◌+◌, ℕ, suc, length, slice_get, All, []}
+use Rattle.std.specs.Prelude.{IfSome}
+use Rattle.rp_model.specs.Parts.{fresh_node}
+use Rattle.rp_world.specs.Nodes.{member_of, StandsFor}
 use Rattle.rp_world.proofs.world.opened.Given as goal
 
+-- the nodes so far, and the devices that are left
 abbrev pub invariant-loop-device : goal.invariant-loop-device
-invariant-loop-device g l = ?
+invariant-loop-device g l = record {
+  count : length l.nodes.items + length l.device-iterator.rest.items ≡ l.config.nodes;
+  each : (place : ℕ) → IfSome (slice_get l.nodes.items place) (λ node. StandsFor g.D.Device.disk (member_of (suc place) l.config (g.M.Machine.begin l.program)) node fresh_node);
+  empty : All (λ device. (g.D.Device.disk device).contents ≡ []) l.device-iterator.rest.items;
+}

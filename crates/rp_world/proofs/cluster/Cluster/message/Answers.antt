@@ -1,17 +1,15 @@
-use Rattle.std.proofs.Common.{rules, ◌≡◌, ◌-◌, ◌^◌, min, ◌↔◌, ◌⊎◌, length, All, [], None, IfOk, IfErr, IfSome, IsErrOf, IsTrue, ℕ, ◌+◌, ◌*◌, ◌<◌, ◌≤◌, ◌/◌, ◌%◌, Bool, true, false, nat_eq, nat_lt, List, ◌∷◌, ◌++◌, slice_index_or, slice_set, bit_and, bit_or, Fits, w8, w32, w64, Bor, MutBor}
-use Rattle.rp_base.specs.Config.{IsRightConfig}
-use Rattle.rp_base.specs.Records.{applied_of}
-use Rattle.rp_codec.specs.Message.{IsPacket}
+use Rattle.std.proofs.Common.{◌≡◌, Option, List, ℕ, sym, subst, ◌∙◌}
+use Rattle.std.specs.Prelude.{IfSome}
+use Rattle.rp_codec.specs.Message.{Message, IsPacket}
 use Rattle.rp_codec.specs.Text.{text_of}
-use Rattle.rp_machine.specs.Replay.{replay_state}
-use Rattle.rp_model.specs.World.{opening_world, part_at}
-use Rattle.rp_agreement.specs.Order.{AllSent}
-use Rattle.rp_world.specs.Agreeing.{Agree, IsOrdered}
-use Rattle.rp_world.specs.Runs.{IsRun}
-use Rattle.rp_world.specs.Shape.{IsCluster}
-use Rattle.rp_world.specs.Steps.{IsStep, IsStored, IsToldOf, IsToldUnlessMemory, setting_of}
+use Rattle.rp_model.specs.World.{part_at}
+use Rattle.rp_world.proofs.Hearing.{has_at, message_found}
 use Rattle.rp_world.proofs.cluster.Cluster.message.Goals as goal
 
--- src/cluster.rt:156:5
 pub returns-clause-text : goal.returns-clause-text
-returns-clause-text g c = ?
+returns-clause-text g c =
+    let sent = c.self.inside.world.world.sent in
+    let found = message_found (part_at sent c.args.number) c.in-Some.text.now c.in-Some.ensures in
+    subst (λ v. IfSome (part_at v.world.sent c.args.number) (λ x. (c.in_ok-from_slice.field-0.items ≡ text_of x) × IsPacket x)) c.self.view_is
+    (subst (λ (o : Option Message). IfSome o (λ x. (c.in_ok-from_slice.field-0.items ≡ text_of x) × IsPacket x)) (sym found.1)
+    (c.in_ok-from_slice.ensures.items ∙ found.2, c.self.invariant.ranged.packets found.0 (has_at sent c.args.number found.0 found.1)))

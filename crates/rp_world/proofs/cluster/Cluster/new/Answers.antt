@@ -1,21 +1,26 @@
-use Rattle.std.proofs.Common.{rules, ◌≡◌, ◌-◌, ◌^◌, min, ◌↔◌, ◌⊎◌, length, All, [], None, IfOk, IfErr, IfSome, IsErrOf, IsTrue, ℕ, ◌+◌, ◌*◌, ◌<◌, ◌≤◌, ◌/◌, ◌%◌, Bool, true, false, nat_eq, nat_lt, List, ◌∷◌, ◌++◌, slice_index_or, slice_set, bit_and, bit_or, Fits, w8, w32, w64, Bor, MutBor}
+-- The opening world is that of a history without events.
+use Rattle.std.proofs.Common.{◌≡◌, [], Ok, All, length, refl, sym, subst, arith, true}
 use Rattle.rp_base.specs.Config.{IsRightConfig}
-use Rattle.rp_base.specs.Records.{applied_of}
-use Rattle.rp_codec.specs.Message.{IsPacket}
-use Rattle.rp_codec.specs.Text.{text_of}
-use Rattle.rp_machine.specs.Replay.{replay_state}
-use Rattle.rp_model.specs.World.{opening_world, part_at}
-use Rattle.rp_agreement.specs.Order.{AllSent}
-use Rattle.rp_world.specs.Agreeing.{Agree, IsOrdered}
-use Rattle.rp_world.specs.Runs.{IsRun}
+use Rattle.rp_model.specs.World.{World, opening_world}
 use Rattle.rp_world.specs.Shape.{IsCluster}
-use Rattle.rp_world.specs.Steps.{IsStep, IsStored, IsToldOf, IsToldUnlessMemory, setting_of}
+use Rattle.rp_world.specs.Steps.{setting_of}
 use Rattle.rp_world.proofs.cluster.Cluster.new.Goals as goal
 
--- src/cluster.rt:82:9
 pub invariant_of-result : goal.invariant_of-result
-invariant_of-result g c = ?
+invariant_of-result g c =
+    let m = g.M.Machine in
+    let right : IsRightConfig c.args.config = c.is_right.ensures.0 c.if-not-is_right.false in
+    let opening = opening_world c.args.config.nodes in
+    subst (λ v. IsCluster (setting_of m.next m.answers m.begin v) v.world) (sym c.in_ok-new.ensures.opened)
+    (record {
+      right = right;
+      kept = c.replies_tell_the_order.ensures.histories (setting_of m.next m.answers m.begin (record { config = c.args.config; program = c.args.program; world = opening })) [] opening (record { config = right; right = λ event h. absurd h; happened = refl });
+      ranged = c.events_keep_ranges.ensures.opening c.args.config.nodes;
+    })
 
--- src/cluster.rt:60:5
 pub returns-clause-refused : goal.returns-clause-refused
-returns-clause-refused g c = ?
+returns-clause-refused g c =
+    let right : IsRightConfig c.args.config = c.is_right.ensures.0 c.if-not-is_right.false in
+    let count : length c.args.devices.items ≡ c.args.config.nodes = omega (arith, c.if-len-from.false, c.len.ensures, c.from.ensures, c.args.devices.ok.0) in
+    let empty = subst (λ devices. All (λ device. (g.D.Device.disk device).contents ≡ []) devices) c.deref.ensures.value (c.are_empty.ensures.0 c.if-not-are_empty.false) in
+    (λ told. absurd cc, λ none. absurd (none (right, count, empty)))

@@ -25,10 +25,12 @@ returns-clause-value c =
 
 pub returns-clause-few : goal.returns-clause-few
 returns-clause-few c =
-    let texts = again c.self.inside.last.items c.self.inside.apart c.self.invariant.rear in
-    let few = few_texts (packets_in c.self.inside.apart c.self.inside.last.items) in
+    let front = again c.self.inside.bytes.items (length c.self.inside.ends.items) c.self.invariant.front in
+    let rear = again c.self.inside.last.items c.self.inside.apart c.self.invariant.rear in
+    let one = few_texts (packets_in (length c.self.inside.ends.items) c.self.inside.bytes.items) in
+    let other = few_texts (packets_in c.self.inside.apart c.self.inside.last.items) in
     let a = c.self.inside.last.small in
-    let b = c.self.inside.ends.small in
-    let d = c.self.inside.ends.ok in
+    let b = c.self.inside.bytes.small in
+    let d = c.self.inside.bytes.ok in
     let e = c.self.inside.last.ok in
-    omega (arith, few, a, b, d.0, d.1, e.0, e.1, texts.2, ap length texts.1, c.len.ensures)
+    omega (arith, one, other, a, b, d.0, d.1, e.0, e.1, front.2, ap length front.1, rear.2, ap length rear.1, c.len.ensures, c.self.inside.ends.ok.0)

@@ -1,0 +1,67 @@
+-- Fresh nodes and tasks, one more at a time, and the world that they are.
+use Rattle.std.proofs.Common.{◌≡◌, ℕ, zero, suc, Option, Some, None, List, [], ◌∷◌, ◌++◌, length, map, replicate, slice_get, refl, sym, ap, subst, ◌∙◌, arith}
+use Rattle.std.specs.Prelude.{All, IfSome}
+use Rattle.rp_base.specs.declared.config.Config.{Config}
+use Rattle.rp_codec.specs.Message.{Message}
+use Rattle.rp_store.specs.Disk.{Disk}
+use Rattle.rp_model.specs.Parts.{NodePart, TaskPart, fresh_node, fresh_task}
+use Rattle.rp_model.specs.World.{World, opening_world}
+use Rattle.rp_world.specs.Callers.{Caller}
+use Rattle.rp_world.specs.Messages.{Sending}
+use Rattle.rp_world.specs.Nodes.{member_of, StandsFor}
+use Rattle.rp_world.specs.Shape.{part_by, world_of, AreFresh, AreFreshTasks}
+use Rattle.rp_world.specs.declared.node.Node.{Node}
+use Rattle.rp_world.proofs.Resting.{part_is}
+
+-- what is so of all that are left is so of the first one, and of those behind it
+module _ {A : Type 0} (Q : A → Type 0) (xs : List A) (x : A) (rest : List A) (is : xs ≡ x ∷ rest) (all : All Q xs) where
+  at_all : All Q (x ∷ rest)
+  at_all = subst (All Q) is all
+
+  pub first_of : Q x
+  first_of = at_all 0 x (omega arith)
+
+  pub rest_of : All Q rest
+  rest_of k d within = at_all (suc k) d (omega (arith, within))
+
+-- what is so at each place is so with one more
+pub one_more : {A : Type 0} (Q : ℕ → A → Type 0) (xs : List A) (x : A) → ((k : ℕ) → IfSome (slice_get xs k) (Q k)) → Q (length xs) x → (k : ℕ) → IfSome (slice_get (xs ++ x ∷ []) k) (Q k)
+one_more Q [] x all is zero = is
+one_more Q [] x all is (suc k) = tt
+one_more Q (y ∷ xs) x all is zero = all zero
+one_more Q (y ∷ xs) x all is (suc k) = one_more (λ j. Q (suc j)) xs x (λ j. all (suc j)) is k
+
+-- ---- the world
+
+if_some : {A : Type 0} (Q R : A → Type 0) → ((x : A) → Q x → R x) → (o : Option A) → IfSome o Q → IfSome o R
+if_some {A = A} Q R then None is = tt
+if_some {A = A} Q R then (Some x) is = then x is
+
+-- a list of which each is the same
+all_same : {A B : Type 0} (f : A → B) (b : B) (xs : List A) → ((k : ℕ) → IfSome (slice_get xs k) (λ a. f a ≡ b)) → map f xs ≡ replicate (length xs) b
+all_same {A = A} {B = B} f b [] all = refl
+all_same {A = A} {B = B} f b (x ∷ xs) all = ap (λ (y : B). y ∷ map f xs) (all zero) ∙ ap (λ (l : List B). b ∷ l) (all_same f b xs (λ k. all (suc k)))
+
+module _ {S D P : Type 0} (disk : D → Disk) (config : Config) (begin : S) (nodes : List (Node S D P)) (tasks : List Caller) (messages : Sending)
+    (fresh : AreFresh disk config begin nodes) (fresh_tasks : AreFreshTasks tasks) (none : messages.sent ≡ []) where
+  abbrev most : ℕ
+  most = config.max_positions
+
+  nodes_are : map (part_by disk most) nodes ≡ replicate config.nodes fresh_node
+  nodes_are =
+      all_same (part_by disk most) fresh_node nodes
+      (λ k. if_some (λ n. StandsFor disk (member_of (suc k) config begin) n fresh_node) (λ n. part_by disk most n ≡ fresh_node)
+      (λ n stands. sym (part_is disk (member_of (suc k) config begin) n fresh_node stands)) (slice_get nodes k) (fresh.each k))
+      ∙ ap (λ (n : ℕ). replicate n fresh_node) fresh.size
+
+  tasks_are : map (λ (t : Caller). t.part) tasks ≡ replicate 8 fresh_task
+  tasks_are =
+      all_same (λ (t : Caller). t.part) fresh_task tasks
+      (λ k. if_some (λ t. let new : Caller = record { task = suc k; part = fresh_task } in t ≡ new) (λ t. t.part ≡ fresh_task) (λ t is. ap (λ (c : Caller). c.part) is) (slice_get tasks k) (fresh_tasks.each k))
+      ∙ ap (λ (n : ℕ). replicate n fresh_task) fresh_tasks.eight
+
+  pub opening : world_of disk most nodes tasks messages ≡ opening_world config.nodes
+  opening =
+      ap (λ (ps : List NodePart). let w : World = record { nodes = ps; tasks = map (λ (t : Caller). t.part) tasks; sent = messages.sent } in w) nodes_are
+      ∙ ap (λ (ps : List TaskPart). let w : World = record { nodes = replicate config.nodes fresh_node; tasks = ps; sent = messages.sent } in w) tasks_are
+      ∙ ap (λ (ms : List Message). let w : World = record { nodes = replicate config.nodes fresh_node; tasks = replicate 8 fresh_task; sent = ms } in w) none

@@ -1,0 +1,12 @@
+use Rattle.std.proofs.Common.{ap}
+use Rattle.rp_model.specs.World.{World}
+use Rattle.rp_world.specs.Messages.{Sending}
+use Rattle.rp_world.specs.Steps.{Setup}
+use Rattle.rp_world.proofs.Fresh.{opening}
+use Rattle.rp_world.proofs.world.World.new.Goals as goal
+
+pub returns-clause-opened : goal.returns-clause-opened
+returns-clause-opened g c =
+    ap (λ (w : World). let s : Setup g.row.M-Program.Denot = record { config = c.args.config; program = c.args.program; world = w } in s)
+    (opening g.D.Device.disk c.args.config (g.M.Machine.begin c.args.program) c.in_ok-nodes.nodes.items c.in_ok-tasks.tasks.items c.new.result
+    c.in_ok-nodes.ensures.nodes c.in_ok-tasks.ensures (ap (λ (m : Sending). m.sent) c.new.ensures))

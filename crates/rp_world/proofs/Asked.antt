@@ -1,6 +1,6 @@
 -- What a question about one node is told.
 use Rattle.std.specs.Borrow.{Bor}
-use Rattle.std.proofs.Common.{◌≡◌, ℕ, suc, ◌-◌, Option, Some, None, Result, Ok, Err, List, slice_get, refl, sym, subst, ok_or}
+use Rattle.std.proofs.Common.{◌≡◌, ℕ, suc, Option, Some, None, Result, Ok, Err, List, slice_get, refl, sym, subst, ok_or}
 use Rattle.std.specs.Prelude.{IfSome, IfNone}
 use Rattle.rp_base.specs.declared.config.Config.{Config}
 use Rattle.rp_base.specs.declared.fault.Fault.{Fault}

@@ -1,5 +1,5 @@
 -- What a stop, a restart and a cut of a node come to in the world.
-use Rattle.std.proofs.Common.{◌≡◌, ◌⊎◌, ℕ, suc, ◌+◌, ◌-◌, ◌^◌, ◌≤◌, min, Option, Some, None, Result, Ok, Err, List, [], ◌∷◌, ◌++◌, length, map, slice_get, slice_set, inl, inr, refl, sym, ap, subst, ◌∙◌}
+use Rattle.std.proofs.Common.{◌≡◌, ◌⊎◌, ℕ, suc, ◌+◌, ◌-◌, ◌^◌, ◌≤◌, min, Option, Some, None, Result, Ok, Err, List, [], ◌++◌, length, slice_get, slice_set, inl, inr, refl, sym, ap, subst, ◌∙◌}
 use Rattle.std.specs.Prelude.{IfOk, IfErr}
 use Rattle.std.proofs.lemmas.List.{append-nil}
 use Rattle.std.proofs.lemmas.Option.{slice_get_past}
@@ -10,7 +10,7 @@ use Rattle.rp_base.specs.declared.fault.Fault.{Fault}
 use Rattle.rp_base.specs.declared.fault.Fault.TheVariants.{OutOfMemory, Device}
 use Rattle.rp_codec.specs.Message.{Message}
 use Rattle.rp_store.specs.Disk.{Disk}
-use Rattle.rp_model.specs.Answers.{Tells, untorn}
+use Rattle.rp_model.specs.Answers.{untorn}
 use Rattle.rp_model.specs.declared.effect.Effect.{Effect}
 use Rattle.rp_model.specs.declared.effect.Dropped.TheVariants.{No}
 use Rattle.rp_model.specs.Effect.{Setting, Done, NodeInput, node_effect, cut_if, cut_part, goes_on_as, stop_part, stops_while, stop_effect, restart_while, restart_part, untorn_part}

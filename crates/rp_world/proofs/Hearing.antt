@@ -1,5 +1,5 @@
 -- What the delivery of a message comes to, by whom it is for.
-use Rattle.std.proofs.Common.{◌≡◌, ◌⊎◌, ℕ, zero, suc, ◌+◌, ◌-◌, ◌^◌, min, Bool, true, false, Option, Some, None, Result, Ok, Err, List, [], ◌∷◌, ◌++◌, length, map, slice_get, slice_set, option_map, inl, inr, refl, sym, ap, subst, ◌∙◌, Bor, if◌then◌else◌}
+use Rattle.std.proofs.Common.{◌≡◌, ℕ, zero, suc, ◌+◌, ◌-◌, ◌^◌, min, true, false, Option, Some, None, Result, Ok, Err, List, [], ◌∷◌, ◌++◌, length, slice_get, option_map, inl, inr, refl, sym, ap, subst, ◌∙◌, Bor, if◌then◌else◌}
 use Rattle.std.specs.Prelude.{IsSome, IfOk, OnErr, option_copied}
 use Rattle.std.specs.List.{AllByRecursion}
 use Rattle.std.proofs.lemmas.List.{append-nil}

@@ -1,5 +1,5 @@
 -- What a change of one node or of one task is for the world.
-use Rattle.std.proofs.Common.{◌≡◌, ℕ, zero, suc, ◌+◌, ◌-◌, ◌<◌, ◌≤◌, Option, Some, None, Result, Ok, Err, List, [], ◌∷◌, ◌++◌, length, map, take, drop, slice_get, slice_set, option_map, inl, inr, refl, sym, ap, subst, ◌∙◌, arith}
+use Rattle.std.proofs.Common.{◌≡◌, ℕ, zero, suc, ◌<◌, ◌≤◌, Option, Some, None, Result, Ok, Err, List, [], ◌∷◌, ◌++◌, length, map, slice_get, slice_set, option_map, inl, inr, refl, sym, ap, subst, ◌∙◌, arith}
 use Rattle.std.specs.Prelude.{IfSome, insert, remove, get_or}
 use Rattle.std.proofs.lemmas.List.{append-nil, length-map}
 use Rattle.std.proofs.lemmas.Option.{slice_get-get_or}
@@ -100,7 +100,7 @@ module _ {S D P : Type 0} (disk : D → Disk) (config : Config) (begin : S) (nod
       nodes_moved =
           set_map (part_by disk most) nodes i new
           ∙ subst (λ (k : ℕ). slice_set (map (part_by disk most) nodes) i (part_by disk most new) ≡ with_part (map (part_by disk most) nodes) k after) placed
-              (ap (slice_set (map (part_by disk most) nodes) i) (sym (part_is disk member new after stands)))
+          (ap (slice_set (map (part_by disk most) nodes) i) (sym (part_is disk member new after stands)))
 
       -- and all nodes are still of this cluster
       pub still_nodes : IsWorld disk config begin nodes tasks → IsWorld disk config begin (slice_set nodes i new) tasks
@@ -119,7 +119,7 @@ module _ {S D P : Type 0} (disk : D → Disk) (config : Config) (begin : S) (nod
     nodes_stay new stands =
         nodes_moved new part stands
         ∙ subst (λ (k : ℕ). with_part (map (part_by disk most) nodes) k part ≡ map (part_by disk most) nodes) placed
-            (part_same (map (part_by disk most) nodes) i part (get_map (part_by disk most) nodes i ∙ ap (option_map (part_by disk most)) here))
+        (part_same (map (part_by disk most) nodes) i part (get_map (part_by disk most) nodes i ∙ ap (option_map (part_by disk most)) here))
 
     -- ---- what a step of it comes to
 

@@ -1,6 +1,6 @@
 -- The part of a node that rests is read off its device.
-use Rattle.std.proofs.Common.{◌≡◌, ℕ, zero, suc, ◌+◌, ◌-◌, ◌≤◌, ◌<◌, ◌%◌, ◌/◌, ◌^◌, Option, Bool, true, false, if◌then◌else◌, Result, Ok, Err, List, [], ◌∷◌, ◌++◌, length, refl, sym, ap, subst, ◌∙◌, append_assoc, length-append, arith}
-use Rattle.std.specs.Prelude.{nat_lt, get_or}
+use Rattle.std.proofs.Common.{◌≡◌, ℕ, zero, suc, ◌-◌, ◌≤◌, ◌<◌, ◌/◌, ◌^◌, Option, Bool, true, false, if◌then◌else◌, Ok, Err, List, [], ◌∷◌, ◌++◌, length, refl, sym, ap, ◌∙◌, append_assoc, length-append, arith}
+use Rattle.std.specs.Prelude.{nat_lt}
 use Rattle.std.specs.Int.{Width, byte_len, byte_at, bytes_high_first, cast_unsigned, w16, w32, w64}
 use Rattle.std.specs.List.{AllByRecursion}
 use Rattle.std.proofs.Math.Nat.{mod-lt}
@@ -10,7 +10,6 @@ use Rattle.rp_base.specs.declared.action.Action.{Action}
 use Rattle.rp_base.specs.declared.action.Action.TheVariants as actions
 use Rattle.rp_base.specs.declared.action.Operation.{Operation}
 use Rattle.rp_base.specs.declared.action.Operation.TheVariants as operations
-use Rattle.rp_base.specs.declared.fault.PacketReason.{PacketReason}
 use Rattle.rp_base.specs.declared.record.Rec.{Rec}
 use Rattle.rp_base.specs.declared.record.Rec.TheVariants.{Started, Promised, Voted, Learned}
 use Rattle.rp_codec.specs.Text.{number_text, operation_text, action_text}
@@ -112,9 +111,9 @@ front_bytes (b ∷ rest) =
     let deeper = front_bytes rest in
     let by : (t : Bool) → nat_lt b 256 ≡ t → IsBytes (if t then b ∷ byte_front rest else []) =
     λ t test. elim t as (λ u. nat_lt b 256 ≡ u → IsBytes (if u then b ∷ byte_front rest else [])) [
-        | true ↦ λ yes. head_bytes b (byte_front rest) (ltb-true b 256 yes) deeper
-        | false ↦ λ no. λ i. omega arith
-      ] test in
+      | true ↦ λ yes. head_bytes b (byte_front rest) (ltb-true b 256 yes) deeper
+      | false ↦ λ no. λ i. omega arith
+    ] test in
     by (nat_lt b 256) refl
 
 -- what stands behind it

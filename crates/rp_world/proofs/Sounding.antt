@@ -1,7 +1,6 @@
 -- The world of a cluster meets the invariant after each step, and what follows.
 use Rattle.std.proofs.Common.{◌≡◌, ℕ, suc, Option, Some, None, Result, Ok, Err, List, [], ◌∷◌, ◌++◌, length, inl, inr, refl, sym, ap, subst, ◌∙◌}
 use Rattle.std.specs.Prelude.{slice_get, unwrap_or}
-use Rattle.rp_base.specs.Config.{IsRightConfig}
 use Rattle.rp_base.specs.Records.{applied_of}
 use Rattle.rp_base.specs.Sets.{Has}
 use Rattle.rp_base.specs.declared.action.Action.{Action}
@@ -11,7 +10,7 @@ use Rattle.rp_codec.specs.Message.{Message}
 use Rattle.rp_machine.specs.Calls.{CallName}
 use Rattle.rp_machine.specs.Places.{IsPlace, IsAnswerOf}
 use Rattle.rp_machine.specs.Replay.{replay_of}
-use Rattle.rp_model.specs.Answers.{untorn, IsLeft, FailsBy, ComesTo, Steps}
+use Rattle.rp_model.specs.Answers.{untorn, IsLeft, FailsBy, Steps}
 use Rattle.rp_model.specs.declared.effect.Effect.{Effect}
 use Rattle.rp_model.specs.Effect.{Setting}
 use Rattle.rp_model.specs.Events.{Event, Submit, Again, Makes, Cut, Stop, Restart}

@@ -1,5 +1,5 @@
 -- What a step of a node, or of a task, comes to in the world.
-use Rattle.std.proofs.Common.{◌≡◌, ◌⊎◌, ℕ, suc, ◌+◌, ◌-◌, ◌^◌, min, Option, Some, None, Result, Ok, Err, List, [], ◌∷◌, ◌++◌, length, slice_get, slice_set, refl, sym, ap, subst, ◌∙◌}
+use Rattle.std.proofs.Common.{◌≡◌, ℕ, suc, ◌+◌, ◌-◌, ◌^◌, min, Some, None, Result, Ok, Err, List, ◌++◌, length, slice_get, slice_set, refl, sym, ap, ◌∙◌}
 use Rattle.std.specs.Prelude.{OnOk, is_err, false}
 use Rattle.std.specs.List.{AllByRecursion}
 use Rattle.rp_base.specs.declared.action.Action.{Action}
@@ -8,11 +8,10 @@ use Rattle.rp_base.specs.declared.config.Config.{Config}
 use Rattle.rp_base.specs.declared.fault.Fault.{Fault}
 use Rattle.rp_codec.specs.Message.{Message, IsPacket}
 use Rattle.rp_store.specs.Disk.{Disk}
-use Rattle.rp_model.specs.Answers.{Tells}
 use Rattle.rp_model.specs.declared.effect.Effect.{Effect}
 use Rattle.rp_model.specs.Effect.{Setting, Done, NodeInput, node_effect, cut_if}
 use Rattle.rp_model.specs.Parts.{NodePart}
-use Rattle.rp_model.specs.World.{World, Happening, part_at, node_done, node_done_if}
+use Rattle.rp_model.specs.World.{World, Happening, node_done, node_done_if}
 use Rattle.rp_replica.specs.declared.sent.Sent.{Sent}
 use Rattle.rp_world.specs.declared.node.Node.{Node}
 use Rattle.rp_world.specs.Callers.{Caller}
@@ -21,7 +20,7 @@ use Rattle.rp_world.specs.Messages.{Sending, AreTexts, packets_in}
 use Rattle.rp_world.specs.Nodes.{Member, member_of, StandsFor, GoesBy, NotTaken, TellsSent, setting_at, node_step}
 use Rattle.rp_world.specs.Shape.{part_by, world_of, IsWorld}
 use Rattle.rp_world.proofs.Joined.{read_texts}
-use Rattle.rp_world.proofs.Moving.{part_here, stands_here, still_nodes, goes, answered, stands_after}
+use Rattle.rp_world.proofs.Moving.{stands_here, still_nodes, goes, answered, stands_after}
 use Rattle.rp_world.proofs.Ending.{Left}
 
 -- what an answer has where it is no refusal

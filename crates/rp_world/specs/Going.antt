@@ -1,5 +1,5 @@
 -- What a call of a cluster's parts comes to (no public clause names it).
-use Rattle.std.specs.Prelude.{◌≡◌, ◌⊎◌, ℕ, min, Option, None, Some, Result, Ok, Err, length}
+use Rattle.std.specs.Prelude.{◌≡◌, ◌⊎◌, ℕ, Option, None, Some, Result, Ok, Err, length}
 use Rattle.rp_base.specs.declared.reply.Reply.{Reply}
 use Rattle.rp_codec.specs.declared.packet.Body.{Body}
 use Rattle.rp_codec.specs.declared.packet.Body.TheVariants.{Call, Prepare, Promise, Accept, Accepted, Decided, Ask, Nack, Reply as Answer, Report}

@@ -1,6 +1,6 @@
 -- A cluster as one value, and what a step of it answers.
 use Rattle.std.specs.Borrow.{Bor}
-use Rattle.std.specs.Prelude.{◌≡◌, ◌⊎◌, Result, Ok, Err, ℕ, Option, Some, None, List, IsOkAnd}
+use Rattle.std.specs.Prelude.{◌≡◌, ◌⊎◌, Result, Err, ℕ, Option, Some, None, List, IsOkAnd}
 use Rattle.rp_base.specs.declared.action.Action.{Action}
 use Rattle.rp_base.specs.declared.config.Config.{Config}
 use Rattle.rp_base.specs.declared.fault.Fault.{Fault}

@@ -1,6 +1,6 @@
 //! The cluster: all nodes and tasks, and every message that was sent.
 
-ghost use Rattle.std.specs.Prelude.{◌≡◌, ◌-◌, ◌^◌, min, ◌↔◌, ◌⊎◌, length, All, [], None, IfOk, IfErr, IfSome, IsErrOf, IsTrue};
+ghost use Rattle.std.specs.Prelude.{◌≡◌, ◌<◌, ◌-◌, ◌^◌, min, ◌↔◌, ◌⊎◌, length, All, [], None, IfOk, IfErr, IfSome, IsErrOf, IsTrue};
 ghost use Rattle.rp_base.specs.Config.{IsRightConfig};
 ghost use Rattle.rp_base.specs.Records.{applied_of};
 ghost use Rattle.rp_codec.specs.Message.{IsPacket};

@@ -188,12 +188,7 @@ impl<M: Machine, D: CutDevice> Node<M, D> {
     /// The node stops within the step of an input, where so many bytes of the step's record are kept.
     /// `NotRunning` where it is stopped already, and else as the replica refuses the step; where its
     /// device failed some bytes of the record are kept.
-    pub(crate) fn cut(
-        self,
-        alloc: Global,
-        input: &Input,
-        kept: u64,
-    ) -> (Self, Result<(), Fault>)
+    pub(crate) fn cut(self, alloc: Global, input: &Input, kept: u64) -> (Self, Result<(), Fault>)
         requires right { IsRightInput input.now }
         ensures ok { IfOk result.1 (λ done. (member : Member M) (given : NodeInput)
             → given_by input.now ≡ Ok given → IsCutBy D.disk member self result.0 kept

@@ -94,9 +94,7 @@ impl<M: Machine, D: CutDevice> World<M, D> {
         match step {
             Step::Deliver(number) => self.deliver(alloc, number),
             Step::Lead { node, position } => self.gives(alloc, node, &Input::Lead(position)),
-            Step::Interrupt { node, interrupt } => {
-                self.gives(alloc, node, &input_of(interrupt))
-            }
+            Step::Interrupt { node, interrupt } => { self.gives(alloc, node, &input_of(interrupt)) }
             Step::Tick { node, now } => self.gives(alloc, node, &Input::Tick { now }),
             Step::Report { node, first } => self.gives(alloc, node, &Input::Report(first)),
         }
@@ -129,12 +127,7 @@ impl<M: Machine, D: CutDevice> World<M, D> {
     /// A node is given an input that comes from no message. `BadConfig` above the last node,
     /// `NotRunning` where the node is stopped, `LogFull` or `BallotsSpent` where it cannot lead, or
     /// refused for memory: nothing changes. `Device` where its device fails: then it is stopped.
-    fn gives(
-        &mut self,
-        alloc: Global,
-        node: NodeId,
-        input: &Input<'_>,
-    ) -> Result<Effect, Fault>
+    fn gives(&mut self, alloc: Global, node: NodeId, input: &Input<'_>) -> Result<Effect, Fault>
         requires right { IsRightInput input.now }
         requires given { (given : NodeInput) × (given_by input.now ≡ Ok given) }
         requires sends { (given : NodeInput) (part : NodePart) (done : Done NodePart)
@@ -146,7 +139,7 @@ impl<M: Machine, D: CutDevice> World<M, D> {
             Answers self.old.world
             (node_takes setting self.old.world node given (part_at self.old.world.nodes node))
             (λ kept. node_is_cut setting self.old.world node given kept
-                (part_at self.old.world.nodes node))
+            (part_at self.old.world.nodes node))
             self.new.world result }
         ensures setup { IsSameSetup self.old self.new }
     {
@@ -183,7 +176,7 @@ impl<M: Machine, D: CutDevice> World<M, D> {
             Answers self.old.world
             (node_is_cut setting self.old.world node given kept (part_at self.old.world.nodes node))
             (λ less. node_is_cut setting self.old.world node given less
-                (part_at self.old.world.nodes node))
+            (part_at self.old.world.nodes node))
             self.new.world result }
         ensures setup { IsSameSetup self.old self.new }
     {
@@ -338,7 +331,10 @@ impl<M: Machine, D: CutDevice> World<M, D> {
             return Err(Fault::NotRunning);
         }
         let text = self.messages.text(number).unwrap();
-        let (node, answer) = self.nodes.remove(place).cut(alloc, &Input::Receive(text), kept);
+        let (node, answer) = self
+            .nodes
+            .remove(place)
+            .cut(alloc, &Input::Receive(text), kept);
         put_back(&mut self.nodes, place, node);
         match answer {
             Ok(()) => Ok(nothing(first)),

@@ -1,4 +1,4 @@
-use Rattle.std.proofs.Common.{◌≡◌, ◌+◌, ◌<◌, ℕ, suc, length, slice_get}
+use Rattle.std.proofs.Common.{◌≡◌, ◌+◌, ℕ, suc, length, slice_get}
 use Rattle.std.specs.Prelude.{IfSome}
 use Rattle.rp_model.specs.Parts.{fresh_task}
 use Rattle.rp_world.specs.Callers.{Caller}

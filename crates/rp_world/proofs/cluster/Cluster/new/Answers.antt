@@ -1,7 +1,7 @@
 -- The opening world is that of a history without events.
-use Rattle.std.proofs.Common.{◌≡◌, [], Ok, All, length, refl, sym, subst, arith, true}
+use Rattle.std.proofs.Common.{◌≡◌, [], All, length, refl, sym, subst, arith}
 use Rattle.rp_base.specs.Config.{IsRightConfig}
-use Rattle.rp_model.specs.World.{World, opening_world}
+use Rattle.rp_model.specs.World.{opening_world}
 use Rattle.rp_world.specs.Shape.{IsCluster}
 use Rattle.rp_world.specs.Steps.{setting_of}
 use Rattle.rp_world.proofs.cluster.Cluster.new.Goals as goal

@@ -1,10 +1,9 @@
-use Rattle.std.proofs.Common.{◌≡◌, Ok, sym, subst, ◌∙◌}
+use Rattle.std.proofs.Common.{sym, subst, ◌∙◌}
 use Rattle.rp_base.specs.declared.fault.Fault.TheVariants.{Device}
-use Rattle.rp_model.specs.Effect.{NodeInput}
 use Rattle.rp_replica.specs.Cutting.{IsNotCutIf}
-use Rattle.rp_replica.specs.Inputs.{given_by, input_effect}
+use Rattle.rp_replica.specs.Inputs.{input_effect}
 use Rattle.rp_world.specs.declared.node.Node.TheVariants.{Running, Stopped}
-use Rattle.rp_world.specs.Nodes.{Member, IsCutBy, NotTaken, node_step}
+use Rattle.rp_world.specs.Nodes.{IsCutBy, NotTaken, node_step}
 use Rattle.rp_world.proofs.Turning.{is_cut_so, failed_in_cut, refused_in_cut}
 use Rattle.rp_world.proofs.node.Node.cut.Goals as goal
 

@@ -1,4 +1,4 @@
-use Rattle.std.proofs.Common.{None, refl, sym, ap, subst, ◌∙◌}
+use Rattle.std.proofs.Common.{None, refl, sym, subst, ◌∙◌}
 use Rattle.rp_model.specs.Effect.{Done, restart_part}
 use Rattle.rp_model.specs.Parts.{NodePart}
 use Rattle.rp_store.specs.Disk.{Disk}

@@ -1,4 +1,4 @@
-use Rattle.std.proofs.Common.{Bool, true, false, refl, sym, ap, subst, ◌∙◌}
+use Rattle.std.proofs.Common.{subst}
 use Rattle.rp_world.specs.Nodes.{StandsFor}
 use Rattle.rp_world.proofs.Standing.{length_of}
 use Rattle.rp_world.proofs.node.Node.stored.Goals as goal

@@ -1,5 +1,4 @@
-use Rattle.std.proofs.Common.{◌≡◌, Ok, refl, sym, ap, subst, ◌∙◌}
-use Rattle.rp_base.specs.declared.fault.Fault.{Fault}
+use Rattle.std.proofs.Common.{refl, sym, subst}
 use Rattle.rp_model.specs.Effect as inputs
 use Rattle.rp_model.specs.Events.{step_of}
 use Rattle.rp_model.specs.World.{cut_step}

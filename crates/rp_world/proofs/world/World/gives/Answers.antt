@@ -1,4 +1,4 @@
-use Rattle.std.proofs.Common.{◌≡◌, ℕ, suc, ◌+◌, ◌-◌, ◌<◌, ◌≤◌, Result, Ok, Err, Some, None, length, slice_get, slice_set, inl, inr, refl, sym, ap, subst, ◌∙◌, arith}
+use Rattle.std.proofs.Common.{◌≡◌, ℕ, suc, ◌+◌, ◌-◌, ◌<◌, Result, Ok, Err, Some, None, length, slice_set, inl, refl, sym, ap, subst, ◌∙◌, arith}
 use Rattle.std.specs.List.{AllByRecursion}
 use Rattle.rp_base.specs.declared.fault.Fault.{Fault}
 use Rattle.rp_codec.specs.Message.{IsPacket}
@@ -7,7 +7,7 @@ use Rattle.rp_model.specs.Effect.{NodeInput, Done, node_effect}
 use Rattle.rp_model.specs.Parts.{NodePart}
 use Rattle.rp_model.specs.World.{part_at, node_takes, node_is_cut}
 use Rattle.rp_replica.specs.Inputs.{given_by}
-use Rattle.rp_world.specs.Going.{Goes, Answers}
+use Rattle.rp_world.specs.Going.{Answers}
 use Rattle.rp_world.specs.Nodes.{member_of}
 use Rattle.rp_world.specs.Shape.{world_of}
 use Rattle.rp_world.specs.Steps.{setting_of}

@@ -1,8 +1,8 @@
-use Rattle.std.proofs.Common.{◌≡◌, ℕ, suc, ◌+◌, ◌-◌, ◌<◌, ◌≤◌, Result, Ok, Err, Some, None, List, length, slice_get, slice_set, inl, inr, refl, sym, ap, subst, ◌∙◌, arith, true}
-use Rattle.std.specs.Prelude.{IsSome, IsTrue, IfOk, IfErr, insert}
+use Rattle.std.proofs.Common.{◌≡◌, ℕ, suc, ◌+◌, ◌-◌, ◌<◌, Result, Ok, Err, Some, None, List, length, slice_set, inl, inr, refl, sym, ap, subst, ◌∙◌, arith}
+use Rattle.std.specs.Prelude.{IsSome, IsTrue}
 use Rattle.std.specs.List.{AllByRecursion}
 use Rattle.rp_base.specs.declared.fault.Fault.{Fault}
-use Rattle.rp_base.specs.declared.fault.Fault.TheVariants.{OutOfMemory, NotRunning}
+use Rattle.rp_base.specs.declared.fault.Fault.TheVariants.{OutOfMemory}
 use Rattle.rp_codec.specs.Message.{Message, IsPacket}
 use Rattle.rp_codec.specs.Reading.{all_of}
 use Rattle.rp_codec.specs.Text.{text_of}
@@ -13,17 +13,16 @@ use Rattle.rp_model.specs.Effect.{NodeInput, Done, node_effect}
 use Rattle.rp_model.specs.Parts.{NodePart}
 use Rattle.rp_model.specs.Events.{Makes, Deliver}
 use Rattle.rp_model.specs.World.{World, part_at, node_done, node_done_if, delivers, delivery_is_cut}
-use Rattle.rp_replica.specs.Inputs.{given_by, packet_given}
-use Rattle.rp_world.specs.Going.{Goes, Answers}
-use Rattle.rp_world.specs.Nodes.{Member, IsCutBy, NotTaken, member_of, node_step, setting_at}
+use Rattle.rp_replica.specs.Inputs.{packet_given}
+use Rattle.rp_world.specs.Going.{Answers}
+use Rattle.rp_world.specs.Nodes.{member_of, setting_at}
 use Rattle.rp_world.specs.Shape.{world_of, part_by}
 use Rattle.rp_world.specs.Steps.{setting_of}
 use Rattle.rp_agreement.specs.Ranges.{IsRangedWorld}
-use Rattle.rp_world.proofs.Moving.{here_of, put_back, part_here, stands_here, nodes_stay}
-use Rattle.rp_world.proofs.Ending.{none_here, cut_so, not_cut, left_by_cut}
-use Rattle.rp_world.proofs.Ending as ending
+use Rattle.rp_world.proofs.Moving.{here_of, part_here, stands_here, nodes_stay}
+use Rattle.rp_world.proofs.Ending.{none_here}
 use Rattle.rp_world.proofs.Taking.{on_ok, told_sent, still, texts, turned_left, turned, not_turned, not_turned_left}
-use Rattle.rp_world.proofs.Hearing.{sends_are, has_at, text_found, text_is, nothing_goes, heard_by_none, cut_at_none, heard_resting, heard_running, cut_heard, received_comes}
+use Rattle.rp_world.proofs.Hearing.{sends_are, has_at, text_found, text_is, nothing_goes, heard_by_none, heard_resting, heard_running, cut_heard, received_comes}
 use Rattle.rp_world.proofs.world.World.hears.Goals as goal
 
 pub returns-in_default-clause-answer : goal.returns-in_default-clause-answer

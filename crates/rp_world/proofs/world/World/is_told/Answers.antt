@@ -1,11 +1,8 @@
-use Rattle.std.proofs.Common.{◌≡◌, ℕ, suc, ◌+◌, ◌-◌, ◌<◌, Result, Ok, Err, Option, Some, None, List, length, slice_get, slice_set, inl, inr, refl, sym, ap, subst, ◌∙◌, arith}
-use Rattle.std.specs.Prelude.{IfOk, IfErr, OnErr, get_or}
-use Rattle.rp_base.specs.declared.reply.Answer.{Answer}
-use Rattle.rp_base.specs.declared.reply.Reply.{Reply}
+use Rattle.std.proofs.Common.{◌≡◌, ℕ, suc, ◌+◌, ◌-◌, ◌<◌, Result, Ok, Some, None, List, length, slice_set, inl, inr, refl, sym, ap, subst, ◌∙◌, arith}
+use Rattle.std.specs.Prelude.{IfOk, OnErr}
 use Rattle.rp_base.specs.declared.fault.Fault.{Fault}
-use Rattle.rp_base.specs.declared.fault.Fault.TheVariants.{OutOfMemory}
 use Rattle.rp_base.specs.Number.{IsTask}
-use Rattle.rp_codec.specs.Message.{Message, IsPacket, IsParty}
+use Rattle.rp_codec.specs.Message.{IsParty}
 use Rattle.rp_codec.specs.Text.{text_of}
 use Rattle.rp_model.specs.declared.effect.Dropped.TheVariants.{No}
 use Rattle.rp_model.specs.declared.effect.Effect.{Effect}
@@ -14,7 +11,7 @@ use Rattle.rp_model.specs.Tasks.{takes_reply}
 use Rattle.rp_model.specs.World.{World, part_at, with_part, delivers, delivery_is_cut}
 use Rattle.rp_agreement.specs.Ranges.{IsRangedWorld}
 use Rattle.rp_world.specs.Callers.{Caller}
-use Rattle.rp_world.specs.Going.{Goes, Answers, reply_told}
+use Rattle.rp_world.specs.Going.{Answers, reply_told}
 use Rattle.rp_world.specs.Nodes.{member_of, setting_at}
 use Rattle.rp_world.specs.Shape.{world_of}
 use Rattle.rp_world.specs.Steps.{setting_of}
@@ -151,14 +148,14 @@ returns-clause-answer g c =
           let told = b.taken.ensures ∙ ap (λ (k : ℕ). let e : Effect = record { first = k; sent = 0; dropped = No; taken = b.in-Ok-take.answer; opened = None } in e) first in
           let moved : after ≡ (let x : World = record { nodes = w.nodes; tasks = with_part w.tasks me (takes_reply me t.part n reply).part; sent = w.sent } in x) =
           ap (λ (ts : List TaskPart). let x : World = record { nodes = w.nodes; tasks = ts; sent = w.sent } in x)
-              (tasks_moved disk inside.config begin nodes tasks i me placed t here new
-              ∙ ap (with_part w.tasks me) (ap (λ (k : Caller). k.part) ok ∙ ap (λ (k : ℕ). (takes_reply k t.part n reply).part) number_is)) in
+          (tasks_moved disk inside.config begin nodes tasks i me placed t here new
+          ∙ ap (with_part w.tasks me) (ap (λ (k : Caller). k.part) ok ∙ ap (λ (k : ℕ). (takes_reply k t.part n reply).part) number_is)) in
           subst (Answers _ _ _ after) (sym b.result-is)
           (takes_it s w me c.args.number message sent to t.part part_is n reply told_is after b.in-Ok-take.answer b.taken.result moved (took ∙ ap (λ (k : ℕ). (takes_reply k t.part n reply).taken) number_is) told)
       | in-Err b ↦
           let err = subst (λ r. OnErr r (new ≡ t)) b.in-Err.is c.take.ensures.err in
           let stays : after ≡ w = ap (λ (ts : List TaskPart). let x : World = record { nodes = w.nodes; tasks = ts; sent = w.sent } in x)
-              (tasks_stay disk inside.config begin nodes tasks i me placed t here new (ap (λ (k : Caller). k.part) err)) in
+          (tasks_stay disk inside.config begin nodes tasks i me placed t here new (ap (λ (k : Caller). k.part) err)) in
           let comes = told_comes s w me c.args.number message sent to t.part part_is in
           subst (Answers _ _ _ after) (sym b.result-is) (inr (inl (record { memory = refl; wanted = comes.0; came = comes.1; unchanged = stays })))
     ])

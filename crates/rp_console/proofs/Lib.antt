@@ -7,5 +7,6 @@ mod Among
 mod Tracing
 mod Refusing
 mod LeastUnsettled
+mod Histories
 mod Saying
 mod Stepping

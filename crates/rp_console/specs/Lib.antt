@@ -1,3 +1,4 @@
+pub mod Agreeing
 pub mod Bodies
 pub mod CommandLine
 pub mod Deck

@@ -1,5 +1,5 @@
 -- What the script of a deck prints (this project's own).
-use Rattle.std.specs.Prelude.{ℕ, zero, suc, ◌+◌, ◌-◌, ◌^◌, ◌&&◌, min, not, nat_eq, nat_le, pos, Bool, Option, Some, None, Result, Ok, Err, List, [], ◌∷◌, ◌++◌, length, map, filter, replicate, find, flat_map, if◌then◌else◌, String, string_bytes}
+use Rattle.std.specs.Prelude.{ℕ, zero, suc, ◌+◌, ◌-◌, ◌^◌, ◌&&◌, ℤ, min, not, nat_eq, nat_le, pos, Bool, Option, Some, None, Result, Ok, Err, List, [], ◌∷◌, ◌++◌, length, map, filter, replicate, find, flat_map, if◌then◌else◌, String, string_bytes}
 use Rattle.std.specs.Arc.{arc_value}
 use Rattle.std.specs.List.{list_any}
 use Rattle.indexmap.specs.IndexMap.{IndexMap, keys}
@@ -14,7 +14,8 @@ use Rattle.rp_codec.specs.declared.packet.Party.TheVariants as parties
 use Rattle.rp_machine.specs.Replay.{one_to, replay_state}
 use Rattle.rp_machine.specs.TallyRule.{tally_next, tally_answers, tally_image}
 use Rattle.rp_object.specs.Image.{objects_image}
-use Rattle.rp_object.specs.State.{first_state}
+use Rattle.rp_object.specs.State.{first_state, Running as ObjectsState}
+use Rattle.rp_object.specs.declared.program.Program.{Program}
 use Rattle.rp_object.specs.Step.{objects_next, objects_answers}
 use Rattle.rp_model.specs.declared.effect.Dropped.{Dropped}
 use Rattle.rp_model.specs.declared.effect.Dropped.TheVariants.{No, Full, Foreign}
@@ -261,22 +262,28 @@ module _ {S : Type 0} (s : RunSetting S) where
 abbrev pub output_at : {S : Type 0} → ℕ → Deck → RunSetting S → List ℕ
 output_at most deck s = (run_said s most deck.script.items).text
 
+-- a run of a tally of so many sums
+abbrev pub tally_run : Bool → Deck → ℕ → RunSetting (List ℤ)
+tally_run traced deck objects = record {
+  setting = record { config = deck.config; next = tally_next; answers = tally_answers; begin = replicate objects (pos 0) };
+  image = tally_image;
+  names = names_of deck.tasks;
+  traced = traced;
+}
+
+-- a run of the protected objects of a program
+abbrev pub objects_run : Bool → Deck → Program → RunSetting ObjectsState
+objects_run traced deck program = record {
+  setting = record { config = deck.config; next = objects_next; answers = objects_answers; begin = first_state (arc_value program.declarations) };
+  image = objects_image;
+  names = names_of deck.tasks;
+  traced = traced;
+}
+
 -- the output of a deck, where a `drain` may deliver so many messages, and packets are told or not
 abbrev pub output_by : ℕ → Bool → Deck → DeckProgram → List ℕ
-output_by most traced deck (Tally objects) =
-    output_at most deck (record {
-      setting = record { config = deck.config; next = tally_next; answers = tally_answers; begin = replicate objects (pos 0) };
-      image = tally_image;
-      names = names_of deck.tasks;
-      traced = traced;
-    })
-output_by most traced deck (Objects program) =
-    output_at most deck (record {
-      setting = record { config = deck.config; next = objects_next; answers = objects_answers; begin = first_state (arc_value program.declarations) };
-      image = objects_image;
-      names = names_of deck.tasks;
-      traced = traced;
-    })
+output_by most traced deck (Tally objects) = output_at most deck (tally_run traced deck objects)
+output_by most traced deck (Objects program) = output_at most deck (objects_run traced deck program)
 
 abbrev pub output_of : ℕ → Bool → Deck → List ℕ
 output_of most traced deck = output_by most traced deck deck.program

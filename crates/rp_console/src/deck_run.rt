@@ -2,12 +2,14 @@
 
 ghost use Rattle.std.specs.Prelude.{◌≡◌, ◌≤◌, [], length, All, IfOk, IfErr, OnOk};
 ghost use Rattle.std.specs.Io.KnownBytes.{Appends};
+ghost use Rattle.rp_console.specs.Agreeing.{DeckAgrees};
 ghost use Rattle.rp_console.specs.Deck.{IsRightDeck};
 ghost use Rattle.rp_console.specs.Faults.{IsBadDeck, IsRunFault, IsScriptFault};
 ghost use Rattle.rp_console.specs.Output.{output_of};
 ghost use Rattle.rp_console.specs.Stream.{Writes};
 ghost use Rattle.rp_console.specs.declared.deck.Deck.{Deck};
 
+use crate::agreeing::scripts_agree;
 use crate::deck::{Deck, DeckProgram};
 use crate::options::RunOptions;
 use crate::reading::read_deck;
@@ -43,7 +45,8 @@ pub fn run_script<R: Read, W: Write>(
 }
 
 /// Runs the script of a deck, and writes what it prints. A fault ends the run where it comes, and then a
-/// beginning of that is written: `OutOfMemory`, `Device`, or `Io` where the writer fails.
+/// beginning of that is written: `OutOfMemory`, `Device`, or `Io` where the writer fails. After any two
+/// of the script's lines nodes agree, and what tasks were told is what one order gives.
 pub fn run_deck<W: Write>(
     alloc: Global,
     deck: Deck,
@@ -53,6 +56,7 @@ pub fn run_deck<W: Write>(
     requires { IsRightDeck deck }
     ensures output { Writes (W.contents writer.old) (W.contents writer.new)
         (output_of DRAIN_LIMIT traced deck) result }
+    ensures headline { OnOk result (DeckAgrees DRAIN_LIMIT traced deck) }
     ensures fault { IfErr result IsRunFault }
 {
     let Deck {
@@ -72,9 +76,11 @@ pub fn run_deck<W: Write>(
     let lines = script.as_slice();
     match program {
         DeckProgram::Tally(program) => {
+            scripts_agree::<Tally>(&options, lines);
             run_lines::<Tally, MemDevice, W>(alloc, &options, program, devices, lines, writer)
         }
         DeckProgram::Objects(program) => {
+            scripts_agree::<Objects>(&options, lines);
             run_lines::<Objects, MemDevice, W>(alloc, &options, program, devices, lines, writer)
         }
     }

@@ -19,6 +19,7 @@
 //! - `deck`: what a deck declares and asks for
 //! - `deck_run`: runs the script of a deck
 //! - `options`: how a script is run
+//! - `agreeing`: at any two lines of a script nodes agree, and replies are those of one order
 //! - `run`: runs the lines of a script, at any machine and over any devices
 //! - `effects`: prints what an event came to
 //! - `settled`: which messages of a run are settled
@@ -28,6 +29,7 @@
 //! - `status`: what the program says of a fault, and the status that it ends with
 #![tactic(auto)]
 
+mod agreeing;
 mod args;
 mod calls;
 mod deck;

@@ -30,7 +30,7 @@ pub data Event : Type 0 where
   Stop : ℕ → Event
   Restart : ℕ → Event
 
--- ---- the ranges that the types of numbers keep
+-- ---- the ranges that the types of numbers keep (a message of a number above the last is refused)
 
 abbrev pub IsOperation : Operation → Type 0
 IsOperation (Function index) = index < 2 ^ 8
@@ -40,7 +40,7 @@ IsOperation (SetTimer index) = index < 2 ^ 8
 IsOperation (CancelTimer index) = index < 2 ^ 8
 
 abbrev pub IsStep : Step → Type 0
-IsStep (Deliver number) = number < 2 ^ 64
+IsStep (Deliver number) = Unit {0}
 IsStep (Lead node position) = IsNode node × IfSome position IsPosition
 IsStep (Interrupt node source occurrence) = IsNode node × IsIndex source × IsCount occurrence
 IsStep (Tick node now) = IsNode node × (now < 2 ^ 32)

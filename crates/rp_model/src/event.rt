@@ -103,9 +103,7 @@ impl Step {
         ensures { IsStep (step_of self) }
     {
         match self {
-            Step::Deliver(number) => {
-                let _ = number;
-            }
+            Step::Deliver(_) => {}
             Step::Lead { node, position } => {
                 let _ = (node.get(), position.map(Position::get));
             }

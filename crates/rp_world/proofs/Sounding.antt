@@ -23,7 +23,7 @@ use Rattle.rp_agreement.specs.Order.{AllSent, Begins, AreAlike}
 use Rattle.rp_agreement.specs.Computed.{order_of}
 use Rattle.rp_agreement.specs.Answered.{named, task_in, IsKept, IsKeptWorld}
 use Rattle.rp_agreement.specs.Worlds.{node_in}
-use Rattle.rp_world.specs.Agreeing.{Agree, IsOrdered}
+use Rattle.rp_world.specs.Agreeing.{EachTwo, AreLevel, Agree, IsOrdered}
 
 -- what was sent stays
 module _ {S : Type 0} (s : Setting S) (grows : (before : World) (event : Event) (happening : Happening) → event_effect s before event ≡ Ok happening → Grows before happening) where
@@ -74,8 +74,19 @@ module _ {S : Type 0} (s : Setting S) (grows : (before : World) (event : Event) 
             ]
       ]
 
+-- one state shows one image
+pub agreed : {S : Type 0} (next : S → Action → S) (answers : S → Action → List Answer) (image : S → List ℕ) (begin : S) (now later : World)
+    → EachTwo now later (λ one other. AreAlike (applied_of one.records) (applied_of other.records))
+    → EachTwo now later (λ one other. AreLevel one other → replay_of next answers begin (applied_of one.records) ≡ replay_of next answers begin (applied_of other.records))
+    → Agree next answers image begin now later
+agreed next answers image begin now later alike states = record {
+  applied = alike;
+  states = states;
+  images = λ x y one other p q level. ap (λ r. image r.state) (states x y one other p q level);
+}
+
 -- nodes of worlds that meet the invariant agree
-module _ {S : Type 0} (next : S → Action → S) (answers : S → Action → List Answer) (begin : S) (nodes : ℕ)
+module _ {S : Type 0} (next : S → Action → S) (answers : S → Action → List Answer) (image : S → List ℕ) (begin : S) (nodes : ℕ)
     (alike : (n : ℕ) (node after : ℕ → NodePart) (sent later : List Message) → IsSound n node sent → IsSound n after later → AllSent sent later
     → (x y : ℕ) → AreAlike (applied_of (node x).records) (applied_of (after y).records))
     (states : (n : ℕ) (node after : ℕ → NodePart) (sent later : List Message) → IsSound n node sent → IsSound n after later → AllSent sent later
@@ -84,19 +95,18 @@ module _ {S : Type 0} (next : S → Action → S) (answers : S → Action → Li
   here : (w : World) (x : ℕ) (part : NodePart) → part_at w.nodes x ≡ Some part → node_in w.nodes x ≡ part
   here w x part is = ap (λ (o : Option NodePart). unwrap_or o fresh_node) is
 
-  pub agree : (now later : World) → IsSound nodes (node_in now.nodes) now.sent → IsSound nodes (node_in later.nodes) later.sent → AllSent now.sent later.sent → Agree next answers begin now later
-  agree now later sound after sent = record {
-    applied = λ x y one other p q.
-        subst (λ (b : NodePart). AreAlike (applied_of one.records) (applied_of b.records)) (here later y other q)
-        (subst (λ (a : NodePart). AreAlike (applied_of a.records) (applied_of (node_in later.nodes y).records)) (here now x one p)
-        (alike nodes (node_in now.nodes) (node_in later.nodes) now.sent later.sent sound after sent x y));
-    states = λ x y one other p q.
-        let P : NodePart → NodePart → Type 0 = λ a b. length (applied_of a.records) ≡ length (applied_of b.records)
-        → replay_of next answers begin (applied_of a.records) ≡ replay_of next answers begin (applied_of b.records) in
-        subst (λ (b : NodePart). P one b) (here later y other q)
-        (subst (λ (a : NodePart). P a (node_in later.nodes y)) (here now x one p)
-        (states nodes (node_in now.nodes) (node_in later.nodes) now.sent later.sent sound after sent x y));
-  }
+  pub agree : (now later : World) → IsSound nodes (node_in now.nodes) now.sent → IsSound nodes (node_in later.nodes) later.sent → AllSent now.sent later.sent → Agree next answers image begin now later
+  agree now later sound after sent =
+      agreed next answers image begin now later
+      (λ x y one other p q.
+          subst (λ (b : NodePart). AreAlike (applied_of one.records) (applied_of b.records)) (here later y other q)
+          (subst (λ (a : NodePart). AreAlike (applied_of a.records) (applied_of (node_in later.nodes y).records)) (here now x one p)
+          (alike nodes (node_in now.nodes) (node_in later.nodes) now.sent later.sent sound after sent x y)))
+      (λ x y one other p q.
+          let P : NodePart → NodePart → Type 0 = λ a b. AreLevel a b → replay_of next answers begin (applied_of a.records) ≡ replay_of next answers begin (applied_of b.records) in
+          subst (λ (b : NodePart). P one b) (here later y other q)
+          (subst (λ (a : NodePart). P a (node_in later.nodes y)) (here now x one p)
+          (states nodes (node_in now.nodes) (node_in later.nodes) now.sent later.sent sound after sent x y)))
 
 -- and there is one order, by which each reply is an answer
 module _ {S : Type 0} (s : Setting S)

@@ -5,23 +5,32 @@ use Rattle.rp_base.specs.declared.action.Action.{Action}
 use Rattle.rp_base.specs.declared.reply.Answer.{Answer}
 use Rattle.rp_machine.specs.Calls.{CallName}
 use Rattle.rp_machine.specs.Places.{IsPlace, IsAnswerOf}
-use Rattle.rp_machine.specs.Replay.{replay_of}
+use Rattle.rp_machine.specs.Replay.{replay_of, replay_state}
 use Rattle.rp_model.specs.Facts.{IsOrder}
 use Rattle.rp_model.specs.World.{World, part_at}
 use Rattle.rp_model.specs.Parts.{NodePart}
 use Rattle.rp_model.specs.Parts.{TaskPart}
 use Rattle.rp_agreement.specs.Order.{Begins, AreAlike}
 
-module _ {S : Type 0} (next : S → Action → S) (answers : S → Action → List Answer) (begin : S) where
-  -- Of what two nodes have applied, the one now and the other later, one begins the other; and where they
-  -- have applied equally many actions they are in one state, with the same answers given.
-  pub record Agree (now later : World) : Type 0 where
-    pub applied : (x y : ℕ) (one other : NodePart) → part_at now.nodes x ≡ Some one → part_at later.nodes y ≡ Some other
-        → AreAlike (applied_of one.records) (applied_of other.records)
-    pub states : (x y : ℕ) (one other : NodePart) → part_at now.nodes x ≡ Some one → part_at later.nodes y ≡ Some other
-        → length (applied_of one.records) ≡ length (applied_of other.records)
-        → replay_of next answers begin (applied_of one.records) ≡ replay_of next answers begin (applied_of other.records)
+-- a node now and one later
+abbrev pub EachTwo : World → World → (NodePart → NodePart → Type 0) → Type 0
+EachTwo now later P =
+    (x y : ℕ) (one other : NodePart) → part_at now.nodes x ≡ Some one → part_at later.nodes y ≡ Some other → P one other
 
+-- they have applied equally many actions
+abbrev pub AreLevel : NodePart → NodePart → Type 0
+AreLevel one other = length (applied_of one.records) ≡ length (applied_of other.records)
+
+-- Of what two nodes have applied, the one now and the other later, one begins the other; and where they
+-- have applied equally many actions they are in one state, with the same answers given, and show the same.
+pub record Agree {S : Type 0} (next : S → Action → S) (answers : S → Action → List Answer) (image : S → List ℕ) (begin : S) (now later : World) : Type 0 where
+  pub applied : EachTwo now later (λ one other. AreAlike (applied_of one.records) (applied_of other.records))
+  pub states : EachTwo now later (λ one other. AreLevel one other
+      → replay_of next answers begin (applied_of one.records) ≡ replay_of next answers begin (applied_of other.records))
+  pub images : EachTwo now later (λ one other. AreLevel one other
+      → image (replay_state next answers begin (applied_of one.records)) ≡ image (replay_state next answers begin (applied_of other.records)))
+
+module _ {S : Type 0} (next : S → Action → S) (answers : S → Action → List Answer) (begin : S) where
   -- There is one order in which all happens: what each node has applied begins it, each reply that a task
   -- got is the answer that it gives to the task's call of that number, and a call takes effect at one
   -- place of it at most.

@@ -105,7 +105,7 @@ impl<M: Machine, D: CutDevice> Cluster<M, D> {
     /// which each reply that a task got is the answer to its call, and no call takes effect twice.
     pub fn run(&mut self, alloc: Global, events: &[Event]) -> Result<(), Refused>
         ensures run { IsRun M.next M.answers M.begin self.old events.now self.new result }
-        ensures agree { Agree M.next M.answers (M.begin self.old.program)
+        ensures agree { Agree M.next M.answers M.image (M.begin self.old.program)
             self.old.world self.new.world }
         ensures ordered { IsOrdered M.next M.answers (M.begin self.old.program)
             self.old.config.nodes self.new.world }

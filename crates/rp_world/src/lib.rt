@@ -2,6 +2,7 @@
 //!
 //! In reading order:
 //! - `cluster`: the cluster: all nodes and tasks, and every message that was sent
+//! - `headline`: the same of every history, with no cluster in it
 //! - `world`: a world as it lies in memory: the nodes, the tasks, and the messages
 //! - `steps`: what an event comes to: steps of nodes, and stops within them
 //! - `calls`: what tasks ask for, and what they are told
@@ -15,6 +16,7 @@
 mod calls;
 mod cluster;
 mod effect;
+mod headline;
 mod messages;
 mod node;
 mod steps;
@@ -24,4 +26,5 @@ mod world;
 
 pub use cluster::Cluster;
 pub use effect::Refused;
+pub use headline::histories_are_ordered;
 pub use rp_model::{Dropped, Effect, Event, Interrupt, Step};

@@ -14,7 +14,7 @@ returns-clause-agree g c =
     let new = c.run_all-ran.new.self in
     let same = same_setting m.next m.answers m.begin old new c.run_all-ran.ensures.run.setup in
     let later = subst (λ (s : Setting g.row.M.Denot). IsKeptWorld s new.world) same c.is_kept-2.ensures.kept in
-    agree m.next m.answers (m.begin old.program) old.config.nodes c.applied_lists_are_alike.ensures (c.states_are_alike.ensures (m.begin old.program)) old.world new.world c.is_kept.ensures.kept.kept.sound
+    agree m.next m.answers m.image (m.begin old.program) old.config.nodes c.applied_lists_are_alike.ensures (c.states_are_alike.ensures (m.begin old.program)) old.world new.world c.is_kept.ensures.kept.kept.sound
     later.kept.sound c.run_all-ran.ensures.sent
 
 pub returns-clause-ordered : goal.returns-clause-ordered

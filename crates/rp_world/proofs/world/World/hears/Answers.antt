@@ -167,7 +167,7 @@ put-requires-clause-texts g c =
     let gives : packet_given (all_of c.unwrap-text.result.now) ≡ Ok given = ap (λ l. packet_given (all_of l)) text ∙ c.texts_are_packets.ensures message packet in
     let new = c.turn.new.self in
     let each : (done : Done NodePart) → node_effect s me part given ≡ Ok done → AllByRecursion IsPacket done.sends = λ done came.
-    sends_are w.sent done.sends (c.events_keep_ranges.ensures.effect inside.config inside.program w (Makes (Deliver c.args.number)) (node_done w me done) c.self.invariant.right ranged c.ranges.number.fits (whole_is ∙ ap (node_done_if w me) came)).packets in
+    sends_are w.sent done.sends (c.events_keep_ranges.ensures.effect inside.config inside.program w (Makes (Deliver c.args.number)) (node_done w me done) c.self.invariant.right ranged tt (whole_is ∙ ap (node_done_if w me) came)).packets in
     texts disk inside.config begin nodes tasks inside.messages c.self.invariant i me placed n here new m.next m.answers given c.in-Ok.sent (c.in-Ok.ensures.ok member given gives) each
 
 pub invariant_of-self-in-Ok : goal.invariant_of-self-in-Ok
@@ -203,7 +203,7 @@ invariant_of-self-in-Ok g c =
     let gives : packet_given (all_of c.unwrap-text.result.now) ≡ Ok given = ap (λ l. packet_given (all_of l)) text ∙ c.texts_are_packets.ensures message packet in
     let new = c.turn.new.self in
     let each : (done : Done NodePart) → node_effect s me part given ≡ Ok done → AllByRecursion IsPacket done.sends = λ done came.
-    sends_are w.sent done.sends (c.events_keep_ranges.ensures.effect inside.config inside.program w (Makes (Deliver c.args.number)) (node_done w me done) c.self.invariant.right ranged c.ranges.number.fits (whole_is ∙ ap (node_done_if w me) came)).packets in
+    sends_are w.sent done.sends (c.events_keep_ranges.ensures.effect inside.config inside.program w (Makes (Deliver c.args.number)) (node_done w me done) c.self.invariant.right ranged tt (whole_is ∙ ap (node_done_if w me) came)).packets in
     still disk inside.config begin nodes tasks inside.messages c.self.invariant i me placed n here new m.next m.answers given (turned_left disk inside.config begin nodes tasks inside.messages c.self.invariant i me placed n here new m.next m.answers given c.in-Ok.sent (c.in-Ok.ensures.ok member given gives) each)
 
 pub invariant_of-self-in-Err : goal.invariant_of-self-in-Err
@@ -239,7 +239,7 @@ invariant_of-self-in-Err g c =
     let gives : packet_given (all_of c.unwrap-text.result.now) ≡ Ok given = ap (λ l. packet_given (all_of l)) text ∙ c.texts_are_packets.ensures message packet in
     let new = c.turn.new.self in
     let each : (done : Done NodePart) → node_effect s me part given ≡ Ok done → AllByRecursion IsPacket done.sends = λ done came.
-    sends_are w.sent done.sends (c.events_keep_ranges.ensures.effect inside.config inside.program w (Makes (Deliver c.args.number)) (node_done w me done) c.self.invariant.right ranged c.ranges.number.fits (whole_is ∙ ap (node_done_if w me) came)).packets in
+    sends_are w.sent done.sends (c.events_keep_ranges.ensures.effect inside.config inside.program w (Makes (Deliver c.args.number)) (node_done w me done) c.self.invariant.right ranged tt (whole_is ∙ ap (node_done_if w me) came)).packets in
     still disk inside.config begin nodes tasks inside.messages c.self.invariant i me placed n here new m.next m.answers given (not_turned_left disk inside.config begin nodes tasks inside.messages c.self.invariant i me placed n here new m.next m.answers given c.in-Err.fault (c.in-Err.ensures.err member given gives))
 
 pub returns-in-Ok-clause-answer : goal.returns-in-Ok-clause-answer
@@ -276,7 +276,7 @@ returns-in-Ok-clause-answer g c =
     let gives : packet_given (all_of c.unwrap-text.result.now) ≡ Ok given = ap (λ l. packet_given (all_of l)) text ∙ c.texts_are_packets.ensures message packet in
     let new = c.turn.new.self in
     let each : (done : Done NodePart) → node_effect s me part given ≡ Ok done → AllByRecursion IsPacket done.sends = λ done came.
-    sends_are w.sent done.sends (c.events_keep_ranges.ensures.effect inside.config inside.program w (Makes (Deliver c.args.number)) (node_done w me done) c.self.invariant.right ranged c.ranges.number.fits (whole_is ∙ ap (node_done_if w me) came)).packets in
+    sends_are w.sent done.sends (c.events_keep_ranges.ensures.effect inside.config inside.program w (Makes (Deliver c.args.number)) (node_done w me done) c.self.invariant.right ranged tt (whole_is ∙ ap (node_done_if w me) came)).packets in
     let told = c.of_step-effect.ensures ∙ ap (λ (k : ℕ). told_sent k c.in-Ok.sent) first in
     subst (λ v. Answers v.world (delivers (setting_of m.next m.answers m.begin v) v.world (part_at v.world.sent c.args.number)) (λ kept. delivery_is_cut (setting_of m.next m.answers m.begin v) v.world (part_at v.world.sent c.args.number) kept)
     (world_of disk inside.config.max_positions (slice_set nodes i new) tasks c.put.new.self) (let r : Result Effect Fault = Ok c.of_step-effect.result in r)) c.self.view_is
@@ -316,7 +316,7 @@ returns-in-Err-clause-answer g c =
     let gives : packet_given (all_of c.unwrap-text.result.now) ≡ Ok given = ap (λ l. packet_given (all_of l)) text ∙ c.texts_are_packets.ensures message packet in
     let new = c.turn.new.self in
     let each : (done : Done NodePart) → node_effect s me part given ≡ Ok done → AllByRecursion IsPacket done.sends = λ done came.
-    sends_are w.sent done.sends (c.events_keep_ranges.ensures.effect inside.config inside.program w (Makes (Deliver c.args.number)) (node_done w me done) c.self.invariant.right ranged c.ranges.number.fits (whole_is ∙ ap (node_done_if w me) came)).packets in
+    sends_are w.sent done.sends (c.events_keep_ranges.ensures.effect inside.config inside.program w (Makes (Deliver c.args.number)) (node_done w me done) c.self.invariant.right ranged tt (whole_is ∙ ap (node_done_if w me) came)).packets in
     subst (λ v. Answers v.world (delivers (setting_of m.next m.answers m.begin v) v.world (part_at v.world.sent c.args.number)) (λ kept. delivery_is_cut (setting_of m.next m.answers m.begin v) v.world (part_at v.world.sent c.args.number) kept)
     (world_of disk inside.config.max_positions (slice_set nodes i new) tasks c.settle.new.self) (let r : Result Effect Fault = Err c.in-Err.fault in r)) c.self.view_is
     (not_turned disk inside.config begin nodes tasks inside.messages c.self.invariant i me placed n here new m.next m.answers given c.settle.new.self c.settle.ensures.sent c.in-Err.fault (c.in-Err.ensures.err member given gives) _ _ whole_is cut_is)

@@ -1,0 +1,19 @@
+-- Every history leads to a world that meets the invariant.
+use Rattle.rp_agreement.specs.Answered.{setting_for}
+use Rattle.rp_world.proofs.Sounding.{agreed, ordered}
+use Rattle.rp_world.proofs.headline.histories_are_ordered.Goals as goal
+
+pub returns-clause-agree : goal.returns-clause-agree
+returns-clause-agree g c = λ config program now later are.
+    let m = g.M.Machine in
+    let s = setting_for m.next m.answers m.begin config program in
+    let laws = c.histories_agree.ensures in
+    agreed m.next m.answers m.image (m.begin program) now later (laws.applied s now later are) (laws.states s now later are)
+
+pub returns-clause-ordered : goal.returns-clause-ordered
+returns-clause-ordered g c = λ config program events world history.
+    let m = g.M.Machine in
+    let s = setting_for m.next m.answers m.begin config program in
+    let tells = c.replies_tell_the_order.ensures in
+    ordered s c.the_order_exists.ensures c.applied_lists_begin_the_order.ensures (tells.replies s)
+    (c.a_call_has_one_place.ensures (m.begin program)) world (tells.histories s events world history)

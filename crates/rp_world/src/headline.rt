@@ -1,0 +1,33 @@
+//! The headline over every history, with no cluster in it.
+
+ghost use Rattle.std.specs.Prelude.{List};
+ghost use Rattle.rp_base.specs.declared.config.Config.{Config};
+ghost use Rattle.rp_model.specs.Events.{Event};
+ghost use Rattle.rp_model.specs.World.{World};
+ghost use Rattle.rp_agreement.specs.Answered.{setting_for};
+ghost use Rattle.rp_agreement.specs.History.{IsHistory, AreMoments};
+ghost use Rattle.rp_world.specs.Agreeing.{Agree, IsOrdered};
+
+use rp_agreement::{
+    applied_lists_begin_the_order, histories_agree, replies_tell_the_order, the_order_exists,
+};
+use rp_machine::{Machine, a_call_has_one_place};
+
+/// Nodes of one configuration that run one program of a machine agree at any two moments of any
+/// history, whatever stops, is cut short, starts again, is lost or comes twice. At each moment there
+/// is one order of all that is decided: what each node has applied begins it, each reply that a task
+/// got is the answer that it gives to the task's call, and each call takes effect at one place of it.
+pub fn histories_are_ordered<M: Machine>()
+    ensures agree { (config : Config) (program : M.Program) (now later : World)
+        → AreMoments (setting_for M.next M.answers M.begin config program) now later
+        → Agree M.next M.answers M.image (M.begin program) now later }
+    ensures ordered { (config : Config) (program : M.Program) (events : List Event) (world : World)
+        → IsHistory (setting_for M.next M.answers M.begin config program) events world
+        → IsOrdered M.next M.answers (M.begin program) config.nodes world }
+{
+    histories_agree::<M>();
+    replies_tell_the_order::<M>();
+    the_order_exists();
+    applied_lists_begin_the_order();
+    a_call_has_one_place::<M>();
+}

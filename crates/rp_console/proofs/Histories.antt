@@ -1,6 +1,6 @@
 -- The lines of a script lead from world to world by events.
 use Rattle.std.specs.Prelude.{All, nat_le, take}
-use Rattle.std.proofs.Common.{◌≡◌, ◌≤◌, ℕ, zero, suc, Bool, true, false, cond, ◌&&◌, length, arith, Option, Some, None, Result, Ok, Err, List, [], ◌∷◌, ◌++◌, inl, inr, refl, sym, ap, subst, ◌∙◌}
+use Rattle.std.proofs.Common.{◌≡◌, ◌≤◌, ℕ, zero, suc, Bool, true, false, cond, ◌&&◌, length, arith, Option, Some, None, Result, Ok, Err, List, [], ◌∷◌, ◌++◌, inl, inr, refl, sym, subst}
 use Rattle.rp_base.proofs.Members.{has_split}
 use Rattle.rp_base.specs.Config.{IsRightConfig}
 use Rattle.rp_base.specs.Sets.{Has}

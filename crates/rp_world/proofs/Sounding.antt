@@ -99,14 +99,14 @@ module _ {S : Type 0} (next : S → Action → S) (answers : S → Action → Li
   agree now later sound after sent =
       agreed next answers image begin now later
       (λ x y one other p q.
-          subst (λ (b : NodePart). AreAlike (applied_of one.records) (applied_of b.records)) (here later y other q)
-          (subst (λ (a : NodePart). AreAlike (applied_of a.records) (applied_of (node_in later.nodes y).records)) (here now x one p)
-          (alike nodes (node_in now.nodes) (node_in later.nodes) now.sent later.sent sound after sent x y)))
+      subst (λ (b : NodePart). AreAlike (applied_of one.records) (applied_of b.records)) (here later y other q)
+      (subst (λ (a : NodePart). AreAlike (applied_of a.records) (applied_of (node_in later.nodes y).records)) (here now x one p)
+      (alike nodes (node_in now.nodes) (node_in later.nodes) now.sent later.sent sound after sent x y)))
       (λ x y one other p q.
-          let P : NodePart → NodePart → Type 0 = λ a b. AreLevel a b → replay_of next answers begin (applied_of a.records) ≡ replay_of next answers begin (applied_of b.records) in
-          subst (λ (b : NodePart). P one b) (here later y other q)
-          (subst (λ (a : NodePart). P a (node_in later.nodes y)) (here now x one p)
-          (states nodes (node_in now.nodes) (node_in later.nodes) now.sent later.sent sound after sent x y)))
+      let P : NodePart → NodePart → Type 0 = λ a b. AreLevel a b → replay_of next answers begin (applied_of a.records) ≡ replay_of next answers begin (applied_of b.records) in
+      subst (λ (b : NodePart). P one b) (here later y other q)
+      (subst (λ (a : NodePart). P a (node_in later.nodes y)) (here now x one p)
+      (states nodes (node_in now.nodes) (node_in later.nodes) now.sent later.sent sound after sent x y)))
 
 -- and there is one order, by which each reply is an answer
 module _ {S : Type 0} (s : Setting S)

@@ -30,7 +30,7 @@ higher_joined v None ws = refl
 higher_joined v (Some w) ws = higher_assoc v w (highest ws)
 
 -- the highest of two lists, by the highest of the first
-highest-append : (vs ws : List Vote) → highest (vs ++ ws) ≡ highest (option_to_list (highest vs) ++ ws)
+pub highest-append : (vs ws : List Vote) → highest (vs ++ ws) ≡ highest (option_to_list (highest vs) ++ ws)
 highest-append [] ws = refl
 highest-append (v ∷ vs) ws = ap (λ (o : Option Vote). Some (higher_vote v o)) (highest-append vs ws) ∙ ap Some (higher_joined v (highest vs) ws)
 

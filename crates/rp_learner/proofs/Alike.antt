@@ -1,9 +1,9 @@
 -- Learners that hold the same, as sets, answer alike.
-use Rattle.std.proofs.Common.{◌≡◌, ℕ, Bool, ◌&&◌, cond, not, List, [], length, map, refl, sym, ap, subst, ◌∙◌, ◌↔◌}
+use Rattle.std.proofs.Common.{◌≡◌, ℕ, Bool, ◌&&◌, cond, not, List, [], length, map, sym, ap, subst, ◌∙◌}
 use Rattle.std.specs.Prelude.{nat_eq, nat_le, filter}
 use Rattle.std.proofs.lemmas.Bool.Decides.{Decides-eqb}
 use Rattle.rp_base.specs.declared.record.Vote.{Vote}
-use Rattle.rp_base.specs.Sets.{Has, SameMembers, with_members}
+use Rattle.rp_base.specs.Sets.{SameMembers}
 use Rattle.rp_base.specs.Number.{in_range}
 use Rattle.rp_base.specs.Majority.{majority_of, nodes_among}
 use Rattle.rp_base.specs.Promises.{HeardVote, same_vote, same_heard, voters_of}
@@ -12,7 +12,6 @@ use Rattle.rp_base.proofs.Members.{same_test, same_with, same_passing, same_mapp
 use Rattle.rp_learner.specs.Learning.{Learning}
 use Rattle.rp_learner.specs.declared.learner.Standing.{Standing}
 use Rattle.rp_learner.specs.declared.learner.Standing.TheVariants.{Counting, Learned, Known}
-use Rattle.rp_learner.specs.declared.learner.Decision.{Decision}
 use Rattle.rp_learner.specs.declared.learner.Decision.TheVariants as decisions
 use Rattle.rp_learner.specs.Standings.{SameLearning, is_settled, heard_with, standing_with, decision_at, with_settled, with_standing, with_vote}
 

@@ -1,21 +1,23 @@
 -- What holds at a position, by its place.
-use Rattle.std.proofs.Common.{◌≡◌, ℕ, zero, suc, ◌<◌, ◌≤◌, Bool, true, false, cond, Option, Some, Result, Ok, Err, OnErr, List, [], length, map, replicate, set, sym, refl, subst, ap, ◌∙◌, inl, inr}
+use Rattle.std.proofs.Common.{arith, cond, ◌∷◌, ◌≡◌, ℕ, zero, suc, ◌<◌, ◌≤◌, Bool, true, false, cond, Option, Some, Result, Ok, Err, OnErr, List, [], length, replicate, set, sym, refl, subst, ap, ◌∙◌, inl, inr}
 use Rattle.std.specs.Prelude.{nat_eq, nat_le, slice_get}
 use Rattle.std.proofs.lemmas.Bool.{cases_Bool, le-leb, lt-leb, cond-true, cond-false}
 use Rattle.rp_base.specs.declared.record.Vote.{Vote}
 use Rattle.rp_base.specs.Majority.{majority_of, nodes_among}
-use Rattle.rp_base.specs.Sets.{Has, with_member, with_members}
+use Rattle.rp_base.specs.Sets.{Has, SameMembers, with_member}
 use Rattle.rp_base.specs.Promises.{HeardVote, voters_of, makes_majority}
 use Rattle.rp_learner.specs.declared.place.Place.{Place}
-use Rattle.rp_learner.specs.declared.place.Place.TheVariants.{Unheard}
+use Rattle.rp_learner.specs.declared.place.Place.TheVariants.{Unheard, Heard, Settled}
 use Rattle.rp_learner.specs.declared.learner.Standing.{Standing}
 use Rattle.rp_learner.specs.declared.learner.Standing.TheVariants.{Counting, Learned, Known}
 use Rattle.rp_learner.specs.Places.{votes_at, votes_in, votes_of, place_at, is_settled_in, settled_of, is_settled_at, IsWithCast, heard_from, settled_from}
+use Rattle.rp_learner.specs.Learning.{Learning}
 use Rattle.rp_learner.specs.Standings.{is_settled, heard_with, standing_with, with_standing, with_vote, SameLearning}
 use Rattle.rp_learner.proofs.Placing.{settled_at, heard_at}
-use Rattle.rp_learner.specs.Casts.{voters_with}
+use Rattle.rp_learner.proofs.Tallies.{alone}
+use Rattle.rp_learner.specs.Casts.{CastVote, voters_with}
 use Rattle.rp_learner.proofs.Voters.{voters_at, one_more_voter}
-use Rattle.rp_learner.proofs.Writing.{learning_of, hears}
+use Rattle.rp_learner.proofs.Writing.{learning_of, hears, settles, stays, same_learning}
 
 -- a learner without votes
 pub none_heard : (n i : ℕ) → heard_from i (replicate n Unheard) ≡ []
@@ -54,6 +56,12 @@ module _ (nodes : ℕ) (places : List Place) (from i : ℕ) (vote : Vote) where
     pub counting_at : count < majority_of nodes → Counting ≡ standing_with (learning_of nodes places) from i vote
     counting_at few = sym (by_majority false (lt-leb (majority_of nodes) count few))
 
+  -- the first vote at a position is counted
+  pub first_at : 3 ≤ nodes → is_settled_at places i ≡ false → votes_at places i ≡ [] → Counting ≡ standing_with (learning_of nodes places) from i vote
+  first_at many open_place none =
+      counting_at (length (nodes_among nodes (from ∷ []))) open_place (ap (λ votes. length (nodes_among nodes (voters_with votes from vote))) (sym none))
+      (omega (arith, alone nodes from, many))
+
   known≢counting : Known ≡ Counting → ⊥
   known≢counting e = cc
 
@@ -72,6 +80,28 @@ module _ (nodes : ℕ) (places : List Place) (from i : ℕ) (vote : Vote) where
       let free : is_settled_in p ≡ false = sym (ap settled_of (ap (place_at places) at ∙ before)) ∙ open_at counting in
       subst (λ (s : Standing). SameLearning (learning_of nodes (set places k q)) (with_standing (learning_of nodes places) from i vote s)) (sym counting)
       (hears places k i at within nodes (record { from = from; vote = vote }) p q before free more)
+
+  -- the first vote at a position is heard
+  pub notes_first : 3 ≤ nodes → (k : ℕ) (votes : List CastVote) → i ≡ suc k → k < length places → slice_get places k ≡ Some Unheard
+      → SameMembers votes (record { from = from; vote = vote } ∷ []) → SameLearning (learning_of nodes (set places k (Heard votes))) (with_vote (learning_of nodes places) from i vote)
+  notes_first many k votes at within before alone =
+      let there : place_at places i ≡ Some Unheard = ap (place_at places) at ∙ before in
+      notes k Unheard (Heard votes) at within before (sym (first_at many (ap settled_of there) (ap votes_of there))) (record { mark = refl; votes = λ _. alone })
+
+  -- a vote that makes a majority settles its position
+  pub notes_last : (k : ℕ) → i ≡ suc k → k < length places → standing_with (learning_of nodes places) from i vote ≡ Learned
+      → SameLearning (learning_of nodes (set places k Settled)) (with_vote (learning_of nodes places) from i vote)
+  notes_last k at within learned =
+      subst (λ (s : Standing). SameLearning (learning_of nodes (set places k Settled)) (with_standing (learning_of nodes places) from i vote s)) (sym learned)
+      (settles places k i at within nodes)
+
+  -- a vote at a settled position changes nothing
+  pub notes_none : (k : ℕ) (p : Place) → slice_get places k ≡ Some p → is_settled_at places i ≡ true
+      → SameLearning (learning_of nodes (set places k p)) (with_vote (learning_of nodes places) from i vote)
+  notes_none k p before settled =
+      subst (λ (s : Standing). SameLearning (learning_of nodes (set places k p)) (with_standing (learning_of nodes places) from i vote s)) (known_at settled)
+      (subst (λ (l : Learning). SameLearning l (learning_of nodes places)) (sym (stays nodes places k p p before (record { mark = refl; votes = refl })))
+      (same_learning (learning_of nodes places)))
 
 -- a vote that its place does not hold was not heard
 pub not_heard : (places : List Place) (from i : ℕ) (vote : Vote) (k : ℕ) (p : Place) → i ≡ suc k → slice_get places k ≡ Some p

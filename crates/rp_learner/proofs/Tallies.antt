@@ -1,5 +1,5 @@
 -- What tallies count.
-use Rattle.std.proofs.Common.{◌≡◌, ◌≢◌, ℕ, zero, suc, ◌+◌, ◌<◌, Bool, true, false, ◌⊎◌, Option, Some, None, List, [], ◌∷◌, ◌++◌, length, map, set, refl, sym, ap, subst, ◌∙◌, inl, inr, arith, append_assoc}
+use Rattle.std.proofs.Common.{◌≤◌, cond, ◌≡◌, ◌≢◌, ℕ, zero, suc, ◌+◌, ◌<◌, Bool, true, false, Option, Some, None, List, [], ◌∷◌, ◌++◌, length, map, set, refl, sym, ap, subst, ◌∙◌, inl, inr, arith, append_assoc}
 use Rattle.std.specs.Prelude.{nat_eq, slice_get, filter, unwrap_or}
 use Rattle.std.specs.Bool.{Decides}
 use Rattle.std.proofs.lemmas.Bool.{cases_Bool, cases_eq, both_ways, eq-eqb, eqb-true, and_from, and_parts, cond-true, cond-false}
@@ -181,6 +181,14 @@ count_at ts k t n from vote are at is distinct =
 pub count_none : (ts : List Tally) (n from : ℕ) (vote : Vote) → ¬ Has vote (map (λ t. t.vote) ts)
     → length (nodes_among n (with_member nat_eq [] from)) ≡ length (nodes_among n (voters_with (casts_of ts) from vote))
 count_none ts n from vote none = ap (λ (l : List ℕ). length (nodes_among n (with_member nat_eq (with_members nat_eq [] l) from))) (sym (senders_none ts vote none))
+
+one_at_most : (is_one : Bool) (from : ℕ) → length (cond is_one (from ∷ []) []) ≤ 1
+one_at_most true from = omega arith
+one_at_most false from = omega arith
+
+-- a vote alone is of one node at most
+pub alone : (nodes from : ℕ) → length (nodes_among nodes (from ∷ [])) ≤ 1
+alone nodes from = one_at_most (in_range 1 nodes from) from
 
 -- ---- one more vote
 

@@ -1,5 +1,5 @@
 -- What the places of a learner hold, as sets of votes and positions (this project's own).
-use Rattle.std.specs.Prelude.{ℕ, zero, suc, ◌≡◌, Bool, true, false, ◌&&◌, nat_eq, Option, Some, None, List, [], ◌∷◌, ◌++◌, map, slice_get}
+use Rattle.std.specs.Prelude.{ℕ, zero, suc, ◌≡◌, Bool, true, false, Option, Some, None, List, [], ◌∷◌, ◌++◌, map, slice_get}
 use Rattle.rp_base.specs.Sets.{SameMembers, with_member}
 use Rattle.rp_base.specs.Promises.{HeardVote}
 use Rattle.rp_learner.specs.Casts.{CastVote, same_cast}

@@ -5,7 +5,8 @@ ghost use Rattle.rp_base.specs.declared.record.Vote.{Vote};
 ghost use Rattle.rp_learner.specs.Learning.{Learning};
 ghost use Rattle.rp_learner.specs.Standings.{SameLearning, SameSizes, fresh, vote_for, standing_with, decision_at, with_settled, with_vote, NotesVote, Settles, IsOneMore};
 
-use crate::place::{Place, count_with, hear, is_settled_at};
+use crate::place::{Place, is_settled_at, place_at};
+use crate::tally::Tallies;
 use rp_base::{Action, Ballot, Fault, NodeId, Position, Vote, majority};
 use std::alloc::Global;
 use std::marker::Model;
@@ -85,18 +86,18 @@ impl Learner {
         requires sender { from ≤ self.now.nodes }
         ensures { result ≡ standing_with self.now from position (vote_for ballot action.now) }
     {
-        if is_settled_at(&self.places, position) {
-            return Standing::Known;
-        }
-        let vote = Vote {
-            ballot,
-            action: *action,
-        };
-        let voters = count_with(&self.places, position, self.nodes, from, &vote);
-        if voters >= usize::from(majority(self.nodes)) {
-            Standing::Learned
-        } else {
-            Standing::Counting
+        match place_at(&self.places, position) {
+            Some(Place::Settled) => Standing::Known,
+            Some(Place::Heard(tallies)) => {
+                let voters = tallies.count_with(self.nodes, from, ballot, action);
+                if voters >= usize::from(majority(self.nodes)) {
+                    Standing::Learned
+                } else {
+                    Standing::Counting
+                }
+            }
+            Some(Place::Unheard) => Standing::Counting,
+            None => Standing::Counting,
         }
     }
 
@@ -121,17 +122,23 @@ impl Learner {
             (vote_for ballot action.now)) }
         ensures only { IsOkUnless result Fault.OutOfMemory }
     {
-        match self.vote(from, position, ballot, action) {
-            Standing::Known => {}
-            Standing::Learned => self.settled(position),
-            Standing::Counting => {
+        let most = usize::from(majority(self.nodes));
+        let nodes = self.nodes;
+        let place = &mut self.places[usize::from(position.get()) - 1];
+        match place {
+            Place::Unheard => {
                 let vote = Vote {
                     ballot,
                     action: *action,
                 };
-                let place = &mut self.places[usize::from(position.get()) - 1];
-                hear(alloc, place, from, &vote)?;
+                *place = Place::Heard(Tallies::new(alloc, from, vote));
             }
+            Place::Heard(tallies) => {
+                if tallies.hear(nodes, from, ballot, action)? >= most {
+                    *place = Place::Settled;
+                }
+            }
+            Place::Settled => {}
         }
         Ok(())
     }

@@ -1,12 +1,13 @@
 //! The votes heard at one position.
 
-ghost use Rattle.std.specs.Prelude.{◌≡◌, ◌≤◌, [], ◌∷◌, length, OnOk, OnErr};
-ghost use Rattle.rp_base.specs.Sets.{Has, SameMembers, with_member};
+ghost use Rattle.std.specs.Prelude.{◌≡◌, ◌≤◌, [], ◌∷◌, length, nat_eq, IfOk, OnOk, OnErr};
+ghost use Rattle.rp_base.specs.Sets.{Has, IsSet, SameMembers, with_member};
 ghost use Rattle.rp_base.specs.Majority.{nodes_among};
 ghost use Rattle.rp_base.specs.Promises.{same_vote};
 ghost use Rattle.rp_learner.specs.Casts.{same_cast, index_from, voters_with};
+ghost use Rattle.rp_learner.specs.Standings.{vote_for};
 
-use rp_base::{NodeId, Senders, Vote};
+use rp_base::{Action, Ballot, NodeId, Senders, Vote};
 use std::alloc::{AllocError, Global};
 use std::marker::Model;
 
@@ -48,17 +49,34 @@ impl Tally {
         Tally { vote, senders }
     }
 
-    /// Whether it counts this vote.
+    /// Whether it counts the vote of this ballot for this action.
     #[inline(always)]
-    fn is_of(&self, vote: &Vote) -> bool
-        ensures { result ≡ same_vote self.now.vote vote.now }
+    fn is_of(&self, ballot: Ballot, action: &Action) -> bool
+        ensures { result ≡ same_vote self.now.vote (vote_for ballot action.now) }
     {
-        self.vote == *vote
+        self.vote.ballot == ballot && self.vote.action == *action
+    }
+
+    /// Adds a sender. How many of the nodes 1 to `nodes` have cast the vote then.
+    #[inline(always)]
+    fn hear(&mut self, nodes: u8, from: NodeId) -> usize
+        requires { nodes ≤ 7 }
+        ensures voters { result ≡ length (nodes_among nodes
+            (with_member nat_eq self.old.senders from)) }
+        ensures senders { SameMembers self.new.senders
+            (with_member nat_eq self.old.senders from) }
+        ensures once { IsSet self.old.senders }
+        ensures vote { self.new.vote ≡ self.old.vote }
+    {
+        let voters = self.senders.len_with(from, nodes);
+        self.senders.insert(from);
+        voters
     }
 }
 
 impl Tallies {
     /// One vote was heard.
+    #[inline(always)]
     pub fn new(alloc: Global, from: NodeId, vote: Vote) -> Tallies
         ensures { SameMembers result (record { from = from; vote = vote } ∷ []) }
     {
@@ -70,47 +88,68 @@ impl Tallies {
 
     /// How many of the nodes 1 to `nodes` have cast the vote, once this one has.
     #[inline(always)]
-    pub fn count_with(&self, nodes: u8, from: NodeId, vote: &Vote) -> usize
+    pub fn count_with(&self, nodes: u8, from: NodeId, ballot: Ballot, action: &Action) -> usize
         requires { nodes ≤ 7 }
-        ensures { result ≡ length (nodes_among nodes (voters_with self.now from vote.now)) }
+        ensures { result ≡ length (nodes_among nodes
+            (voters_with self.now from (vote_for ballot action.now))) }
     {
-        if self.first.is_of(vote) {
+        if self.first.is_of(ballot, action) {
             return self.first.senders.len_with(from, nodes);
         }
-        match index_of(&self.others, vote) {
+        match index_of(&self.others, ballot, action) {
             Some(index) => self.others[index].senders.len_with(from, nodes),
             None => Senders::new().len_with(from, nodes),
         }
     }
 
-    /// Adds a vote, unless it was heard before. `AllocError` comes only where it was not, and leaves
-    /// the tallies as they were.
+    /// Adds a vote, unless it was heard before. How many of the nodes 1 to `nodes` have cast it
+    /// then. `AllocError` comes only where nobody had cast it, and leaves the tallies as they were.
     #[inline(always)]
-    pub fn hear(&mut self, from: NodeId, vote: &Vote) -> Result<(), AllocError>
+    pub fn hear(
+        &mut self,
+        nodes: u8,
+        from: NodeId,
+        ballot: Ballot,
+        action: &Action,
+    ) -> Result<usize, AllocError>
+        requires { nodes ≤ 7 }
         ensures ok { OnOk result (SameMembers self.new (with_member same_cast self.old
-            (record { from = from; vote = vote.now }))) }
+            (record { from = from; vote = vote_for ballot action.now }))) }
+        ensures voters { IfOk result (λ voters. voters ≡ length (nodes_among nodes
+            (voters_with self.old from (vote_for ballot action.now)))) }
         ensures err { OnErr result (self.new ≡ self.old) }
-        ensures full { OnErr result (¬ Has (record { from = from; vote = vote.now }) self.old) }
+        ensures full { OnErr result (¬ Has (record {
+          from = from;
+          vote = vote_for ballot action.now;
+        }) self.old) }
+        ensures few { OnErr result (length (nodes_among nodes
+            (voters_with self.old from (vote_for ballot action.now))) ≤ 1) }
     {
-        if self.first.is_of(vote) {
-            self.first.senders.insert(from);
-            return Ok(());
+        if self.first.is_of(ballot, action) {
+            return Ok(self.first.hear(nodes, from));
         }
-        match index_of(&self.others, vote) {
-            Some(index) => self.others[index].senders.insert(from),
-            None => self.others.push(Tally::new(from, *vote))?,
+        match index_of(&self.others, ballot, action) {
+            Some(index) => Ok(self.others[index].hear(nodes, from)),
+            None => {
+                let vote = Vote {
+                    ballot,
+                    action: *action,
+                };
+                self.others.push(Tally::new(from, vote))?;
+                Ok(Senders::new().len_with(from, nodes))
+            }
         }
-        Ok(())
     }
 }
 
-/// Where the tally of a vote is.
-fn index_of(tallies: &[Tally], vote: &Vote) -> Option<usize>
-    ensures { result ≡ index_from 0 vote.now tallies.now }
+/// Where the tally of the vote of this ballot for this action is.
+#[inline(never)]
+fn index_of(tallies: &[Tally], ballot: Ballot, action: &Action) -> Option<usize>
+    ensures { result ≡ index_from 0 (vote_for ballot action.now) tallies.now }
 {
     let mut index = 0;
     for tally in tallies {
-        if tally.is_of(vote) {
+        if tally.is_of(ballot, action) {
             return Some(index);
         }
         index += 1;

@@ -153,6 +153,13 @@ unlearned_past front reserved old taken log p view low none = ⊎_elim
     absurd cc)
     (cases_lt (length front) p)
 
+-- and where none is between, it is the one behind the front
+pub unlearned_next : (front : List Action) (reserved : Bool) (old : Ahead) (taken : ℕ) (log : Contents) (p : ℕ) → seen front reserved old taken ≡ log
+    → 1 ≤ p → action_at log p ≡ None → p ≤ length front + 1 → p ≡ length front + 1
+unlearned_next front reserved old taken log p view low none near =
+    let past = unlearned_past front reserved old taken log p view low none in
+    omega (arith, past, near)
+
 never : ◌≡◌ {A = Bool} false true → ⊥
 never e = absurd cc
 

@@ -174,3 +174,33 @@ room_in log p false none =
 -- what is reserved has room
 pub has_room_after : (log new : Contents) (p : ℕ) → new ≡ with_room log p → HasRoom new p
 has_room_after log new p is = subst (λ (l : Contents). HasRoom l p) (sym is) (room_in log p (is_some (get log.places p)) refl)
+
+-- ---- a reservation
+
+module _ (front : List Action) (reserved : Bool) (old : Ahead) (capacity room taken top : ℕ) (log : Contents) (p : ℕ) (fits : Fits front reserved old capacity taken top)
+    (view : seen front reserved old taken ≡ log) (low : 1 ≤ p) (high : p ≤ 65535) (none : false ≡ is_some (get log.places p)) (enough : length front + (length old + 2) ≤ room) where
+  free : IsFree front reserved old p
+  free = is_free front reserved old taken log p view low none
+
+  -- the position behind the front is reserved
+  pub reserves_next : p ≡ length front + 1 → Fits front true old room taken top × (seen front true old taken ≡ with_room log p)
+  reserves_next next =
+      let here : (i : ℕ) → place_of front true old i ≡ cond (same i p) (Some None) (place_of front reserved old i) =
+      λ i. next_reserved front old i ∙ ap (λ n. cond (same i n) (Some None) (place_of front false old i)) (sym next)
+      ∙ ap (λ b. cond (same i p) (Some None) (place_of front b old i)) (sym (free.next next)) in (
+        fits_next front old capacity room taken top (subst (λ b. Fits front b old capacity taken top) (free.next next) fits)
+            (ap (place_ahead old) (sym next) ∙ free.none) (omega (arith, next, high)) enough,
+        reserved_one front reserved true old old taken log p view none here,
+      )
+
+  -- a position ahead is reserved
+  pub reserves_ahead : (new : Ahead) → p ≢ length front + 1 → ((i : ℕ) → place_ahead new i ≡ cond (same p i) (Some None) (place_ahead old i)) → length new ≡ length old + 1
+      → Fits front reserved new room taken top × (seen front reserved new taken ≡ with_room log p)
+  reserves_ahead new apart written longer =
+      let far : length front + 1 < p = ⊎_elim
+      (λ (past : length front + 1 < p). past)
+      (λ (within : p ≤ length front + 1). absurd (apart (omega (arith, within, free.past))))
+      (cases_lt (length front + 1) p) in (
+        fits_ahead front reserved old new capacity room taken top p fits far high free.none written longer enough,
+        reserved_one front reserved reserved old new taken log p view none (ahead_written front reserved old new p None far written),
+      )

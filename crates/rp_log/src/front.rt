@@ -1,6 +1,6 @@
 //! The positions that a log has learned without a gap, and those ahead of them.
 
-ghost use Rattle.std.specs.Prelude.{◌≡◌, ℕ, ◌+◌, ◌≤◌, List, ◌++◌, false, None, IsSome, length, slice_get, vec_capacity, if◌then◌else◌};
+ghost use Rattle.std.specs.Prelude.{◌≡◌, ℕ, ◌+◌, ◌<◌, ◌≤◌, Bool, List, ◌∷◌, ◌++◌, false, None, IsSome, is_some, length, slice_get, vec_capacity, if◌then◌else◌};
 ghost use Rattle.std.specs.Ordering.{nat_cmp};
 ghost use Rattle.std.specs.BTreeMap.{is_at};
 ghost use Rattle.rp_base.specs.declared.action.Action.{Action};
@@ -53,4 +53,29 @@ pub(crate) fn advance(front: &mut Vec<Action>, ahead: &mut BTreeMap<u32, Option<
         ahead.remove(&(front.len() as u32 + 1));
         front.push_reserved(action);
     }
+}
+
+/// Learns the action of the position behind the front, and moves on past the positions that follow.
+pub(crate) fn learn_next(
+    front: &mut Vec<Action>,
+    ahead: &mut BTreeMap<u32, Option<Action>>,
+    action: Action,
+)
+    requires ahead { IsAhead (length front.old.items) ahead.old.entries }
+    requires room { (fewer : ℕ) → fewer + (if is_some (place_ahead ahead.old.entries
+        (length front.old.items + 1)) then 1 else 0) ≡ length ahead.old.entries
+        → length front.old.items + 1 + fewer ≤ vec_capacity front.old }
+    requires bound { length front.old.items < 65535 }
+    ensures places { (reserved : Bool) (i : ℕ) → place_of front.new.items false ahead.new.entries i
+        ≡ (if is_at (nat_cmp i) (length front.old.items + 1) then Some (Some action)
+        else place_of front.old.items reserved ahead.old.entries i) }
+    ensures grown { (more : List Action) × (front.new.items ≡ front.old.items ++ action ∷ more) }
+    ensures ahead { IsAhead (length front.new.items) ahead.new.entries }
+    ensures gap { action_ahead ahead.new.entries (length front.new.items + 1) ≡ None }
+    ensures room { length front.new.items + length ahead.new.entries ≤ vec_capacity front.new }
+    ensures bound { length front.new.items ≤ 65535 }
+{
+    ahead.remove(&(front.len() as u32 + 1));
+    front.push_reserved(action);
+    advance(front, ahead);
 }

@@ -5,7 +5,7 @@ ghost use Rattle.std.specs.FinMap.{get};
 ghost use Rattle.rp_base.specs.declared.fault.Fault.TheVariants.{OutOfMemory};
 ghost use Rattle.rp_log.specs.Contents.{empty_log, HasRoom, action_at, IsLearned, with_room, with_action, next_to_take, ready_of, IsTakenInOrder};
 
-use crate::front::{action_in, advance, learn_ahead, learned_at};
+use crate::front::{action_in, learn_ahead, learn_next, learned_at};
 use rp_base::{Action, Fault, Position};
 use std::alloc::Global;
 use std::collections::BTreeMap;
@@ -114,9 +114,7 @@ impl Log {
             return;
         }
         self.next_reserved = false;
-        self.ahead.remove(&number);
-        self.front.push_reserved(action);
-        advance(&mut self.front, &mut self.ahead);
+        learn_next(&mut self.front, &mut self.ahead, action);
     }
 
     /// The action that was learned first at the position, or `None`.

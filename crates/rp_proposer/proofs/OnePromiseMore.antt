@@ -3,18 +3,15 @@ use Rattle.std.proofs.Common.{◌≡◌, ℕ, ◌≤◌, ◌<◌, Bool, true, fa
 use Rattle.std.specs.Prelude.{option_to_list, filter_map, IsSomeAnd, ◌&&◌, ◌||◌}
 use Rattle.std.specs.List.{list_any}
 use Rattle.std.proofs.lemmas.Bool.{cases_lt, lt-ltb, le-ltb}
-use Rattle.std.proofs.lemmas.Bool.Decides.{eqb_tells}
+use Rattle.std.proofs.lemmas.Bool.Decides.{Decides-eqb, eqb_tells}
 use Rattle.std.proofs.lemmas.List.{map-append}
 use Rattle.std.proofs.lemmas.List.Elements.{filter_map-append}
-use Rattle.std.proofs.lemmas.List.Folds.{list_any-append}
 use Rattle.rp_base.specs.declared.record.Vote.{Vote}
 use Rattle.rp_base.specs.Sets.{with_member, with_members}
 use Rattle.rp_base.specs.Records.{higher_vote, highest}
 use Rattle.rp_base.specs.Promises.{Promise, same_promise, promisers_of, highest_vote}
-
-or_true : (b : Bool) → (b || true) ≡ true
-or_true true = refl
-or_true false = refl
+use Rattle.rp_base.proofs.MoreRecords.{highest-append}
+use Rattle.rp_base.proofs.Members.{found, finds, member_stays, with_members-append}
 
 and_false : (b : Bool) → (b && false) ≡ false
 and_false true = refl
@@ -26,38 +23,9 @@ ltb_tells a b = elim (cases_lt a b) [ inl lt ↦ inl (lt-ltb a b lt, lt) | inr g
 
 -- ---- who sent them
 
-with_members-append : (seen xs : List ℕ) (x : ℕ) → with_members nat_eq seen (xs ++ x ∷ []) ≡ with_member nat_eq (with_members nat_eq seen xs) x
-with_members-append seen [] x = refl
-with_members-append seen (y ∷ ys) x = with_members-append (with_member nat_eq seen y) ys x
-
--- what is there stays
-stays : (p : ℕ → Bool) (seen : List ℕ) (y : ℕ) → list_any p seen ≡ true → list_any p (with_member nat_eq seen y) ≡ true
-stays p seen y h =
-    elim (list_any (nat_eq y) seen) as (λ t. list_any p (cond t seen (seen ++ y ∷ [])) ≡ true) [
-      | true ↦ h
-      | false ↦ list_any-append p seen (y ∷ []) ∙ ap (λ (t : Bool). t || list_any p (y ∷ [])) h
-    ]
-
-all_stay : (p : ℕ → Bool) (seen ys : List ℕ) → list_any p seen ≡ true → list_any p (with_members nat_eq seen ys) ≡ true
-all_stay p seen [] h = h
-all_stay p seen (y ∷ ys) h = all_stay p (with_member nat_eq seen y) ys (stays p seen y h)
-
 -- what comes is there
-comes_by : (t : Bool) (y : ℕ) (seen : List ℕ) → list_any (nat_eq y) seen ≡ t → nat_eq y y ≡ true → list_any (nat_eq y) (cond t seen (seen ++ y ∷ [])) ≡ true
-comes_by true y seen there same = there
-comes_by false y seen absent same =
-    list_any-append (nat_eq y) seen (y ∷ []) ∙ ap (λ (t : Bool). list_any (nat_eq y) seen || (t || false)) same ∙ or_true (list_any (nat_eq y) seen)
-
 all_come : (k : ℕ) (seen ys : List ℕ) → list_any (nat_eq k) ys ≡ true → list_any (nat_eq k) (with_members nat_eq seen ys) ≡ true
-all_come k seen [] h = absurd (cc)
-all_come k seen (y ∷ ys) h =
-    elim (eqb_tells k y) [
-      | inl same ↦
-          let there : list_any (nat_eq y) (with_member nat_eq seen y) ≡ true =
-          comes_by (list_any (nat_eq y) seen) y seen refl (subst (λ (z : ℕ). nat_eq z y ≡ true) same.1 same.0) in
-          all_stay (nat_eq k) (with_member nat_eq seen y) ys (subst (λ (z : ℕ). list_any (nat_eq z) (with_member nat_eq seen y) ≡ true) (sym same.1) there)
-      | inr other ↦ all_come k (with_member nat_eq seen y) ys (ap (λ (t : Bool). t || list_any (nat_eq k) ys) (sym other.0) ∙ h)
-    ]
+all_come k seen ys h = finds nat_eq Decides-eqb k (with_members nat_eq seen ys) (member_stays nat_eq Decides-eqb k seen ys (found nat_eq Decides-eqb k ys h))
 
 -- a promise that is there has its sender there
 sender_there : (p : Promise) (ps : List Promise) → list_any (same_promise p) ps ≡ true → list_any (nat_eq p.0) (map (λ q. q.0) ps) ≡ true
@@ -75,41 +43,13 @@ senders_by true ps p there =
     sym (ap (λ (t : Bool). cond t (promisers_of ps) (promisers_of ps ++ p.0 ∷ [])) (all_come p.0 [] (map (λ q. q.0) ps) (sender_there p ps there)))
 senders_by false ps p absent =
     ap (λ (senders : List ℕ). with_members nat_eq [] senders) (map-append (λ (q : Promise). q.0) ps (p ∷ []))
-    ∙ with_members-append [] (map (λ q. q.0) ps) p.0
+    ∙ with_members-append nat_eq p.0 [] (map (λ q. q.0) ps)
 
 -- with one promise more, who sent them are those before and its sender
 pub senders_after : (ps : List Promise) (p : Promise) → promisers_of (with_member same_promise ps p) ≡ with_member nat_eq (promisers_of ps) p.0
 senders_after ps p = senders_by (list_any (same_promise p) ps) ps p refl
 
 -- ---- the highest vote
-
-three_votes : (x y z : Vote) → higher_vote x (Some (higher_vote y (Some z))) ≡ higher_vote (higher_vote x (Some y)) (Some z)
-three_votes x y z =
-    elim (ltb_tells y.ballot z.ballot) [
-      | inl yz ↦ elim (ltb_tells x.ballot y.ballot) [
-        | inl xy ↦ elim (ltb_tells x.ballot z.ballot) [ inl xz ↦ rw (yz.0, xy.0, xz.0, yz.0) | inr zx ↦ absurd (omega arith) ]
-        | inr yx ↦ rw (yz.0, yx.0)
-      ]
-      | inr zy ↦ elim (ltb_tells x.ballot y.ballot) [
-        | inl xy ↦ rw (zy.0, xy.0, zy.0)
-        | inr yx ↦ elim (ltb_tells x.ballot z.ballot) [ inl xz ↦ absurd (omega arith) | inr zx ↦ rw (zy.0, yx.0, zx.0) ]
-      ]
-    ]
-
-three_at_most : (x y : Vote) (z : Option Vote) → higher_vote x (Some (higher_vote y z)) ≡ higher_vote (higher_vote x (Some y)) z
-three_at_most x y None = refl
-three_at_most x y (Some z) = three_votes x y z
-
-first_of_both : (x : Vote) (h : Option Vote) (ys : List Vote) → higher_vote x (highest (option_to_list h ++ ys)) ≡ higher_vote (higher_vote x h) (highest ys)
-first_of_both x None ys = refl
-first_of_both x (Some h) ys = three_at_most x h (highest ys)
-
--- the highest of two lists is that of the highest of the first and the second
-highest-append : (xs ys : List Vote) → highest (xs ++ ys) ≡ highest (option_to_list (highest xs) ++ ys)
-highest-append [] ys = refl
-highest-append (x ∷ xs) ys =
-    ap (λ (h : Option Vote). Some (higher_vote x h)) (highest-append xs ys)
-    ∙ ap (λ (v : Vote). Some v) (first_of_both x (highest xs) ys)
 
 above_first : (w : Vote) (o : Option Vote) → w.ballot ≤ (higher_vote w o).ballot
 above_first w None = omega arith

@@ -1,17 +1,13 @@
 -- What a proposal keeps says of the promises what they say themselves.
-use Rattle.std.proofs.Common.{◌≡◌, ℕ, ◌<◌, ◌≤◌, Bool, true, false, Option, List, [], ◌∷◌, ◌++◌, length, map, nat_eq, sym, ap, subst, ◌∙◌}
-use Rattle.std.specs.Prelude.{option_to_list, nat_le}
-use Rattle.std.proofs.lemmas.Bool.{le-leb, lt-leb}
+use Rattle.std.proofs.Common.{◌≡◌, ℕ, List, [], ◌∷◌, ◌++◌, length, map, nat_eq, sym, subst}
 use Rattle.std.proofs.lemmas.Bool.Decides.{Decides-eqb}
-use Rattle.rp_base.specs.declared.record.Vote.{Vote}
 use Rattle.rp_base.specs.Number.{in_range}
-use Rattle.rp_base.specs.Sets.{Has, IsSet, SameMembers, with_member, with_members}
-use Rattle.rp_base.specs.Majority.{majority_of, nodes_among, is_majority}
-use Rattle.rp_base.specs.Records.{highest}
-use Rattle.rp_base.specs.Promises.{Promise, same_promise, promisers_of, highest_vote}
+use Rattle.rp_base.specs.Sets.{IsSet, SameMembers, with_member}
+use Rattle.rp_base.specs.Majority.{nodes_among}
+use Rattle.rp_base.specs.Promises.{Promise, same_promise, promisers_of}
 use Rattle.rp_base.proofs.Members.{same_with, same_size, same_passing, set_passing, set_members, with_members-append}
 use Rattle.rp_proposer.specs.Heard.{set_of}
-use Rattle.rp_proposer.proofs.OnePromiseMore.{senders_after, vote_after}
+use Rattle.rp_proposer.proofs.OnePromiseMore.{senders_after}
 
 pub heard_more : (heard : List Promise) (p : Promise) → set_of (heard ++ p ∷ []) ≡ with_member same_promise (set_of heard) p
 heard_more heard p = with_members-append same_promise p [] heard

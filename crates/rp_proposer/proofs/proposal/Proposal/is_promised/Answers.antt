@@ -1,4 +1,4 @@
-use Rattle.std.proofs.Common.{◌≡◌, ℕ, nat_le, sym, ap, ◌∙◌}
+use Rattle.std.proofs.Common.{ℕ, nat_le, ap, ◌∙◌}
 use Rattle.rp_base.specs.Majority.{majority_of}
 use Rattle.rp_proposer.specs.Heard.{set_of}
 use Rattle.rp_proposer.proofs.Promised.{as_many}

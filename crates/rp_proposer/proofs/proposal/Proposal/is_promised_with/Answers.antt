@@ -1,7 +1,7 @@
-use Rattle.std.proofs.Common.{◌≡◌, ℕ, nat_eq, nat_le, List, length, sym, ap, subst, ◌∙◌}
+use Rattle.std.proofs.Common.{ℕ, nat_eq, nat_le, List, length, ap, ◌∙◌}
 use Rattle.std.proofs.lemmas.Bool.Decides.{Decides-eqb}
 use Rattle.rp_base.specs.Majority.{majority_of, nodes_among}
-use Rattle.rp_base.specs.Sets.{SameMembers, with_member}
+use Rattle.rp_base.specs.Sets.{with_member}
 use Rattle.rp_base.specs.Promises.{Promise, same_promise}
 use Rattle.rp_base.proofs.Members.{set_with}
 use Rattle.rp_proposer.specs.Heard.{set_of}

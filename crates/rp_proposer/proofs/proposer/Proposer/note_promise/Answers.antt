@@ -1,9 +1,9 @@
-use Rattle.std.proofs.Common.{◌≡◌, ◌<◌, ℕ, Some, None, Option, List, length, set, refl, sym, ap, ◌∙◌, arith}
+use Rattle.std.proofs.Common.{◌≡◌, Some, None, Option, List, length, set, refl, sym, ap, ◌∙◌, arith}
 use Rattle.std.specs.Prelude.{slice_get, unwrap_or}
 use Rattle.std.proofs.lemmas.Option.{slice_get_read}
 use Rattle.rp_base.specs.Ballot.{number_of}
 use Rattle.rp_base.specs.Proposals.{Proposal, proposal_at}
-use Rattle.rp_proposer.specs.Proposing.{ProposerPart, notes_promise, once_noted}
+use Rattle.rp_proposer.specs.Proposing.{ProposerPart, once_noted}
 use Rattle.rp_proposer.proofs.Places.{index_at, index_none, noted_there}
 use Rattle.rp_proposer.proofs.proposer.Proposer.note_promise.Goals as goal
 

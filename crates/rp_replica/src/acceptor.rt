@@ -21,13 +21,12 @@ use rp_codec::Body;
 use rp_machine::Machine;
 use rp_model::Dropped;
 use rp_store::Device;
-use std::alloc::Global;
 
 impl<M: Machine, D: Device> Replica<M, D> {
     /// A `Prepare` comes.
     pub(crate) fn on_prepare(
         &mut self,
-        alloc: Global,
+        buffer: Vec<u8>,
         from: NodeId,
         position: Position,
         ballot: Ballot,
@@ -49,17 +48,17 @@ impl<M: Machine, D: Device> Replica<M, D> {
                     ballot,
                     last,
                 };
-                self.keep_and_tell(alloc, &rec, promise, from)
+                self.keep_and_tell(buffer, &rec, promise, from)
             }
-            PrepareAnswer::Nack(bound) => self.refuse(alloc, position, ballot, bound, from),
-            PrepareAnswer::Silent => Ok(Outbox::new(alloc).sent(Dropped::No)),
+            PrepareAnswer::Nack(bound) => self.refuse(buffer, position, ballot, bound, from),
+            PrepareAnswer::Silent => Ok(Outbox::new(buffer).sent(Dropped::No)),
         }
     }
 
     /// An `Accept` comes, with a right action.
     pub(crate) fn on_accept(
         &mut self,
-        alloc: Global,
+        buffer: Vec<u8>,
         from: NodeId,
         position: Position,
         ballot: Ballot,
@@ -81,17 +80,17 @@ impl<M: Machine, D: Device> Replica<M, D> {
             action,
         };
         match self.acceptor.accept(position, ballot, &action) {
-            AcceptAnswer::Vote { rec } => self.keep_and_tell(alloc, &rec, told, from),
-            AcceptAnswer::Again => Ok(self.says(alloc, told, from)?.sent(Dropped::No)),
-            AcceptAnswer::Nack(bound) => self.refuse(alloc, position, ballot, bound, from),
-            AcceptAnswer::Silent => Ok(Outbox::new(alloc).sent(Dropped::No)),
+            AcceptAnswer::Vote { rec } => self.keep_and_tell(buffer, &rec, told, from),
+            AcceptAnswer::Again => Ok(self.says(buffer, told, from)?.sent(Dropped::No)),
+            AcceptAnswer::Nack(bound) => self.refuse(buffer, position, ballot, bound, from),
+            AcceptAnswer::Silent => Ok(Outbox::new(buffer).sent(Dropped::No)),
         }
     }
 
     /// Writes a promise or a vote, and tells it to a node.
     fn keep_and_tell(
         &mut self,
-        alloc: Global,
+        buffer: Vec<u8>,
         rec: &Rec,
         told: Body,
         to: NodeId,
@@ -106,7 +105,7 @@ impl<M: Machine, D: Device> Replica<M, D> {
             self.old self.new sent) }
         ensures err { IfErr result (λ fault. Stops (Some rec.now) self.old self.new fault) }
     {
-        let out = self.says(alloc, told, to)?;
+        let out = self.says(buffer, told, to)?;
         self.keep(rec)?;
         Ok(out.sent(Dropped::No))
     }
@@ -114,7 +113,7 @@ impl<M: Machine, D: Device> Replica<M, D> {
     /// Tells a node that its ballot lies below the bound.
     fn refuse(
         &self,
-        alloc: Global,
+        buffer: Vec<u8>,
         position: Position,
         ballot: Ballot,
         bound: Ballot,
@@ -130,6 +129,6 @@ impl<M: Machine, D: Device> Replica<M, D> {
             ballot,
             bound,
         };
-        Ok(self.says(alloc, refusal, to)?.sent(Dropped::No))
+        Ok(self.says(buffer, refusal, to)?.sent(Dropped::No))
     }
 }

@@ -10,7 +10,6 @@ use crate::sent::Sent;
 use rp_base::{Fault, Position};
 use rp_machine::Machine;
 use rp_store::Device;
-use std::alloc::Global;
 
 /// How far above the first unlearned position a node may lead.
 const WINDOW: u32 = 64;
@@ -20,7 +19,11 @@ impl<M: Machine, D: Device> Replica<M, D> {
     /// which no proposal of this node runs. Where the position is learned nothing happens. It is
     /// refused with `LogFull` above the log or 64 positions above the first unlearned one, with
     /// `BallotsSpent` where the node has no ballot left, and then with 1, 2 or 3.
-    pub fn lead(&mut self, alloc: Global, choice: Option<Position>) -> Result<Sent, Fault>
+    pub(crate) fn lead_into(
+        &mut self,
+        buffer: Vec<u8>,
+        choice: Option<Position>,
+    ) -> Result<Sent, Fault>
         ensures ok { IfOk result (λ sent. TurnsIf
             (effect_of M.next M.answers self.old (inputs.NodeInput.Lead choice))
             self.old self.new sent) }
@@ -29,13 +32,13 @@ impl<M: Machine, D: Device> Replica<M, D> {
             self.old self.new fault) }
     {
         match choice {
-            Some(position) => self.lead_at(alloc, position),
-            None => self.lead_at_least(alloc),
+            Some(position) => self.lead_at_into(buffer, position),
+            None => self.lead_at_least(buffer),
         }
     }
 
     /// The word to lead at the least free position.
-    fn lead_at_least(&mut self, alloc: Global) -> Result<Sent, Fault>
+    fn lead_at_least(&mut self, buffer: Vec<u8>) -> Result<Sent, Fault>
         ensures ok { IfOk result (λ sent. TurnsIf
             (effect_of M.next M.answers self.old (inputs.NodeInput.Lead None))
             self.old self.new sent) }
@@ -47,7 +50,7 @@ impl<M: Machine, D: Device> Replica<M, D> {
             return Err(Fault::Failed);
         }
         match self.least_free() {
-            Some(position) => self.lead_at(alloc, position),
+            Some(position) => self.lead_at_into(buffer, position),
             None => Err(Fault::LogFull),
         }
     }

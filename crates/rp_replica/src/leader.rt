@@ -26,13 +26,16 @@ use rp_machine::Machine;
 use rp_model::Dropped;
 use rp_proposer::Progress;
 use rp_store::Device;
-use std::alloc::Global;
 
 impl<M: Machine, D: Device> Replica<M, D> {
     /// The word to lead at a position. Where it is learned nothing happens. It is refused with
     /// `LogFull` above the log or 64 positions above the first unlearned one, with `BallotsSpent`
     /// where the node has no ballot left, and then with 1, 2 or 3.
-    pub fn lead_at(&mut self, alloc: Global, position: Position) -> Result<Sent, Fault>
+    pub(crate) fn lead_at_into(
+        &mut self,
+        buffer: Vec<u8>,
+        position: Position,
+    ) -> Result<Sent, Fault>
         ensures ok { IfOk result (λ sent. TurnsIf
             (effect_of M.next M.answers self.old (inputs.NodeInput.Lead (Some position)))
             self.old self.new sent) }
@@ -44,7 +47,7 @@ impl<M: Machine, D: Device> Replica<M, D> {
             return Err(Fault::Failed);
         }
         if self.is_learned(position) {
-            return Ok(Outbox::new(alloc).sent(Dropped::No));
+            return Ok(Outbox::new(buffer).sent(Dropped::No));
         }
         if self.is_out_of_reach(position) {
             return Err(Fault::LogFull);
@@ -53,7 +56,7 @@ impl<M: Machine, D: Device> Replica<M, D> {
             return Err(Fault::BallotsSpent);
         };
         let own = self.own_action(position).get();
-        let out = self.prepare_to_all(alloc, position, ballot)?;
+        let out = self.prepare_to_all(buffer, position, ballot)?;
         self.start(position, ballot, &own)?;
         Ok(out.sent(Dropped::No))
     }
@@ -92,7 +95,7 @@ impl<M: Machine, D: Device> Replica<M, D> {
     /// A `Promise` comes from one of the nodes, with a right vote.
     pub(crate) fn on_promise(
         &mut self,
-        alloc: Global,
+        buffer: Vec<u8>,
         from: NodeId,
         position: Position,
         ballot: Ballot,
@@ -109,22 +112,22 @@ impl<M: Machine, D: Device> Replica<M, D> {
     {
         match self.proposer.promise(from, position, ballot, *last) {
             Progress::Offer(action) => {
-                let out = self.accept_to_all(alloc, position, ballot, &action)?;
+                let out = self.accept_to_all(buffer, position, ballot, &action)?;
                 self.note_promise(from, position, ballot, last);
                 Ok(out.sent(Dropped::No))
             }
             Progress::Waiting => {
                 self.note_promise(from, position, ballot, last);
-                Ok(Outbox::new(alloc).sent(Dropped::No))
+                Ok(Outbox::new(buffer).sent(Dropped::No))
             }
-            Progress::Stale => Ok(Outbox::new(alloc).sent(Dropped::No)),
+            Progress::Stale => Ok(Outbox::new(buffer).sent(Dropped::No)),
         }
     }
 
     /// A `Nack` comes.
     pub(crate) fn on_nack(
         &mut self,
-        alloc: Global,
+        buffer: Vec<u8>,
         position: Position,
         ballot: Ballot,
         bound: Ballot,
@@ -132,7 +135,7 @@ impl<M: Machine, D: Device> Replica<M, D> {
         ensures { Turns (on_nack self.old.running position ballot bound) self.old self.new result }
     {
         self.note_refusal(position, ballot, bound);
-        Outbox::new(alloc).sent(Dropped::No)
+        Outbox::new(buffer).sent(Dropped::No)
     }
 
     /// Notes a refusal.
@@ -189,7 +192,7 @@ impl<M: Machine, D: Device> Replica<M, D> {
     /// A `Prepare` to each node.
     fn prepare_to_all(
         &self,
-        alloc: Global,
+        buffer: Vec<u8>,
         position: Position,
         ballot: Ballot,
     ) -> Result<Outbox, Fault>
@@ -197,7 +200,7 @@ impl<M: Machine, D: Device> Replica<M, D> {
             (says_to_all self.now.config.nodes self.now.me (bodies.Prepare position ballot))) }
         ensures only { IsOkUnless result faults.OutOfMemory }
     {
-        let mut out = Outbox::new(alloc);
+        let mut out = Outbox::new(buffer);
         for place in 0..self.config.nodes {
             let body = Body::Prepare { position, ballot };
             out.say(self.me, node_after(place), body)?;
@@ -208,7 +211,7 @@ impl<M: Machine, D: Device> Replica<M, D> {
     /// An `Accept` to each node.
     fn accept_to_all(
         &self,
-        alloc: Global,
+        buffer: Vec<u8>,
         position: Position,
         ballot: Ballot,
         action: &Action,
@@ -219,7 +222,7 @@ impl<M: Machine, D: Device> Replica<M, D> {
             (bodies.Accept position ballot action.now))) }
         ensures only { IsOkUnless result faults.OutOfMemory }
     {
-        let mut out = Outbox::new(alloc);
+        let mut out = Outbox::new(buffer);
         for place in 0..self.config.nodes {
             let body = Body::Accept {
                 position,

@@ -31,7 +31,7 @@ impl<M: Machine, D: Device> Replica<M, D> {
     /// An `Ask` comes.
     pub(crate) fn on_ask(
         &mut self,
-        alloc: Global,
+        buffer: Vec<u8>,
         from: NodeId,
         position: Position,
     ) -> Result<Sent, Fault>
@@ -44,9 +44,9 @@ impl<M: Machine, D: Device> Replica<M, D> {
         match self.log.get(position) {
             Some(action) => {
                 let told = Body::Decided { position, action };
-                Ok(self.says(alloc, told, from)?.sent(Dropped::No))
+                Ok(self.says(buffer, told, from)?.sent(Dropped::No))
             }
-            None => Ok(Outbox::new(alloc).sent(Dropped::No)),
+            None => Ok(Outbox::new(buffer).sent(Dropped::No)),
         }
     }
 
@@ -101,7 +101,7 @@ impl<M: Machine, D: Device> Replica<M, D> {
     /// A `Decided` to each other node.
     fn decided_to_others(
         &self,
-        alloc: Global,
+        buffer: Vec<u8>,
         position: Position,
         action: &Action,
     ) -> Result<Outbox, Fault>
@@ -110,7 +110,7 @@ impl<M: Machine, D: Device> Replica<M, D> {
             self.now.config.nodes self.now.me (bodies.Decided position action.now))) }
         ensures only { IsOkUnless result faults.OutOfMemory }
     {
-        let mut out = Outbox::new(alloc);
+        let mut out = Outbox::new(buffer);
         for place in 0..self.config.nodes {
             let to = node_after(place);
             if to != self.me {
@@ -150,6 +150,7 @@ impl<M: Machine, D: Device> Replica<M, D> {
     pub(crate) fn on_accepted(
         &mut self,
         alloc: Global,
+        buffer: Vec<u8>,
         from: NodeId,
         position: Position,
         ballot: Ballot,
@@ -167,13 +168,13 @@ impl<M: Machine, D: Device> Replica<M, D> {
             from position (vote_for ballot action)).written self.old self.new fault) }
     {
         match self.standing(from, position, ballot, &action) {
-            Standing::Known => Ok(Outbox::new(alloc).sent(Dropped::No)),
+            Standing::Known => Ok(Outbox::new(buffer).sent(Dropped::No)),
             Standing::Counting => {
                 self.hear(alloc, from, position, ballot, &action)?;
-                Ok(Outbox::new(alloc).sent(Dropped::No))
+                Ok(Outbox::new(buffer).sent(Dropped::No))
             }
             Standing::Learned => {
-                let told = self.decided_to_others(alloc, position, &action)?;
+                let told = self.decided_to_others(buffer, position, &action)?;
                 let mut out = self.with_room_for_replies(told)?;
                 self.learn(position, &action, &mut out)?;
                 Ok(out.sent())
@@ -184,7 +185,7 @@ impl<M: Machine, D: Device> Replica<M, D> {
     /// A `Decided` comes, with a right action.
     pub(crate) fn on_decided(
         &mut self,
-        alloc: Global,
+        buffer: Vec<u8>,
         from: NodeId,
         position: Position,
         action: Action,
@@ -200,9 +201,9 @@ impl<M: Machine, D: Device> Replica<M, D> {
             self.old self.new fault) }
     {
         match self.log.get(position) {
-            Some(_) => Ok(Outbox::new(alloc).sent(Dropped::No)),
+            Some(_) => Ok(Outbox::new(buffer).sent(Dropped::No)),
             None => {
-                let mut out = self.with_room_for_replies(Outbox::new(alloc))?;
+                let mut out = self.with_room_for_replies(Outbox::new(buffer))?;
                 self.learn(position, &action, &mut out)?;
                 self.ask_for_missing(from, &mut out);
                 Ok(out.sent())

@@ -23,7 +23,12 @@ impl<M: Machine, D: Device> Replica<M, D> {
     /// otherwise with 1, 2 or 3. A packet that is for another node, from a node or for a position
     /// beyond the configuration, or in a ballot that its sender does not own, is dropped, and nothing
     /// happens.
-    pub fn receive(&mut self, alloc: Global, bytes: &[u8]) -> Result<Sent, Fault>
+    pub(crate) fn receive_into(
+        &mut self,
+        alloc: Global,
+        buffer: Vec<u8>,
+        bytes: &[u8],
+    ) -> Result<Sent, Fault>
         ensures ok { IfOk result (λ sent. TurnsIf
             (effect_if_given M.next M.answers self.old (packet_given (all_of bytes.now)))
             self.old self.new sent) }
@@ -35,13 +40,13 @@ impl<M: Machine, D: Device> Replica<M, D> {
             return Err(Fault::Failed);
         }
         match decode(alloc, bytes)? {
-            Ok(packet) => self.on_packet(alloc, &packet),
+            Ok(packet) => self.on_packet(alloc, buffer, &packet),
             Err(reason) => Err(Fault::BadPacket(reason)),
         }
     }
 
     /// A packet comes.
-    fn on_packet(&mut self, alloc: Global, packet: &Packet) -> Result<Sent, Fault>
+    fn on_packet(&mut self, alloc: Global, buffer: Vec<u8>, packet: &Packet) -> Result<Sent, Fault>
         requires working { self.old.failed ≡ false }
         ensures ok { IfOk result (λ sent. Turns
             (receives M.next M.answers self.old.begin self.old.config self.old.me self.old.records
@@ -51,16 +56,22 @@ impl<M: Machine, D: Device> Replica<M, D> {
             self.old.running packet.now).written self.old self.new fault) }
     {
         if !is_for_node(self.config, self.me, packet) {
-            return Ok(Outbox::new(alloc).sent(Dropped::Foreign));
+            return Ok(Outbox::new(buffer).sent(Dropped::Foreign));
         }
         match packet.from() {
-            Party::Node(from) => self.on_node(alloc, from, packet),
-            Party::Task(_) | Party::Audit => self.on_task(alloc, packet),
+            Party::Node(from) => self.on_node(alloc, buffer, from, packet),
+            Party::Task(_) | Party::Audit => self.on_task(buffer, packet),
         }
     }
 
     /// A packet comes from a node, for this one.
-    fn on_node(&mut self, alloc: Global, from: NodeId, packet: &Packet) -> Result<Sent, Fault>
+    fn on_node(
+        &mut self,
+        alloc: Global,
+        buffer: Vec<u8>,
+        from: NodeId,
+        packet: &Packet,
+    ) -> Result<Sent, Fault>
         requires working { self.old.failed ≡ false }
         requires sender { packet.now.from ≡ Node from }
         requires right { is_for_node self.old.config self.old.me packet.now ≡ true }
@@ -73,39 +84,39 @@ impl<M: Machine, D: Device> Replica<M, D> {
             self.old self.new fault) }
     {
         match packet.body() {
-            Body::Prepare { position, ballot } => self.on_prepare(alloc, from, *position, *ballot),
+            Body::Prepare { position, ballot } => self.on_prepare(buffer, from, *position, *ballot),
             Body::Promise {
                 position,
                 ballot,
                 last,
-            } => self.on_promise(alloc, from, *position, *ballot, last),
+            } => self.on_promise(buffer, from, *position, *ballot, last),
             Body::Accept {
                 position,
                 ballot,
                 action,
-            } => self.on_accept(alloc, from, *position, *ballot, *action),
+            } => self.on_accept(buffer, from, *position, *ballot, *action),
             Body::Accepted {
                 position,
                 ballot,
                 action,
-            } => self.on_accepted(alloc, from, *position, *ballot, *action),
+            } => self.on_accepted(alloc, buffer, from, *position, *ballot, *action),
             Body::Decided { position, action } => {
-                self.on_decided(alloc, from, *position, *action)
+                self.on_decided(buffer, from, *position, *action)
             }
-            Body::Ask { position } => self.on_ask(alloc, from, *position),
+            Body::Ask { position } => self.on_ask(buffer, from, *position),
             Body::Nack {
                 position,
                 ballot,
                 bound,
-            } => Ok(self.on_nack(alloc, *position, *ballot, *bound)),
+            } => Ok(self.on_nack(buffer, *position, *ballot, *bound)),
             Body::Call { .. } | Body::Reply { .. } | Body::Report { .. } => {
-                Ok(Outbox::new(alloc).sent(Dropped::No))
+                Ok(Outbox::new(buffer).sent(Dropped::No))
             }
         }
     }
 
     /// A packet comes from a task, for this node.
-    fn on_task(&mut self, alloc: Global, packet: &Packet) -> Result<Sent, Fault>
+    fn on_task(&mut self, buffer: Vec<u8>, packet: &Packet) -> Result<Sent, Fault>
         requires working { self.old.failed ≡ false }
         requires sender { ¬ IsNodeParty packet.now.from }
         ensures ok { IfOk result (λ sent. Turns
@@ -118,8 +129,8 @@ impl<M: Machine, D: Device> Replica<M, D> {
             self.old self.new fault) }
     {
         match *packet.body() {
-            Body::Call { action } => self.on_call(alloc, action),
-            _ => Ok(Outbox::new(alloc).sent(Dropped::No)),
+            Body::Call { action } => self.on_call(buffer, action),
+            _ => Ok(Outbox::new(buffer).sent(Dropped::No)),
         }
     }
 }

@@ -137,12 +137,12 @@ pub(crate) fn write<D: Device>(
 
 impl<M: Machine, D: Device> Replica<M, D> {
     /// A packet to a node.
-    pub(crate) fn says(&self, alloc: Global, body: Body, to: NodeId) -> Result<Outbox, Fault>
+    pub(crate) fn says(&self, buffer: Vec<u8>, body: Body, to: NodeId) -> Result<Outbox, Fault>
         requires { MaySay (Node self.now.me) (Node to) body }
         ensures said { IfOk result (λ out. out ≡ run_of (says self.now.me body to ∷ [])) }
         ensures only { IsOkUnless result faults.OutOfMemory }
     {
-        let mut out = Outbox::new(alloc);
+        let mut out = Outbox::new(buffer);
         out.say(self.me, to, body)?;
         Ok(out)
     }
@@ -150,7 +150,7 @@ impl<M: Machine, D: Device> Replica<M, D> {
     /// A reply to a task's call.
     pub(crate) fn replies(
         &self,
-        alloc: Global,
+        buffer: Vec<u8>,
         task: TaskId,
         number: u32,
         reply: Reply,
@@ -160,7 +160,7 @@ impl<M: Machine, D: Device> Replica<M, D> {
             ≡ run_of (says_to_task self.now.me (Answered number reply) task ∷ [])) }
         ensures only { IsOkUnless result faults.OutOfMemory }
     {
-        let mut out = Outbox::new(alloc);
+        let mut out = Outbox::new(buffer);
         let body = Body::Reply { number, reply };
         out.push(&Packet::new(Party::Node(self.me), Party::Task(task), body))?;
         Ok(out)

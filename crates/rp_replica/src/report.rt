@@ -22,7 +22,12 @@ impl<M: Machine, D: Device> Replica<M, D> {
     /// A report to the audit of the actions applied at the positions from `first` on, as many as
     /// `report_len` says. It copies what it tells and no more. Refused with 1 where memory ran out,
     /// or with 3.
-    pub fn report(&mut self, alloc: Global, first: Position) -> Result<Sent, Fault>
+    pub(crate) fn report_into(
+        &mut self,
+        alloc: Global,
+        buffer: Vec<u8>,
+        first: Position,
+    ) -> Result<Sent, Fault>
         ensures ok { IfOk result (λ sent. TurnsIf
             (effect_of M.next M.answers self.old (inputs.NodeInput.Report first))
             self.old self.new sent) }
@@ -33,11 +38,16 @@ impl<M: Machine, D: Device> Replica<M, D> {
         if self.has_failed() {
             return Err(Fault::Failed);
         }
-        Ok(self.tells_applied(alloc, first)?.sent(Dropped::No))
+        Ok(self.tells_applied(alloc, buffer, first)?.sent(Dropped::No))
     }
 
     /// The packet of a report.
-    fn tells_applied(&self, alloc: Global, first: Position) -> Result<Outbox, Fault>
+    fn tells_applied(
+        &self,
+        alloc: Global,
+        buffer: Vec<u8>,
+        first: Position,
+    ) -> Result<Outbox, Fault>
         ensures said { IfOk result (λ out. out
             ≡ run_of (report_of self.now.me first (applied_of self.now.records) ∷ [])) }
         ensures only { IsOkUnless result faults.OutOfMemory }
@@ -48,7 +58,7 @@ impl<M: Machine, D: Device> Replica<M, D> {
             applied: applied.len() as u16,
             actions: Actions::from_vec(told(alloc, applied, first)?),
         };
-        let mut out = Outbox::new(alloc);
+        let mut out = Outbox::new(buffer);
         out.push(&Packet::new(Party::Node(self.me), Party::Audit, body))?;
         Ok(out)
     }

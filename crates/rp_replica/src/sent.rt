@@ -12,7 +12,7 @@ ghost use Rattle.rp_codec.specs.declared.packet.Party.TheVariants.{Node};
 use rp_base::{Answer, NodeId};
 use rp_codec::{Body, Packet, Party, encode_onto, text_of_packet};
 use rp_model::Dropped;
-use std::alloc::{AllocError, Global};
+use std::alloc::AllocError;
 use std::marker::Model;
 
 /// How many bytes the text of a packet has at most, if it is no report.
@@ -47,14 +47,13 @@ impl Model for Outbox {
 }
 
 impl Outbox {
-    /// No packet.
-    pub(crate) fn new(alloc: Global) -> Self
+    /// No packet yet: they are put into the buffer, in place of what it holds.
+    pub(crate) fn new(buffer: Vec<u8>) -> Self
         ensures { result ≡ run_of [] }
     {
-        Outbox {
-            bytes: Vec::new(alloc),
-            packets: 0,
-        }
+        let mut bytes = buffer;
+        bytes.clear();
+        Outbox { bytes, packets: 0 }
     }
 
     /// One packet more.

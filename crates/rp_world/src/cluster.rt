@@ -91,6 +91,7 @@ impl<M: Machine, D: CutDevice> Cluster<M, D> {
     /// that is not right, and `OutOfMemory`. `Device` where a node's device fails: the node is stopped
     /// then within the step; one that was to start again stays stopped, and some of its torn bytes may
     /// be gone, as they may be after `OutOfMemory`.
+    #[inline(never)]
     pub fn step(&mut self, alloc: Global, event: &Event) -> Result<Effect, Fault>
         ensures step { IsStep M.next M.answers M.begin self.old event.now self.new result }
     {

@@ -9,6 +9,7 @@ ghost use Rattle.rp_world.specs.Messages.{AreTexts, packets_in, ends_of};
 use rp_codec::{Packet, encode, packet_len};
 use std::alloc::{AllocError, Global};
 use std::marker::Model;
+use std::mem::replace;
 
 /// The texts of all messages in one run of bytes, with the place where each ends. What the last step
 /// sent lies apart until the next one, as that step gave it: so to keep it takes no memory.
@@ -58,6 +59,15 @@ impl Messages {
         self.last.clear();
         self.apart = 0;
         Ok(())
+    }
+
+    /// The buffer in which the last step's texts lay, for those of the next one: so they take no memory.
+    pub(crate) fn lend(&mut self, alloc: Global) -> Vec<u8>
+        requires settled { self.old.apart ≡ 0 }
+        ensures settled { self.new.apart ≡ 0 }
+        ensures sent { self.new.sent ≡ self.old.sent }
+    {
+        replace(&mut self.last, Vec::new(alloc))
     }
 
     /// A step sent these packets, so many texts that are joined.

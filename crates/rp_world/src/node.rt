@@ -141,9 +141,15 @@ impl<M: Machine, D: CutDevice> Node<M, D> {
         }
     }
 
-    /// The node makes the step of an input. `NotRunning` where it is stopped, and else as the replica
-    /// says; where its device failed it is stopped within the step.
-    pub(crate) fn turn(&mut self, alloc: Global, input: &Input) -> Result<Sent, Fault>
+    /// The node makes the step of an input, whose packets are put into the buffer. `NotRunning` where
+    /// it is stopped, and else as the replica says; where its device failed it is stopped within the
+    /// step.
+    pub(crate) fn turn(
+        &mut self,
+        alloc: Global,
+        buffer: Vec<u8>,
+        input: &Input,
+    ) -> Result<Sent, Fault>
         requires right { IsRightInput input.now }
         ensures ok { IfOk result (λ sent. (member : Member M) (given : NodeInput)
             → given_by input.now ≡ Ok given → GoesBy D.disk member self.old self.new
@@ -157,7 +163,7 @@ impl<M: Machine, D: CutDevice> Node<M, D> {
                 if replica.has_failed() {
                     return Err(Fault::NotRunning);
                 }
-                replica.turn(alloc, input)
+                replica.turn_into(alloc, buffer, input)
             }
             Node::Stopped(_) => Err(Fault::NotRunning),
         }

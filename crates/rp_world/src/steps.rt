@@ -150,7 +150,8 @@ impl<M: Machine, D: CutDevice> World<M, D> {
         if self.messages.settle().is_err() {
             return Err(node.refusal(alloc, input));
         }
-        match node.turn(alloc, input) {
+        let buffer = self.messages.lend(alloc);
+        match node.turn(alloc, buffer, input) {
             Ok(sent) => {
                 let effect = of_step(first, &sent);
                 self.messages.put(sent.bytes, sent.packets);
@@ -248,8 +249,9 @@ impl<M: Machine, D: CutDevice> World<M, D> {
         if self.messages.settle().is_err() {
             return Err(Fault::OutOfMemory);
         }
+        let buffer = self.messages.lend(alloc);
         let text = self.messages.text(number).unwrap();
-        match node.turn(alloc, &Input::Receive(text)) {
+        match node.turn(alloc, buffer, &Input::Receive(text)) {
             Ok(sent) => {
                 let effect = of_step(first, &sent);
                 self.messages.put(sent.bytes, sent.packets);

@@ -10,14 +10,14 @@ use Rattle.rp_replica.proofs.replica.Replica.lead_at_least.Goals as goal
 pub returns-in-Some-clause-ok : goal.returns-in-Some-clause-ok
 returns-in-Some-clause-ok g c =
     let h = c.args.self.now in
-    subst (λ (e : Result Turn Fault). IfOk c.lead_at.result (λ sent. TurnsIf e h c.lead_at.new.self sent))
-    (lead_at_least g.M.Machine.next g.M.Machine.answers h.begin h.config h.me h.records h.running c.in-Some.position c.in-Some.ensures.some) c.lead_at.ensures.ok
+    subst (λ (e : Result Turn Fault). IfOk c.lead_at_into.result (λ sent. TurnsIf e h c.lead_at_into.new.self sent))
+    (lead_at_least g.M.Machine.next g.M.Machine.answers h.begin h.config h.me h.records h.running c.in-Some.position c.in-Some.ensures.some) c.lead_at_into.ensures.ok
 
 pub returns-in-Some-clause-err : goal.returns-in-Some-clause-err
 returns-in-Some-clause-err g c =
     let h = c.args.self.now in
-    subst (λ (e : Result Turn Fault). IfErr c.lead_at.result (λ fault. StopsIf e h c.lead_at.new.self fault))
-    (lead_at_least g.M.Machine.next g.M.Machine.answers h.begin h.config h.me h.records h.running c.in-Some.position c.in-Some.ensures.some) c.lead_at.ensures.err
+    subst (λ (e : Result Turn Fault). IfErr c.lead_at_into.result (λ fault. StopsIf e h c.lead_at_into.new.self fault))
+    (lead_at_least g.M.Machine.next g.M.Machine.answers h.begin h.config h.me h.records h.running c.in-Some.position c.in-Some.ensures.some) c.lead_at_into.ensures.err
 
 pub returns-in-None-clause-err : goal.returns-in-None-clause-err
 returns-in-None-clause-err g c =

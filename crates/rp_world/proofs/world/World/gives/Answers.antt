@@ -55,9 +55,6 @@ returns-then-is_err-clause-answer g c = λ given gives.
     (world_of disk inside.config.max_positions (slice_set nodes i new) inside.tasks.items c.settle.new.self) (let r : Result Effect Fault = Err c.refusal.result in r)) c.self.view_is
     (not_turned disk inside.config begin nodes inside.tasks.items inside.messages c.self.invariant i me placed n here new m.next m.answers given c.settle.new.self c.settle.ensures.sent c.refusal.result by _ _ whole_is cut_is)
 
-pub put-requires-clause-settled : goal.put-requires-clause-settled
-put-requires-clause-settled g c = on_ok _ c.settle.result c.settle.ensures.settled c.if-is_err.ensures.value
-
 pub put-requires-clause-texts : goal.put-requires-clause-texts
 put-requires-clause-texts g c =
     let m = g.M.Machine in
@@ -143,7 +140,7 @@ returns-in-Ok-clause-answer g c = λ given gives.
     subst (λ v. Answers v.world (node_takes (setting_of m.next m.answers m.begin v) v.world me given (part_at v.world.nodes me)) (λ kept. node_is_cut (setting_of m.next m.answers m.begin v) v.world me given kept (part_at v.world.nodes me))
     (world_of disk inside.config.max_positions (slice_set nodes i new) inside.tasks.items c.put.new.self) (let r : Result Effect Fault = Ok c.of_step-effect.result in r)) c.self.view_is
     (turned disk inside.config begin nodes inside.tasks.items inside.messages c.self.invariant i me placed n here new m.next m.answers given c.in-Ok.sent (c.in-Ok.ensures.ok member given gives) (λ done came. sends given _ done gives (part_here disk inside.config begin nodes inside.tasks.items i me placed n here) came)
-    c.settle.new.self c.put.new.self c.settle.ensures.sent c.put.ensures _ whole_is c.of_step-effect.result told)
+    c.lend-buffer.new.self c.put.new.self (c.lend-buffer.ensures.sent ∙ c.settle.ensures.sent) c.put.ensures _ whole_is c.of_step-effect.result told)
 
 pub returns-in-Err-clause-answer : goal.returns-in-Err-clause-answer
 returns-in-Err-clause-answer g c = λ given gives.
@@ -165,5 +162,8 @@ returns-in-Err-clause-answer g c = λ given gives.
     let cut_is : (k : ℕ) → _ = λ k. ap (node_is_cut (setting_of m.next m.answers m.begin (record { config = inside.config; program = inside.program; world = world_of disk inside.config.max_positions nodes inside.tasks.items inside.messages })) (world_of disk inside.config.max_positions nodes inside.tasks.items inside.messages) me given k)
     (part_here disk inside.config begin nodes inside.tasks.items i me placed n here) in
     subst (λ v. Answers v.world (node_takes (setting_of m.next m.answers m.begin v) v.world me given (part_at v.world.nodes me)) (λ kept. node_is_cut (setting_of m.next m.answers m.begin v) v.world me given kept (part_at v.world.nodes me))
-    (world_of disk inside.config.max_positions (slice_set nodes i new) inside.tasks.items c.settle.new.self) (let r : Result Effect Fault = Err c.in-Err.fault in r)) c.self.view_is
-    (not_turned disk inside.config begin nodes inside.tasks.items inside.messages c.self.invariant i me placed n here new m.next m.answers given c.settle.new.self c.settle.ensures.sent c.in-Err.fault (c.in-Err.ensures.err member given gives) _ _ whole_is cut_is)
+    (world_of disk inside.config.max_positions (slice_set nodes i new) inside.tasks.items c.lend-buffer.new.self) (let r : Result Effect Fault = Err c.in-Err.fault in r)) c.self.view_is
+    (not_turned disk inside.config begin nodes inside.tasks.items inside.messages c.self.invariant i me placed n here new m.next m.answers given c.lend-buffer.new.self (c.lend-buffer.ensures.sent ∙ c.settle.ensures.sent) c.in-Err.fault (c.in-Err.ensures.err member given gives) _ _ whole_is cut_is)
+
+pub lend-buffer-requires : goal.lend-buffer-requires
+lend-buffer-requires g c = record { settled = on_ok _ c.settle.result c.settle.ensures.settled c.if-is_err.ensures.value }

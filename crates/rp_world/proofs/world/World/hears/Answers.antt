@@ -129,10 +129,7 @@ unwrap-text-requires g c =
     let message = c.requires.to.0 in
     let sent : part_at inside.messages.sent c.args.number ≡ Some message = ap (λ v. part_at v.world.sent c.args.number) c.self.view_is ∙ c.requires.to.1 in
     let to = c.requires.to.2 in
-    text_found c.text.result (part_at c.settle.new.self.sent c.args.number) message c.text.ensures (ap (λ (ms : List Message). part_at ms c.args.number) c.settle.ensures.sent ∙ sent)
-
-pub put-requires-clause-settled : goal.put-requires-clause-settled
-put-requires-clause-settled g c = on_ok _ c.settle.result c.settle.ensures.settled c.if-is_err.ensures.value
+    text_found c.text.result (part_at c.lend-buffer.new.self.sent c.args.number) message c.text.ensures (ap (λ (ms : List Message). part_at ms c.args.number) (c.lend-buffer.ensures.sent ∙ c.settle.ensures.sent) ∙ sent)
 
 pub put-requires-clause-texts : goal.put-requires-clause-texts
 put-requires-clause-texts g c =
@@ -162,7 +159,7 @@ put-requires-clause-texts g c =
     let runs : IsSome part.running = (c.is_running.ensures.runs (subst (λ b. IsTrue b) (sym c.if-not-is_running.false) refl) member part so) in
     let whole_is = heard_running s w me c.args.number message sent to part part_is runs in
     let cut_is = cut_heard s w me c.args.number message sent to part part_is in
-    let text : c.unwrap-text.result.now ≡ text_of message = text_is c.text.result c.unwrap-text.result (part_at c.settle.new.self.sent c.args.number) message c.unwrap-text.ensures c.text.ensures (ap (λ (ms : List Message). part_at ms c.args.number) c.settle.ensures.sent ∙ sent) in
+    let text : c.unwrap-text.result.now ≡ text_of message = text_is c.text.result c.unwrap-text.result (part_at c.lend-buffer.new.self.sent c.args.number) message c.unwrap-text.ensures c.text.ensures (ap (λ (ms : List Message). part_at ms c.args.number) (c.lend-buffer.ensures.sent ∙ c.settle.ensures.sent) ∙ sent) in
     let given : NodeInput = inputs.Receive message in
     let gives : packet_given (all_of c.unwrap-text.result.now) ≡ Ok given = ap (λ l. packet_given (all_of l)) text ∙ c.texts_are_packets.ensures message packet in
     let new = c.turn.new.self in
@@ -198,7 +195,7 @@ invariant_of-self-in-Ok g c =
     let runs : IsSome part.running = (c.is_running.ensures.runs (subst (λ b. IsTrue b) (sym c.if-not-is_running.false) refl) member part so) in
     let whole_is = heard_running s w me c.args.number message sent to part part_is runs in
     let cut_is = cut_heard s w me c.args.number message sent to part part_is in
-    let text : c.unwrap-text.result.now ≡ text_of message = text_is c.text.result c.unwrap-text.result (part_at c.settle.new.self.sent c.args.number) message c.unwrap-text.ensures c.text.ensures (ap (λ (ms : List Message). part_at ms c.args.number) c.settle.ensures.sent ∙ sent) in
+    let text : c.unwrap-text.result.now ≡ text_of message = text_is c.text.result c.unwrap-text.result (part_at c.lend-buffer.new.self.sent c.args.number) message c.unwrap-text.ensures c.text.ensures (ap (λ (ms : List Message). part_at ms c.args.number) (c.lend-buffer.ensures.sent ∙ c.settle.ensures.sent) ∙ sent) in
     let given : NodeInput = inputs.Receive message in
     let gives : packet_given (all_of c.unwrap-text.result.now) ≡ Ok given = ap (λ l. packet_given (all_of l)) text ∙ c.texts_are_packets.ensures message packet in
     let new = c.turn.new.self in
@@ -234,7 +231,7 @@ invariant_of-self-in-Err g c =
     let runs : IsSome part.running = (c.is_running.ensures.runs (subst (λ b. IsTrue b) (sym c.if-not-is_running.false) refl) member part so) in
     let whole_is = heard_running s w me c.args.number message sent to part part_is runs in
     let cut_is = cut_heard s w me c.args.number message sent to part part_is in
-    let text : c.unwrap-text.result.now ≡ text_of message = text_is c.text.result c.unwrap-text.result (part_at c.settle.new.self.sent c.args.number) message c.unwrap-text.ensures c.text.ensures (ap (λ (ms : List Message). part_at ms c.args.number) c.settle.ensures.sent ∙ sent) in
+    let text : c.unwrap-text.result.now ≡ text_of message = text_is c.text.result c.unwrap-text.result (part_at c.lend-buffer.new.self.sent c.args.number) message c.unwrap-text.ensures c.text.ensures (ap (λ (ms : List Message). part_at ms c.args.number) (c.lend-buffer.ensures.sent ∙ c.settle.ensures.sent) ∙ sent) in
     let given : NodeInput = inputs.Receive message in
     let gives : packet_given (all_of c.unwrap-text.result.now) ≡ Ok given = ap (λ l. packet_given (all_of l)) text ∙ c.texts_are_packets.ensures message packet in
     let new = c.turn.new.self in
@@ -271,7 +268,7 @@ returns-in-Ok-clause-answer g c =
     let runs : IsSome part.running = (c.is_running.ensures.runs (subst (λ b. IsTrue b) (sym c.if-not-is_running.false) refl) member part so) in
     let whole_is = heard_running s w me c.args.number message sent to part part_is runs in
     let cut_is = cut_heard s w me c.args.number message sent to part part_is in
-    let text : c.unwrap-text.result.now ≡ text_of message = text_is c.text.result c.unwrap-text.result (part_at c.settle.new.self.sent c.args.number) message c.unwrap-text.ensures c.text.ensures (ap (λ (ms : List Message). part_at ms c.args.number) c.settle.ensures.sent ∙ sent) in
+    let text : c.unwrap-text.result.now ≡ text_of message = text_is c.text.result c.unwrap-text.result (part_at c.lend-buffer.new.self.sent c.args.number) message c.unwrap-text.ensures c.text.ensures (ap (λ (ms : List Message). part_at ms c.args.number) (c.lend-buffer.ensures.sent ∙ c.settle.ensures.sent) ∙ sent) in
     let given : NodeInput = inputs.Receive message in
     let gives : packet_given (all_of c.unwrap-text.result.now) ≡ Ok given = ap (λ l. packet_given (all_of l)) text ∙ c.texts_are_packets.ensures message packet in
     let new = c.turn.new.self in
@@ -281,7 +278,7 @@ returns-in-Ok-clause-answer g c =
     subst (λ v. Answers v.world (delivers (setting_of m.next m.answers m.begin v) v.world (part_at v.world.sent c.args.number)) (λ kept. delivery_is_cut (setting_of m.next m.answers m.begin v) v.world (part_at v.world.sent c.args.number) kept)
     (world_of disk inside.config.max_positions (slice_set nodes i new) tasks c.put.new.self) (let r : Result Effect Fault = Ok c.of_step-effect.result in r)) c.self.view_is
     (turned disk inside.config begin nodes tasks inside.messages c.self.invariant i me placed n here new m.next m.answers given c.in-Ok.sent (c.in-Ok.ensures.ok member given gives) each
-    c.settle.new.self c.put.new.self c.settle.ensures.sent c.put.ensures _ whole_is c.of_step-effect.result told)
+    c.lend-buffer.new.self c.put.new.self (c.lend-buffer.ensures.sent ∙ c.settle.ensures.sent) c.put.ensures _ whole_is c.of_step-effect.result told)
 
 pub returns-in-Err-clause-answer : goal.returns-in-Err-clause-answer
 returns-in-Err-clause-answer g c =
@@ -311,12 +308,15 @@ returns-in-Err-clause-answer g c =
     let runs : IsSome part.running = (c.is_running.ensures.runs (subst (λ b. IsTrue b) (sym c.if-not-is_running.false) refl) member part so) in
     let whole_is = heard_running s w me c.args.number message sent to part part_is runs in
     let cut_is = cut_heard s w me c.args.number message sent to part part_is in
-    let text : c.unwrap-text.result.now ≡ text_of message = text_is c.text.result c.unwrap-text.result (part_at c.settle.new.self.sent c.args.number) message c.unwrap-text.ensures c.text.ensures (ap (λ (ms : List Message). part_at ms c.args.number) c.settle.ensures.sent ∙ sent) in
+    let text : c.unwrap-text.result.now ≡ text_of message = text_is c.text.result c.unwrap-text.result (part_at c.lend-buffer.new.self.sent c.args.number) message c.unwrap-text.ensures c.text.ensures (ap (λ (ms : List Message). part_at ms c.args.number) (c.lend-buffer.ensures.sent ∙ c.settle.ensures.sent) ∙ sent) in
     let given : NodeInput = inputs.Receive message in
     let gives : packet_given (all_of c.unwrap-text.result.now) ≡ Ok given = ap (λ l. packet_given (all_of l)) text ∙ c.texts_are_packets.ensures message packet in
     let new = c.turn.new.self in
     let each : (done : Done NodePart) → node_effect s me part given ≡ Ok done → AllByRecursion IsPacket done.sends = λ done came.
     sends_are w.sent done.sends (c.events_keep_ranges.ensures.effect inside.config inside.program w (Makes (Deliver c.args.number)) (node_done w me done) c.self.invariant.right ranged tt (whole_is ∙ ap (node_done_if w me) came)).packets in
     subst (λ v. Answers v.world (delivers (setting_of m.next m.answers m.begin v) v.world (part_at v.world.sent c.args.number)) (λ kept. delivery_is_cut (setting_of m.next m.answers m.begin v) v.world (part_at v.world.sent c.args.number) kept)
-    (world_of disk inside.config.max_positions (slice_set nodes i new) tasks c.settle.new.self) (let r : Result Effect Fault = Err c.in-Err.fault in r)) c.self.view_is
-    (not_turned disk inside.config begin nodes tasks inside.messages c.self.invariant i me placed n here new m.next m.answers given c.settle.new.self c.settle.ensures.sent c.in-Err.fault (c.in-Err.ensures.err member given gives) _ _ whole_is cut_is)
+    (world_of disk inside.config.max_positions (slice_set nodes i new) tasks c.lend-buffer.new.self) (let r : Result Effect Fault = Err c.in-Err.fault in r)) c.self.view_is
+    (not_turned disk inside.config begin nodes tasks inside.messages c.self.invariant i me placed n here new m.next m.answers given c.lend-buffer.new.self (c.lend-buffer.ensures.sent ∙ c.settle.ensures.sent) c.in-Err.fault (c.in-Err.ensures.err member given gives) _ _ whole_is cut_is)
+
+pub lend-buffer-requires : goal.lend-buffer-requires
+lend-buffer-requires g c = record { settled = on_ok _ c.settle.result c.settle.ensures.settled c.if-is_err.ensures.value }

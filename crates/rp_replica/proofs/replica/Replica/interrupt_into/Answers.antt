@@ -6,7 +6,7 @@ use Rattle.rp_base.specs.Records.{applied_of}
 use Rattle.rp_replica.specs.Turning.{Turns}
 use Rattle.rp_replica.proofs.Applied.{interrupt_ahead, interrupt_past}
 use Rattle.rp_replica.proofs.Saying.{only_said}
-use Rattle.rp_replica.proofs.replica.Replica.interrupt.Goals as goal
+use Rattle.rp_replica.proofs.replica.Replica.interrupt_into.Goals as goal
 
 pub returns-then-last_occurrence-occurrence-clause-ok : goal.returns-then-last_occurrence-occurrence-clause-ok
 returns-then-last_occurrence-occurrence-clause-ok g c =

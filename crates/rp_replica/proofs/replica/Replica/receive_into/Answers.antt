@@ -1,6 +1,6 @@
 use Rattle.std.proofs.Common.{sym, ◌∙◌}
 use Rattle.rp_replica.proofs.Wanting.{report_wanting}
-use Rattle.rp_replica.proofs.replica.Replica.receive.Goals as goal
+use Rattle.rp_replica.proofs.replica.Replica.receive_into.Goals as goal
 
 pub returns-in_err-packet-clause-err : goal.returns-in_err-packet-clause-err
 returns-in_err-packet-clause-err g c =

@@ -46,6 +46,8 @@ impl<M: Machine, D: Device> Replica<M, D> {
     }
 
     /// A packet comes.
+    // A call of its own, so that the packet is read where it lies.
+    #[inline(never)]
     fn on_packet(&mut self, alloc: Global, buffer: Vec<u8>, packet: &Packet) -> Result<Sent, Fault>
         requires working { self.old.failed ≡ false }
         ensures ok { IfOk result (λ sent. Turns

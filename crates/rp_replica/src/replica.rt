@@ -114,6 +114,7 @@ fn reserve(acceptor: &mut Acceptor, rec: &Rec) -> Result<(), Fault>
 }
 
 /// Writes the record, and notes it once it is stable.
+#[inline(always)]
 pub(crate) fn write<D: Device>(
     store: &mut Store<D>,
     acceptor: &mut Acceptor,

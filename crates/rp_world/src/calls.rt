@@ -17,7 +17,7 @@ use rp_codec::{Body, Packet, Party};
 use rp_machine::Machine;
 use rp_model::Effect;
 use rp_store::CutDevice;
-use std::alloc::{AllocError, Global};
+use std::alloc::AllocError;
 
 /// A task's call, as a packet to a node.
 fn asks(task: TaskId, node: NodeId, call: Action) -> Packet
@@ -33,13 +33,7 @@ fn asks(task: TaskId, node: NodeId, call: Action) -> Packet
 }
 
 /// A task's call goes to a node. Refused for memory, nothing is sent.
-fn send(
-    messages: &mut Messages,
-    alloc: Global,
-    task: TaskId,
-    node: NodeId,
-    call: Action,
-) -> Result<(), AllocError>
+fn send(messages: &mut Messages, task: TaskId, node: NodeId, call: Action) -> Result<(), AllocError>
     requires own { IsCallBy task call }
     requires right { IsRight call }
     ensures ok { OnOk result (messages.new.sent
@@ -47,15 +41,15 @@ fn send(
     ensures err { OnErr result (messages.new.sent ≡ messages.old.sent) }
 {
     messages.settle()?;
-    messages.say(alloc, &asks(task, node, call))
+    messages.say(&asks(task, node, call))
 }
 
 impl<M: Machine, D: CutDevice> World<M, D> {
     /// A task makes its next call and asks a node. `TaskBusy`, `NumbersSpent`, `BadConfig`, or
     /// refused for memory: nothing changes.
+    #[inline(never)]
     pub(crate) fn submit(
         &mut self,
-        alloc: Global,
         task: TaskId,
         node: NodeId,
         object: u8,
@@ -70,19 +64,15 @@ impl<M: Machine, D: CutDevice> World<M, D> {
         let first = self.messages() + 1;
         let caller = &mut self.tasks[usize::from(task.get()) - 1];
         let call = caller.next(self.config, node, object, operation, arg)?;
-        send(&mut self.messages, alloc, task, node, call)?;
+        send(&mut self.messages, task, node, call)?;
         caller.call(object, operation, arg);
         Ok(one_message(first))
     }
 
     /// A task asks a node once more for the call that it waits for, if it waits. `BadConfig` above
     /// the last node, or refused for memory: nothing changes.
-    pub(crate) fn again(
-        &mut self,
-        alloc: Global,
-        task: TaskId,
-        node: NodeId,
-    ) -> Result<Effect, Fault>
+    #[inline(never)]
+    pub(crate) fn again(&mut self, task: TaskId, node: NodeId) -> Result<Effect, Fault>
         requires ranged { IsRangedWorld self.old.config.nodes self.old.world }
         ensures answer { Answers self.old.world
             (task_takes self.old.config self.old.world task (tasks.Again node)
@@ -96,7 +86,7 @@ impl<M: Machine, D: CutDevice> World<M, D> {
         let Some(call) = self.tasks[usize::from(task.get()) - 1].outstanding() else {
             return Ok(nothing(first));
         };
-        send(&mut self.messages, alloc, task, node, call)?;
+        send(&mut self.messages, task, node, call)?;
         Ok(one_message(first))
     }
 }

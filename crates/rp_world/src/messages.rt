@@ -6,7 +6,7 @@ ghost use Rattle.rp_model.specs.World.{part_at};
 ghost use Rattle.rp_replica.specs.Packets.{texts_of};
 ghost use Rattle.rp_world.specs.Messages.{AreTexts, packets_in, ends_of};
 
-use rp_codec::{Packet, encode, packet_len};
+use rp_codec::{Packet, encode_onto, packet_len};
 use std::alloc::{AllocError, Global};
 use std::marker::Model;
 use std::mem::replace;
@@ -81,14 +81,14 @@ impl Messages {
     }
 
     /// A packet is sent. Refused for memory, nothing changes.
-    pub(crate) fn say(&mut self, alloc: Global, packet: &Packet) -> Result<(), AllocError>
+    pub(crate) fn say(&mut self, packet: &Packet) -> Result<(), AllocError>
         requires settled { self.old.apart ≡ 0 }
         ensures ok { OnOk result (self.new ≡ record { sent = self.old.sent ++ packet.now ∷ []; apart = 1 }) }
         ensures err { OnErr result (self.new ≡ self.old) }
     {
         let _body = packet.body();
-        let text = encode(alloc, packet)?;
-        self.put(text, 1);
+        encode_onto(packet, &mut self.last)?;
+        self.apart = 1;
         Ok(())
     }
 
@@ -102,6 +102,7 @@ impl Messages {
     }
 
     /// The text of the message of this number, from 1.
+    #[inline(always)]
     pub(crate) fn text(&self, number: u64) -> Option<&[u8]>
         ensures { option_copied result ≡ option_map text_of (part_at self.now.sent number) }
     {
@@ -132,6 +133,7 @@ fn add_ends(ends: &mut Vec<usize>, bytes: &[u8], from: usize, count: usize)
 }
 
 /// The text of a place, from 0, among texts whose ends are known.
+#[inline(always)]
 fn text_between<'a>(bytes: &'a [u8], ends: &[usize], place: usize) -> &'a [u8]
     requires texts { AreTexts bytes.now (length ends.now) }
     requires ends { ends.now ≡ ends_of 0 (packets_in (length ends.now) bytes.now) }
@@ -146,6 +148,7 @@ fn text_between<'a>(bytes: &'a [u8], ends: &[usize], place: usize) -> &'a [u8]
 }
 
 /// Where the text of a place, from 0, begins among texts whose ends are known.
+#[inline(always)]
 fn start_between(bytes: &[u8], ends: &[usize], place: usize) -> usize
     requires texts { AreTexts bytes.now (length ends.now) }
     requires ends { ends.now ≡ ends_of 0 (packets_in (length ends.now) bytes.now) }
@@ -171,6 +174,7 @@ fn start_of(bytes: &[u8], count: usize, place: usize) -> usize
 }
 
 /// The text of a place, from 0, among so many texts, of which it reads those before it.
+#[inline(never)]
 fn text_apart(bytes: &[u8], count: usize, place: usize) -> Option<&[u8]>
     requires { AreTexts bytes.now count }
     ensures { option_copied result ≡ option_map text_of (slice_get (packets_in count bytes.now) place) }

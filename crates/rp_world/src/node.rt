@@ -144,6 +144,7 @@ impl<M: Machine, D: CutDevice> Node<M, D> {
     /// The node makes the step of an input, whose packets are put into the buffer. `NotRunning` where
     /// it is stopped, and else as the replica says; where its device failed it is stopped within the
     /// step.
+    #[inline(always)]
     pub(crate) fn turn(
         &mut self,
         alloc: Global,

@@ -44,6 +44,7 @@ fn receiver(text: &[u8]) -> Party
 
 impl<M: Machine, D: CutDevice> World<M, D> {
     /// What an event comes to.
+    #[inline(always)]
     pub(crate) fn step(&mut self, alloc: Global, event: &Event) -> Result<Effect, Fault>
         requires config { IsRightConfig self.old.config }
         requires ranged { IsRangedWorld self.old.config.nodes self.old.world }
@@ -57,8 +58,8 @@ impl<M: Machine, D: CutDevice> World<M, D> {
                 object,
                 operation,
                 arg,
-            } => self.submit(alloc, task, node, object, operation, arg),
-            Event::Again { task, node } => self.again(alloc, task, node),
+            } => self.submit(task, node, object, operation, arg),
+            Event::Again { task, node } => self.again(task, node),
             Event::Node(step) => self.makes(alloc, step),
             Event::Cut { step, kept } => self.cuts(alloc, step, kept),
             Event::Stop(node) => self.stop(node),
@@ -81,6 +82,7 @@ fn input_of(interrupt: Interrupt) -> Input<'static>
 
 impl<M: Machine, D: CutDevice> World<M, D> {
     /// A node makes a step: refused as one that is given an input, or as a delivery.
+    #[inline(always)]
     pub(crate) fn makes(&mut self, alloc: Global, step: Step) -> Result<Effect, Fault>
         requires config { IsRightConfig self.old.config }
         requires ranged { IsRangedWorld self.old.config.nodes self.old.world }
@@ -102,6 +104,7 @@ impl<M: Machine, D: CutDevice> World<M, D> {
 
     /// A node stops within a step, where so many bytes of its record are kept. Refused as the step,
     /// and with `NotRunning` where it is a delivery to no node that runs.
+    #[inline(never)]
     pub(crate) fn cuts(&mut self, alloc: Global, step: Step, kept: u64) -> Result<Effect, Fault>
         requires ranged { IsRangedWorld self.old.config.nodes self.old.world }
         ensures answer { let setting = setting_of M.next M.answers M.begin self.old in
@@ -127,6 +130,7 @@ impl<M: Machine, D: CutDevice> World<M, D> {
     /// A node is given an input that comes from no message. `BadConfig` above the last node,
     /// `NotRunning` where the node is stopped, `LogFull` or `BallotsSpent` where it cannot lead, or
     /// refused for memory: nothing changes. `Device` where its device fails: then it is stopped.
+    #[inline(always)]
     fn gives(&mut self, alloc: Global, node: NodeId, input: &Input<'_>) -> Result<Effect, Fault>
         requires right { IsRightInput input.now }
         requires given { (given : NodeInput) × (given_by input.now ≡ Ok given) }
@@ -195,6 +199,7 @@ impl<M: Machine, D: CutDevice> World<M, D> {
     }
 
     /// To whom the message of this number is, from 1.
+    #[inline(always)]
     fn receiver_of(&self, number: u64) -> Option<Party>
         requires ranged { IsRangedWorld self.now.config.nodes self.now.world }
         ensures { result ≡ option_map (λ m. m.to) (part_at self.now.world.sent number) }
@@ -206,6 +211,7 @@ impl<M: Machine, D: CutDevice> World<M, D> {
     /// A message is taken by whom it is for; by none where that is no node that runs and no task.
     /// `NoSuchMessage` above the last one, or refused for memory: nothing changes. `Device` where the
     /// device of its node fails: then the node is stopped.
+    #[inline(always)]
     fn deliver(&mut self, alloc: Global, number: u64) -> Result<Effect, Fault>
         requires ranged { IsRangedWorld self.old.config.nodes self.old.world }
         ensures answer { let setting = setting_of M.next M.answers M.begin self.old in
@@ -226,6 +232,7 @@ impl<M: Machine, D: CutDevice> World<M, D> {
     }
 
     /// A message comes to its node.
+    #[inline(always)]
     fn hears(&mut self, alloc: Global, number: u64, node: NodeId) -> Result<Effect, Fault>
         requires ranged { IsRangedWorld self.old.config.nodes self.old.world }
         requires to { (m : Message) × (part_at self.old.world.sent number ≡ Some m)
@@ -262,6 +269,7 @@ impl<M: Machine, D: CutDevice> World<M, D> {
     }
 
     /// A message comes to its task, which takes a reply to the call that it waits for.
+    #[inline(never)]
     fn is_told(&mut self, alloc: Global, number: u64, task: TaskId) -> Result<Effect, Fault>
         requires ranged { IsRangedWorld self.old.config.nodes self.old.world }
         requires to { (m : Message) × (part_at self.old.world.sent number ≡ Some m)

@@ -15,6 +15,7 @@ use std::alloc::Global;
 
 impl<M: Machine, D: CutDevice> World<M, D> {
     /// A node stops. `BadConfig` above the last node, `NotRunning` where it is stopped.
+    #[inline(never)]
     pub(crate) fn stop(&mut self, node: NodeId) -> Result<Effect, Fault>
         ensures answer { Answers self.old.world
             (stops self.old.world node (part_at self.old.world.nodes node)) no_cut
@@ -36,6 +37,7 @@ impl<M: Machine, D: CutDevice> World<M, D> {
 
     /// A node starts again; one that runs goes on. `BadConfig` above the last node; `OutOfMemory` or
     /// `Device` where it could not: it stays stopped, and some of its torn bytes may be gone.
+    #[inline(never)]
     pub(crate) fn restart(&mut self, alloc: Global, node: NodeId) -> Result<Effect, Fault>
         ensures answer { AnswersRestart self.old.world node
             (restarts self.old.world node (part_at self.old.world.nodes node))

@@ -95,8 +95,8 @@ impl Acceptor {
         Ok(())
     }
 
-    /// Notes a record that is written. There is room for its position, if it is a promise or a vote;
-    /// a record of another kind changes no answer.
+    /// Notes a record that is written. There is room for its position, if it is a promise or a
+    /// vote; a record of another kind changes no answer.
     pub fn note(&mut self, rec: &Rec)
         requires room { HasRoom self.old rec.now }
         ensures noted { self.new ≡ notes self.old rec.now }

@@ -3,7 +3,16 @@
 ghost use Rattle.std.specs.Prelude.{◌≡◌, ◌↔◌, IsTrue};
 ghost use Rattle.rp_base.specs.Action.{IsRight, IsRightOperation, is_right_operation, is_right as right};
 
-use crate::number::TaskId;
+use crate::number::{MOST_TASKS, TaskId};
+
+/// The most operations of a kind that an object has, an entry aside.
+const MOST_OPERATIONS: u8 = 8;
+
+/// The most objects that a program has.
+const MOST_OBJECTS: u8 = 8;
+
+/// The most sources of interrupts.
+const MOST_SOURCES: u8 = 8;
 
 /// Which operation of an object is called, by its index from 1 in declared order. An entry's index
 /// is 1. A `SetTimer`'s argument is the time, and its reply is `Value(0)`.
@@ -27,7 +36,7 @@ impl Operation {
             Operation::Function(index)
             | Operation::Procedure(index)
             | Operation::SetTimer(index)
-            | Operation::CancelTimer(index) => matches!(index, 1..=8),
+            | Operation::CancelTimer(index) => matches!(index, 1..=MOST_OPERATIONS),
         }
     }
 }
@@ -73,12 +82,14 @@ impl Action {
                 operation,
                 arg: _,
             } => {
-                matches!(task.get(), 1..=8)
+                matches!(task.get(), 1..=MOST_TASKS)
                     && number >= 1
-                    && matches!(object, 1..=8)
+                    && matches!(object, 1..=MOST_OBJECTS)
                     && operation.is_right()
             }
-            Action::Interrupt { source, occurrence } => matches!(source, 1..=8) && occurrence >= 1,
+            Action::Interrupt { source, occurrence } => {
+                matches!(source, 1..=MOST_SOURCES) && occurrence >= 1
+            }
             Action::Tick { now: _ } => true,
         }
     }

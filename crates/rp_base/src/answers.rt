@@ -7,11 +7,14 @@ use crate::reply::{Answer, Reply};
 use std::fmt;
 use std::marker::Model;
 
+/// The most answers that an action has, one for each task.
+const MOST_ANSWERS: usize = 8;
+
 /// The answers of one action in their order, the caller's first: at most 8, in place. There are
 /// never more, since a waiting task's call has no effect and no answer.
 #[derive(Drop)]
 pub struct Answers {
-    items: [Answer; 8],
+    items: [Answer; MOST_ANSWERS],
     len: usize,
 }
 
@@ -37,7 +40,7 @@ impl Answers {
             reply: Reply::Value(0),
         };
         Answers {
-            items: [unused; 8],
+            items: [unused; MOST_ANSWERS],
             len: 0,
         }
     }
@@ -61,7 +64,7 @@ impl Answers {
         ensures full { IsTrue result ↔ (length self.now ≡ 8) }
         ensures within { length self.now ≤ 8 }
     {
-        self.len == 8
+        self.len == MOST_ANSWERS
     }
 
     /// Adds an answer behind the others.

@@ -7,6 +7,9 @@ use crate::fault::Fault;
 use crate::number::NodeId;
 use std::marker::Model;
 
+/// How far apart the ballots of one node are, from a round to the next.
+const ROUND: u64 = 8;
+
 /// A ballot: `8 * round + node`, the round 1 to 2^32 - 1, the node its owner. Ballots are ordered
 /// as numbers (Lamport, "Paxos Made Simple", section 2.2, where they are proposal numbers).
 #[derive(Clone, Copy, Debug, PartialEq, Eq, PartialOrd, Ord, Hash)]
@@ -31,7 +34,7 @@ impl Ballot {
         ensures valid { IsSome result ↔ IsBallot number }
         ensures value { IfSome result (λ ballot. ballot ≡ number) }
     {
-        if number >= 9 && number < 1 << 35 && number % 8 != 0 {
+        if number > ROUND && number < ROUND << 32 && number % ROUND != 0 {
             Some(Ballot { number })
         } else {
             None
@@ -52,7 +55,7 @@ impl Ballot {
         ensures { result ≡ ballot_of round node }
     {
         Ballot {
-            number: 8 * u64::from(round) + u64::from(node.get()),
+            number: ROUND * u64::from(round) + u64::from(node.get()),
         }
     }
 
@@ -60,14 +63,14 @@ impl Ballot {
     pub fn round(self) -> u32
         ensures { result ≡ round_of self }
     {
-        (self.number / 8) as u32
+        (self.number / ROUND) as u32
     }
 
     /// The node that owns it.
     pub fn owner(self) -> NodeId
         ensures { result ≡ owner_of self }
     {
-        let owner = (self.number % 8) as u8;
+        let owner = (self.number % ROUND) as u8;
         NodeId::new(owner).unwrap()
     }
 
@@ -94,8 +97,8 @@ impl Ballot {
         ensures only { IsOkUnless result Fault.BallotsSpent }
     {
         let (round, owner) = match above {
-            Some(ballot) => (ballot.number / 8, ballot.number % 8),
-            None => (0, 8),
+            Some(ballot) => (ballot.number / ROUND, ballot.number % ROUND),
+            None => (0, ROUND),
         };
         let node_number = u64::from(node.get());
         let next = if owner < node_number {
@@ -107,7 +110,7 @@ impl Ballot {
             return Err(Fault::BallotsSpent);
         }
         Ok(Ballot {
-            number: 8 * next + node_number,
+            number: ROUND * next + node_number,
         })
     }
 }

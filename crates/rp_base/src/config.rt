@@ -2,6 +2,11 @@
 
 ghost use Rattle.std.specs.Prelude.{◌↔◌, IsTrue};
 
+use crate::number::MOST_NODES;
+
+/// The fewest nodes that a cluster has.
+const LEAST_NODES: u8 = 3;
+
 /// How many nodes there are, and how long the log may get.
 #[derive(Clone, Copy, Debug, PartialEq, Eq, Hash)]
 pub struct Config {
@@ -18,6 +23,6 @@ impl Config {
     pub fn is_right(self) -> bool
         ensures { IsTrue result ↔ IsRightConfig self }
     {
-        matches!(self.nodes, 3..=7) && self.max_positions >= 1
+        matches!(self.nodes, LEAST_NODES..=MOST_NODES) && self.max_positions >= 1
     }
 }

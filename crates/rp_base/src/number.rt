@@ -5,6 +5,12 @@ ghost use Rattle.rp_base.specs.Number.{IsNode, IsTask, IsPosition};
 
 use std::marker::Model;
 
+/// The most nodes that a cluster has.
+pub(crate) const MOST_NODES: u8 = 7;
+
+/// The most tasks that a program has.
+pub(crate) const MOST_TASKS: u8 = 8;
+
 /// A node of the cluster, 1 to 7.
 #[derive(Clone, Copy, Debug, PartialEq, Eq, PartialOrd, Ord, Hash)]
 pub struct NodeId {
@@ -27,7 +33,7 @@ impl NodeId {
         ensures valid { IsSome result ↔ IsNode number }
         ensures value { IfSome result (λ node. node ≡ number) }
     {
-        if matches!(number, 1..=7) {
+        if matches!(number, 1..=MOST_NODES) {
             Some(NodeId { number })
         } else {
             None
@@ -72,7 +78,7 @@ impl TaskId {
         ensures valid { IsSome result ↔ IsTask number }
         ensures value { IfSome result (λ task. task ≡ number) }
     {
-        if matches!(number, 1..=8) {
+        if matches!(number, 1..=MOST_TASKS) {
             Some(TaskId { number })
         } else {
             None

@@ -5,7 +5,7 @@ ghost use Rattle.rp_base.specs.Sets.{SameMembers, with_member};
 ghost use Rattle.rp_base.specs.Majority.{AreNodes, nodes_among};
 ghost use Rattle.rp_base.specs.Masks.{low_bits};
 
-use crate::number::NodeId;
+use crate::number::{MOST_NODES, NodeId};
 use std::marker::Model;
 
 /// A set of nodes, at most 7: a mask in one byte, whose bit k is set where node k is in the set.
@@ -72,5 +72,5 @@ fn bits_up_to(nodes: u8) -> u8
     requires { nodes ≤ 7 }
     ensures { result ≡ low_bits nodes }
 {
-    u8::MAX >> (7 - nodes)
+    u8::MAX >> (MOST_NODES - nodes)
 }

@@ -44,12 +44,15 @@ impl Ranged {
     }
 }
 
-/// The components of an object: at most 8 whole numbers and at most 8 Booleans, in place. Those of a
-/// kind are named by the numbers from 0 in the order in which they were added.
+/// The most whole numbers, and the most Booleans, that an object has.
+const MOST_OF_A_KIND: usize = 8;
+
+/// The components of an object: at most 8 whole numbers and at most 8 Booleans, in place. Those of
+/// a kind are named by the numbers from 0 in the order in which they were added.
 #[derive(Clone, Debug, Drop)]
 pub struct Components {
-    ints: [Ranged; 8],
-    bools: [bool; 8],
+    ints: [Ranged; MOST_OF_A_KIND],
+    bools: [bool; MOST_OF_A_KIND],
     int_count: u8,
     bool_count: u8,
 }
@@ -83,15 +86,15 @@ impl Components {
             value: 0,
         };
         Components {
-            ints: [unused; 8],
-            bools: [false; 8],
+            ints: [unused; MOST_OF_A_KIND],
+            bools: [false; MOST_OF_A_KIND],
             int_count: 0,
             bool_count: 0,
         }
     }
 
-    /// Adds a whole number behind the others, named by their number. Its value is not held against its
-    /// range.
+    /// Adds a whole number behind the others, named by their number. Its value is not held against
+    /// its range.
     pub fn add_int(&mut self, component: Ranged)
         requires room { len self.old.ints < 8 }
         ensures { self.new ≡ record self.old {

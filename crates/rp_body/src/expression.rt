@@ -170,8 +170,8 @@ pub(crate) fn in_64_bits(number: i128) -> Option<i64>
     }
 }
 
-/// The value of an expression where the out value is 0, or `None` where it leaves 64 signed bits. No
-/// sum inside it overflows. It takes no memory.
+/// The value of an expression where the out value is 0, or `None` where it leaves 64 signed bits.
+/// No sum inside it overflows. It takes no memory.
 pub fn value(expr: &Expr, components: &Components, arg: i64) -> Option<i64>
     requires { IsTrue (expr_fits (limits_of components.now) expr.now) }
     ensures { let exact = value_of expr.now components.now arg (pos 0) in

@@ -36,8 +36,8 @@ pub fn actions_have_one_end()
         → (caller ≡ called) × (told ≡ heard) × (one ≡ other) }
 {}
 
-/// What an action comes to is the stated function of operations, state and request: the rules hold of
-/// exactly its result.
+/// What an action comes to is the stated function of operations, state and request: the rules hold
+/// of exactly its result.
 pub fn actions_are_their_results()
     ensures { (operations : Operations) (before : State) (request : Request) (result : Acted)
         → Acts operations before request result.caller result.told result.after

@@ -15,9 +15,9 @@ use std::alloc::Global;
 use std::marker::Model;
 use std::sync::Arc;
 
-/// A protected object with functions, procedures and at most one entry. Each call is a whole protected
-/// action with the servicing of the entry queue, and takes no memory (Ada Reference Manual, sections
-/// 9.5.1 and 9.5.3).
+/// A protected object with functions, procedures and at most one entry. Each call is a whole
+/// protected action with the servicing of the entry queue, and takes no memory (Ada Reference
+/// Manual, sections 9.5.1 and 9.5.3).
 #[derive(Debug, Drop)]
 pub struct Object {
     operations: Arc<Operations, Global>,
@@ -42,8 +42,9 @@ impl Model for Object {
 
 impl Object {
     /// The object of these operations, which other objects may share, and components, with nobody
-    /// waiting, or `None` where there are more than 8 functions or 8 procedures, an operation does not
-    /// keep the limits of the language, or the barrier names no Boolean component. It takes no memory.
+    /// waiting, or `None` where there are more than 8 functions or 8 procedures, an operation does
+    /// not keep the limits of the language, or the barrier names no Boolean component. It takes no
+    /// memory.
     pub fn new(operations: Arc<Operations, Global>, components: Components) -> Option<Self>
         ensures { SomeIff result (OperationsFit (limits_of components) (arc_value operations))
             (record {
@@ -75,8 +76,9 @@ impl Object {
         self.state.waiting()
     }
 
-    /// Calls the function of this index, counted from 1: its value, or Constraint_Error where the value
-    /// leaves 64 signed bits, or whether its condition holds. NoSuchOperation where there is none.
+    /// Calls the function of this index, counted from 1: its value, or Constraint_Error where the
+    /// value leaves 64 signed bits, or whether its condition holds. NoSuchOperation where there is
+    /// none.
     pub fn function(&self, index: u8, arg: i64) -> Reply
         ensures action { let now = self.now.state in
             Acts self.now.operations now (calls_function index arg)
@@ -91,7 +93,8 @@ impl Object {
     }
 
     /// Calls the procedure of this index, counted from 1. The caller gets the out value, or
-    /// Constraint_Error where the body raised it. NoSuchOperation where there is none, and nothing changes.
+    /// Constraint_Error where the body raised it. NoSuchOperation where there is none, and nothing
+    /// changes.
     pub fn procedure(&mut self, index: u8, arg: i64) -> Done
         ensures action { Acts self.old.operations self.old.state (calls_procedure index arg)
             (Some result.outcome) result.served self.new.state }
@@ -105,9 +108,9 @@ impl Object {
         }
     }
 
-    /// Calls the entry, as the `number`th call of the task. It runs at once where the entry is open, and
-    /// else waits in the queue; ProgramError where a call waits already, which goes on waiting.
-    /// NoSuchOperation where the object has no entry, and nothing changes.
+    /// Calls the entry, as the `number`th call of the task. It runs at once where the entry is
+    /// open, and else waits in the queue; ProgramError where a call waits already, which goes on
+    /// waiting. NoSuchOperation where the object has no entry, and nothing changes.
     pub fn entry(&mut self, task: TaskId, number: u32, arg: i64) -> Done
         ensures action { Acts self.old.operations self.old.state
             (calls_entry (record { task = task; number = number; arg = arg }))
@@ -129,10 +132,10 @@ impl Object {
         Done::alone(CallOutcome::Waits)
     }
 
-    /// An interrupt, or a timing event whose time has come: its handler, the procedure of this index
-    /// counted from 1, runs with argument 0. It has no caller, and its own exception has no effect (sections
-    /// C.3 and D.15). Nothing happens where there is no such procedure. It gives the answers of the callers
-    /// that were served.
+    /// An interrupt, or a timing event whose time has come: its handler, the procedure of this
+    /// index counted from 1, runs with argument 0. It has no caller, and its own exception has no
+    /// effect (sections C.3 and D.15). Nothing happens where there is no such procedure. It gives
+    /// the answers of the callers that were served.
     pub fn handler(&mut self, index: u8) -> Answers
         ensures action { Acts self.old.operations self.old.state (event index)
             None result self.new.state }

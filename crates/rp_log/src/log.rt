@@ -12,8 +12,8 @@ use std::collections::BTreeMap;
 use std::marker::Model;
 
 /// The actions that a node learned, by position, and how many of them were taken. Positions may be
-/// learned in any order and at any distance; they are taken in order, and none is left out (Lamport,
-/// "Paxos Made Simple", section 3).
+/// learned in any order and at any distance; they are taken in order, and none is left out
+/// (Lamport, "Paxos Made Simple", section 3).
 #[derive(Debug, Drop)]
 pub struct Log {
     /// The actions learned at positions 1, 2, 3 and so on, up to the first at which none is.
@@ -97,9 +97,9 @@ impl Log {
         self.ahead.contains_key(&number)
     }
 
-    /// Learns that the action is decided at the position. Where an action was learned already, that one
-    /// stays and nothing changes. The first unlearned position moves on past the positions that are
-    /// learned ahead of it, each of which it passes once in the log's life.
+    /// Learns that the action is decided at the position. Where an action was learned already, that
+    /// one stays and nothing changes. The first unlearned position moves on past the positions that
+    /// are learned ahead of it, each of which it passes once in the log's life.
     pub fn learn(&mut self, position: Position, action: Action)
         requires { HasRoom self.old position }
         ensures { self.new ≡ with_action self.old position action }
@@ -127,8 +127,8 @@ impl Log {
         learned_at(&self.ahead, u32::from(position.get()))
     }
 
-    /// The first position at which nothing is learned, 1 to 65,535, or 65,536 where every position is
-    /// learned.
+    /// The first position at which nothing is learned, 1 to 65,535, or 65,536 where every position
+    /// is learned.
     pub fn next_unlearned(&self) -> u32
         ensures in_range { (1 ≤ result) × (result ≤ 65536) }
         ensures below { (i : ℕ) → 1 ≤ i → i < result → IsLearned self.now i }
@@ -161,7 +161,8 @@ impl Log {
         Some((Position::new(self.taken)?, action))
     }
 
-    /// How many actions were taken, at most 65,535: those learned at the positions up to that number.
+    /// How many actions were taken, at most 65,535: those learned at the positions up to that
+    /// number.
     pub fn applied(&self) -> u32
         ensures count { result ≡ length self.now.taken }
         ensures in_order { IsTakenInOrder self.now }

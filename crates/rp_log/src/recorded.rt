@@ -7,8 +7,9 @@ ghost use Rattle.rp_base.specs.Records.{learned_run, applied_of};
 ghost use Rattle.rp_log.specs.Contents.{Contents, action_at, with_room, with_action, next_to_take, IsTakenInOrder};
 ghost use Rattle.rp_log.specs.Recorded.{LearnedAlike};
 
-/// A log that learns what its node records takes what the records apply: what was taken so far is what
-/// is learned at positions 1, 2, 3 and so on, and all that can be applied once nothing is ready.
+/// A log that learns what its node records takes what the records apply: what was taken so far is
+/// what is learned at positions 1, 2, 3 and so on, and all that can be applied once nothing is
+/// ready.
 pub fn taken_as_recorded()
     ensures reserves { (records : List Rec) (log : Contents) (i : ℕ)
         → LearnedAlike records log → LearnedAlike records (with_room log i) }

@@ -1,4 +1,5 @@
-//! A node as a proposer: which ballot it leads in next, and what it offers once a majority promised.
+//! A node as a proposer: which ballot it leads in next, and what it offers once a majority
+//! promised.
 //!
 //! In reading order:
 //! - `proposer`: a node as a proposer

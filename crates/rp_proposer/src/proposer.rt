@@ -50,8 +50,9 @@ impl Model for Proposer {
 }
 
 impl Proposer {
-    /// The proposer of a node, one of 3 to 7, that wrote these records: no proposal runs. It has room
-    /// for all that may run, so no other call takes memory. `OutOfMemory` where that is refused.
+    /// The proposer of a node, one of 3 to 7, that wrote these records: no proposal runs. It has
+    /// room for all that may run, so no other call takes memory. `OutOfMemory` where that is
+    /// refused.
     pub fn restore(alloc: Global, node: NodeId, nodes: u8, records: &[Rec]) -> Result<Self, Fault>
         requires nodes { (3 ≤ nodes) × (nodes ≤ 7) }
         requires node { node ≤ nodes }
@@ -95,8 +96,8 @@ impl Proposer {
         count_elsewhere(&self.proposals, position) < MOST_RUNNING
     }
 
-    /// Begins a proposal, in place of any other at its position, in a ballot of the node's above all
-    /// that it counted. The ballot counts as started.
+    /// Begins a proposal, in place of any other at its position, in a ballot of the node's above
+    /// all that it counted. The ballot counts as started.
     pub fn begin(&mut self, position: Position, ballot: Ballot, own: Option<Action>)
         requires room { HasRoom self.old.proposals position }
         requires ballot { IsAbove self.old.node (counted_by self.old) ballot }
@@ -106,8 +107,8 @@ impl Proposer {
         self.started = Ballot::greater(self.started, Some(ballot));
     }
 
-    /// Whether the item is the own action of a proposal that runs at another position: a call by its
-    /// task and number, all else whole.
+    /// Whether the item is the own action of a proposal that runs at another position: a call by
+    /// its task and number, all else whole.
     pub fn is_own_elsewhere(&self, position: Position, item: &Action) -> bool
         ensures { result ≡ is_own_elsewhere self.now.proposals position item.now }
     {

@@ -121,11 +121,11 @@ impl<D: Device> Store<D> {
         }
     }
 
-    /// Appends the record's text and syncs. It never cuts, and reads nothing. It takes no memory but
-    /// the device's, and costs what the text is long, whatever the device holds. The record is a right
-    /// one: opening would cut off any other, and all records behind it. Refused with 3 where the device
-    /// failed since it was opened, with 1 where memory ran out: then nothing has changed. After 2, some
-    /// beginning of the text may stand at the end.
+    /// Appends the record's text and syncs. It never cuts, and reads nothing. It takes no memory
+    /// but the device's, and costs what the text is long, whatever the device holds. The record is
+    /// a right one: opening would cut off any other, and all records behind it. Refused with 3
+    /// where the device failed since it was opened, with 1 where memory ran out: then nothing has
+    /// changed. After 2, some beginning of the text may stand at the end.
     pub fn put(&mut self, rec: &Rec) -> Result<(), Fault>
         requires { IsRightRecord rec.now }
         ensures ok { OnOk result (IsPut D.disk (record_text rec.now) self.old self.new) }
@@ -165,8 +165,8 @@ impl<D: Device> Store<D> {
 impl<D: CutDevice> Store<D> {
     ghost use Rattle.rp_store.specs.Tearing.{IsTorn, IsNotTorn};
 
-    /// What a stop of the node inside `put` leaves: the record's text is appended and not synced, and
-    /// the device stops with the first `kept` bytes of it, or all if there are no more.
+    /// What a stop of the node inside `put` leaves: the record's text is appended and not synced,
+    /// and the device stops with the first `kept` bytes of it, or all if there are no more.
     pub fn tear(self, rec: &Rec, kept: u64) -> Result<D, NotTorn<D>>
         requires { IsRightRecord rec.now }
         ensures ok { IfOk result (λ device. IsTorn D.disk (record_text rec.now) kept self device) }

@@ -14,6 +14,9 @@ use std::marker::Model;
 /// How many packets a line holds at most.
 const ROOM: usize = 16;
 
+/// In so many cases of a word a packet is lost in two, and doubled in two.
+const CASES: u32 = 16;
+
 /// A faulty line over the texts of packets. It holds at most 16, and a word of 32 bits says what
 /// becomes of each that it is given, or which it gives on. The words come from a seed, so that
 /// the same faults can be had again.
@@ -124,7 +127,7 @@ impl FaultLine {
         ensures { self.new ≡ accepted word first.items self.old }
     {
         prove!(self.held.len() <= ROOM);
-        match word % 16 {
+        match word % CASES {
             0 | 1 => {}
             2 | 3 => {
                 self.hold_one(first);

@@ -136,8 +136,8 @@ impl Stub {
         self.outstanding()
     }
 
-    /// Takes the reply to a call of this number: true exactly where it is the outstanding one, which
-    /// thereby ends. What the reply says is the caller's to keep.
+    /// Takes the reply to a call of this number: true exactly where it is the outstanding one,
+    /// which thereby ends. What the reply says is the caller's to keep.
     pub fn reply(&mut self, number: u32, _reply: Reply) -> bool
         ensures taken { result ≡ is_reply_to number self.old.outstanding }
         ensures after { self.new ≡ (if result then with_reply self.old else self.old) }

@@ -19,6 +19,7 @@ use rp_store::Device;
 impl<M: Machine, D: Device> Replica<M, D> {
     /// The node notes an occurrence of an interrupt's source, 1 to 8 and from 1: it becomes pending
     /// unless it or a higher one counted, and is dropped where 32 items are pending.
+    #[inline(never)]
     pub(crate) fn interrupt_into(
         &mut self,
         buffer: Vec<u8>,
@@ -46,6 +47,7 @@ impl<M: Machine, D: Device> Replica<M, D> {
 
     /// The node notes a tick of the clock: it becomes pending, and is dropped where 32 items are
     /// pending.
+    #[inline(never)]
     pub(crate) fn tick_into(&mut self, buffer: Vec<u8>, now: u32) -> Result<Sent, Fault>
         ensures ok { IfOk result (λ sent. TurnsIf
             (effect_of M.next M.answers self.old (inputs.NodeInput.Tick now))

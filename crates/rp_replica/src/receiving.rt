@@ -23,6 +23,7 @@ impl<M: Machine, D: Device> Replica<M, D> {
     /// otherwise with 1, 2 or 3. A packet that is for another node, from a node or for a position
     /// beyond the configuration, or in a ballot that its sender does not own, is dropped, and nothing
     /// happens.
+    #[inline(always)]
     pub(crate) fn receive_into(
         &mut self,
         alloc: Global,
@@ -39,9 +40,9 @@ impl<M: Machine, D: Device> Replica<M, D> {
         if self.has_failed() {
             return Err(Fault::Failed);
         }
-        match decode(alloc, bytes)? {
-            Ok(packet) => self.on_packet(alloc, buffer, &packet),
-            Err(reason) => Err(Fault::BadPacket(reason)),
+        match &decode(alloc, bytes)? {
+            Ok(packet) => self.on_packet(alloc, buffer, packet),
+            Err(reason) => Err(Fault::BadPacket(*reason)),
         }
     }
 

@@ -22,6 +22,7 @@ impl<M: Machine, D: Device> Replica<M, D> {
     /// A report to the audit of the actions applied at the positions from `first` on, as many as
     /// `report_len` says. It copies what it tells and no more. Refused with 1 where memory ran out,
     /// or with 3.
+    #[inline(never)]
     pub(crate) fn report_into(
         &mut self,
         alloc: Global,

@@ -33,6 +33,7 @@ impl<M: Machine, D: Device> Replica<M, D> {
 
     /// The same, with a buffer into which the packets are put, in place of what it holds: so steps
     /// that use one buffer again take no memory for their packets.
+    #[inline(always)]
     pub fn turn_into(
         &mut self,
         alloc: Global,

@@ -60,7 +60,10 @@ impl<M: Machine, D: CutDevice> World<M, D> {
                 arg,
             } => self.submit(task, node, object, operation, arg),
             Event::Again { task, node } => self.again(task, node),
-            Event::Node(step) => self.makes(alloc, step),
+            Event::Node(step) => match step {
+                Step::Deliver(number) => self.deliver(alloc, number),
+                _ => self.makes(alloc, step),
+            },
             Event::Cut { step, kept } => self.cuts(alloc, step, kept),
             Event::Stop(node) => self.stop(node),
             Event::Restart(node) => self.restart(alloc, node),

@@ -7,3 +7,4 @@ pub mod BodyLaws
 pub mod PacketLaws
 pub mod Decoded
 pub mod RecordLaws
+pub mod LengthLaws

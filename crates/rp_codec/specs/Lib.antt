@@ -6,3 +6,4 @@ pub mod Found
 pub mod Record
 pub mod RecordReading
 pub mod Decoding
+pub mod Length

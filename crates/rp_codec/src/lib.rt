@@ -15,6 +15,7 @@
 //! - `content`: what was read of a packet, before memory is taken for a report's actions
 //! - `encoding`: packets to bytes
 //! - `decoding`: bytes to packets
+//! - `lengths`: where a packet's text ends, without reading it
 //! - `record_text`: records as bytes
 //! - `short_text`: texts that need no memory
 #![tactic(auto)]
@@ -27,6 +28,7 @@ mod decoding;
 mod encoding;
 mod fields;
 mod kind;
+mod lengths;
 mod packet;
 mod reader;
 mod record_text;
@@ -38,6 +40,7 @@ mod short_text;
 pub use actions::Actions;
 pub use decoding::{decode, packet_len};
 pub use encoding::{encode, encode_onto, one_text, text_of_packet};
+pub use lengths::text_len;
 pub use packet::{Body, Packet, Party};
 pub use record_text::{decode_front, encode_rec, one_record_text, text_of_record};
 pub use rules::report_len;

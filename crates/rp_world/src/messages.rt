@@ -6,7 +6,7 @@ ghost use Rattle.rp_model.specs.World.{part_at};
 ghost use Rattle.rp_replica.specs.Packets.{texts_of};
 ghost use Rattle.rp_world.specs.Messages.{AreTexts, packets_in, ends_of};
 
-use rp_codec::{Packet, encode_onto, packet_len};
+use rp_codec::{Packet, encode_onto, text_len};
 use std::alloc::{AllocError, Global};
 use std::marker::Model;
 use std::mem::replace;
@@ -127,7 +127,7 @@ fn add_ends(ends: &mut Vec<usize>, bytes: &[u8], from: usize, count: usize)
     let mut at = from;
     for place in 0..count {
         let (_, rest) = bytes.split_at(at);
-        at += packet_len(rest).unwrap();
+        at += text_len(rest);
         ends.push_reserved(at);
     }
 }
@@ -168,7 +168,7 @@ fn start_of(bytes: &[u8], count: usize, place: usize) -> usize
     let mut at = 0;
     for passed in 0..place {
         let (_, rest) = bytes.split_at(at);
-        at += packet_len(rest).unwrap();
+        at += text_len(rest);
     }
     at
 }
@@ -183,6 +183,6 @@ fn text_apart(bytes: &[u8], count: usize, place: usize) -> Option<&[u8]>
         return None;
     }
     let (_, rest) = bytes.split_at(start_of(bytes, count, place));
-    let (text, _) = rest.split_at(packet_len(rest).unwrap());
+    let (text, _) = rest.split_at(text_len(rest));
     Some(text)
 }

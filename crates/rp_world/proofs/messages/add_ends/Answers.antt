@@ -1,5 +1,5 @@
 -- Each text is read where the one before it ends.
-use Rattle.std.proofs.Common.{◌≡◌, ◌+◌, ◌++◌, suc, List, ℕ, length, take, drop, sym, ap, subst, ◌∙◌, arith}
+use Rattle.std.proofs.Common.{◌≡◌, ◌+◌, ◌++◌, suc, List, ℕ, length, take, drop, sym, ap, subst, ◌∙◌, arith, length-append}
 use Rattle.std.proofs.lemmas.List.{append-nil}
 use Rattle.std.proofs.Math.Seq.{take-length}
 use Rattle.rp_codec.specs.Message.{Message}
@@ -17,14 +17,14 @@ loop-place-init c =
       room = omega (arith, c.requires.room);
     }
 
-pub unwrap-at-requires : goal.unwrap-at-requires
-unwrap-at-requires c =
+pub text_len-at-requires : goal.text_len-at-requires
+text_len-at-requires c =
     let from = drop c.args.from c.args.bytes.now in
     let ms = packets_in c.args.count from in
     let texts = again from c.args.count c.requires.texts in
     let n = next_of ms c.loop-place.place texts.0 (omega (arith, c.loop-place-test.true, texts.2)) in
     let front : c.split_at.result.1.now ≡ text_of n.m ++ texts_of (drop (suc c.loop-place.place) ms) = c.split_at.ensures.back ∙ c.loop-place.invariant.walked.rest ∙ ap texts_of n.rest in
-    c.packet_len.ensures.valid.1 (n.m, texts_of (drop (suc c.loop-place.place) ms), n.packet, front)
+    (n.m, texts_of (drop (suc c.loop-place.place) ms), n.packet, front)
 
 pub loop-place-preserved : goal.loop-place-preserved
 loop-place-preserved c =
@@ -34,14 +34,25 @@ loop-place-preserved c =
     let texts = again from c.args.count c.requires.texts in
     let n = next_of ms place texts.0 (omega (arith, c.loop-place-test.true, texts.2)) in
     let front : c.split_at.result.1.now ≡ text_of n.m ++ texts_of (drop (suc place) ms) = c.split_at.ensures.back ∙ c.loop-place.invariant.walked.rest ∙ ap texts_of n.rest in
-    let len : c.unwrap-at.result ≡ length (text_of n.m) = cc (c.unwrap-at.ensures, c.packet_len.ensures.value n.m (texts_of (drop (suc place) ms)) n.packet front) in
+    let len : c.text_len-at.result ≡ length (text_of n.m) = c.text_len-at.ensures n.m (texts_of (drop (suc place) ms)) n.packet front in
     let e : suc place ≡ place + 1 = omega arith in
     record {
-      walked = subst (λ (k : ℕ). Walked c.args.bytes.now c.args.from ms c.args.ends.now.items k (c.loop-place.at + c.unwrap-at.result) c.push_reserved.new.self.items) e
-          (walked_on c.args.bytes.now c.args.from ms c.args.ends.now.items place c.loop-place.at c.loop-place.ends.items c.unwrap-at.result c.push_reserved.new.self.items
+      walked = subst (λ (k : ℕ). Walked c.args.bytes.now c.args.from ms c.args.ends.now.items k (c.loop-place.at + c.text_len-at.result) c.push_reserved.new.self.items) e
+          (walked_on c.args.bytes.now c.args.from ms c.args.ends.now.items place c.loop-place.at c.loop-place.ends.items c.text_len-at.result c.push_reserved.new.self.items
           c.loop-place.invariant.walked n len c.push_reserved.ensures.items);
       room = omega (arith, c.loop-place.invariant.room, c.push_reserved.ensures.len, c.push_reserved.ensures.capacity);
     }
+
+pub overflow_add-at : goal.overflow_add-at
+overflow_add-at c =
+    let from = drop c.args.from c.args.bytes.now in
+    let ms = packets_in c.args.count from in
+    let others = texts_of (drop (suc c.loop-place.place) ms) in
+    let texts = again from c.args.count c.requires.texts in
+    let n = next_of ms c.loop-place.place texts.0 (omega (arith, c.loop-place-test.true, texts.2)) in
+    let front : c.split_at.result.1.now ≡ text_of n.m ++ others = c.split_at.ensures.back ∙ c.loop-place.invariant.walked.rest ∙ ap texts_of n.rest in
+    let len = c.text_len-at.ensures n.m others n.packet front in
+    omega (arith, len, ap length front, length-append (text_of n.m) others, c.split_at.ensures.back_len, c.loop-place.invariant.walked.within)
 
 pub returns : goal.returns
 returns c =

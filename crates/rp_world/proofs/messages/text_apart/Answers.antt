@@ -15,15 +15,15 @@ split_at-requires c =
     let n = next_of ms c.args.place texts.0 (omega (arith, c.if-place-count.false, texts.2)) in
     omega (arith, text_within ms c.args.place n, c.start_of.ensures, ap length texts.1)
 
-pub unwrap-requires : goal.unwrap-requires
-unwrap-requires c =
+pub text_len-requires : goal.text_len-requires
+text_len-requires c =
     let ms = packets_in c.args.count c.args.bytes.now in
     let texts = again c.args.bytes.now c.args.count c.requires in
     let n = next_of ms c.args.place texts.0 (omega (arith, c.if-place-count.false, texts.2)) in
     let others = texts_of (drop (suc c.args.place) ms) in
     let front : c.split_at.result.1.now ≡ text_of n.m ++ others =
     c.split_at.ensures.back ∙ ap (λ (k : ℕ). drop k c.args.bytes.now) c.start_of.ensures ∙ ap (drop (length (texts_of (take c.args.place ms)))) texts.1 ∙ from_start ms c.args.place n in
-    c.packet_len.ensures.valid.1 (n.m, others, n.packet, front)
+    (n.m, others, n.packet, front)
 
 pub split_at-requires-2 : goal.split_at-requires-2
 split_at-requires-2 c =
@@ -33,7 +33,7 @@ split_at-requires-2 c =
     let others = texts_of (drop (suc c.args.place) ms) in
     let front : c.split_at.result.1.now ≡ text_of n.m ++ others =
     c.split_at.ensures.back ∙ ap (λ (k : ℕ). drop k c.args.bytes.now) c.start_of.ensures ∙ ap (drop (length (texts_of (take c.args.place ms)))) texts.1 ∙ from_start ms c.args.place n in
-    let len : c.unwrap.result ≡ length (text_of n.m) = cc (c.unwrap.ensures, c.packet_len.ensures.value n.m others n.packet front) in
+    let len : c.text_len.result ≡ length (text_of n.m) = c.text_len.ensures n.m others n.packet front in
     omega (arith, len, ap length front ∙ length-append (text_of n.m) others)
 
 pub returns : goal.returns
@@ -44,8 +44,8 @@ returns c =
     let others = texts_of (drop (suc c.args.place) ms) in
     let front : c.split_at.result.1.now ≡ text_of n.m ++ others =
     c.split_at.ensures.back ∙ ap (λ (k : ℕ). drop k c.args.bytes.now) c.start_of.ensures ∙ ap (drop (length (texts_of (take c.args.place ms)))) texts.1 ∙ from_start ms c.args.place n in
-    let len : c.unwrap.result ≡ length (text_of n.m) = cc (c.unwrap.ensures, c.packet_len.ensures.value n.m others n.packet front) in
-    let text = text_is c.args.bytes.now c.split_at.result.1.now c.split_at-2.result.0.now ms c.args.place c.start_of.result c.unwrap.result n
+    let len : c.text_len.result ≡ length (text_of n.m) = c.text_len.ensures n.m others n.packet front in
+    let text = text_is c.args.bytes.now c.split_at.result.1.now c.split_at-2.result.0.now ms c.args.place c.start_of.result c.text_len.result n
     texts.1 c.start_of.ensures c.split_at.ensures.back len c.split_at-2.ensures.front in
     ap Some text ∙ ap (option_map text_of) (sym n.got)
 

@@ -88,6 +88,7 @@ impl<M: Machine, D: Device> Replica<M, D> {
     }
 
     /// Writes a promise or a vote, and tells it to a node.
+    #[inline(always)]
     fn keep_and_tell(
         &mut self,
         buffer: Vec<u8>,

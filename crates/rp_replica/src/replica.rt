@@ -138,6 +138,7 @@ pub(crate) fn write<D: Device>(
 
 impl<M: Machine, D: Device> Replica<M, D> {
     /// A packet to a node.
+    #[inline(always)]
     pub(crate) fn says(&self, buffer: Vec<u8>, body: Body, to: NodeId) -> Result<Outbox, Fault>
         requires { MaySay (Node self.now.me) (Node to) body }
         ensures said { IfOk result (λ out. out ≡ run_of (says self.now.me body to ∷ [])) }
@@ -233,6 +234,7 @@ impl<M: Machine, D: Device> Replica<M, D> {
     }
 
     /// Writes a promise or a vote.
+    #[inline(always)]
     pub(crate) fn keep(&mut self, rec: &Rec) -> Result<(), Fault>
         requires working { self.old.failed ≡ false }
         requires right { IsRightRecord rec.now }

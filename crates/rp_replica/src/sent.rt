@@ -57,6 +57,7 @@ impl Outbox {
     }
 
     /// One packet more.
+    #[inline(always)]
     pub(crate) fn push(&mut self, packet: &Packet) -> Result<(), AllocError>
         ensures { OnOk result (self.new ≡ with_packet self.old packet.now) }
     {
@@ -66,6 +67,7 @@ impl Outbox {
     }
 
     /// One packet more, from node to node.
+    #[inline(always)]
     pub(crate) fn say(&mut self, me: NodeId, to: NodeId, body: Body) -> Result<(), AllocError>
         requires { MaySay (Node me) (Node to) body }
         ensures { OnOk result (self.new ≡ with_packet self.old (says me body to)) }

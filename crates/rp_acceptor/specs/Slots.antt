@@ -1,14 +1,19 @@
 -- How an acceptor keeps what its records say (this project's own; callers see none of it).
-use Rattle.std.specs.Prelude.{◌≡◌, ◌⊎◌, ℕ, ◌+◌, ◌/◌, ◌%◌, ◌<◌, ◌≤◌, None, List, [], length, slice_index_or}
+use Rattle.std.specs.Prelude.{max, ◌++◌, option_to_list, ◌≡◌, ◌⊎◌, ℕ, ◌+◌, ◌/◌, ◌%◌, ◌<◌, ◌≤◌, None, List, [], length, slice_index_or}
 use Rattle.rp_base.specs.declared.record.Rec.{Rec}
 use Rattle.rp_base.specs.Sets.{Has}
 use Rattle.rp_base.specs.Ballot.{number_of}
-use Rattle.rp_base.specs.Records.{bound_at, last_vote_at}
+use Rattle.rp_base.specs.Records.{bound_in, vote_in, highest, bound_at, last_vote_at}
 use Rattle.rp_acceptor.specs.declared.slot.Slot.{Slot}
 
 -- nothing is promised or voted for
 abbrev pub empty_slot : Slot
 empty_slot = record { bound = None; last = None }
+
+-- the slot once a record is noted there, of the position at which it counts
+pub record IsWithRecord (old : Slot) (position : ℕ) (rec : Rec) (new : Slot) : Type 0 where
+  pub bound : number_of new.bound ≡ max (number_of old.bound) (bound_in position rec)
+  pub last : new.last ≡ highest (option_to_list old.last ++ option_to_list (vote_in position rec))
 
 -- the slot at an index of a page, an empty one past the end
 abbrev pub slot_in : List Slot → ℕ → Slot

@@ -1,13 +1,14 @@
 //! The slots of an acceptor in pages, each made when a position of it is first reserved.
 
-ghost use Rattle.std.specs.Prelude.{◌≡◌, ◌+◌, ◌<◌, ◌≤◌, ◌∷◌, [], ℕ, length, slice_set, nat_eq, ◌/◌, OnOk, OnErr, IfOk, List, ◌++◌};
+ghost use Rattle.std.specs.Prelude.{Some, option_to_list, ◌≡◌, ◌+◌, ◌<◌, ◌≤◌, ◌∷◌, [], ℕ, length, slice_set, nat_eq, ◌/◌, OnOk, OnErr, IfOk, List, ◌++◌};
 ghost use Rattle.rp_base.specs.Sets.{Has};
 ghost use Rattle.rp_base.specs.declared.record.Rec.{Rec};
 ghost use Rattle.rp_acceptor.specs.Noted.{places_in};
-ghost use Rattle.rp_acceptor.specs.Slots.{empty_slot, slot_in, page_at, slot_at, HasSlot, HasMore, IsWhole, AreSlots};
+ghost use Rattle.rp_acceptor.specs.declared.slot.Slot.{Slot};
+ghost use Rattle.rp_acceptor.specs.Slots.{IsWithRecord, empty_slot, slot_in, page_at, slot_at, HasSlot, HasMore, IsWhole, AreSlots};
 
-use crate::slot::{Slot, empty, index_of, place_of, with_record};
-use rp_base::Rec;
+use crate::slot::{Slot, empty, index_of, note_in_slot, place_of};
+use rp_base::{Position, Rec};
 use std::alloc::{AllocError, Global};
 use std::marker::Model;
 
@@ -64,11 +65,15 @@ impl Page {
         }
     }
 
-    fn set(&mut self, offset: usize, slot: Slot)
-        requires { offset < length self.old }
-        ensures { self.new ≡ slice_set self.old offset slot }
+    /// Notes a record in the slot at an offset, that of the position at which it counts.
+    #[inline(always)]
+    fn note_at(&mut self, offset: usize, position: Position, rec: &Rec)
+        requires within { offset < length self.old }
+        requires place { option_to_list (Some position) ≡ places_in rec.now }
+        ensures { (slot : Slot) × IsWithRecord (slot_in self.old offset) position rec.now slot
+            × (self.new ≡ slice_set self.old offset slot) }
     {
-        self.slots[offset] = slot;
+        note_in_slot(&mut self.slots[offset], position, rec);
     }
 }
 
@@ -121,7 +126,5 @@ pub fn note(pages: &mut Vec<Page>, rec: &Rec)
         return;
     };
     let index = index_of(position);
-    let page = &mut pages[index / PAGE];
-    let slot = with_record(page.slot(index % PAGE), position, rec);
-    page.set(index % PAGE, slot);
+    pages[index / PAGE].note_at(index % PAGE, position, rec);
 }

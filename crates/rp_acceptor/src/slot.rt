@@ -1,10 +1,8 @@
 //! What an acceptor keeps for a position.
 
-ghost use Rattle.std.specs.Prelude.{◌≡◌, max, [], ◌∷◌, ◌++◌, ◌+◌, Some, option_to_list};
-ghost use Rattle.rp_base.specs.Ballot.{number_of};
-ghost use Rattle.rp_base.specs.Records.{bound_in, vote_in, highest};
+ghost use Rattle.std.specs.Prelude.{◌≡◌, ◌+◌, Some, option_to_list};
 ghost use Rattle.rp_acceptor.specs.Noted.{places_in};
-ghost use Rattle.rp_acceptor.specs.Slots.{empty_slot};
+ghost use Rattle.rp_acceptor.specs.Slots.{empty_slot, IsWithRecord};
 
 use rp_base::{Ballot, Position, Rec, Vote};
 
@@ -42,29 +40,27 @@ pub fn index_of(position: Position) -> usize
     usize::from(position.get()) - 1
 }
 
-/// The slot of a position at which a record counts, once the record is noted.
-pub fn with_record(slot: Slot, position: Position, rec: &Rec) -> Slot
+/// Notes a record in the slot of the position at which it counts.
+#[inline(always)]
+pub fn note_in_slot(slot: &mut Slot, position: Position, rec: &Rec)
     requires { option_to_list (Some position) ≡ places_in rec.now }
-    ensures bound { number_of result.bound
-        ≡ max (number_of slot.bound) (bound_in position rec.now) }
-    ensures last { result.last
-        ≡ highest (option_to_list slot.last ++ option_to_list (vote_in position rec.now)) }
+    ensures { IsWithRecord slot.old position rec.now slot.new }
 {
     match rec {
-        Rec::Promised(_, ballot) => Slot {
-            bound: Ballot::greater(slot.bound, Some(*ballot)),
-            last: slot.last,
-        },
-        Rec::Voted(_, ballot, action) => Slot {
-            bound: Ballot::greater(slot.bound, Some(*ballot)),
-            last: Vote::higher(
-                slot.last,
-                Some(Vote {
+        Rec::Promised(_, ballot) => slot.bound = Ballot::greater(slot.bound, Some(*ballot)),
+        Rec::Voted(_, ballot, action) => {
+            slot.bound = Ballot::greater(slot.bound, Some(*ballot));
+            let stays = match &slot.last {
+                Some(last) => last.ballot >= *ballot,
+                None => false,
+            };
+            if !stays {
+                slot.last = Some(Vote {
                     ballot: *ballot,
                     action: *action,
-                }),
-            ),
-        },
-        Rec::Started(_) | Rec::Learned(_, _) => slot,
+                });
+            }
+        }
+        Rec::Started(_) | Rec::Learned(_, _) => {}
     }
 }

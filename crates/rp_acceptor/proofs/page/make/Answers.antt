@@ -1,8 +1,8 @@
-use Rattle.std.proofs.Common.{◌≡◌, ◌<◌, ◌/◌, ◌∷◌, ℕ, Result, Ok, Err, OnErr, List, [], length, nat_eq, sym, ap, subst, ◌∙◌, inl, inr, arith}
+use Rattle.std.proofs.Common.{◌≡◌, ◌/◌, ℕ, List, [], length, nat_eq, sym, ap, subst, ◌∙◌}
 use Rattle.std.proofs.lemmas.List.{get_or_default}
 use Rattle.std.proofs.lemmas.Bool.{both_ways, eq-eqb}
 use Rattle.rp_acceptor.specs.declared.slot.Slot.{Slot}
-use Rattle.rp_acceptor.specs.Slots.{page_at, HasSlot, IsWhole}
+use Rattle.rp_acceptor.specs.Slots.{page_at, IsWhole}
 use Rattle.rp_acceptor.proofs.Pages.{page_past, on_err, page_whole}
 use Rattle.rp_acceptor.proofs.page.make.Goals as goal
 

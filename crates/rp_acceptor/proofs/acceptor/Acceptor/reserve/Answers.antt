@@ -1,4 +1,3 @@
-use Rattle.std.proofs.Common.{sym, subst, ap, ◌∙◌}
 use Rattle.rp_acceptor.proofs.Pages.{kept_more}
 use Rattle.rp_acceptor.proofs.acceptor.Acceptor.reserve.Goals as goal
 

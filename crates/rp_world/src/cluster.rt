@@ -21,7 +21,7 @@ use rp_agreement::{
 };
 use rp_base::{Answer, Config, Fault, NodeId, TaskId};
 use rp_machine::{Machine, a_call_has_one_place};
-use rp_model::{Effect, Event, worlds_grow};
+use rp_model::{Effect, Event, Step, worlds_grow};
 use rp_store::{CutDevice, Device};
 use std::alloc::Global;
 use std::marker::Model;
@@ -98,6 +98,12 @@ impl<M: Machine, D: CutDevice> Cluster<M, D> {
         event.keeps_ranges();
         events_keep_replies::<M>();
         events_keep_ranges::<M>();
+        // A delivery is by far the most frequent, and goes the shortest way.
+        if let Event::Node(step) = *event {
+            if let Step::Deliver(number) = step {
+                return self.world.deliver(alloc, number);
+            }
+        }
         self.world.step(alloc, event)
     }
 

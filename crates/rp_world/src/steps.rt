@@ -44,7 +44,7 @@ fn receiver(text: &[u8]) -> Party
 
 impl<M: Machine, D: CutDevice> World<M, D> {
     /// What an event comes to.
-    #[inline(always)]
+    #[inline(never)]
     pub(crate) fn step(&mut self, alloc: Global, event: &Event) -> Result<Effect, Fault>
         requires config { IsRightConfig self.old.config }
         requires ranged { IsRangedWorld self.old.config.nodes self.old.world }
@@ -60,10 +60,7 @@ impl<M: Machine, D: CutDevice> World<M, D> {
                 arg,
             } => self.submit(task, node, object, operation, arg),
             Event::Again { task, node } => self.again(task, node),
-            Event::Node(step) => match step {
-                Step::Deliver(number) => self.deliver(alloc, number),
-                _ => self.makes(alloc, step),
-            },
+            Event::Node(step) => self.makes(alloc, step),
             Event::Cut { step, kept } => self.cuts(alloc, step, kept),
             Event::Stop(node) => self.stop(node),
             Event::Restart(node) => self.restart(alloc, node),
@@ -85,7 +82,6 @@ fn input_of(interrupt: Interrupt) -> Input<'static>
 
 impl<M: Machine, D: CutDevice> World<M, D> {
     /// A node makes a step: refused as one that is given an input, or as a delivery.
-    #[inline(always)]
     pub(crate) fn makes(&mut self, alloc: Global, step: Step) -> Result<Effect, Fault>
         requires config { IsRightConfig self.old.config }
         requires ranged { IsRangedWorld self.old.config.nodes self.old.world }
@@ -215,7 +211,7 @@ impl<M: Machine, D: CutDevice> World<M, D> {
     /// `NoSuchMessage` above the last one, or refused for memory: nothing changes. `Device` where the
     /// device of its node fails: then the node is stopped.
     #[inline(always)]
-    fn deliver(&mut self, alloc: Global, number: u64) -> Result<Effect, Fault>
+    pub(crate) fn deliver(&mut self, alloc: Global, number: u64) -> Result<Effect, Fault>
         requires ranged { IsRangedWorld self.old.config.nodes self.old.world }
         ensures answer { let setting = setting_of M.next M.answers M.begin self.old in
             Answers self.old.world

@@ -122,7 +122,7 @@ impl Learner {
             (vote_for ballot action.now)) }
         ensures only { IsOkUnless result Fault.OutOfMemory }
     {
-        let most = usize::from(majority(self.nodes));
+        let needed = usize::from(majority(self.nodes));
         let nodes = self.nodes;
         let place = &mut self.places[usize::from(position.get()) - 1];
         match place {
@@ -134,7 +134,7 @@ impl Learner {
                 *place = Place::Heard(Tallies::new(alloc, from, vote));
             }
             Place::Heard(tallies) => {
-                if tallies.hear(nodes, from, ballot, action)? >= most {
+                if tallies.hear(nodes, from, ballot, action)? >= needed {
                     *place = Place::Settled;
                 }
             }

@@ -9,7 +9,7 @@ use Rattle.rp_learner.specs.Places.{place_at, settled_of, votes_of}
 use Rattle.rp_learner.specs.Standings.{vote_for}
 use Rattle.rp_learner.proofs.Outcomes.{learned_at, counting_at, notes, notes_first, notes_last, notes_none, not_heard, on_err}
 use Rattle.rp_learner.proofs.learner.Learner.note_vote.Goals as goal
-use Rattle.rp_learner.proofs.learner.Learner.note_vote.Goals.{in-Unheard+in-Heard-1, in-Unheard+in-Unheard-1, in-Heard+in_ok-hear-in-Heard+then-branch-most+in-Heard-1, in-Heard+in_ok-hear-in-Heard+then-branch-most+in-Unheard-1, in-Heard+in_ok-hear-in-Heard+else-branch-most, in-Settled}
+use Rattle.rp_learner.proofs.learner.Learner.note_vote.Goals.{in-Unheard+in-Heard-1, in-Unheard+in-Unheard-1, in-Heard+in_ok-hear-in-Heard+then-branch-needed+in-Heard-1, in-Heard+in_ok-hear-in-Heard+then-branch-needed+in-Unheard-1, in-Heard+in_ok-hear-in-Heard+else-branch-needed, in-Settled}
 
 pub returns-clause-noted : goal.returns-clause-noted
 returns-clause-noted c =
@@ -24,19 +24,19 @@ returns-clause-noted c =
           (notes_first c.self.inside.nodes items c.args.from c.args.position vote c.self.invariant.0 k w.new.result at within (before ∙ ap (λ p. Some p) w.in-Unheard.is) w.new.ensures)
       | in-Unheard+in-Unheard-1 w ↦ rw (w.self-inside-is, ← c.self.view_is)
           (notes_first c.self.inside.nodes items c.args.from c.args.position vote c.self.invariant.0 k w.new.result at within (before ∙ ap (λ p. Some p) w.in-Unheard.is) w.new.ensures)
-      | in-Heard+in_ok-hear-in-Heard+then-branch-most+in-Heard-1 w ↦
+      | in-Heard+in_ok-hear-in-Heard+then-branch-needed+in-Heard-1 w ↦
           let there : place_at items c.args.position ≡ Some (Heard w.in-Heard.tallies) = ap (place_at items) at ∙ before ∙ ap (λ p. Some p) w.in-Heard.is in
-          let most : majority_of c.self.inside.nodes ≤ w.in_ok-hear-in-Heard.field-0 = omega (arith, w.if-branch-most.true, c.from-most.ensures, c.majority.ensures) in
+          let most : majority_of c.self.inside.nodes ≤ w.in_ok-hear-in-Heard.field-0 = omega (arith, w.if-branch-needed.true, c.from-needed.ensures, c.majority.ensures) in
           rw (w.self-inside-is, ← c.self.view_is) (notes_last c.self.inside.nodes items c.args.from c.args.position vote k at within
           (sym (learned_at c.self.inside.nodes items c.args.from c.args.position vote w.in_ok-hear-in-Heard.field-0 (ap settled_of there) (rw (ap votes_of there) w.in_ok-hear-in-Heard.ensures.voters) most)))
-      | in-Heard+in_ok-hear-in-Heard+then-branch-most+in-Unheard-1 w ↦
+      | in-Heard+in_ok-hear-in-Heard+then-branch-needed+in-Unheard-1 w ↦
           let there : place_at items c.args.position ≡ Some (Heard w.in-Heard.tallies) = ap (place_at items) at ∙ before ∙ ap (λ p. Some p) w.in-Heard.is in
-          let most : majority_of c.self.inside.nodes ≤ w.in_ok-hear-in-Heard.field-0 = omega (arith, w.if-branch-most.true, c.from-most.ensures, c.majority.ensures) in
+          let most : majority_of c.self.inside.nodes ≤ w.in_ok-hear-in-Heard.field-0 = omega (arith, w.if-branch-needed.true, c.from-needed.ensures, c.majority.ensures) in
           rw (w.self-inside-is, ← c.self.view_is) (notes_last c.self.inside.nodes items c.args.from c.args.position vote k at within
           (sym (learned_at c.self.inside.nodes items c.args.from c.args.position vote w.in_ok-hear-in-Heard.field-0 (ap settled_of there) (rw (ap votes_of there) w.in_ok-hear-in-Heard.ensures.voters) most)))
-      | in-Heard+in_ok-hear-in-Heard+else-branch-most w ↦
+      | in-Heard+in_ok-hear-in-Heard+else-branch-needed w ↦
           let there : place_at items c.args.position ≡ Some (Heard w.in-Heard.tallies) = ap (place_at items) at ∙ before ∙ ap (λ p. Some p) w.in-Heard.is in
-          let few : w.in_ok-hear-in-Heard.field-0 < majority_of c.self.inside.nodes = omega (arith, w.if-branch-most.false, c.from-most.ensures, c.majority.ensures) in
+          let few : w.in_ok-hear-in-Heard.field-0 < majority_of c.self.inside.nodes = omega (arith, w.if-branch-needed.false, c.from-needed.ensures, c.majority.ensures) in
           rw (w.self-inside-is, ← c.self.view_is) (notes c.self.inside.nodes items c.args.from c.args.position vote k (Heard w.in-Heard.tallies) (Heard w.hear.new.self) at within (before ∙ ap (λ p. Some p) w.in-Heard.is)
           (sym (counting_at c.self.inside.nodes items c.args.from c.args.position vote w.in_ok-hear-in-Heard.field-0 (ap settled_of there) (rw (ap votes_of there) w.in_ok-hear-in-Heard.ensures.voters) few))
           (record { mark = refl; votes = λ _. w.in_ok-hear-in-Heard.ensures.ok }))

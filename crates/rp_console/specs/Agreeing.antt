@@ -2,7 +2,7 @@
 use Rattle.std.specs.Prelude.{ℕ, ◌≤◌, Bool, List, take}
 use Rattle.rp_model.specs.World.{World}
 use Rattle.rp_world.specs.Agreeing.{Agree, IsOrdered}
-use Rattle.rp_console.specs.Output.{RunSetting, run_said, tally_run, objects_run}
+use Rattle.rp_console.specs.Output.{RunSetting, run_said, drain_limit, tally_run, objects_run}
 use Rattle.rp_console.specs.declared.deck.Deck.{Deck}
 use Rattle.rp_console.specs.declared.deck.DeckProgram.{DeckProgram}
 use Rattle.rp_console.specs.declared.deck.DeckProgram.TheVariants.{Tally, Objects}
@@ -20,9 +20,9 @@ module _ {S : Type 0} (s : RunSetting S) (most : ℕ) (lines : List Line) where
     pub ordered : (i : ℕ) → IsOrdered s.setting.next s.setting.answers s.setting.begin s.setting.config.nodes (world_after i)
 
 -- the same of a deck, by its program
-abbrev pub AgreesAt : ℕ → Bool → Deck → DeckProgram → Type 0
-AgreesAt most traced deck (Tally objects) = RunAgrees (tally_run traced deck objects) most deck.script.items
-AgreesAt most traced deck (Objects program) = RunAgrees (objects_run traced deck program) most deck.script.items
+abbrev pub AgreesAt : Bool → Deck → DeckProgram → Type 0
+AgreesAt traced deck (Tally objects) = RunAgrees (tally_run traced deck objects) drain_limit deck.script.items
+AgreesAt traced deck (Objects program) = RunAgrees (objects_run traced deck program) drain_limit deck.script.items
 
-abbrev pub DeckAgrees : ℕ → Bool → Deck → Type 0
-DeckAgrees most traced deck = AgreesAt most traced deck deck.program
+abbrev pub DeckAgrees : Bool → Deck → Type 0
+DeckAgrees traced deck = AgreesAt traced deck deck.program

@@ -258,6 +258,10 @@ module _ {S : Type 0} (s : RunSetting S) where
 
 -- ---- a deck
 
+-- how many messages one `drain` of a deck delivers at most
+abbrev pub drain_limit : ℕ
+drain_limit = 100000
+
 -- the output of a deck's script at a machine
 abbrev pub output_at : {S : Type 0} → ℕ → Deck → RunSetting S → List ℕ
 output_at most deck s = (run_said s most deck.script.items).text
@@ -280,10 +284,10 @@ objects_run traced deck program = record {
   traced = traced;
 }
 
--- the output of a deck, where a `drain` may deliver so many messages, and packets are told or not
-abbrev pub output_by : ℕ → Bool → Deck → DeckProgram → List ℕ
-output_by most traced deck (Tally objects) = output_at most deck (tally_run traced deck objects)
-output_by most traced deck (Objects program) = output_at most deck (objects_run traced deck program)
+-- the output of a deck, where packets are told or not
+abbrev pub output_by : Bool → Deck → DeckProgram → List ℕ
+output_by traced deck (Tally objects) = output_at drain_limit deck (tally_run traced deck objects)
+output_by traced deck (Objects program) = output_at drain_limit deck (objects_run traced deck program)
 
-abbrev pub output_of : ℕ → Bool → Deck → List ℕ
-output_of most traced deck = output_by most traced deck deck.program
+abbrev pub output_of : Bool → Deck → List ℕ
+output_of traced deck = output_by traced deck deck.program

@@ -4,6 +4,10 @@ use Rattle.std.specs.Io.KnownBytes.{Appends}
 use Rattle.rp_base.specs.declared.fault.Fault.{Fault}
 use Rattle.rp_base.specs.declared.fault.Fault.TheVariants.{OutOfMemory, Io}
 
+-- how many bytes a deck has at most
+abbrev pub most_bytes : ℕ
+most_bytes = 1048576
+
 -- a write failed
 abbrev pub IsWriteFault : Fault → Type 0
 IsWriteFault Io = Unit {0}

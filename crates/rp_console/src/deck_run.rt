@@ -34,7 +34,7 @@ pub fn run_script<R: Read, W: Write>(
     writer: &mut W,
 ) -> Result<(), Fault>
     ensures output { OnOk result ((deck : Deck) × IsRightDeck deck × Appends
-        (W.contents writer.old) (W.contents writer.new) (output_of DRAIN_LIMIT traced deck)) }
+        (W.contents writer.old) (W.contents writer.new) (output_of traced deck)) }
     ensures bad { IfErr result (λ fault. IsBadDeck fault
         → W.contents writer.new ≡ W.contents writer.old) }
     ensures fault { IfErr result IsScriptFault }
@@ -55,8 +55,8 @@ pub fn run_deck<W: Write>(
 ) -> Result<(), Fault>
     requires { IsRightDeck deck }
     ensures output { Writes (W.contents writer.old) (W.contents writer.new)
-        (output_of DRAIN_LIMIT traced deck) result }
-    ensures headline { OnOk result (DeckAgrees DRAIN_LIMIT traced deck) }
+        (output_of traced deck) result }
+    ensures headline { OnOk result (DeckAgrees traced deck) }
     ensures fault { IfErr result IsRunFault }
 {
     let Deck {

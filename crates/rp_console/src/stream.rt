@@ -2,7 +2,7 @@
 
 ghost use Rattle.std.specs.Prelude.{◌≡◌, ◌≤◌, ◌++◌, [], ◌∷◌, length, Some, IfSome, IfOk, IfErr, OnOk};
 ghost use Rattle.std.specs.Io.KnownBytes.{Appends};
-ghost use Rattle.rp_console.specs.Stream.{IsReadFault, IsWriteFault, Writes};
+ghost use Rattle.rp_console.specs.Stream.{most_bytes, IsReadFault, IsWriteFault, Writes};
 
 use rp_base::Fault;
 use std::alloc::Global;
@@ -23,7 +23,7 @@ const CHUNK: usize = 4096;
 pub fn read_whole<R: Read>(alloc: Global, reader: &mut R) -> Result<Vec<u8>, Fault>
     ensures whole { IfOk result (λ bytes. IfSome (R.remaining reader.old) (λ all. bytes.items
         ≡ all)) }
-    ensures size { IfOk result (λ bytes. length bytes.items ≤ MOST_BYTES) }
+    ensures size { IfOk result (λ bytes. length bytes.items ≤ most_bytes) }
     ensures fault { IfErr result IsReadFault }
 {
     let mut bytes = Vec::new(alloc);

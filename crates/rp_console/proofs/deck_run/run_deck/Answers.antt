@@ -1,7 +1,6 @@
 -- The program is the one that was matched.
 use Rattle.std.proofs.Common.{sym, ap}
 use Rattle.rp_console.specs.Output.{output_by}
-use Rattle.rp_console.specs.declared.deck_run.TheConstants.{DRAIN_LIMIT}
 use Rattle.rp_console.proofs.Writing.{writes_nothing, writes_same}
 use Rattle.rp_console.proofs.deck_run.run_deck.Goals as goal
 
@@ -11,9 +10,9 @@ returns-in_err-devices-clause-output g c = writes_nothing _ _ c.from_residual.re
 pub returns-in-Tally-clause-output : goal.returns-in-Tally-clause-output
 returns-in-Tally-clause-output g c =
     let output = c.run_lines.ensures.output in
-    writes_same _ _ _ _ c.run_lines.result (ap (output_by DRAIN_LIMIT c.args.traced c.args.deck) (sym c.in-Tally.is)) (rw c.as_slice-lines.ensures.value at output)
+    writes_same _ _ _ _ c.run_lines.result (ap (output_by c.args.traced c.args.deck) (sym c.in-Tally.is)) (rw c.as_slice-lines.ensures.value at output)
 
 pub returns-clause-output : goal.returns-clause-output
 returns-clause-output g c =
     let output = c.run_lines-in-Objects.ensures.output in
-    writes_same _ _ _ _ c.run_lines-in-Objects.result (ap (output_by DRAIN_LIMIT c.args.traced c.args.deck) (sym c.in-Objects.is)) (rw c.as_slice-lines.ensures.value at output)
+    writes_same _ _ _ _ c.run_lines-in-Objects.result (ap (output_by c.args.traced c.args.deck) (sym c.in-Objects.is)) (rw c.as_slice-lines.ensures.value at output)

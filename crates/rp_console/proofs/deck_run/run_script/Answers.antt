@@ -6,7 +6,6 @@ use Rattle.rp_console.specs.Deck.{IsRightDeck}
 use Rattle.rp_console.specs.Output.{output_of}
 use Rattle.rp_console.specs.Stream.{Writes}
 use Rattle.rp_console.specs.declared.deck.Deck.{Deck}
-use Rattle.rp_console.specs.declared.deck_run.TheConstants.{DRAIN_LIMIT}
 use Rattle.rp_console.proofs.deck_run.run_script.Goals as goal
 
 pub returns-clause-output : goal.returns-clause-output
@@ -18,7 +17,7 @@ returns-clause-output g c = at c.run_deck.result c.run_deck.ensures.output
     new : Option (List ℕ)
     new = g.W.Write.contents c.run_deck.new.writer
 
-    at : (answer : Result Unit Fault) → Writes old new (output_of DRAIN_LIMIT c.args.traced c.in_ok-deck.deck) answer
-        → OnOk answer ((deck : Deck) × IsRightDeck deck × Appends old new (output_of DRAIN_LIMIT c.args.traced deck))
+    at : (answer : Result Unit Fault) → Writes old new (output_of c.args.traced c.in_ok-deck.deck) answer
+        → OnOk answer ((deck : Deck) × IsRightDeck deck × Appends old new (output_of c.args.traced deck))
     at (Ok done) written = (c.in_ok-deck.deck, c.in_ok-deck.ensures.deck, written)
     at (Err fault) begun = tt

@@ -185,23 +185,18 @@ fn decode_fields(alloc: Global, bytes: &[u8]) -> Result<Result<Packet, PacketRea
     }
 }
 
-/// The packet that was read in one piece, if one was.
+/// The packet that is read in one piece, if one is.
 #[inline(always)]
-fn decode_usual(
-    alloc: Global,
-    bytes: &[u8],
-    usual: Option<Packet>,
-) -> Result<Result<Packet, PacketReason>, AllocError>
-    requires { IfSome usual (λ packet. bytes.now ≡ text_of packet) }
-    ensures answer { IfOk result (λ answer. IsDecoded bytes.now answer) }
-    ensures memory { OnErr result (IsReportText bytes.now) }
+fn usual_of(bytes: &[u8]) -> Option<Packet>
+    ensures { IfSome result (λ packet. bytes.now ≡ text_of packet) }
 {
-    match usual {
-        Some(packet) => {
-            let _body = packet.body();
-            Ok(Ok(packet))
-        }
-        None => decode_fields(alloc, bytes),
+    match bytes {
+        [_, 2, ..] => prepare_of(bytes),
+        [_, 3, ..] => promise_of(bytes),
+        [_, 4, ..] => accept_of(bytes),
+        [_, 5, ..] => accepted_of(bytes),
+        [_, 6, ..] => decided_of(bytes),
+        _ => None,
     }
 }
 
@@ -211,13 +206,12 @@ pub fn decode(alloc: Global, bytes: &[u8]) -> Result<Result<Packet, PacketReason
     ensures answer { IfOk result (λ answer. IsDecoded bytes.now answer) }
     ensures memory { OnErr result (IsReportText bytes.now) }
 {
-    match bytes {
-        [_, 2, ..] => decode_usual(alloc, bytes, prepare_of(bytes)),
-        [_, 3, ..] => decode_usual(alloc, bytes, promise_of(bytes)),
-        [_, 4, ..] => decode_usual(alloc, bytes, accept_of(bytes)),
-        [_, 5, ..] => decode_usual(alloc, bytes, accepted_of(bytes)),
-        [_, 6, ..] => decode_usual(alloc, bytes, decided_of(bytes)),
-        _ => decode_fields(alloc, bytes),
+    match usual_of(bytes) {
+        Some(packet) => {
+            let _body = packet.body();
+            Ok(Ok(packet))
+        }
+        None => decode_fields(alloc, bytes),
     }
 }
 

@@ -92,6 +92,23 @@ number_again w limit wide n rest lt =
     let long : ltb (length (to_be_bytes w n ++ rest)) (byte_len w) ≡ false = le-ltb _ _ (omega (arith, length-append (to_be_bytes w n) rest)) in
     rw (long, take_at (to_be_bytes w n) rest (byte_len w) len, drop_at (to_be_bytes w n) rest (byte_len w) len, wide.again n lt) refl
 
+-- the bytes of a number are its text
+whole_number : (w : Width) (limit : ℕ) (wide : IsWide w limit) (bytes : List ℕ) → length bytes ≡ byte_len w → IsBytes bytes → bytes ≡ number_text w (from_be_bytes w bytes)
+unfolding number_text
+whole_number w limit wide bytes long h = sym (wide.back bytes long h)
+
+pub whole_number16 : (bytes : List ℕ) → length bytes ≡ 2 → IsBytes bytes → bytes ≡ number_text w16 (from_be_bytes w16 bytes)
+whole_number16 bytes long h = whole_number w16 (2 ^ 16) wide16 bytes long h
+
+pub whole_number32 : (bytes : List ℕ) → length bytes ≡ 4 → IsBytes bytes → bytes ≡ number_text w32 (from_be_bytes w32 bytes)
+whole_number32 bytes long h = whole_number w32 (2 ^ 32) wide32 bytes long h
+
+pub whole_number64 : (bytes : List ℕ) → length bytes ≡ 8 → IsBytes bytes → bytes ≡ number_text w64 (from_be_bytes w64 bytes)
+whole_number64 bytes long h = whole_number w64 (2 ^ 64) wide64 bytes long h
+
+pub signed_below : (z : ℤ) → FitsSigned w64 z → cast_unsigned w64 z < 2 ^ 64
+signed_below z fits = omega (arith, ints)
+
 abbrev pub TookNumber32 : List ℕ → ℕ × List ℕ → Type 0
 TookNumber32 bytes = Took (number_text w32) (λ n. n < 2 ^ 32) bytes
 

@@ -8,3 +8,4 @@ pub mod PacketLaws
 pub mod Decoded
 pub mod RecordLaws
 pub mod LengthLaws
+pub mod UsualTexts

@@ -113,6 +113,7 @@ fn read_tick(reader: &mut Reader) -> Result<Action, PacketReason>
 }
 
 /// Any action.
+#[inline(always)]
 #[tactic(auto, unfolding(crate::specs::Reading::action_at))]
 pub(crate) fn read_action(reader: &mut Reader) -> Result<Action, PacketReason>
     ensures { Gives result reader.new (action_at reader.old) }
@@ -127,6 +128,7 @@ pub(crate) fn read_action(reader: &mut Reader) -> Result<Action, PacketReason>
     }
 }
 
+#[inline(always)]
 fn is_own(party: &Party, task: TaskId) -> bool
     ensures { result ≡ is_task party.now task }
 {
@@ -137,6 +139,7 @@ fn is_own(party: &Party, task: TaskId) -> bool
 }
 
 /// A call of the party itself.
+#[inline(always)]
 #[tactic(auto, unfolding(crate::specs::Reading::own_call_at))]
 pub(crate) fn read_own_call(reader: &mut Reader, from: &Party) -> Result<Action, PacketReason>
     ensures { Gives result reader.new (own_call_at from.now reader.old) }

@@ -178,6 +178,7 @@ fn read_ask(reader: &mut Reader) -> Result<Body, PacketReason>
 }
 
 /// What a packet of this kind says, from this party.
+#[inline(always)]
 #[tactic(auto, unfolding(crate::specs::Reading::body_at))]
 pub(crate) fn read_content<'a>(
     reader: &mut Reader<'a>,

@@ -1,6 +1,6 @@
 //! Bytes to packets.
 
-ghost use Rattle.std.specs.Prelude.{◌≡◌, ◌↔◌, ℕ, List, ◌++◌, length, Some, IsSome, IfOk, OnErr};
+ghost use Rattle.std.specs.Prelude.{◌≡◌, ◌↔◌, ℕ, List, ◌++◌, length, Some, IsSome, IfSome, IfOk, OnErr};
 ghost use Rattle.rp_codec.specs.Message.{Message, IsPacket};
 ghost use Rattle.rp_codec.specs.Text.{text_of};
 ghost use Rattle.rp_codec.specs.Reading.{Gives, node_at, task_at, audit_at, from_at, to_at, version_at, kind_at, packet_at, all_of};
@@ -14,6 +14,7 @@ use crate::kind::Kind;
 use crate::packet::{Body, Packet, Party};
 use crate::reader::Reader;
 use crate::report_text::list_actions;
+use crate::usual_texts::{accept_of, accepted_of, decided_of, prepare_of, promise_of};
 use rp_base::{NodeId, PacketReason, TaskId};
 use std::alloc::{AllocError, Global};
 
@@ -115,6 +116,7 @@ fn read_kind(reader: &mut Reader) -> Result<Kind, PacketReason>
 }
 
 /// The packet that the bytes begin with.
+#[inline(always)]
 #[tactic(auto, unfolding(crate::specs::Reading::packet_at, crate::specs::Reading::said_at))]
 fn read_packet<'a>(reader: &mut Reader<'a>) -> Result<Found<'a>, PacketReason>
     ensures { FindsPacket result reader.new (packet_at reader.old) }
@@ -128,6 +130,7 @@ fn read_packet<'a>(reader: &mut Reader<'a>) -> Result<Found<'a>, PacketReason>
 }
 
 /// The packet whose text is all of the bytes.
+#[inline(always)]
 #[tactic(auto, unfolding(crate::specs::Reading::all_of))]
 fn read_whole<'a>(bytes: &'a [u8]) -> Result<Found<'a>, PacketReason>
     ensures { FindsWhole result (all_of bytes.now) }
@@ -141,6 +144,7 @@ fn read_whole<'a>(bytes: &'a [u8]) -> Result<Found<'a>, PacketReason>
 }
 
 /// Takes memory for a report's actions, and for nothing else.
+#[inline(always)]
 fn listed(alloc: Global, found: Found) -> Result<Packet, AllocError>
     requires { KeepsRulesAt found }
     ensures packet { IfOk result (λ packet. IsListed packet found.entry) }
@@ -166,9 +170,9 @@ fn listed(alloc: Global, found: Found) -> Result<Packet, AllocError>
     Ok(Packet::new(from, to, body))
 }
 
-/// The packet of which the bytes are the text, all of the bytes. Where they are no packet's text,
-/// the reason is the first fault from left to right. Only a report's actions take memory.
-pub fn decode(alloc: Global, bytes: &[u8]) -> Result<Result<Packet, PacketReason>, AllocError>
+/// What the bytes are, read field by field.
+#[inline(never)]
+fn decode_fields(alloc: Global, bytes: &[u8]) -> Result<Result<Packet, PacketReason>, AllocError>
     ensures answer { IfOk result (λ answer. IsDecoded bytes.now answer) }
     ensures memory { OnErr result (IsReportText bytes.now) }
 {
@@ -178,6 +182,36 @@ pub fn decode(alloc: Global, bytes: &[u8]) -> Result<Result<Packet, PacketReason
             Ok(Ok(packet))
         }
         Err(reason) => Ok(Err(reason)),
+    }
+}
+
+/// The packet that is read in one piece, if one is.
+#[inline(always)]
+fn usual_of(bytes: &[u8]) -> Option<Packet>
+    ensures { IfSome result (λ packet. bytes.now ≡ text_of packet) }
+{
+    match bytes {
+        [_, 2, ..] => prepare_of(bytes),
+        [_, 3, ..] => promise_of(bytes),
+        [_, 4, ..] => accept_of(bytes),
+        [_, 5, ..] => accepted_of(bytes),
+        [_, 6, ..] => decided_of(bytes),
+        _ => None,
+    }
+}
+
+/// The packet of which the bytes are the text, all of the bytes. Where they are no packet's text,
+/// the reason is the first fault from left to right. Only a report's actions take memory.
+pub fn decode(alloc: Global, bytes: &[u8]) -> Result<Result<Packet, PacketReason>, AllocError>
+    ensures answer { IfOk result (λ answer. IsDecoded bytes.now answer) }
+    ensures memory { OnErr result (IsReportText bytes.now) }
+{
+    match usual_of(bytes) {
+        Some(packet) => {
+            let _body = packet.body();
+            Ok(Ok(packet))
+        }
+        None => decode_fields(alloc, bytes),
     }
 }
 

@@ -20,6 +20,7 @@ pub(crate) enum Kind {
 
 impl Kind {
     /// The kind of this number, if it is one.
+    #[inline(always)]
     pub(crate) fn of(number: u8) -> Option<Self>
         ensures { result ≡ kind_of number }
     {

@@ -13,6 +13,7 @@
 //! - `report_text`: reports as bytes
 //! - `body_text`: bodies as bytes
 //! - `content`: what was read of a packet, before memory is taken for a report's actions
+//! - `usual_texts`: packets of the usual kinds, each read in one piece
 //! - `encoding`: packets to bytes
 //! - `decoding`: bytes to packets
 //! - `lengths`: where a packet's text ends, without reading it
@@ -36,6 +37,7 @@ mod reply_text;
 mod report_text;
 mod rules;
 mod short_text;
+mod usual_texts;
 
 pub use actions::Actions;
 pub use decoding::{decode, packet_len};

@@ -1,33 +1,13 @@
-use Rattle.std.proofs.Common.{sym, rules, arith}
-use Rattle.rp_codec.specs.Found.{with_body}
-use Rattle.rp_codec.specs.Decoding.{IsReportText}
+use Rattle.std.proofs.Common.{◌≡◌, Option, subst, arith}
+use Rattle.std.specs.Prelude.{IfSome}
+use Rattle.rp_codec.specs.Message.{Message}
+use Rattle.rp_codec.specs.Text.{text_of}
 use Rattle.rp_codec.proofs.Steps.{IsBytes}
-use Rattle.rp_codec.proofs.Decoded.{decoded, decoded_packet, decoded_rules, report_text}
+use Rattle.rp_codec.proofs.Decoded.{decoded_text}
 use Rattle.rp_codec.proofs.decoding.decode.Goals as goal
 
-pub listed-requires : goal.listed-requires
-listed-requires c =
-    let (body, after, stands, read) = c.in-Ok.ensures in
+pub returns-in-Some-clause-answer : goal.returns-in-Some-clause-answer
+returns-in-Some-clause-answer c =
     let bytes : IsBytes c.args.bytes.now = λ i. omega (arith, c.type_inv.bytes i) in
-    (body, after, stands, decoded_rules c.args.bytes.now (with_body c.in-Ok.found body) bytes read)
-
-pub returns-in_err-packet-in-Ok : goal.returns-in_err-packet-in-Ok
-returns-in_err-packet-in-Ok c =
-    let (body, after, stands, read) = c.in-Ok.ensures in
-    let bytes : IsBytes c.args.bytes.now = λ i. omega (arith, c.type_inv.bytes i) in
-    let text : IsReportText c.args.bytes.now = report_text c.args.bytes.now c.in-Ok.found body after bytes c.in_err-packet-in-Ok.ensures.memory stands read in
-    search rules
-
-pub returns-in_ok-packet-in-Ok : goal.returns-in_ok-packet-in-Ok
-returns-in_ok-packet-in-Ok c =
-    let (body, after, stands, read) = c.in-Ok.ensures in
-    let bytes : IsBytes c.args.bytes.now = λ i. omega (arith, c.type_inv.bytes i) in
-    record {
-      answer = decoded_packet c.args.bytes.now c.in_ok-packet-in-Ok.packet (with_body c.in-Ok.found body) bytes (c.in_ok-packet-in-Ok.ensures.packet body after stands) read;
-      memory = tt;
-    }
-
-pub returns-in-Err : goal.returns-in-Err
-returns-in-Err c =
-    let bytes : IsBytes c.args.bytes.now = λ i. omega (arith, c.type_inv.bytes i) in
-    record { answer = decoded c.args.bytes.now _ bytes (sym c.in-Err.ensures); memory = tt }
+    let text = subst (λ (usual : Option Message). IfSome usual (λ packet. c.args.bytes.now ≡ text_of packet)) c.in-Some.is c.usual_of.ensures in
+    decoded_text c.args.bytes.now c.in-Some.packet bytes c.body-body.ensures.packet text

@@ -1,0 +1,216 @@
+//! Packets of the usual kinds, each read in one piece since its text has one length: those between
+//! nodes whose action, if any, is a call, a task's call, and a reply with a value.
+
+ghost use Rattle.std.specs.Prelude.{◌≡◌, [], ◌∷◌, ◌++◌, FitsSigned, IfSome};
+ghost use Rattle.std.specs.Int.{w32, w64};
+ghost use Rattle.rp_base.specs.Action.{IsCount, IsRight, IsRightOperation};
+ghost use Rattle.rp_codec.specs.Text.{number_text, signed_text, position_text, ballot_text, operation_text, action_text, vote_text, text_of};
+
+use crate::fields::{TASK_BASE, VERSION};
+use crate::packet::{Body, Packet, Party};
+use crate::rules::is_call_by;
+use rp_base::{Action, Ballot, NodeId, Operation, Position, Reply, TaskId, Vote};
+
+/// What stands before the action in most packets between nodes.
+#[derive(Clone, Copy)]
+struct Place {
+    from: NodeId,
+    to: NodeId,
+    position: Position,
+    ballot: Ballot,
+}
+
+#[inline(always)]
+fn position_of(field: &[u8; 2]) -> Option<Position>
+    ensures { IfSome result (λ position. field.now ≡ position_text position) }
+{
+    let position = Position::new(u16::from_be_bytes(*field))?;
+    Some(position)
+}
+
+#[inline(always)]
+fn ballot_of(field: &[u8; 8]) -> Option<Ballot>
+    ensures { IfSome result (λ ballot. field.now ≡ ballot_text ballot) }
+{
+    let ballot = Ballot::new(u64::from_be_bytes(*field))?;
+    Some(ballot)
+}
+
+#[inline(always)]
+fn number_of(field: &[u8; 4]) -> Option<u32>
+    ensures { IfSome result (λ number. (field.now ≡ number_text w32 number) × IsCount number) }
+{
+    let number = u32::from_be_bytes(*field);
+    if number < 1 {
+        return None;
+    }
+    Some(number)
+}
+
+#[inline(always)]
+fn value_of(field: &[u8; 8]) -> i64
+    ensures text { field.now ≡ signed_text result }
+    ensures fits { FitsSigned w64 result }
+{
+    u64::from_be_bytes(*field).cast_signed()
+}
+
+#[inline(always)]
+fn operation_of(kind: u8, index: u8) -> Option<Operation>
+    ensures { IfSome result (λ operation. (kind ∷ index ∷ [] ≡ operation_text operation) × IsRightOperation operation) }
+{
+    if kind == 3 && index == 0 {
+        return Some(Operation::Entry(1));
+    }
+    if index < 1 || index > 8 {
+        return None;
+    }
+    match kind {
+        1 => Some(Operation::Function(index)),
+        2 => Some(Operation::Procedure(index)),
+        4 => Some(Operation::SetTimer(index)),
+        5 => Some(Operation::CancelTimer(index)),
+        _ => None,
+    }
+}
+
+/// The call of which the bytes are the text.
+#[inline(always)]
+fn call_of(bytes: &[u8]) -> Option<Action>
+    ensures { IfSome result (λ action. (bytes.now ≡ action_text action) × IsRight action) }
+{
+    if bytes.len() != 17 {
+        return None;
+    }
+    let (front, bytes) = bytes.split_first_chunk::<2>()?;
+    let (number, bytes) = bytes.split_first_chunk::<4>()?;
+    let (middle, bytes) = bytes.split_first_chunk::<3>()?;
+    let (arg, _) = bytes.split_first_chunk::<8>()?;
+    if front[0] != 1 || middle[0] < 1 || middle[0] > 8 {
+        return None;
+    }
+    Some(Action::Call {
+        task: TaskId::new(front[1])?,
+        number: number_of(number)?,
+        object: middle[0],
+        operation: operation_of(middle[1], middle[2])?,
+        arg: value_of(arg),
+    })
+}
+
+/// The two nodes of a packet of this kind.
+#[inline(always)]
+fn nodes_of(head: &[u8; 4], kind: u8) -> Option<(NodeId, NodeId)>
+    ensures { IfSome result (λ nodes. head.now ≡ 1 ∷ kind ∷ nodes.0 ∷ nodes.1 ∷ []) }
+{
+    if head[0] != VERSION || head[1] != kind {
+        return None;
+    }
+    let from = NodeId::new(head[2])?;
+    let to = NodeId::new(head[3])?;
+    Some((from, to))
+}
+
+#[inline(always)]
+fn place_of(front: &[u8; 14], kind: u8) -> Option<Place>
+    ensures { IfSome result (λ place. front.now ≡ (1 ∷ kind ∷ place.from ∷ place.to ∷ []) ++ position_text place.position ++ ballot_text place.ballot) }
+{
+    let (head, rest) = front.split_first_chunk::<4>()?;
+    let (position, rest) = rest.split_first_chunk::<2>()?;
+    let (ballot, _) = rest.split_first_chunk::<8>()?;
+    let (from, to) = nodes_of(head, kind)?;
+    let position = position_of(position)?;
+    let ballot = ballot_of(ballot)?;
+    let place = Place {
+        from,
+        to,
+        position,
+        ballot,
+    };
+    Some(place)
+}
+
+/// A place, and an action for it: a vote, or what asks for one.
+#[inline(always)]
+fn vote_of(bytes: &[u8], kind: u8) -> Option<(Place, Action)>
+    ensures text { IfSome result (λ vote. bytes.now ≡ (1 ∷ kind ∷ vote.0.from ∷ vote.0.to ∷ []) ++ vote_text vote.0.position vote.0.ballot vote.1) }
+    ensures right { IfSome result (λ vote. IsRight vote.1) }
+{
+    let (front, rest) = bytes.split_first_chunk::<14>()?;
+    let place = place_of(front, kind)?;
+    let action = call_of(rest)?;
+    Some((place, action))
+}
+
+#[inline(always)]
+pub(crate) fn prepare_of(bytes: &[u8]) -> Option<Packet>
+    ensures { IfSome result (λ packet. bytes.now ≡ text_of packet) }
+{
+    if bytes.len() != 14 {
+        return None;
+    }
+    let (front, _) = bytes.split_first_chunk::<14>()?;
+    let place = place_of(front, 2)?;
+    let body = Body::Prepare {
+        position: place.position,
+        ballot: place.ballot,
+    };
+    Some(Packet::new(Party::Node(place.from), Party::Node(place.to), body))
+}
+
+/// A promise that tells of no vote.
+#[inline(always)]
+pub(crate) fn promise_of(bytes: &[u8]) -> Option<Packet>
+    ensures { IfSome result (λ packet. bytes.now ≡ text_of packet) }
+{
+    let (front, rest) = bytes.split_first_chunk::<14>()?;
+    let [0] = rest else {
+        return None;
+    };
+    let place = place_of(front, 3)?;
+    let body = Body::Promise {
+        position: place.position,
+        ballot: place.ballot,
+        last: None,
+    };
+    Some(Packet::new(Party::Node(place.from), Party::Node(place.to), body))
+}
+
+#[inline(always)]
+pub(crate) fn accept_of(bytes: &[u8]) -> Option<Packet>
+    ensures { IfSome result (λ packet. bytes.now ≡ text_of packet) }
+{
+    let (place, action) = vote_of(bytes, 4)?;
+    let body = Body::Accept {
+        position: place.position,
+        ballot: place.ballot,
+        action,
+    };
+    Some(Packet::new(Party::Node(place.from), Party::Node(place.to), body))
+}
+
+#[inline(always)]
+pub(crate) fn accepted_of(bytes: &[u8]) -> Option<Packet>
+    ensures { IfSome result (λ packet. bytes.now ≡ text_of packet) }
+{
+    let (place, action) = vote_of(bytes, 5)?;
+    let body = Body::Accepted {
+        position: place.position,
+        ballot: place.ballot,
+        action,
+    };
+    Some(Packet::new(Party::Node(place.from), Party::Node(place.to), body))
+}
+
+#[inline(always)]
+pub(crate) fn decided_of(bytes: &[u8]) -> Option<Packet>
+    ensures { IfSome result (λ packet. bytes.now ≡ text_of packet) }
+{
+    let (head, rest) = bytes.split_first_chunk::<4>()?;
+    let (position, rest) = rest.split_first_chunk::<2>()?;
+    let (from, to) = nodes_of(head, 6)?;
+    let position = position_of(position)?;
+    let action = call_of(rest)?;
+    let body = Body::Decided { position, action };
+    Some(Packet::new(Party::Node(from), Party::Node(to), body))
+}

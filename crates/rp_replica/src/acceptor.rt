@@ -62,24 +62,24 @@ impl<M: Machine, D: Device> Replica<M, D> {
         from: NodeId,
         position: Position,
         ballot: Ballot,
-        action: Action,
+        action: &Action,
     ) -> Result<Sent, Fault>
         requires working { self.old.failed ≡ false }
         requires place { position ≤ self.old.config.max_positions }
-        requires right { IsRight action }
+        requires right { IsRight action.now }
         ensures ok { IfOk result (λ sent. Turns
-            (on_accept self.old.me self.old.records self.old.running from position ballot action)
-            self.old self.new sent) }
+            (on_accept self.old.me self.old.records self.old.running
+            from position ballot action.now) self.old self.new sent) }
         ensures err { IfErr result (λ fault. Stops
-            (on_accept self.old.me self.old.records self.old.running from position ballot action).written
-            self.old self.new fault) }
+            (on_accept self.old.me self.old.records self.old.running
+            from position ballot action.now).written self.old self.new fault) }
     {
         let told = Body::Accepted {
             position,
             ballot,
-            action,
+            action: *action,
         };
-        match self.acceptor.accept(position, ballot, &action) {
+        match self.acceptor.accept(position, ballot, action) {
             AcceptAnswer::Vote { rec } => self.keep_and_tell(buffer, &rec, told, from),
             AcceptAnswer::Again => Ok(self.says(buffer, told, from)?.sent(Dropped::No)),
             AcceptAnswer::Nack(bound) => self.refuse(buffer, position, ballot, bound, from),

@@ -154,29 +154,29 @@ impl<M: Machine, D: Device> Replica<M, D> {
         from: NodeId,
         position: Position,
         ballot: Ballot,
-        action: Action,
+        action: &Action,
     ) -> Result<Sent, Fault>
         requires working { self.old.failed ≡ false }
         requires sender { from ≤ self.old.config.nodes }
         requires place { position ≤ self.old.config.max_positions }
-        requires right { IsRight action }
+        requires right { IsRight action.now }
         ensures ok { IfOk result (λ sent. Turns (on_accepted M.next M.answers self.old.begin
             self.old.config.nodes self.old.me self.old.records self.old.running
-            from position (vote_for ballot action)) self.old self.new sent) }
+            from position (vote_for ballot action.now)) self.old self.new sent) }
         ensures err { IfErr result (λ fault. Stops (on_accepted M.next M.answers self.old.begin
             self.old.config.nodes self.old.me self.old.records self.old.running
-            from position (vote_for ballot action)).written self.old self.new fault) }
+            from position (vote_for ballot action.now)).written self.old self.new fault) }
     {
-        match self.standing(from, position, ballot, &action) {
+        match self.standing(from, position, ballot, action) {
             Standing::Known => Ok(Outbox::new(buffer).sent(Dropped::No)),
             Standing::Counting => {
-                self.hear(alloc, from, position, ballot, &action)?;
+                self.hear(alloc, from, position, ballot, action)?;
                 Ok(Outbox::new(buffer).sent(Dropped::No))
             }
             Standing::Learned => {
-                let told = self.decided_to_others(buffer, position, &action)?;
+                let told = self.decided_to_others(buffer, position, action)?;
                 let mut out = self.with_room_for_replies(told)?;
-                self.learn(position, &action, &mut out)?;
+                self.learn(position, action, &mut out)?;
                 Ok(out.sent())
             }
         }
@@ -188,23 +188,23 @@ impl<M: Machine, D: Device> Replica<M, D> {
         buffer: Vec<u8>,
         from: NodeId,
         position: Position,
-        action: Action,
+        action: &Action,
     ) -> Result<Sent, Fault>
         requires working { self.old.failed ≡ false }
         requires place { position ≤ self.old.config.max_positions }
-        requires right { IsRight action }
+        requires right { IsRight action.now }
         ensures ok { IfOk result (λ sent. Turns (on_decided M.next M.answers self.old.begin
-            self.old.me self.old.records self.old.running from position action)
+            self.old.me self.old.records self.old.running from position action.now)
             self.old self.new sent) }
         ensures err { IfErr result (λ fault. Stops (on_decided M.next M.answers self.old.begin
-            self.old.me self.old.records self.old.running from position action).written
+            self.old.me self.old.records self.old.running from position action.now).written
             self.old self.new fault) }
     {
         match self.log.get(position) {
             Some(_) => Ok(Outbox::new(buffer).sent(Dropped::No)),
             None => {
                 let mut out = self.with_room_for_replies(Outbox::new(buffer))?;
-                self.learn(position, &action, &mut out)?;
+                self.learn(position, action, &mut out)?;
                 self.ask_for_missing(from, &mut out);
                 Ok(out.sent())
             }

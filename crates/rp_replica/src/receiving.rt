@@ -97,14 +97,14 @@ impl<M: Machine, D: Device> Replica<M, D> {
                 position,
                 ballot,
                 action,
-            } => self.on_accept(buffer, from, *position, *ballot, *action),
+            } => self.on_accept(buffer, from, *position, *ballot, action),
             Body::Accepted {
                 position,
                 ballot,
                 action,
-            } => self.on_accepted(alloc, buffer, from, *position, *ballot, *action),
+            } => self.on_accepted(alloc, buffer, from, *position, *ballot, action),
             Body::Decided { position, action } => {
-                self.on_decided(buffer, from, *position, *action)
+                self.on_decided(buffer, from, *position, action)
             }
             Body::Ask { position } => self.on_ask(buffer, from, *position),
             Body::Nack {

@@ -61,7 +61,8 @@ impl Messages {
         Ok(())
     }
 
-    /// The buffer in which the last step's texts lay, for those of the next one: so they take no memory.
+    /// The buffer in which the last step's texts lay, for those of the next one, which so take no
+    /// memory.
     pub(crate) fn lend(&mut self, alloc: Global) -> Vec<u8>
         requires settled { self.old.apart ≡ 0 }
         ensures settled { self.new.apart ≡ 0 }

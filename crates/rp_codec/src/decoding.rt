@@ -14,7 +14,9 @@ use crate::kind::Kind;
 use crate::packet::{Body, Packet, Party};
 use crate::reader::Reader;
 use crate::report_text::list_actions;
-use crate::usual_texts::{accept_of, accepted_of, decided_of, prepare_of, promise_of};
+use crate::usual_texts::{
+    accept_of, accepted_of, decided_of, prepare_of, promise_of, reply_of, task_call_of,
+};
 use rp_base::{NodeId, PacketReason, TaskId};
 use std::alloc::{AllocError, Global};
 
@@ -191,11 +193,13 @@ fn usual_of(bytes: &[u8]) -> Option<Packet>
     ensures { IfSome result (λ packet. bytes.now ≡ text_of packet) }
 {
     match bytes {
+        [_, 1, ..] => task_call_of(bytes),
         [_, 2, ..] => prepare_of(bytes),
         [_, 3, ..] => promise_of(bytes),
         [_, 4, ..] => accept_of(bytes),
         [_, 5, ..] => accepted_of(bytes),
         [_, 6, ..] => decided_of(bytes),
+        [_, 9, ..] => reply_of(bytes),
         _ => None,
     }
 }

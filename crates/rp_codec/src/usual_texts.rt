@@ -8,7 +8,7 @@ ghost use Rattle.rp_codec.specs.Text.{number_text, signed_text, position_text, b
 
 use crate::fields::{TASK_BASE, VERSION};
 use crate::packet::{Body, Packet, Party};
-use crate::rules::is_call_by;
+use crate::rules::is_call_of;
 use rp_base::{Action, Ballot, NodeId, Operation, Position, Reply, TaskId, Vote};
 
 /// What stands before the action in most packets between nodes.
@@ -213,4 +213,47 @@ pub(crate) fn decided_of(bytes: &[u8]) -> Option<Packet>
     let action = call_of(rest)?;
     let body = Body::Decided { position, action };
     Some(Packet::new(Party::Node(from), Party::Node(to), body))
+}
+
+/// A task's call.
+#[inline(always)]
+pub(crate) fn task_call_of(bytes: &[u8]) -> Option<Packet>
+    ensures { IfSome result (λ packet. bytes.now ≡ text_of packet) }
+{
+    let (head, rest) = bytes.split_first_chunk::<4>()?;
+    if head[0] != VERSION || head[1] != 1 || head[2] < TASK_BASE {
+        return None;
+    }
+    let task = TaskId::new(head[2] - TASK_BASE)?;
+    let to = NodeId::new(head[3])?;
+    let party = Party::Task(task);
+    let action = call_of(rest)?;
+    if !is_call_of(&party, &action) {
+        return None;
+    }
+    let body = Body::Call { action };
+    Some(Packet::new(party, Party::Node(to), body))
+}
+
+/// A reply with a value.
+#[inline(always)]
+pub(crate) fn reply_of(bytes: &[u8]) -> Option<Packet>
+    ensures { IfSome result (λ packet. bytes.now ≡ text_of packet) }
+{
+    if bytes.len() != 17 {
+        return None;
+    }
+    let (head, rest) = bytes.split_first_chunk::<4>()?;
+    let (number, rest) = rest.split_first_chunk::<4>()?;
+    let (tag, rest) = rest.split_first_chunk::<1>()?;
+    let (value, _) = rest.split_first_chunk::<8>()?;
+    if head[0] != VERSION || head[1] != 9 || head[3] < TASK_BASE || tag[0] != 1 {
+        return None;
+    }
+    let from = NodeId::new(head[2])?;
+    let task = TaskId::new(head[3] - TASK_BASE)?;
+    let number = number_of(number)?;
+    let reply = Reply::Value(value_of(value));
+    let body = Body::Reply { number, reply };
+    Some(Packet::new(Party::Node(from), Party::Task(task), body))
 }

@@ -187,20 +187,46 @@ fn decode_fields(alloc: Global, bytes: &[u8]) -> Result<Result<Packet, PacketRea
     }
 }
 
-/// The packet that is read in one piece, if one is.
+/// The packet between nodes that is read in one piece, if one is.
 #[inline(always)]
-fn usual_of(bytes: &[u8]) -> Option<Packet>
+fn between_nodes_of(bytes: &[u8]) -> Option<Packet>
     ensures { IfSome result (λ packet. bytes.now ≡ text_of packet) }
 {
     match bytes {
-        [_, 1, ..] => task_call_of(bytes),
         [_, 2, ..] => prepare_of(bytes),
         [_, 3, ..] => promise_of(bytes),
         [_, 4, ..] => accept_of(bytes),
         [_, 5, ..] => accepted_of(bytes),
         [_, 6, ..] => decided_of(bytes),
+        _ => None,
+    }
+}
+
+/// The packet from or to a task that is read in one piece, if one is.
+#[inline(always)]
+fn with_task_of(bytes: &[u8]) -> Option<Packet>
+    ensures { IfSome result (λ packet. bytes.now ≡ text_of packet) }
+{
+    match bytes {
+        [_, 1, ..] => task_call_of(bytes),
         [_, 9, ..] => reply_of(bytes),
         _ => None,
+    }
+}
+
+/// What the bytes are, where they are no packet between nodes that is read in one piece. It stands
+/// apart from `decode` so that the other, more frequent packets are read faster.
+#[inline(never)]
+fn decode_others(alloc: Global, bytes: &[u8]) -> Result<Result<Packet, PacketReason>, AllocError>
+    ensures answer { IfOk result (λ answer. IsDecoded bytes.now answer) }
+    ensures memory { OnErr result (IsReportText bytes.now) }
+{
+    match with_task_of(bytes) {
+        Some(packet) => {
+            let _body = packet.body();
+            Ok(Ok(packet))
+        }
+        None => decode_fields(alloc, bytes),
     }
 }
 
@@ -210,12 +236,12 @@ pub fn decode(alloc: Global, bytes: &[u8]) -> Result<Result<Packet, PacketReason
     ensures answer { IfOk result (λ answer. IsDecoded bytes.now answer) }
     ensures memory { OnErr result (IsReportText bytes.now) }
 {
-    match usual_of(bytes) {
+    match between_nodes_of(bytes) {
         Some(packet) => {
             let _body = packet.body();
             Ok(Ok(packet))
         }
-        None => decode_fields(alloc, bytes),
+        None => decode_others(alloc, bytes),
     }
 }
 

@@ -57,7 +57,8 @@ fn value_of(field: &[u8; 8]) -> i64
 
 #[inline(always)]
 fn operation_of(kind: u8, index: u8) -> Option<Operation>
-    ensures { IfSome result (λ operation. (kind ∷ index ∷ [] ≡ operation_text operation) × IsRightOperation operation) }
+    ensures { IfSome result (λ operation. (kind ∷ index ∷ [] ≡ operation_text operation)
+        × IsRightOperation operation) }
 {
     if kind == 3 && index == 0 {
         return Some(Operation::Entry(1));
@@ -113,7 +114,8 @@ fn nodes_of(head: &[u8; 4], kind: u8) -> Option<(NodeId, NodeId)>
 
 #[inline(always)]
 fn place_of(front: &[u8; 14], kind: u8) -> Option<Place>
-    ensures { IfSome result (λ place. front.now ≡ (1 ∷ kind ∷ place.from ∷ place.to ∷ []) ++ position_text place.position ++ ballot_text place.ballot) }
+    ensures { IfSome result (λ place. front.now ≡ (1 ∷ kind ∷ place.from ∷ place.to ∷ [])
+        ++ position_text place.position ++ ballot_text place.ballot) }
 {
     let (head, rest) = front.split_first_chunk::<4>()?;
     let (position, rest) = rest.split_first_chunk::<2>()?;
@@ -133,7 +135,8 @@ fn place_of(front: &[u8; 14], kind: u8) -> Option<Place>
 /// A place, and an action for it: a vote, or what asks for one.
 #[inline(always)]
 fn vote_of(bytes: &[u8], kind: u8) -> Option<(Place, Action)>
-    ensures text { IfSome result (λ vote. bytes.now ≡ (1 ∷ kind ∷ vote.0.from ∷ vote.0.to ∷ []) ++ vote_text vote.0.position vote.0.ballot vote.1) }
+    ensures text { IfSome result (λ vote. bytes.now ≡ (1 ∷ kind ∷ vote.0.from ∷ vote.0.to ∷ [])
+        ++ vote_text vote.0.position vote.0.ballot vote.1) }
     ensures right { IfSome result (λ vote. IsRight vote.1) }
 {
     let (front, rest) = bytes.split_first_chunk::<14>()?;

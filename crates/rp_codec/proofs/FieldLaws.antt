@@ -106,9 +106,6 @@ whole_number32 bytes long h = whole_number w32 (2 ^ 32) wide32 bytes long h
 pub whole_number64 : (bytes : List ℕ) → length bytes ≡ 8 → IsBytes bytes → bytes ≡ number_text w64 (from_be_bytes w64 bytes)
 whole_number64 bytes long h = whole_number w64 (2 ^ 64) wide64 bytes long h
 
-pub signed_below : (z : ℤ) → FitsSigned w64 z → cast_unsigned w64 z < 2 ^ 64
-signed_below z fits = omega (arith, ints)
-
 abbrev pub TookNumber32 : List ℕ → ℕ × List ℕ → Type 0
 TookNumber32 bytes = Took (number_text w32) (λ n. n < 2 ^ 32) bytes
 

@@ -48,3 +48,21 @@ pub decided_joined : (bytes head rest position last : List ℕ) (kind from to : 
     → bytes ≡ head ++ rest → rest ≡ position ++ last → head ≡ 1 ∷ kind ∷ from ∷ to ∷ [] → position ≡ place → last ≡ action
     → bytes ≡ 1 ∷ kind ∷ from ∷ to ∷ (place ++ action)
 decided_joined bytes head rest position last kind from to place action e1 e2 h p a = rw (e1, e2, h, p, a) refl
+
+pub one : (l : List ℕ) (a : ℕ) → length l ≡ 1 → get_or l 0 0 ≡ a → l ≡ a ∷ []
+one [] a long is = absurd (omega (arith, long))
+one (x ∷ []) a long is = ap (λ (b : ℕ). b ∷ []) is
+one (x ∷ y ∷ l) a long is = absurd (omega (arith, long))
+
+pub four : (l : List ℕ) (a b c d : ℕ) → length l ≡ 4 → get_or l 0 0 ≡ a → get_or l 1 0 ≡ b → get_or l 2 0 ≡ c → get_or l 3 0 ≡ d → l ≡ a ∷ b ∷ c ∷ d ∷ []
+four [] a b c d long i j k m = absurd (omega (arith, long))
+four (x ∷ l) a b c d long i j k m =
+    ap (λ (r : List ℕ). x ∷ r) (three l (omega (arith, long))) ∙ rw (i, j, k, m) refl
+
+-- a reply with a value
+pub reply_joined : (bytes head r1 number r2 tag r3 value r4 : List ℕ) (kind from to : ℕ) (count signed : List ℕ)
+    → bytes ≡ head ++ r1 → r1 ≡ number ++ r2 → r2 ≡ tag ++ r3 → r3 ≡ value ++ r4 → r4 ≡ []
+    → head ≡ 1 ∷ kind ∷ from ∷ to ∷ [] → number ≡ count → tag ≡ 1 ∷ [] → value ≡ signed
+    → bytes ≡ 1 ∷ kind ∷ from ∷ to ∷ (count ++ 1 ∷ signed)
+reply_joined bytes head r1 number r2 tag r3 value r4 kind from to count signed e1 e2 e3 e4 e5 h n t v =
+    rw (e1, e2, e3, e4, e5, h, n, t, v) (simp append-nil)

@@ -113,7 +113,7 @@ fn between_nodes(from: &Party, to: &Party) -> bool
     is_node_party(from) && is_node_party(to)
 }
 
-pub(crate) fn is_call_by(task: TaskId, action: Action) -> bool
+fn is_call_by(task: TaskId, action: Action) -> bool
     ensures { IsTrue result ↔ IsCallBy task action }
 {
     match action {
@@ -122,7 +122,7 @@ pub(crate) fn is_call_by(task: TaskId, action: Action) -> bool
     }
 }
 
-fn is_call_of(party: &Party, action: &Action) -> bool
+pub(crate) fn is_call_of(party: &Party, action: &Action) -> bool
     ensures { IsTrue result ↔ IsCallOf party.now action.now }
 {
     match party {

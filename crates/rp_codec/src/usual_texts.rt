@@ -8,7 +8,7 @@ ghost use Rattle.rp_codec.specs.Text.{number_text, signed_text, position_text, b
 
 use crate::fields::{TASK_BASE, VERSION};
 use crate::packet::{Body, Packet, Party};
-use crate::rules::is_call_by;
+use crate::rules::is_call_of;
 use rp_base::{Action, Ballot, NodeId, Operation, Position, Reply, TaskId, Vote};
 
 /// What stands before the action in most packets between nodes.
@@ -57,7 +57,8 @@ fn value_of(field: &[u8; 8]) -> i64
 
 #[inline(always)]
 fn operation_of(kind: u8, index: u8) -> Option<Operation>
-    ensures { IfSome result (λ operation. (kind ∷ index ∷ [] ≡ operation_text operation) × IsRightOperation operation) }
+    ensures { IfSome result (λ operation. (kind ∷ index ∷ [] ≡ operation_text operation)
+        × IsRightOperation operation) }
 {
     if kind == 3 && index == 0 {
         return Some(Operation::Entry(1));
@@ -113,7 +114,8 @@ fn nodes_of(head: &[u8; 4], kind: u8) -> Option<(NodeId, NodeId)>
 
 #[inline(always)]
 fn place_of(front: &[u8; 14], kind: u8) -> Option<Place>
-    ensures { IfSome result (λ place. front.now ≡ (1 ∷ kind ∷ place.from ∷ place.to ∷ []) ++ position_text place.position ++ ballot_text place.ballot) }
+    ensures { IfSome result (λ place. front.now ≡ (1 ∷ kind ∷ place.from ∷ place.to ∷ [])
+        ++ position_text place.position ++ ballot_text place.ballot) }
 {
     let (head, rest) = front.split_first_chunk::<4>()?;
     let (position, rest) = rest.split_first_chunk::<2>()?;
@@ -133,7 +135,8 @@ fn place_of(front: &[u8; 14], kind: u8) -> Option<Place>
 /// A place, and an action for it: a vote, or what asks for one.
 #[inline(always)]
 fn vote_of(bytes: &[u8], kind: u8) -> Option<(Place, Action)>
-    ensures text { IfSome result (λ vote. bytes.now ≡ (1 ∷ kind ∷ vote.0.from ∷ vote.0.to ∷ []) ++ vote_text vote.0.position vote.0.ballot vote.1) }
+    ensures text { IfSome result (λ vote. bytes.now ≡ (1 ∷ kind ∷ vote.0.from ∷ vote.0.to ∷ [])
+        ++ vote_text vote.0.position vote.0.ballot vote.1) }
     ensures right { IfSome result (λ vote. IsRight vote.1) }
 {
     let (front, rest) = bytes.split_first_chunk::<14>()?;
@@ -213,4 +216,47 @@ pub(crate) fn decided_of(bytes: &[u8]) -> Option<Packet>
     let action = call_of(rest)?;
     let body = Body::Decided { position, action };
     Some(Packet::new(Party::Node(from), Party::Node(to), body))
+}
+
+/// A task's call.
+#[inline(always)]
+pub(crate) fn task_call_of(bytes: &[u8]) -> Option<Packet>
+    ensures { IfSome result (λ packet. bytes.now ≡ text_of packet) }
+{
+    let (head, rest) = bytes.split_first_chunk::<4>()?;
+    if head[0] != VERSION || head[1] != 1 || head[2] < TASK_BASE {
+        return None;
+    }
+    let task = TaskId::new(head[2] - TASK_BASE)?;
+    let to = NodeId::new(head[3])?;
+    let party = Party::Task(task);
+    let action = call_of(rest)?;
+    if !is_call_of(&party, &action) {
+        return None;
+    }
+    let body = Body::Call { action };
+    Some(Packet::new(party, Party::Node(to), body))
+}
+
+/// A reply with a value.
+#[inline(always)]
+pub(crate) fn reply_of(bytes: &[u8]) -> Option<Packet>
+    ensures { IfSome result (λ packet. bytes.now ≡ text_of packet) }
+{
+    if bytes.len() != 17 {
+        return None;
+    }
+    let (head, rest) = bytes.split_first_chunk::<4>()?;
+    let (number, rest) = rest.split_first_chunk::<4>()?;
+    let (tag, rest) = rest.split_first_chunk::<1>()?;
+    let (value, _) = rest.split_first_chunk::<8>()?;
+    if head[0] != VERSION || head[1] != 9 || head[3] < TASK_BASE || tag[0] != 1 {
+        return None;
+    }
+    let from = NodeId::new(head[2])?;
+    let task = TaskId::new(head[3] - TASK_BASE)?;
+    let number = number_of(number)?;
+    let reply = Reply::Value(value_of(value));
+    let body = Body::Reply { number, reply };
+    Some(Packet::new(Party::Node(from), Party::Task(task), body))
 }

@@ -9,5 +9,5 @@ use Rattle.rp_codec.proofs.decoding.decode.Goals as goal
 pub returns-in-Some-clause-answer : goal.returns-in-Some-clause-answer
 returns-in-Some-clause-answer c =
     let bytes : IsBytes c.args.bytes.now = λ i. omega (arith, c.type_inv.bytes i) in
-    let text = subst (λ (usual : Option Message). IfSome usual (λ packet. c.args.bytes.now ≡ text_of packet)) c.in-Some.is c.usual_of.ensures in
+    let text = subst (λ (usual : Option Message). IfSome usual (λ packet. c.args.bytes.now ≡ text_of packet)) c.in-Some.is c.between_nodes_of.ensures in
     decoded_text c.args.bytes.now c.in-Some.packet bytes c.body-body.ensures.packet text

@@ -1,11 +1,10 @@
-use Rattle.std.proofs.Common.{◌≡◌, ℕ, ℤ, List, [], ◌∷◌, get_or, ◌<◌, ◌^◌, subst, refl, sym, ap, ◌∙◌, arith}
+use Rattle.std.proofs.Common.{◌≡◌, ℕ, ℤ, List, [], ◌∷◌, get_or, subst, refl, sym, ap, ◌∙◌, arith}
 use Rattle.std.specs.Prelude.{FitsSigned}
 use Rattle.std.specs.Int.{w64, cast_signed, cast_unsigned}
-use Rattle.std.proofs.lemmas.Int.{of_z-to_z, to_z-of_z}
+use Rattle.std.proofs.lemmas.Int.{to_z-of_z}
 use Rattle.rp_base.specs.Number.{IsTask}
 use Rattle.std.proofs.lemmas.List.{nil_from_length}
-use Rattle.rp_codec.specs.Text.{operation_text, signed_text, number_text}
-use Rattle.rp_codec.proofs.FieldLaws.{signed_below}
+use Rattle.rp_codec.specs.Text.{operation_text, signed_text}
 use Rattle.rp_codec.proofs.UsualTexts.{joined, front_long, two, three, call_joined}
 use Rattle.rp_codec.proofs.usual_texts.call_of.Goals as goal
 
@@ -27,8 +26,7 @@ returns c =
     let last : middle ≡ object ∷ operation_text operation = triple ∙ ap (λ (l : List ℕ). object ∷ l) c.in_ok-operation_of.ensures.0 in
     let z : ℤ = cast_signed w64 (cast_unsigned w64 c.value_of.result) in
     let is_signed : FitsSigned w64 c.value_of.result = c.value_of.ensures.fits in
-    let below : cast_unsigned w64 c.value_of.result < 2 ^ 64 = signed_below c.value_of.result is_signed in
-    let arg : c.in_ok-arg.arg.now ≡ signed_text z = c.value_of.ensures.text ∙ ap (number_text w64) (sym (of_z-to_z w64 (cast_unsigned w64 c.value_of.result) below)) in
+    let arg : c.in_ok-arg.arg.now ≡ signed_text z = c.value_of.ensures.text ∙ ap signed_text (sym (to_z-of_z w64 c.value_of.result is_signed)) in
     let fits : FitsSigned w64 z = subst (FitsSigned w64) (sym (to_z-of_z w64 c.value_of.result is_signed)) is_signed in
     let ended : c.in_ok-arg.field-0-1.now ≡ [] = nil_from_length c.in_ok-arg.field-0-1.now (omega (arith, c.if-bytes-ne17.false, c.in_ok-front.ensures.cases.2, c.in_ok-number.ensures.cases.2, c.in_ok-middle.ensures.cases.2, c.in_ok-arg.ensures.cases.2)) in (
       call_joined c.args.bytes.now front c.in_ok-front.bytes.now c.in_ok-number.number.now c.in_ok-number.bytes.now middle c.in_ok-middle.bytes.now c.in_ok-arg.arg.now c.in_ok-arg.field-0-1.now

@@ -1,0 +1,3 @@
+pub mod Parts
+pub mod Rule
+pub mod Steps

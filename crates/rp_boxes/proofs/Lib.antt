@@ -1,1 +1,6 @@
 pub mod Worlds
+pub mod Turns
+pub mod BoxSteps
+pub mod Filling
+pub mod Emptying
+pub mod Goodness

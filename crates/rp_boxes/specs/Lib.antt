@@ -1,3 +1,5 @@
 pub mod Parts
 pub mod Rule
 pub mod Steps
+pub mod Laws
+pub mod Plays

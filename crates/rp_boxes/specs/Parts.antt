@@ -6,7 +6,7 @@
 -- | task t, 1 to 8 | 7 + t      | 263 + t  |
 --
 -- The box from actor x to actor y has the word and the slot 16 x + y.
-use Rattle.std.specs.Prelude.{ℕ, zero, suc, ◌+◌, ◌*◌, List, [], ◌∷◌, ◌++◌}
+use Rattle.std.specs.Prelude.{ℕ, zero, suc, ◌+◌, ◌*◌, List, [], ◌∷◌, ◌++◌, nat_eq, nat_lt, if◌then◌else◌}
 use Rattle.rp_codec.specs.Message.{Message}
 use Rattle.rp_codec.specs.declared.packet.Party.{Party}
 use Rattle.rp_codec.specs.declared.packet.Party.TheVariants.{Node, Task, Audit}
@@ -62,15 +62,7 @@ fresh_part role = record { role = role; events = 0; sent = []; got = []; fills =
 
 -- what the actor of a number is at first
 abbrev pub first_role : ℕ → Role
-first_role 0 = OfAudit
-first_role 1 = OfNode fresh_node
-first_role 2 = OfNode fresh_node
-first_role 3 = OfNode fresh_node
-first_role 4 = OfNode fresh_node
-first_role 5 = OfNode fresh_node
-first_role 6 = OfNode fresh_node
-first_role 7 = OfNode fresh_node
-first_role _ = OfTask fresh_task
+first_role k = if nat_eq k 0 then OfAudit else if nat_lt k 8 then OfNode fresh_node else OfTask fresh_task
 
 -- the part of an actor at first
 abbrev pub first_part : ℕ → Part
@@ -86,6 +78,30 @@ abbrev pub part_in : View → Part
 part_in [] = fresh_part OfAudit
 part_in (known ∷ rest) = known.1
 
+-- the first actor of a view
+abbrev pub actor_in : View → ℕ
+actor_in [] = 0
+actor_in (known ∷ rest) = known.0
+
 -- the part once an event happened: the actor became this, and sent these packets
 abbrev pub part_after : Part → Role → List Message → Part
-part_after part role sends = record part { role = role; events = suc part.events; sent = part.sent ++ sends }
+part_after part role sends = record part { role = role; events = part.events + 1; sent = part.sent ++ sends }
+
+-- the first part of a view, changed so
+abbrev pub on_first : (Part → Part) → View → View
+on_first change [] = []
+on_first change (known ∷ rest) = (known.0, change known.1) ∷ rest
+
+-- the part of a sender that fills a box, and that has filled it
+abbrev pub filling : ℕ → Part → Part
+filling b part = record part { fills = b ∷ [] }
+
+abbrev pub filled : Part → Part
+filled part = record part { fills = [] }
+
+-- the part of a receiver that takes this packet out of a box, and that has emptied it
+abbrev pub emptying : ℕ → Message → Part → Part
+emptying b m part = record part { got = part.got ++ m ∷ []; takes = b ∷ [] }
+
+abbrev pub emptied : Part → Part
+emptied part = record part { takes = [] }

@@ -52,19 +52,27 @@ pub record IsBox (parts : ℕ → Part) (x y word : ℕ) (home : Slot → Type 0
   pub full : word ≡ 2 → (m : Message) × (text : Vec ℕ Global) × home (Some text) × IsCarried x y text.items m × Has m (parts x).sent
   pub emptying : (word ≡ 3) ↔ Has (box_of x y) (parts y).takes
 
--- Each seat knows some of the actors, no two seats the same, and all actors are known. Their parts and all packets
--- that they sent are a world that meets the invariant; an actor's word is the number of its events modulo 2^64; what an
--- actor sent is from it, and what it got was sent, to it.
+-- Each seat knows some of the actors with their parts, no two seats the same, and all actors are known.
+pub record IsSeating (views : List View) (parts : ℕ → Part) (owner : ℕ → ℕ) : Type 0 where
+  pub knows : (id : ℕ) (v : View) → get_elem? views id ≡ some v → (k : ℕ) (p : Part) → Has (k, p) v → (owner k ≡ id) × (parts k ≡ p) × (k < 16)
+  pub apart : (id : ℕ) (v : View) → get_elem? views id ≡ some v → IsSet (map (λ known. known.0) v)
+  pub seated : (k : ℕ) → k < 16 → (v : View) × (get_elem? views (owner k) ≡ some v) × Has (k, parts k) v
+
+-- The parts that the seats know, and all packets that these sent, are a world that meets the invariant. An actor's word
+-- is the number of its events modulo 2^64; what an actor sent is from it, and what it got was sent, to it.
 pub record Ruled {S : Type 0} (s : Setting S) (t : State Slot View) : Type 0 where
   pub parts : ℕ → Part
   pub owner : ℕ → ℕ
   pub config : IsRightConfig s.config
   pub long : length t.words ≡ 272
-  pub knows : (id : ℕ) (v : View) → get_elem? t.views id ≡ some v → (k : ℕ) (p : Part) → Has (k, p) v → (owner k ≡ id) × (parts k ≡ p) × (k < 16)
-  pub apart : (id : ℕ) (v : View) → get_elem? t.views id ≡ some v → IsSet (map (λ known. known.0) v)
-  pub seated : (k : ℕ) → k < 16 → (v : View) × (get_elem? t.views (owner k) ≡ some v) × Has (k, parts k) v
+  pub seating : IsSeating t.views parts owner
   pub good : IsGood s (node_among parts) (task_among parts) (all_sent parts 16)
   pub counted : (k : ℕ) → k < 16 → slice_index t.words (256 + k) ≡ (parts k).events % 2 ^ 64
   pub sends : (k : ℕ) → k < 16 → (m : Message) → Has m (parts k).sent → actor_of m.from ≡ k
   pub gets : (k : ℕ) → k < 16 → (m : Message) → Has m (parts k).got → (actor_of m.to ≡ k) × Has m (all_sent parts 16)
   pub boxes : (x y : ℕ) → x < 16 → y < 16 → IsBox parts x y (slice_index t.words (box_of x y)) (λ slot. get_elem? t.homes (box_of x y) ≡ some (some slot))
+
+-- all packets that an actor sent or got are right ones, from it or to it
+pub record HasOwnPackets (k : ℕ) (p : Part) : Type 0 where
+  pub sent : (m : Message) → Has m p.sent → IsPacket m × (actor_of m.from ≡ k)
+  pub got : (m : Message) → Has m p.got → IsPacket m × (actor_of m.to ≡ k)

@@ -4,3 +4,4 @@ pub mod BoxSteps
 pub mod Filling
 pub mod Emptying
 pub mod Goodness
+pub mod Sights

@@ -105,3 +105,7 @@ emptying b m part = record part { got = part.got ++ m ∷ []; takes = b ∷ [] }
 
 abbrev pub emptied : Part → Part
 emptied part = record part { takes = [] }
+
+-- the part once it got a packet
+abbrev pub with_got : Message → Part → Part
+with_got m part = record part { got = part.got ++ m ∷ [] }

@@ -4,8 +4,10 @@
 //! - `board`: the table that all seats share
 //! - `laws`: what the rule uses of agreement
 //! - `events`: the step by which an actor's event is counted
+//! - `boxes`: the steps at a box: its sender fills it, its receiver empties it
 #![tactic(auto)]
 
 mod board;
+mod boxes;
 mod events;
 mod laws;

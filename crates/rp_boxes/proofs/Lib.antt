@@ -5,3 +5,4 @@ pub mod Filling
 pub mod Emptying
 pub mod Goodness
 pub mod Sights
+pub mod SeatTurns

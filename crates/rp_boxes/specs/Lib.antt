@@ -3,3 +3,5 @@ pub mod Rule
 pub mod Steps
 pub mod Laws
 pub mod Plays
+pub mod Seats
+pub mod Counting

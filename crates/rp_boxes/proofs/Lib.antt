@@ -6,3 +6,4 @@ pub mod Emptying
 pub mod Goodness
 pub mod Sights
 pub mod SeatTurns
+pub mod SeatBoxes

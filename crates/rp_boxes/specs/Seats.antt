@@ -1,7 +1,8 @@
 -- What a seat is to a contract, and what its calls come to (this project's own).
-use Rattle.std.specs.Prelude.{◌≡◌, ◌⊎◌, ℕ, ◌+◌, ◌<◌, ◌^◌, None, Option, IfSome, Result, Ok, Err, List, [], ◌∷◌}
+use Rattle.std.specs.Prelude.{◌≡◌, ◌⊎◌, ℕ, ◌+◌, ◌<◌, ◌^◌, None, Option, IfSome, IsSome, Result, Ok, Err, List, [], ◌∷◌, length}
 use Rattle.atomic_table.specs.Seated.{TableId}
 use Rattle.rp_base.specs.Number.{IsPosition}
+use Rattle.rp_base.specs.Records.{applied_of}
 use Rattle.rp_base.specs.Sets.{Has}
 use Rattle.rp_base.specs.declared.action.Action.{Action}
 use Rattle.rp_base.specs.declared.config.Config.{Config}
@@ -10,7 +11,9 @@ use Rattle.rp_base.specs.declared.fault.Fault.TheVariants.{OutOfMemory, Device, 
 use Rattle.rp_base.specs.declared.reply.Answer.{Answer}
 use Rattle.rp_codec.specs.Message.{Message, IsPacket}
 use Rattle.rp_codec.specs.Text.{text_of}
-use Rattle.rp_model.specs.Effect.{Setting, Done, NodeInput, node_effect, cut_effect}
+use Rattle.rp_codec.specs.declared.packet.Party.{Party}
+use Rattle.rp_model.specs.Effect.{Setting, Done, NodeInput, node_effect, cut_effect, report_of}
+use Rattle.rp_model.specs.declared.effect.Dropped.TheVariants.{No}
 use Rattle.rp_model.specs.Parts.{NodePart}
 use Rattle.rp_agreement.specs.Answered.{setting_for}
 use Rattle.rp_agreement.specs.Sound.{IsMember}
@@ -20,7 +23,7 @@ use Rattle.rp_replica.specs.declared.input.Input.{Input}
 use Rattle.rp_replica.specs.declared.input.Input.TheVariants.{Receive, Lead, Interrupt, Tick, Report}
 use Rattle.rp_replica.specs.declared.sent.Sent.{Sent}
 use Rattle.rp_world.specs.Nodes.{member_of, IsComing, StandsWhile, TellsSent}
-use Rattle.rp_boxes.specs.Parts.{Part, OfNode, part_in, part_after}
+use Rattle.rp_boxes.specs.Parts.{Part, OfNode, part_in, part_after, with_got}
 use Rattle.rp_boxes.specs.Rule.{HasOwnPackets}
 use Rattle.rp_boxes.specs.Plays.{Sight, IsSized, alone}
 
@@ -114,3 +117,26 @@ module _ {S P : Type 0} (next : S → Action → S) (answers : S → Action → 
 -- the bytes are the text of a packet that the actor sent
 abbrev pub IsSentText : Part → List ℕ → Type 0
 IsSentText part bytes = (m : Message) × Has m part.sent × (bytes ≡ text_of m)
+
+-- A packet from one party to another was taken out of their box: these bytes are its text, and it is got.
+pub record IsFetched {P : Type 0} (from to : Party) (bytes : List ℕ) (old new : Chair P) : Type 0 where
+  pub packet : Message
+  pub right : IsPacket packet
+  pub text : bytes ≡ text_of packet
+  pub sender : packet.from ≡ from
+  pub receiver : packet.to ≡ to
+  pub after : new ≡ record old { part = with_got packet old.part }
+
+-- A report of the actions that the node has applied, from a position on: it is the one packet of the step, and nothing
+-- else changes.
+pub record IsReport {P : Type 0} (first : ℕ) (old new : Chair P) (sent : Sent) : Type 0 where
+  pub node : NodePart
+  pub was : old.part.role ≡ OfNode node
+  pub text : sent.bytes.items ≡ text_of (report_of old.number first (applied_of node.records))
+  pub packets : sent.packets ≡ 1
+  pub dropped : sent.dropped ≡ No
+  pub after : new ≡ record old { part = part_after old.part (OfNode node) (report_of old.number first (applied_of node.records) ∷ []) }
+
+-- so many actions are applied, if the node runs
+abbrev pub HasApplied : Part → ℕ → Type 0
+HasApplied part count = (node : NodePart) × (part.role ≡ OfNode node) × IsSome node.running × (count ≡ length (applied_of node.records))

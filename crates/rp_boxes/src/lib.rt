@@ -5,11 +5,13 @@
 //! - `laws`: what the rule uses of agreement
 //! - `events`: the step by which an actor's event is counted
 //! - `boxes`: the steps at a box: its sender fills it, its receiver empties it
+//! - `actors`: the numbers by which the table knows actors
 //! - `input`: what a node may be given is within its ranges
 //! - `node_turns`: a node's turn is counted
 //! - `node_seat`: the seat of a node
 #![tactic(auto)]
 
+mod actors;
 mod board;
 mod boxes;
 mod events;

@@ -1,13 +1,19 @@
 //! The seat of a node.
 
-ghost use Rattle.std.specs.Prelude.{◌≡◌, ◌⊎◌, ◌+◌, IfOk, IfErr, IfSome, IfNone, length};
+ghost use Rattle.std.specs.Prelude.{◌≡◌, ◌⊎◌, IfOk, IfErr, IfSome, IfNone, IsOkUnless};
+ghost use Rattle.rp_base.specs.declared.fault.Fault.TheVariants as faults;
+ghost use Rattle.rp_codec.specs.declared.packet.Party.TheVariants.{Node};
 ghost use Rattle.rp_replica.specs.Inputs.{IsRightInput};
-ghost use Rattle.rp_boxes.specs.Seats.{IsGot, IsTurn, IsCutTurn, IsNoTurn};
+ghost use Rattle.rp_replica.specs.declared.input.Input.TheVariants.{Report};
+ghost use Rattle.rp_boxes.specs.Seats.{IsGot, IsTurn, IsCutTurn, IsNoTurn, IsSentText, IsFetched, HasApplied, IsReport};
 
+use crate::actors::{actor_of, receiver};
 use crate::board::{Board, Place};
+use crate::boxes::{empty, fill};
 use crate::input::keeps_ranges;
 use crate::node_turns::{note_stop, note_turn};
-use rp_base::{Fault, NodeId};
+use rp_base::{Fault, NodeId, Position};
+use rp_codec::Party;
 use rp_machine::Machine;
 use rp_replica::{Input, Replica, Sent, texts_are_packets};
 use rp_store::Device;
@@ -89,5 +95,50 @@ impl<M: Machine, D: Device> NodeSeat<M, D> {
                 Err(fault)
             }
         }
+    }
+
+    /// Puts a packet that a step of this seat sent, as its text, into the box to its receiver. It is
+    /// given back where that box is not empty.
+    pub fn put(&mut self, packet: Vec<u8>) -> Result<(), Vec<u8>>
+        requires sent { IsSentText self.old.part packet.items }
+        ensures unchanged { self.new ≡ self.old }
+        ensures back { IfErr result (λ back. back ≡ packet) }
+    {
+        let to = receiver(packet.as_slice());
+        let node = usize::from(self.node.get());
+        fill(&self.board.shared, &mut self.place, node, to, packet)
+    }
+
+    /// The packet in the box from that party to this seat, as its text, or `None` where the box is
+    /// not full.
+    pub fn fetch(&mut self, from: Party) -> Option<Vec<u8>>
+        ensures some { IfSome result (λ text. IsFetched from (Node self.old.number) text.items
+            self.old self.new) }
+        ensures none { IfNone result (self.new ≡ self.old) }
+    {
+        let node = usize::from(self.node.get());
+        empty(&self.board.shared, &mut self.place, actor_of(from), node)
+    }
+
+    /// How many actions the node has applied. `Failed` once its device has failed.
+    pub fn applied(&self) -> Result<u32, Fault>
+        ensures ok { IfOk result (λ count. HasApplied self.now.part count) }
+        ensures only { IsOkUnless result faults.Failed }
+    {
+        if self.replica.has_failed() {
+            return Err(Fault::Failed);
+        }
+        Ok(self.replica.applied())
+    }
+
+    /// A report to the audit of the actions applied at the positions from `first` on, as `turn` makes
+    /// it.
+    pub fn report(&mut self, alloc: Global, first: Position) -> Result<Sent, Fault>
+        ensures ok { IfOk result (λ sent. IsReport first self.old self.new sent) }
+        ensures err { IfErr result (λ fault. IsCutTurn M.next M.answers M.begin
+            self.old (Report first) self.new fault
+            ⊎ IsNoTurn M.next M.answers M.begin self.old (Report first) self.new fault) }
+    {
+        self.turn(alloc, &Input::Report(first))
     }
 }

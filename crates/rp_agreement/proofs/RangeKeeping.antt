@@ -44,7 +44,7 @@ use Rattle.rp_agreement.proofs.WorldKeeping.{each_task, untorn_world}
 -- ---- a node's step
 
 -- the part after and the packets are in range
-abbrev IsRangedDone : Done NodePart → Type 0
+abbrev pub IsRangedDone : Done NodePart → Type 0
 IsRangedDone done = IsRangedPart done.part × ArePackets done.sends
 
 abbrev IsRangedDoneIf : Result (Done NodePart) Fault → Type 0
@@ -135,7 +135,7 @@ heard_nodes t part (bodies.Nack i b bound) m h = absurd h
 heard_nodes t part (bodies.Reply number reply) m h = reply_nodes t part number reply m h
 heard_nodes t part (bodies.Report first applied told) m h = absurd h
 
-input_nodes : (config : Config) (sent : List Message) (t : ℕ) (part : TaskPart) (input : TaskInput) → IsTaskInput sent t input → AreForNodesIf (task_effect config t part input)
+pub input_nodes : (config : Config) (sent : List Message) (t : ℕ) (part : TaskPart) (input : TaskInput) → IsTaskInput sent t input → AreForNodesIf (task_effect config t part input)
 input_nodes config sent t part (tasks.Submit node object operation arg) is =
     called_nodes t node part (may_call config node part (next_call t part object operation arg) part.outstanding) is.0
 input_nodes config sent t part (tasks.Again node) is =
@@ -168,7 +168,7 @@ by_parties t k from to body sender receiver is theirs =
     subst (λ (party : Party). IsPacket (record { from = party; to = to; body = body })) (sym sender)
     (subst (λ (party : Party). IsPacket (record { from = Task t; to = party; body = body })) (sym receiver) (called_packet t k body is theirs))
 
-task_packets : (t : ℕ) (done : Done TaskPart) → IsTaskDone t done → AreForNodes done.sends → ArePackets done.sends
+pub task_packets : (t : ℕ) (done : Done TaskPart) → IsTaskDone t done → AreForNodes done.sends → ArePackets done.sends
 task_packets t done is are m h =
     let receiver = are m h in
     by_parties t receiver.0 m.from m.to m.body (is.calls m h).0 receiver.1 (is.calls m h).1 receiver.2
@@ -192,7 +192,7 @@ task_stands nodes w t part done all here is are = record {
   packets = both_packets w.sent done.sends all.packets (task_packets t done is are);
 }
 
-for_nodes_if : (result : Result (Done TaskPart) Fault) (done : Done TaskPart) → AreForNodesIf result → result ≡ Ok done → AreForNodes done.sends
+pub for_nodes_if : (result : Result (Done TaskPart) Fault) (done : Done TaskPart) → AreForNodesIf result → result ≡ Ok done → AreForNodes done.sends
 for_nodes_if result done are came = subst AreForNodesIf came are
 
 module _ {S : Type 0} (s : Setting S) (right : IsRightConfig s.config) (fits : (actions : List Action) → AllRight actions → AreReplies (answers_of s actions)) where
@@ -209,6 +209,16 @@ module _ {S : Type 0} (s : Setting S) (right : IsRightConfig s.config) (fits : (
   cut_while me kept part sent input (Some running) is mine ranged packets given =
       turned_cut kept part (running_effect s me part.records running input) ranged.records
       (turn_ranged s fits me part.records running sent input right mine ranged.records (runs_if part.running running is ranged.running) packets given)
+
+  pub input_ranged : (me : ℕ) (part : NodePart) (sent : List Message) (input : NodeInput) (done : Done NodePart) → IsNode me → IsRangedPart part → ArePackets sent → IsInput sent input
+      → node_effect s me part input ≡ Ok done → IsRangedDone done
+  input_ranged me part sent input done mine ranged packets given came =
+      came_ranged (node_effect s me part input) done (input_while me part sent input part.running refl mine ranged packets given) came
+
+  pub cut_input_ranged : (me kept : ℕ) (part : NodePart) (sent : List Message) (input : NodeInput) (done : Done NodePart) → IsNode me → IsRangedPart part → ArePackets sent → IsInput sent input
+      → cut_effect s me part input kept ≡ Ok done → IsRangedDone done
+  cut_input_ranged me kept part sent input done mine ranged packets given came =
+      came_ranged (cut_effect s me part input kept) done (cut_while me kept part sent input part.running refl mine ranged packets given) came
 
   member : (w : World) (me : ℕ) (part : NodePart) → IsRangedWorld s.config.nodes w → part_at w.nodes me ≡ Some part → IsNode me
   member w me part all here =

@@ -9,8 +9,10 @@ use Rattle.rp_base.specs.Sets.{Has}
 use Rattle.rp_base.specs.declared.action.Action.{Action}
 use Rattle.rp_base.specs.declared.record.Rec.{Rec}
 use Rattle.rp_base.specs.declared.record.Vote.{Vote}
+use Rattle.rp_codec.specs.declared.packet.Party.TheVariants.{Node}
 use Rattle.rp_codec.specs.Message.{Message, IsPacket}
 use Rattle.rp_codec.specs.Record.{IsRecord}
+use Rattle.rp_model.specs.Effect.{Done}
 use Rattle.rp_model.specs.World.{World, part_at}
 use Rattle.rp_model.specs.Parts.{Running}
 use Rattle.rp_model.specs.Parts.{NodePart}
@@ -41,3 +43,9 @@ pub record IsRangedWorld (nodes : ℕ) (w : World) : Type 0 where
   pub parts : (part : NodePart) → Has part w.nodes → IsRangedPart part
   pub waits : (t : ℕ) (part : TaskPart) → part_at w.tasks t ≡ Some part → WaitsForOwn t part
   pub packets : (m : Message) → Has m w.sent → IsPacket m
+
+-- what a step of a node comes to is so, and each packet that it sends is one, from that node
+pub record IsRangedStep (x : ℕ) (done : Done NodePart) : Type 0 where
+  pub part : IsRangedPart done.part
+  pub packets : (m : Message) → Has m done.sends → IsPacket m
+  pub own : (m : Message) → Has m done.sends → m.from ≡ Node x

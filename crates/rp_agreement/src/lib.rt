@@ -14,6 +14,7 @@
 //! - `histories`: nodes agree in every history
 //! - `replies`: what tasks are told
 //! - `ranges`: numbers stay within their ranges
+//! - `sends`: what one actor sends
 #![tactic(auto)]
 
 mod decisions;
@@ -25,6 +26,7 @@ mod order;
 mod packets;
 mod ranges;
 mod replies;
+mod sends;
 
 pub use decisions::{
     decisions_are_one, decisions_stay, only_asked_actions_are_decided,
@@ -46,3 +48,4 @@ pub use replies::{
     answers_are_one, calls_count_in_turn, calls_count_where_they_first_stand, events_keep_replies,
     node_events_keep_replies, replies_tell_the_order, task_events_keep_replies,
 };
+pub use sends::{nodes_send_right_packets, tasks_send_right_packets};

@@ -1,0 +1,130 @@
+-- The receiver's steps at a box: it takes the packet out of a full one, and clears it.
+use Rattle.std.proofs.Common.{◌≡◌, ◌≢◌, ◌⊎◌, ◌↔◌, ℕ, zero, suc, ◌+◌, ◌*◌, ◌%◌, ◌^◌, ◌<◌, ◌≤◌, eqb, Option, Some, None, Vec, List, [], ◌∷◌, ◌++◌, map, length, set, slice_index, inl, inr, refl, sym, ap, subst, ◌∙◌, arith, length-set, get_or-set_same, get_or-set_other}
+use Rattle.std.specs.declared.alloc.Global.{Global}
+use mathlib.Core.Logic.{dite}
+use mathlib.Core.Option.{some, none}
+use mathlib.Core.Option as maybe
+use native.Mathlib.Decide.{ℕ_discrete}
+use lib.ListN.{get_elem?}
+use lib.Seq.{set-get_or}
+use prog.Atomic.{either}
+use Rattle.atomic_table.specs.Table.{State, Act, keeps, takes as takes_slot, gives, stepped, carried_after, Valid, Allows}
+use Rattle.atomic_table.proofs.Lists.{set_here, set_else, set_again, exchanged}
+use Rattle.rp_base.specs.Sets.{Has}
+use Rattle.rp_base.proofs.Members.{has_split}
+use Rattle.rp_codec.specs.Message.{Message}
+use Rattle.rp_model.specs.Effect.{Setting}
+use Rattle.rp_model.specs.Parts.{NodePart}
+use Rattle.rp_model.specs.Parts.{TaskPart}
+use Rattle.rp_boxes.specs.Parts.{Part, View, actor_of, box_of, node_of, task_of, filling, filled, emptying, emptied}
+use Rattle.rp_boxes.specs.Rule.{Slot, IsGood, IsBox, IsCarried, Ruled, node_among, task_among, all_sent}
+use Rattle.rp_boxes.specs.Plays.{Sight, alone, Claimed, IsTaken, Took, Published, Cleared}
+use Rattle.rp_boxes.proofs.Worlds.{with_value, value_here, value_else, at_each, from_each, was_part, is_actor, seating_after, sent_by, same_sent}
+use Rattle.rp_boxes.proofs.BoxSteps.{IsBoxStep, boxed, was, now, part_now, still, held_alone, none_both, as_it_is}
+
+module _ {S : Type 0} (s : Setting S) (slots id x y : ℕ) (p : Part) (less : x < 16) (fewer : y < 16) where
+  abbrev b : ℕ
+  b = box_of x y
+
+  -- the receiver holds no box, and a full one is claimed with the packet in it
+  taken : p.takes ≡ [] → (m : Message) (t : State Slot View) (r : Ruled s t) → get_elem? t.views id ≡ some ((y, p) ∷ []) → slice_index t.words b ≡ 2
+      → (text : Vec ℕ Global) → IsCarried x y text.items m → Has m (r.parts x).sent
+      → Ruled s record { words = set t.words b 3; homes = set t.homes b none; views = set t.views id ((y, emptying b m p) ∷ []) }
+  taken free m t r here word text carried sent =
+      boxed s t r id y p (emptying b m p) here x y 3 (set t.homes b none) less fewer step (λ other apart. set_else t.homes b other none apart) box
+    where
+      by_sender : (n : Message) → Has n (p.got ++ m ∷ []) → Has n p.got ⊎ ((actor_of n.to ≡ y) × Has n (all_sent r.parts 16))
+      by_sender n h = elim (has_split n p.got (m ∷ []) h) [
+        | inl old ↦ inl old
+        | inr new ↦ elim new [
+            | inl same ↦ inr (ap (λ (k : Message). actor_of k.to) same ∙ carried.to, sent_by r.parts 16 x n less (subst (λ (k : Message). Has k (r.parts x).sent) (sym same) sent))
+            | inr never ↦ absurd never
+          ]
+      ]
+
+      step : IsBoxStep r.parts y b p (emptying b m p)
+      step = record {
+        role = refl;
+        events = refl;
+        sent = refl;
+        got = by_sender;
+        alike = λ other apart. record {
+          fills = as_it_is;
+          takes = none_both (λ h. subst (λ (held : List ℕ). Has other held) free h) (held_alone b other apart);
+          sent = λ m h. h;
+        };
+      }
+
+      after : ℕ → Part
+      after = now s t r id y p (emptying b m p) here
+
+      not_filling : ¬ Has b (r.parts x).fills
+      not_filling h = let e : slice_index t.words b ≡ 1 = (r.boxes x y less fewer).filling.1 h in omega (arith, e, word)
+
+      same_fills : (j : ℕ) → (after j).fills ≡ (r.parts j).fills
+      same_fills = from_each r.parts y p (emptying b m p) (λ q q'. q'.fills ≡ q.fills) (was s t r id y p (emptying b m p) here) refl (λ q. refl)
+
+      box : IsBox after x y 3 (λ slot. get_elem? (set t.homes b none) b ≡ some (some slot))
+      box = record {
+        empty = λ e. absurd (omega (arith, e));
+        filling = none_both (λ e. omega (arith, e)) (λ h. not_filling (subst (Has b) (same_fills x) h));
+        full = λ e. absurd (omega (arith, e));
+        emptying = (λ e. subst (λ (q : Part). Has b q.takes) (sym (part_now s t r id y p (emptying b m p) here)) (inl refl), λ h. refl);
+      }
+
+  pub take_allows : p.takes ≡ [] → Allows (Ruled s) slots id (alone y p) b (λ n. either (eqb n 2) 3 n) (λ found me. Took b (alone y p) found me)
+  take_allows free = λ t r size here fits.
+      exchanged (slice_index t.words b) 2 3
+      (λ n. (w : View) × (a : Act Slot) × Valid t.homes [] a × Ruled s (stepped t b n id [] w a) × Took b (alone y p) (slice_index t.words b) (w, carried_after [] a))
+      (λ hit. let full = (r.boxes x y less fewer).full hit in
+        ((y, emptying b full.0 p) ∷ [], takes_slot b (Some full.1), full.2, taken free full.0 t r here hit full.1 full.3 full.4, record {
+          hit = λ e. record { from = x; to = y; less = (less, fewer); box = refl; packet = full.0; text = full.1; carried = full.3; is = refl };
+          miss = λ other. absurd (other hit);
+        }))
+      (λ miss. ((y, p) ∷ [], keeps, tt, still s t b id ((y, p) ∷ []) here r, record { hit = λ e. absurd (miss e); miss = λ other. refl }))
+
+  -- the receiver took the packet out of the box that it claimed
+  cleared : p.takes ≡ b ∷ [] → (t : State Slot View) (r : Ruled s t) → 256 ≤ length t.homes → get_elem? t.views id ≡ some ((y, p) ∷ [])
+      → Ruled s record { words = set t.words b 0; homes = set t.homes b (some None); views = set t.views id ((y, emptied p) ∷ []) }
+  cleared holds t r roomy here =
+      boxed s t r id y p (emptied p) here x y 0 (set t.homes b (some None)) less fewer step (λ other apart. set_else t.homes b other (some None) apart) box
+    where
+      step : IsBoxStep r.parts y b p (emptied p)
+      step = record {
+        role = refl;
+        events = refl;
+        sent = refl;
+        got = λ m h. inl h;
+        alike = λ other apart. record {
+          fills = as_it_is;
+          takes = none_both (λ h. held_alone b other apart (subst (λ (held : List ℕ). Has other held) holds h)) (λ h. h);
+          sent = λ m h. h;
+        };
+      }
+
+      after : ℕ → Part
+      after = now s t r id y p (emptied p) here
+
+      was_emptying : slice_index t.words b ≡ 3
+      was_emptying = (r.boxes x y less fewer).emptying.1 (subst (λ (q : Part). Has b q.takes) (sym (was s t r id y p (emptied p) here)) (subst (λ (held : List ℕ). Has b held) (sym holds) (inl refl)))
+
+      not_filling : ¬ Has b (r.parts x).fills
+      not_filling h = let e : slice_index t.words b ≡ 1 = (r.boxes x y less fewer).filling.1 h in omega (arith, e, was_emptying)
+
+      same_fills : (j : ℕ) → (after j).fills ≡ (r.parts j).fills
+      same_fills = from_each r.parts y p (emptied p) (λ q q'. q'.fills ≡ q.fills) (was s t r id y p (emptied p) here) refl (λ q. refl)
+
+      inside : b < length t.homes
+      inside = omega (arith, less, fewer, roomy)
+
+      box : IsBox after x y 0 (λ slot. get_elem? (set t.homes b (some None)) b ≡ some (some slot))
+      box = record {
+        empty = λ e. set_here t.homes b (some None) inside;
+        filling = none_both (λ e. omega (arith, e)) (λ h. not_filling (subst (Has b) (same_fills x) h));
+        full = λ e. absurd (omega (arith, e));
+        emptying = none_both (λ e. omega (arith, e)) (λ h. subst (λ (q : Part). Has b q.takes) (part_now s t r id y p (emptied p) here) h);
+      }
+
+  pub clear_allows : 256 ≤ slots → p.takes ≡ b ∷ []
+      → Allows (Ruled s) slots id ((y, p) ∷ [], (b, None) ∷ []) b (λ n. 0) (λ found me. Cleared ((y, p) ∷ [], (b, None) ∷ []) me)
+  clear_allows roomy holds = λ t r size here fits. ((y, emptied p) ∷ [], gives, tt, cleared holds t r (omega (arith, size, roomy)) here, refl)

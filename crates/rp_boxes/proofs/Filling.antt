@@ -1,0 +1,119 @@
+-- The sender's steps at a box: it claims an empty one, and publishes what it put there.
+use Rattle.std.proofs.Common.{◌≡◌, ◌≢◌, ◌⊎◌, ◌↔◌, ℕ, zero, suc, ◌+◌, ◌*◌, ◌%◌, ◌^◌, ◌<◌, ◌≤◌, eqb, Option, Some, None, Vec, List, [], ◌∷◌, ◌++◌, map, length, set, slice_index, inl, inr, refl, sym, ap, subst, ◌∙◌, arith, length-set, get_or-set_same, get_or-set_other}
+use Rattle.std.specs.declared.alloc.Global.{Global}
+use mathlib.Core.Logic.{dite}
+use mathlib.Core.Option.{some, none}
+use mathlib.Core.Option as maybe
+use native.Mathlib.Decide.{ℕ_discrete}
+use lib.ListN.{get_elem?}
+use lib.Seq.{set-get_or}
+use prog.Atomic.{either}
+use Rattle.atomic_table.specs.Table.{State, Act, keeps, takes as takes_slot, gives, stepped, carried_after, Valid, Allows}
+use Rattle.atomic_table.proofs.Lists.{set_here, set_else, set_again, exchanged}
+use Rattle.rp_base.specs.Sets.{Has}
+use Rattle.rp_base.proofs.Members.{has_split}
+use Rattle.rp_codec.specs.Message.{Message}
+use Rattle.rp_model.specs.Effect.{Setting}
+use Rattle.rp_model.specs.Parts.{NodePart}
+use Rattle.rp_model.specs.Parts.{TaskPart}
+use Rattle.rp_boxes.specs.Parts.{Part, View, actor_of, box_of, node_of, task_of, filling, filled, emptying, emptied}
+use Rattle.rp_boxes.specs.Rule.{Slot, IsGood, IsBox, IsCarried, Ruled, node_among, task_among, all_sent}
+use Rattle.rp_boxes.specs.Plays.{Sight, alone, Claimed, IsTaken, Took, Published, Cleared}
+use Rattle.rp_boxes.proofs.Worlds.{with_value, value_here, value_else, at_each, from_each, was_part, is_actor, seating_after, sent_by, same_sent}
+use Rattle.rp_boxes.proofs.BoxSteps.{IsBoxStep, boxed, was, now, part_now, still, held_alone, none_both, as_it_is}
+
+module _ {S : Type 0} (s : Setting S) (slots id x y : ℕ) (p : Part) (less : x < 16) (fewer : y < 16) where
+  abbrev b : ℕ
+  b = box_of x y
+
+  -- the sender holds no box, and an empty one is claimed
+  claimed : p.fills ≡ [] → (t : State Slot View) (r : Ruled s t) → get_elem? t.views id ≡ some ((x, p) ∷ []) → slice_index t.words b ≡ 0
+      → Ruled s record { words = set t.words b 1; homes = set t.homes b none; views = set t.views id ((x, filling b p) ∷ []) }
+  claimed free t r here word = boxed s t r id x p (filling b p) here x y 1 (set t.homes b none) less fewer step (λ other apart. set_else t.homes b other none apart) box
+    where
+      step : IsBoxStep r.parts x b p (filling b p)
+      step = record {
+        role = refl;
+        events = refl;
+        sent = refl;
+        got = λ m h. inl h;
+        alike = λ other apart. record {
+          fills = none_both (λ h. subst (λ (held : List ℕ). Has other held) free h) (held_alone b other apart);
+          takes = as_it_is;
+          sent = λ m h. h;
+        };
+      }
+
+      after : ℕ → Part
+      after = now s t r id x p (filling b p) here
+
+      not_taken : ¬ Has b (r.parts y).takes
+      not_taken h = let e : slice_index t.words b ≡ 3 = (r.boxes x y less fewer).emptying.1 h in omega (arith, e, word)
+
+      same_takes : (j : ℕ) → (after j).takes ≡ (r.parts j).takes
+      same_takes = from_each r.parts x p (filling b p) (λ q q'. q'.takes ≡ q.takes) (was s t r id x p (filling b p) here) refl (λ q. refl)
+
+      box : IsBox after x y 1 (λ slot. get_elem? (set t.homes b none) b ≡ some (some slot))
+      box = record {
+        empty = λ e. absurd (omega (arith, e));
+        filling = (λ e. subst (λ (q : Part). Has b q.fills) (sym (part_now s t r id x p (filling b p) here)) (inl refl), λ h. refl);
+        full = λ e. absurd (omega (arith, e));
+        emptying = none_both (λ e. omega (arith, e)) (λ h. not_taken (subst (Has b) (same_takes y) h));
+      }
+
+  pub claim_allows : p.fills ≡ [] → Allows (Ruled s) slots id (alone x p) b (λ n. either (eqb n 0) 1 n) (λ found me. Claimed b (alone x p) found me)
+  claim_allows free = λ t r size here fits.
+      exchanged (slice_index t.words b) 0 1
+      (λ n. (w : View) × (a : Act Slot) × Valid t.homes [] a × Ruled s (stepped t b n id [] w a) × Claimed b (alone x p) (slice_index t.words b) (w, carried_after [] a))
+      (λ hit. ((x, filling b p) ∷ [], takes_slot b None, (r.boxes x y less fewer).empty hit, claimed free t r here hit, record { hit = λ e. refl; miss = λ other. absurd (other hit) }))
+      (λ miss. ((x, p) ∷ [], keeps, tt, still s t b id ((x, p) ∷ []) here r, record { hit = λ e. absurd (miss e); miss = λ other. refl }))
+
+  -- the sender put a packet into the box that it claimed
+  published : p.fills ≡ b ∷ [] → (m : Message) (text : Vec ℕ Global) → Has m p.sent → IsCarried x y text.items m → (t : State Slot View) (r : Ruled s t) → 256 ≤ length t.homes
+      → get_elem? t.views id ≡ some ((x, p) ∷ []) → Ruled s record { words = set t.words b 2; homes = set t.homes b (some (Some text)); views = set t.views id ((x, filled p) ∷ []) }
+  published holds m text sent carried t r roomy here =
+      boxed s t r id x p (filled p) here x y 2 (set t.homes b (some (Some text))) less fewer step (λ other apart. set_else t.homes b other (some (Some text)) apart) box
+    where
+      step : IsBoxStep r.parts x b p (filled p)
+      step = record {
+        role = refl;
+        events = refl;
+        sent = refl;
+        got = λ m h. inl h;
+        alike = λ other apart. record {
+          fills = none_both (λ h. held_alone b other apart (subst (λ (held : List ℕ). Has other held) holds h)) (λ h. h);
+          takes = as_it_is;
+          sent = λ m h. h;
+        };
+      }
+
+      after : ℕ → Part
+      after = now s t r id x p (filled p) here
+
+      was_filling : slice_index t.words b ≡ 1
+      was_filling = (r.boxes x y less fewer).filling.1 (subst (λ (q : Part). Has b q.fills) (sym (was s t r id x p (filled p) here)) (subst (λ (held : List ℕ). Has b held) (sym holds) (inl refl)))
+
+      not_taken : ¬ Has b (r.parts y).takes
+      not_taken h = let e : slice_index t.words b ≡ 3 = (r.boxes x y less fewer).emptying.1 h in omega (arith, e, was_filling)
+
+      same_takes : (j : ℕ) → (after j).takes ≡ (r.parts j).takes
+      same_takes = from_each r.parts x p (filled p) (λ q q'. q'.takes ≡ q.takes) (was s t r id x p (filled p) here) refl (λ q. refl)
+
+      new_part : after x ≡ filled p
+      new_part = part_now s t r id x p (filled p) here
+
+      inside : b < length t.homes
+      inside = omega (arith, less, fewer, roomy)
+
+      box : IsBox after x y 2 (λ slot. get_elem? (set t.homes b (some (Some text))) b ≡ some (some slot))
+      box = record {
+        empty = λ e. absurd (omega (arith, e));
+        filling = none_both (λ e. omega (arith, e)) (λ h. subst (λ (q : Part). Has b q.fills) new_part h);
+        full = λ e. (m, text, set_here t.homes b (some (Some text)) inside, carried, subst (λ (q : Part). Has m q.sent) (sym new_part) sent);
+        emptying = none_both (λ e. omega (arith, e)) (λ h. not_taken (subst (Has b) (same_takes y) h));
+      }
+
+  pub publish_allows : 256 ≤ slots → p.fills ≡ b ∷ [] → (m : Message) (text : Vec ℕ Global) → Has m p.sent → IsCarried x y text.items m
+      → Allows (Ruled s) slots id ((x, p) ∷ [], (b, Some text) ∷ []) b (λ n. 2) (λ found me. Published ((x, p) ∷ [], (b, Some text) ∷ []) me)
+  publish_allows roomy holds m text sent carried = λ t r size here fits.
+      ((x, filled p) ∷ [], gives, tt, published holds m text sent carried t r (omega (arith, size, roomy)) here, refl)

@@ -1,0 +1,119 @@
+-- What a step at a box is for a seat.
+use Rattle.std.proofs.Common.{◌≡◌, ℕ, ◌+◌, ◌<◌, ◌≤◌, Option, Some, None, Vec, List, [], ◌∷◌, ◌++◌, inl, inr, refl, sym, ap, subst, ◌∙◌, arith}
+use Rattle.std.specs.Prelude.{IfSome, IfNone}
+use Rattle.std.specs.declared.alloc.Global.{Global}
+use Rattle.atomic_table.specs.Seated.{TableId}
+use Rattle.rp_base.specs.Sets.{Has}
+use Rattle.rp_base.specs.declared.config.Config.{Config}
+use Rattle.rp_base.proofs.Members.{has_split}
+use Rattle.rp_codec.specs.Message.{Message, IsPacket, IsParty}
+use Rattle.rp_codec.specs.Text.{text_of}
+use Rattle.rp_codec.specs.declared.packet.Party.{Party}
+use Rattle.rp_codec.specs.declared.packet.Party.TheVariants.{Node, Task, Audit}
+use Rattle.rp_replica.specs.Held.{Held}
+use Rattle.rp_boxes.specs.Parts.{Part, actor_of, part_in, with_got}
+use Rattle.rp_boxes.specs.Plays.{Sight, alone}
+use Rattle.rp_boxes.specs.Rule.{IsCarried, HasOwnPackets}
+use Rattle.rp_boxes.specs.Seats.{Chair, IsAtTable, IsNodePlace, IsSentText, IsFetched}
+
+-- ---- parties
+
+-- parties of one actor are one
+pub same_party : (p q : Party) → IsParty p → IsParty q → actor_of p ≡ actor_of q → p ≡ q
+same_party (Node n) (Node m) one other same = ap Node same
+same_party (Node n) (Task t) one other same = absurd (omega (arith, one.1, other.0, same))
+same_party (Node n) Audit one other same = absurd (omega (arith, one.0, same))
+same_party (Task t) (Node m) one other same = absurd (omega (arith, one.0, other.1, same))
+same_party (Task t) (Task u) one other same = ap Task (omega (arith, same))
+same_party (Task t) Audit one other same = absurd (omega (arith, same))
+same_party Audit (Node m) one other same = absurd (omega (arith, other.0, same))
+same_party Audit (Task u) one other same = absurd (omega (arith, same))
+same_party Audit Audit one other same = refl
+
+-- ---- what is put
+
+-- the text of a packet that was sent is carried to its receiver
+pub carries : (k to : ℕ) (part : Part) (bytes : List ℕ) → HasOwnPackets k part → IsSentText part bytes → ((m : Message) → IsPacket m → bytes ≡ text_of m → to ≡ actor_of m.to)
+    → (m : Message) × Has m part.sent × IsCarried k to bytes m
+carries k to part bytes own sent named =
+    let right = own.sent sent.0 sent.1 in
+    (sent.0, sent.1, record { text = sent.2; packet = right.0; from = right.1; to = sym (named sent.0 right.0 sent.2) })
+
+-- ---- the seat behind a step
+
+-- the seat stays as it is
+pub at_same : (table mine mine' : TableId) (k : ℕ) (me me' : Sight) → IsAtTable table mine k me → mine' ≡ mine → me' ≡ me → IsAtTable table mine' k me'
+at_same table mine mine' k me me' at same sees = subst (λ (z : TableId × Sight). IsAtTable table z.0 k z.1) (λ i. (sym same i, sym sees i)) at
+
+-- it got a packet
+at_got : (table mine mine' : TableId) (x k : ℕ) (me me' : Sight) (bytes : List ℕ) (m : Message) → IsAtTable table mine k me → mine' ≡ mine → IsCarried x k bytes m
+    → me' ≡ alone k (with_got m (part_in me.0)) → IsAtTable table mine' k me'
+at_got table mine mine' x k me me' bytes m at same carried sees =
+    let part = part_in me.0 in
+    let here : IsAtTable table mine' k (alone k (with_got m part)) = record {
+      same = same ∙ at.same;
+      sized = at.sized;
+      small = at.small;
+      place = refl;
+      fills = at.fills;
+      takes = at.takes;
+      own = record {
+        sent = at.own.sent;
+        got = λ n h. elim (has_split n part.got (m ∷ []) h) [
+          | inl old ↦ at.own.got n old
+          | inr new ↦ elim new [
+              | inl one ↦ subst (λ (p : Message). IsPacket p × (actor_of p.to ≡ k)) (sym one) (carried.packet, carried.to)
+              | inr never ↦ absurd never
+            ]
+        ];
+      };
+    } in
+    subst (IsAtTable table mine' k) (sym sees) here
+
+-- what was found in the box from x to k, or nothing
+abbrev pub Finds : ℕ → ℕ → Sight → Sight → Vec ℕ Global → Type 0
+Finds x k me me' text = (m : Message) × IsCarried x k text.items m × (me' ≡ alone k (with_got m (part_in me.0)))
+
+pub at_fetched : (table mine mine' : TableId) (x k : ℕ) (me me' : Sight) (found : Option (Vec ℕ Global)) → IsAtTable table mine k me → mine' ≡ mine
+    → IfNone found (me' ≡ me) → IfSome found (Finds x k me me') → IsAtTable table mine' k me'
+at_fetched table mine mine' x k me me' None at same nothing some = at_same table mine mine' k me me' at same nothing
+at_fetched table mine mine' x k me me' (Some text) at same nothing some = at_got table mine mine' x k me me' text.items some.0 at same some.1 some.2
+
+-- what the actor is stays
+pub same_role : (x k : ℕ) (me me' : Sight) (found : Option (Vec ℕ Global)) → IfNone found (me' ≡ me) → IfSome found (Finds x k me me') → (part_in me'.0).role ≡ (part_in me.0).role
+same_role x k me me' None nothing some = ap (λ (seen : Sight). (part_in seen.0).role) nothing
+same_role x k me me' (Some text) nothing some = ap (λ (seen : Sight). (part_in seen.0).role) some.2
+
+pub node_stays : {S : Type 0} (config : Config) (begin : S) (number : ℕ) (held : Held S) (part part' : Part) → part'.role ≡ part.role
+    → IsNodePlace config begin number held part → IsNodePlace config begin number held part'
+node_stays config begin number held part part' same sits = record { member = sits.member; node = sits.node; is = same ∙ sits.is; stands = sits.stands }
+
+-- ---- what the seat is to a contract then
+
+module _ {P : Type 0} (config : Config) (program : P) (number k : ℕ) (mine mine' : TableId) (me me' : Sight) (same : mine' ≡ mine) where
+  abbrev chair : TableId → Part → Chair P
+  chair table part = record { table = table; config = config; program = program; number = number; part = part }
+
+  pub same_chair : me' ≡ me → chair mine' (part_in me'.0) ≡ chair mine (part_in me.0)
+  same_chair sees = λ i. chair (same i) (part_in (sees i).0)
+
+  module _ (from to : Party) (right_from : IsParty from) (right_to : IsParty to) (own : actor_of to ≡ k) where
+    fetched : (text : Vec ℕ Global) → Finds (actor_of from) k me me' text → IsFetched from to text.items (chair mine (part_in me.0)) (chair mine' (part_in me'.0))
+    fetched text found =
+        let carried = found.1 in record {
+          packet = found.0;
+          right = carried.packet;
+          text = carried.text;
+          sender = same_party found.0.from from carried.packet.ranges.from right_from carried.from;
+          receiver = same_party found.0.to to carried.packet.ranges.to right_to (carried.to ∙ sym own);
+          after = λ i. chair (same i) (part_in (found.2 i).0);
+        }
+
+    pub fetched_chair : (found : Option (Vec ℕ Global)) → IfSome found (Finds (actor_of from) k me me')
+        → IfSome found (λ text. IsFetched from to text.items (chair mine (part_in me.0)) (chair mine' (part_in me'.0)))
+    fetched_chair None is = tt
+    fetched_chair (Some text) is = fetched text is
+
+  pub unfetched_chair : (found : Option (Vec ℕ Global)) → IfNone found (me' ≡ me) → IfNone found (chair mine' (part_in me'.0) ≡ chair mine (part_in me.0))
+  unfetched_chair None is = same_chair is
+  unfetched_chair (Some text) is = tt

@@ -1,0 +1,243 @@
+-- What a turn of a replica is for the seat of its node.
+use Rattle.std.proofs.Common.{◌≡◌, ◌⊎◌, ℕ, true, false, Option, Some, None, Result, Ok, Err, List, [], ◌∷◌, inl, inr, refl, sym, ap, subst, ◌∙◌}
+use Rattle.std.specs.Prelude.{IfSome}
+use Rattle.atomic_table.specs.Seated.{TableId}
+use Rattle.rp_base.specs.Sets.{Has}
+use Rattle.rp_base.specs.declared.action.Action.{Action}
+use Rattle.rp_base.specs.declared.config.Config.{Config}
+use Rattle.rp_base.specs.declared.fault.Fault.{Fault}
+use Rattle.rp_base.specs.declared.fault.Fault.TheVariants.{OutOfMemory, Device, Failed}
+use Rattle.rp_base.specs.declared.reply.Answer.{Answer}
+use Rattle.rp_codec.specs.Message.{Message, IsPacket}
+use Rattle.rp_codec.specs.Reading.{all_of}
+use Rattle.rp_codec.specs.Text.{text_of}
+use Rattle.rp_model.specs.Effect as nodes
+use Rattle.rp_model.specs.Effect.{Setting, Done, NodeInput, node_effect, cut_effect, cut_if, cut_part, turned, turned_if, goes_on_as}
+use Rattle.rp_model.specs.Parts.{NodePart}
+use Rattle.rp_model.specs.Parts.{Turn}
+use Rattle.rp_agreement.specs.Answered.{setting_for}
+use Rattle.rp_agreement.specs.Inputs.{IsInput}
+use Rattle.rp_replica.specs.Held.{Held}
+use Rattle.rp_replica.specs.Inputs.{IsRightInput, packet_given, given_by, effect_if_given, input_effect}
+use Rattle.rp_replica.specs.Turning.{TurnsIf, FailsAt, Stops, StopsIf, IsRefused, effect_of}
+use Rattle.rp_replica.specs.declared.input.Input.{Input}
+use Rattle.rp_replica.specs.declared.input.Input.TheVariants.{Receive, Lead, Interrupt, Tick, Report}
+use Rattle.rp_replica.specs.declared.sent.Sent.{Sent}
+use Rattle.rp_world.specs.Nodes.{Member, member_of, RunsAs, IsComing}
+use Rattle.rp_world.proofs.Standing.{stands, stands_failed, as_running, as_resting}
+use Rattle.rp_world.proofs.Turning.{same_effect, is_cut, taken, false_true}
+use Rattle.rp_boxes.specs.Parts.{Part, Role, OfNode, part_in, part_after}
+use Rattle.rp_boxes.specs.Rule.{HasOwnPackets}
+use Rattle.rp_boxes.specs.Plays.{Sight, Turned, alone}
+use Rattle.rp_boxes.specs.Seats.{Chair, IsAtTable, IsNodePlace, HasInputRanges, IsGot, IsTurn, IsCutTurn, IsNoTurn}
+use Rattle.rp_boxes.specs.Steps.{IsEvent}
+use Rattle.rp_boxes.specs.Counting.{HasTurned, HasStopped}
+
+-- ---- what the node is given
+
+-- the texts of packets are packets
+abbrev pub TextsArePackets : Type 0
+TextsArePackets = (m : Message) → IsPacket m → packet_given (all_of (text_of m)) ≡ Ok (nodes.Receive m)
+
+pub record IsGiven (part : Part) (input : Input) : Type 0 where
+  pub given : NodeInput
+  pub gives : given_by input ≡ Ok given
+  pub is : IsInput part.got given
+
+pub input_given : TextsArePackets → (k : ℕ) (part : Part) (input : Input) → HasOwnPackets k part → IsRightInput input → HasInputRanges input → IsGot part input → IsGiven part input
+input_given texts k part (Receive bytes) own right ranges got = record {
+  given = nodes.Receive got.0;
+  gives = ap (λ (text : List ℕ). packet_given (all_of text)) got.2 ∙ texts got.0 (own.got got.0 got.1).0;
+  is = got.1;
+}
+input_given texts k part (Lead choice) own right ranges got = record { given = nodes.Lead choice; gives = refl; is = ranges }
+input_given texts k part (Interrupt source occurrence) own right ranges got = record { given = nodes.Interrupt source occurrence; gives = refl; is = right }
+input_given texts k part (Tick now) own right ranges got = record { given = nodes.Tick now; gives = refl; is = ranges }
+input_given texts k part (Report first) own right ranges got = record { given = nodes.Report first; gives = refl; is = ranges }
+
+-- ---- what comes of it
+
+module _ {S P : Type 0} (next : S → Action → S) (answers : S → Action → List Answer) (begin : P → S) (config : Config) (program : P) (number : ℕ) (before : Part) (old : Held S)
+    (sits : IsNodePlace config (begin program) number old before) (input : Input) (is : IsGiven before input) where
+  abbrev s : Setting S
+  s = setting_for next answers begin config program
+
+  abbrev member : Member S
+  member = member_of number config (begin program)
+
+  same_input : input_effect next answers old input ≡ effect_of next answers old is.given
+  same_input = ap (effect_if_given next answers old) is.gives
+
+  -- a chair whose part this is
+  abbrev chair : TableId → Part → Chair P
+  chair table part = record { table = table; config = config; program = program; number = number; part = part }
+
+  -- the node's device had failed
+  pub was_stopped : old.failed ≡ true → (table : TableId) → IsNoTurn next answers begin (chair table before) input (chair table before) Failed
+  was_stopped failed table = record {
+    unchanged = refl;
+    given = is.given;
+    gives = is.gives;
+    node = sits.node;
+    was = sits.is;
+    why = inl (refl, (as_resting member old sits.node failed sits.stands).stopped);
+  }
+
+  module _ (working : old.failed ≡ false) (new : Held S) where
+    runs : RunsAs member old sits.node
+    runs = as_running member old sits.node working sits.stands
+
+    comes_so : (turn : Turn) → effect_of next answers old is.given ≡ Ok turn → node_effect s number sits.node is.given ≡ Ok (turned sits.node turn)
+    comes_so turn came = same_effect next answers member old sits.node runs is.given ∙ ap (turned_if sits.node) came
+
+    -- the turn took effect
+    pub has_turned : (sent : Sent) → TurnsIf (input_effect next answers old input) old new sent
+        → (after : Part) × IsEvent s number before after × HasTurned s number before input new sent after
+    has_turned sent turns =
+        let t = taken next answers member old sits.node runs is.given new sent (effect_of next answers old is.given) refl
+            (subst (λ (r : Result Turn Fault). TurnsIf r old new sent) same_input turns) in (
+          part_after before (OfNode t.0.part) t.0.sends,
+          inl (record { member = sits.member; part = sits.node; was = sits.is; input = is.given; given = is.is; done = t.0; comes = inl t.1; is = refl }),
+          record { given = is.given; gives = is.gives; node = sits.node; was = sits.is; done = t.0; comes = t.1; stands = stands member new t.0.part t.2; tells = t.3; is = refl },
+        )
+
+    -- the device failed
+    abbrev HasStoppedSo : Fault → Type 0
+    HasStoppedSo fault = (fault ≡ Device) × (after : Part) × IsEvent s number before after × HasStopped s number before input new after
+
+    stopped_by : (turn : Turn) → effect_of next answers old is.given ≡ Ok turn → FailsAt turn.written old new → HasStoppedSo Device
+    stopped_by turn came fails =
+        let kept = fails.holds.0 in
+        let left = cut_part kept sits.node turn.written in
+        let cut : cut_effect s number sits.node is.given kept ≡ Ok (goes_on_as left) = ap (cut_if kept sits.node) (comes_so turn came) in (
+          refl,
+          part_after before (OfNode left) [],
+          inl (record { member = sits.member; part = sits.node; was = sits.is; input = is.given; given = is.is; done = goes_on_as left; comes = inr (kept, cut); is = refl }),
+          record {
+            given = is.given;
+            gives = is.gives;
+            node = sits.node;
+            was = sits.is;
+            kept = kept;
+            done = goes_on_as left;
+            comes = cut;
+            stands = stands_failed member new left (ap (λ (h : Held S). h.failed) fails.goes) (is_cut next answers member old sits.node runs kept turn.written new.disk fails.holds.1);
+            is = refl;
+          },
+        )
+
+    unchanged_works : new ≡ old → new.failed ≡ false
+    unchanged_works same = ap (λ (h : Held S). h.failed) same ∙ working
+
+    stopped_while : (turn : Turn) → effect_of next answers old is.given ≡ Ok turn → new.failed ≡ true → (fault : Fault) → Stops turn.written old new fault → HasStoppedSo fault
+    stopped_while turn came failed OutOfMemory stops = absurd (false_true (unchanged_works stops.0) failed)
+    stopped_while turn came failed Device stops = stopped_by turn came stops.0
+    stopped_while turn came failed Failed stops = absurd (false_true (unchanged_works stops.0) failed)
+    stopped_while turn came failed _ stops = absurd stops
+
+    stopped_if : (effect : Result Turn Fault) → effect_of next answers old is.given ≡ effect → new.failed ≡ true → (fault : Fault) → StopsIf effect old new fault → HasStoppedSo fault
+    stopped_if (Ok turn) came failed fault stops = stopped_while turn came failed fault stops
+    stopped_if (Err refusal) came failed fault stops = absurd (false_true (unchanged_works stops.0) failed)
+
+    pub has_stopped : (fault : Fault) → StopsIf (input_effect next answers old input) old new fault → new.failed ≡ true → HasStoppedSo fault
+    has_stopped fault stops failed =
+        stopped_if (effect_of next answers old is.given) refl failed fault (subst (λ (r : Result Turn Fault). StopsIf r old new fault) same_input stops)
+
+    -- no event
+    abbrev IsWhy : Fault → Type 0
+    IsWhy fault = ((fault ≡ Failed) × (sits.node.running ≡ None))
+        ⊎ (((fault ≡ OutOfMemory) × IsComing (node_effect s number sits.node is.given)) ⊎ (node_effect s number sits.node is.given ≡ Err fault))
+
+    why_while : (turn : Turn) → effect_of next answers old is.given ≡ Ok turn → new.failed ≡ false → (fault : Fault) → Stops turn.written old new fault → (new ≡ old) × IsWhy fault
+    why_while turn came works OutOfMemory stops = (stops.0, inr (inl (refl, subst IsComing (sym (comes_so turn came)) tt)))
+    why_while turn came works Device stops = absurd (false_true works (ap (λ (h : Held S). h.failed) stops.0.goes))
+    why_while turn came works Failed stops = absurd (false_true working stops.1)
+    why_while turn came works _ stops = absurd stops
+
+    why_if : (effect : Result Turn Fault) → effect_of next answers old is.given ≡ effect → new.failed ≡ false → (fault : Fault) → StopsIf effect old new fault → (new ≡ old) × IsWhy fault
+    why_if (Ok turn) came works fault stops = why_while turn came works fault stops
+    why_if (Err refusal) came works fault stops = (stops.0, elim stops.1 [
+      | inl told ↦ inr (inr (same_effect next answers member old sits.node runs is.given ∙ ap (turned_if sits.node) came ∙ ap Err (sym told.0)))
+      | inr gone ↦ absurd (false_true working gone.1)
+    ])
+
+    pub no_turn : (fault : Fault) → StopsIf (input_effect next answers old input) old new fault → new.failed ≡ false → (new ≡ old) × IsWhy fault
+    no_turn fault stops works =
+        why_if (effect_of next answers old is.given) refl works fault (subst (λ (r : Result Turn Fault). StopsIf r old new fault) same_input stops)
+
+  -- ---- the seat once a turn is counted
+
+  module _ (table mine mine' : TableId) (me me' : Sight) (at : IsAtTable table mine number me) (is_part : part_in me.0 ≡ before) (same : mine' ≡ mine) (new : Held S) where
+    -- the seat of the part after an event
+    pub at_after : (role : Role) (sends : List Message) (q : Part) → q ≡ part_after before role sends → me' ≡ alone number q → HasOwnPackets number q → IsAtTable table mine' number me'
+    at_after role sends q after sees own =
+        let here : IsAtTable table mine' number (alone number q) = record {
+          same = same ∙ at.same;
+          sized = at.sized;
+          small = at.small;
+          place = refl;
+          fills = ap (λ (p : Part). p.fills) after ∙ (ap (λ (p : Part). p.fills) (sym is_part) ∙ at.fills);
+          takes = ap (λ (p : Part). p.takes) after ∙ (ap (λ (p : Part). p.takes) (sym is_part) ∙ at.takes);
+          own = own;
+        } in
+        subst (IsAtTable table mine' number) (sym sees) here
+
+    sees_part : (q : Part) → me' ≡ alone number q → part_in me'.0 ≡ q
+    sees_part q sees = ap (λ (seen : Sight). part_in seen.0) sees
+
+    new_chair : (q : Part) → me' ≡ alone number q → chair mine' (part_in me'.0) ≡ chair mine q
+    new_chair q sees = λ i. chair (same i) (sees_part q sees i)
+
+    module _ (sent : Sent) (t : Turned (HasTurned s number before input new sent) number me') where
+      pub turned_seat : IsAtTable table mine' number me' × IsNodePlace config (begin program) number new (part_in me'.0)
+      turned_seat = (
+        at_after (OfNode t.said.done.part) t.said.done.sends t.part t.said.is t.is t.own,
+        record { member = sits.member; node = t.said.done.part; is = ap (λ (p : Part). p.role) (sees_part t.part t.is ∙ t.said.is); stands = t.said.stands },
+      )
+
+      pub turned_chair : IsTurn next answers begin (chair mine before) input (chair mine' (part_in me'.0)) sent
+      turned_chair = record {
+        given = t.said.given;
+        gives = t.said.gives;
+        node = t.said.node;
+        was = t.said.was;
+        done = t.said.done;
+        comes = t.said.comes;
+        after = new_chair t.part t.is ∙ ap (chair mine) t.said.is;
+        tells = t.said.tells;
+      }
+
+    module _ (t : Turned (HasStopped s number before input new) number me') where
+      pub stopped_seat : IsAtTable table mine' number me' × IsNodePlace config (begin program) number new (part_in me'.0)
+      stopped_seat = (
+        at_after (OfNode t.said.done.part) t.said.done.sends t.part t.said.is t.is t.own,
+        record { member = sits.member; node = t.said.done.part; is = ap (λ (p : Part). p.role) (sees_part t.part t.is ∙ t.said.is); stands = t.said.stands },
+      )
+
+      pub stopped_chair : (fault : Fault) → fault ≡ Device → IsCutTurn next answers begin (chair mine before) input (chair mine' (part_in me'.0)) fault
+      stopped_chair fault device = record {
+        device = device;
+        given = t.said.given;
+        gives = t.said.gives;
+        node = t.said.node;
+        was = t.said.was;
+        kept = t.said.kept;
+        done = t.said.done;
+        comes = t.said.comes;
+        after = new_chair t.part t.is ∙ ap (chair mine) t.said.is;
+      }
+
+  -- the seat where nothing happened
+  pub unturned_seat : (new : Held S) → new ≡ old → IsNodePlace config (begin program) number new before
+  unturned_seat new same = subst (λ (h : Held S). IsNodePlace config (begin program) number h before) (sym same) sits
+
+  pub unturned_chair : (working : old.failed ≡ false) (new : Held S) (fault : Fault) → StopsIf (input_effect next answers old input) old new fault → new.failed ≡ false → (table : TableId)
+      → IsNoTurn next answers begin (chair table before) input (chair table before) fault
+  unturned_chair working new fault stops works table = record {
+    unchanged = refl;
+    given = is.given;
+    gives = is.gives;
+    node = sits.node;
+    was = sits.is;
+    why = (no_turn working new fault stops works).1;
+  }

@@ -1,0 +1,43 @@
+-- What a seat that knows one actor sees as it steps on a box.
+use Rattle.std.proofs.Common.{◌≡◌, ℕ, ◌<◌, Vec, Some, None, List, [], ◌∷◌, refl, sym, ap, subst, ◌∙◌, arith}
+use Rattle.std.specs.declared.alloc.Global.{Global}
+use Rattle.atomic_table.specs.Table.{rest}
+use Rattle.rp_codec.specs.Message.{Message}
+use Rattle.rp_boxes.specs.Parts.{Part, View, box_of, on_first, filling, filled, emptying, emptied, with_got}
+use Rattle.rp_boxes.specs.Rule.{Slot, IsCarried}
+use Rattle.rp_boxes.specs.Plays.{Sight, alone, Claimed, IsTaken, Took, Published, Cleared}
+use Rattle.rp_boxes.proofs.BoxSteps.{same_box}
+
+-- the seat knows this part, and has the box out with what is in it
+abbrev pub holding : ℕ → Part → ℕ → Slot → Sight
+holding k p b slot = ((k, p) ∷ [], (b, slot) ∷ [])
+
+pub sees_claimed : (k b : ℕ) (p : Part) (old new : Sight) (found : ℕ) → old ≡ alone k p → Claimed b old found new → found ≡ 0 → new ≡ holding k (filling b p) b None
+sees_claimed k b p old new found is claimed hit = claimed.hit hit ∙ ap (λ (me : Sight). (on_first (filling b) me.0, (b, None) ∷ me.1)) is
+
+-- the slot that is out is written
+pub sees_written : (k b : ℕ) (p : Part) (slot slot' : Slot) (old new : Sight) → old ≡ holding k p b slot → new ≡ (old.0, (b, slot') ∷ rest old.1) → new ≡ holding k p b slot'
+sees_written k b p slot slot' old new is written = written ∙ ap (λ (me : Sight). (me.0, (b, slot') ∷ rest me.1)) is
+
+pub sees_published : (k b : ℕ) (p : Part) (slot : Slot) (old new : Sight) → p.fills ≡ [] → old ≡ holding k (filling b p) b slot → Published old new → new ≡ alone k p
+sees_published k b p slot old new free is published =
+    published ∙ (ap (λ (me : Sight). (on_first filled me.0, rest me.1)) is ∙ ap (λ (held : List ℕ). alone k (record p { fills = held })) (sym free))
+
+-- what was taken came through this box
+pub sees_taken : (x y : ℕ) (p : Part) (old new : Sight) (found : ℕ) → x < 16 → y < 16 → old ≡ alone y p → Took (box_of x y) old found new → found ≡ 2
+    → (m : Message) × (text : Vec ℕ Global) × IsCarried x y text.items m × (new ≡ holding y (emptying (box_of x y) m p) (box_of x y) (Some text))
+sees_taken x y p old new found less fewer is took hit =
+    let taken = took.hit hit in
+    let same = same_box taken.from taken.to x y taken.less.1 fewer (sym taken.box) in (
+      taken.packet,
+      taken.text,
+      subst (λ (z : ℕ × ℕ). IsCarried z.0 z.1 taken.text.items taken.packet) (λ i. (same.0 i, same.1 i)) taken.carried,
+      taken.is ∙ ap (λ (me : Sight). (on_first (emptying (box_of x y) taken.packet) me.0, (box_of x y, Some taken.text) ∷ me.1)) is,
+    )
+
+pub sees_cleared : (k b : ℕ) (p : Part) (m : Message) (slot : Slot) (old new : Sight) → p.takes ≡ [] → old ≡ holding k (emptying b m p) b slot → Cleared old new → new ≡ alone k (with_got m p)
+sees_cleared k b p m slot old new free is cleared =
+    cleared ∙ (ap (λ (me : Sight). (on_first emptied me.0, rest me.1)) is ∙ ap (λ (held : List ℕ). alone k (record (with_got m p) { takes = held })) (sym free))
+
+pub out_with : (k b : ℕ) (p : Part) (slot : Slot) (me : Sight) → me ≡ holding k p b slot → me.1 ≡ (b, slot) ∷ rest me.1
+out_with k b p slot me is = subst (λ (seen : Sight). seen.1 ≡ (b, slot) ∷ rest seen.1) (sym is) refl

@@ -1,0 +1,253 @@
+-- One event of an actor keeps the rule.
+use Rattle.std.proofs.Common.{◌≡◌, ◌≢◌, ◌⊎◌, ◌↔◌, ℕ, zero, suc, ◌+◌, ◌*◌, ◌%◌, ◌^◌, ◌<◌, ◌≤◌, Option, Some, None, Ok, Vec, List, [], ◌∷◌, ◌++◌, map, length, set, slice_index, inl, inr, refl, sym, ap, subst, ◌∙◌, arith, length-set, get_or-set_same, get_or-set_other}
+use Rattle.std.proofs.Math.Nat.{mod-add-mod}
+use mathlib.Core.Logic.{dite}
+use mathlib.Core.Option.{some}
+use native.Mathlib.Decide.{ℕ_discrete}
+use lib.ListN.{get_elem?}
+use Rattle.atomic_table.specs.Table.{State, Me, keeps, stepped, Allows}
+use Rattle.rp_base.specs.Config.{IsRightConfig}
+use Rattle.rp_base.specs.Sets.{Has}
+use Rattle.rp_base.proofs.Members.{has_split, has_left, has_right}
+use Rattle.rp_codec.specs.Message.{Message}
+use Rattle.rp_codec.specs.declared.packet.Party.TheVariants.{Node, Task}
+use Rattle.rp_model.specs.Effect as nodes
+use Rattle.rp_model.specs.Effect.{Setting, Done, NodeInput, node_effect, cut_effect}
+use Rattle.rp_model.specs.Tasks as tasks
+use Rattle.rp_model.specs.Tasks.{TaskInput, task_effect}
+use Rattle.rp_model.specs.Parts.{NodePart}
+use Rattle.rp_model.specs.Parts.{TaskPart}
+use Rattle.rp_agreement.specs.Inputs.{IsInput, IsTaskInput, NodeMoves, TaskMoves}
+use Rattle.rp_boxes.specs.Parts.{Part, View, Role, OfNode, OfTask, actor_of, box_of, node_of, task_of, part_after}
+use Rattle.rp_boxes.specs.Rule.{Slot, IsGood, IsBox, Ruled, HasOwnPackets, node_among, task_among, all_sent}
+use Rattle.rp_boxes.specs.Steps.{ComesTo, IsNodeEvent, IsTaskEvent, IsEvent}
+use Rattle.rp_boxes.specs.Laws.{EventsKeep}
+use Rattle.rp_boxes.specs.Plays.{alone, Turned}
+use Rattle.rp_boxes.proofs.Worlds.{with_value, value_here, value_else, at_each, from_each, was_part, is_actor, seating_after, sent_by, is_sent}
+
+-- ---- what an actor got was sent
+
+inputs_sent : (got sent : List Message) → ((m : Message) → Has m got → Has m sent) → (input : NodeInput) → IsInput got input → IsInput sent input
+inputs_sent got sent all (nodes.Receive message) is = all message is
+inputs_sent got sent all (nodes.Lead choice) is = is
+inputs_sent got sent all (nodes.Interrupt source occurrence) is = is
+inputs_sent got sent all (nodes.Tick now) is = is
+inputs_sent got sent all (nodes.Report first) is = is
+
+task_inputs_sent : (got sent : List Message) → ((m : Message) → Has m got → Has m sent) → (t : ℕ) (input : TaskInput) → IsTaskInput got t input → IsTaskInput sent t input
+task_inputs_sent got sent all t (tasks.Submit node object operation arg) is = is
+task_inputs_sent got sent all t (tasks.Again node) is = is
+task_inputs_sent got sent all t (tasks.Take message) is = (all message is.0, is.1)
+
+-- ---- what becomes of the world
+
+module _ (parts : ℕ → Part) (k : ℕ) (p p' : Part) (role : Role) (sends : List Message) (was : parts k ≡ p) (small : k < 16) (is : p' ≡ part_after p role sends) where
+  abbrev parts' : ℕ → Part
+  parts' = with_value parts k p'
+
+  new_sent : p'.sent ≡ p.sent ++ sends
+  new_sent = ap (λ (q : Part). q.sent) is
+
+  pub sent_too : (m : Message) → Has m (all_sent parts' 16) ↔ (Has m (all_sent parts 16) ⊎ Has m sends)
+  sent_too m = (there, back)
+    where
+      by_one : (j : ℕ) → j < 16 → Has m (parts' j).sent → Has m (all_sent parts 16) ⊎ Has m sends
+      by_one = at_each parts k p' (λ j q. j < 16 → Has m q.sent → Has m (all_sent parts 16) ⊎ Has m sends)
+          (λ less h. elim (has_split m p.sent sends (subst (Has m) new_sent h)) [
+            | inl old ↦ inl (sent_by parts 16 k m small (subst (λ (q : Part). Has m q.sent) (sym was) old))
+            | inr new ↦ inr new
+          ])
+          (λ j other less h. inl (sent_by parts 16 j m less h))
+
+      there : Has m (all_sent parts' 16) → Has m (all_sent parts 16) ⊎ Has m sends
+      there h = let one = is_sent parts' 16 m h in by_one one.0 one.1 one.2
+
+      still : (j : ℕ) → Has m (parts j).sent → Has m (parts' j).sent
+      still = from_each parts k p p' (λ q q'. Has m q.sent → Has m q'.sent) was
+          (λ h. subst (Has m) (sym new_sent) (has_left m p.sent sends h)) (λ q h. h)
+
+      back : Has m (all_sent parts 16) ⊎ Has m sends → Has m (all_sent parts' 16)
+      back (inl old) = let one = is_sent parts 16 m old in sent_by parts' 16 one.0 m one.1 (still one.0 one.2)
+      back (inr new) = sent_by parts' 16 k m small
+          (subst (λ (q : Part). Has m q.sent) (sym (value_here parts k p')) (subst (Has m) (sym new_sent) (has_right m p.sent sends new)))
+
+-- the invariant holds of the parts and of all that they sent
+abbrev pub IsGoodAt : {S : Type 0} → Setting S → (ℕ → Part) → Type 0
+IsGoodAt s parts = IsGood s (node_among parts) (task_among parts) (all_sent parts 16)
+
+-- an event keeps it, and what the actor sends is from it
+pub record IsKeptBy {S : Type 0} (s : Setting S) (k : ℕ) (parts : ℕ → Part) (p p' : Part) : Type 0 where
+  pub role : Role
+  pub sends : List Message
+  pub is : p' ≡ part_after p role sends
+  pub good : IsGoodAt s (with_value parts k p')
+  pub from : (m : Message) → Has m sends → actor_of m.from ≡ k
+
+module _ {S : Type 0} (s : Setting S) (keep : EventsKeep s) (right : IsRightConfig s.config) (parts : ℕ → Part) (k : ℕ) (p p' : Part) (was : parts k ≡ p) (small : k < 16)
+    (good : IsGoodAt s parts) (got : (m : Message) → Has m p.got → Has m (all_sent parts 16)) where
+  abbrev after : ℕ → Part
+  after = with_value parts k p'
+
+  node_kept : IsNodeEvent s k p p' → IsKeptBy s k parts p p'
+  node_kept event =
+      let here : node_among parts k ≡ event.part = ap (λ (q : Part). node_of q.role) was ∙ ap node_of event.was in
+      let alike : (t : ℕ) → task_among after t ≡ task_among parts t = λ t. from_each parts k p p' (λ q q'. task_of q'.role ≡ task_of q.role) was
+          (ap (λ (q : Part). task_of q.role) event.is ∙ sym (ap task_of event.was)) (λ q. refl) (7 + t) in
+      let moves : NodeMoves k event.done (node_among parts) (all_sent parts 16) (node_among after) (all_sent after 16) = record {
+        part = ap (λ (q : Part). node_of q.role) (value_here parts k p' ∙ event.is);
+        others = λ j other. ap (λ (q : Part). node_of q.role) (value_else parts k p' j other);
+        sends = sent_too parts k p p' (OfNode event.done.part) event.done.sends was small event.is;
+      } in
+      let kept = keep.nodes k event.input event.done (node_among parts) (node_among after) (task_among parts) (all_sent parts 16) (all_sent after 16) right event.member good
+          (inputs_sent p.got (all_sent parts 16) got event.input event.given)
+          (subst (λ (q : NodePart). ComesTo s k q event.input event.done) (sym here) event.comes) moves in
+      record {
+        role = OfNode event.done.part;
+        sends = event.done.sends;
+        is = event.is;
+        good = subst (λ (task : ℕ → TaskPart). IsGood s (node_among after) task (all_sent after 16)) (λ i t. sym (alike t) i) kept.0;
+        from = λ m h. ap actor_of (kept.1 m h);
+      }
+
+  task_kept : (t : ℕ) → k ≡ 7 + t → IsTaskEvent s t p p' → IsKeptBy s k parts p p'
+  task_kept t number event =
+      let own : (j : ℕ) → j ≡ 7 + t → parts j ≡ p → task_of (parts j).role ≡ event.part = λ j e is. ap (λ (q : Part). task_of q.role) is ∙ ap task_of event.was in
+      let was_here : parts (7 + t) ≡ p = subst (λ (j : ℕ). parts j ≡ p) number was in
+      let here : task_among parts t ≡ event.part = own (7 + t) refl was_here in
+      let new_here : after (7 + t) ≡ p' = subst (λ (j : ℕ). after j ≡ p') number (value_here parts k p') in
+      let alike : (x : ℕ) → node_among after x ≡ node_among parts x = from_each parts k p p' (λ q q'. node_of q'.role ≡ node_of q.role) was
+          (ap (λ (q : Part). node_of q.role) event.is ∙ sym (ap node_of event.was)) (λ q. refl) in
+      let moves : TaskMoves t event.done (task_among parts) (all_sent parts 16) (task_among after) (all_sent after 16) = record {
+        part = ap (λ (q : Part). task_of q.role) (new_here ∙ event.is);
+        others = λ j other. ap (λ (q : Part). task_of q.role) (value_else parts k p' (7 + j) (λ e. other (omega (arith, e, number))));
+        sends = sent_too parts k p p' (OfTask event.done.part) event.done.sends was small event.is;
+      } in
+      let kept = keep.tasks t event.input event.done (node_among parts) (task_among parts) (task_among after) (all_sent parts 16) (all_sent after 16) good
+          (task_inputs_sent p.got (all_sent parts 16) got t event.input event.given)
+          (subst (λ (q : TaskPart). task_effect s.config t q event.input ≡ Ok event.done) (sym here) event.comes) moves in
+      record {
+        role = OfTask event.done.part;
+        sends = event.done.sends;
+        is = event.is;
+        good = subst (λ (node : ℕ → NodePart). IsGood s node (task_among after) (all_sent after 16)) (λ i x. sym (alike x) i) kept.0;
+        from = λ m h. ap actor_of (kept.1 m h) ∙ sym number;
+      }
+
+  pub event_kept : IsEvent s k p p' → IsKeptBy s k parts p p'
+  event_kept (inl event) = node_kept event
+  event_kept (inr event) = task_kept event.0 event.1 event.2
+
+-- ---- the step
+
+-- what a box sees of an actor's part: whether it holds the box, and what it has sent at least
+pub record IsSeenAlike (b : ℕ) (p p' : Part) : Type 0 where
+  pub fills : Has b p.fills ↔ Has b p'.fills
+  pub takes : Has b p.takes ↔ Has b p'.takes
+  pub sent : (m : Message) → Has m p.sent → Has m p'.sent
+
+pub alike_itself : (b : ℕ) (p : Part) → IsSeenAlike b p p
+alike_itself b p = record { fills = (λ h. h, λ h. h); takes = (λ h. h, λ h. h); sent = λ m h. h }
+
+-- a box that sees the parts alike, and whose word and slot are as they were
+pub box_stays : (parts parts' : ℕ → Part) (x y word word' : ℕ) (home home' : Slot → Type 0) → IsSeenAlike (box_of x y) (parts x) (parts' x) → IsSeenAlike (box_of x y) (parts y) (parts' y)
+    → word' ≡ word → ((slot : Slot) → home slot → home' slot) → IsBox parts x y word home → IsBox parts' x y word' home'
+box_stays parts parts' x y word word' home home' sender receiver same homes box = record {
+  empty = λ e. homes None (box.empty (sym same ∙ e));
+  filling = (λ e. sender.fills.0 (box.filling.0 (sym same ∙ e)), λ h. same ∙ box.filling.1 (sender.fills.1 h));
+  full = λ e. let has = box.full (sym same ∙ e) in (has.0, has.1, homes (Some has.1) has.2, has.3, sender.sent has.0 has.4);
+  emptying = (λ e. receiver.takes.0 (box.emptying.0 (sym same ∙ e)), λ h. same ∙ box.emptying.1 (receiver.takes.1 h));
+}
+
+module _ {S : Type 0} (s : Setting S) (keep : EventsKeep s) (t : State Slot View) (r : Ruled s t) (id k : ℕ) (p p' : Part) (here : get_elem? t.views id ≡ some ((k, p) ∷ []))
+    (event : IsEvent s k p p') where
+  kept : IsKeptBy s k r.parts p p'
+  kept = event_kept s keep r.config r.parts k p p' (was_part t.views r.parts r.owner r.seating id k p p' here) (is_actor t.views r.parts r.owner r.seating id k p p' here) r.good
+      (λ m h. (r.gets k (is_actor t.views r.parts r.owner r.seating id k p p' here) m (subst (λ (q : Part). Has m q.got) (sym (was_part t.views r.parts r.owner r.seating id k p p' here)) h)).1) event
+
+  was : r.parts k ≡ p
+  was = was_part t.views r.parts r.owner r.seating id k p p' here
+
+  small : k < 16
+  small = is_actor t.views r.parts r.owner r.seating id k p p' here
+
+  abbrev now : ℕ → Part
+  now = with_value r.parts k p'
+
+  abbrev word : ℕ
+  word = 256 + k
+
+  abbrev words : List ℕ
+  words = set t.words word ((slice_index t.words word + 1) % 2 ^ 64)
+
+  from_old : (P : Part → Part → Type 0) → P p (part_after p kept.role kept.sends) → ((q : Part) → P q q) → (j : ℕ) → P (r.parts j) (now j)
+  from_old P changed same = from_each r.parts k p p' P was (subst (P p) (sym kept.is) changed) same
+
+  seen_alike : (b j : ℕ) → IsSeenAlike b (r.parts j) (now j)
+  seen_alike b = from_old (IsSeenAlike b) (record { fills = (λ h. h, λ h. h); takes = (λ h. h, λ h. h); sent = λ m h. has_left m p.sent kept.sends h }) (alike_itself b)
+
+  counted_here : slice_index words word ≡ p'.events % 2 ^ 64
+  counted_here =
+      let old : slice_index t.words word ≡ p.events % 2 ^ 64 = r.counted k small ∙ ap (λ (q : Part). q.events % 2 ^ 64) was in
+      let inside : word < length t.words = rw r.long (omega (arith, small)) in
+      get_or-set_same t.words word ((slice_index t.words word + 1) % 2 ^ 64) 0 inside
+      ∙ (ap (λ (n : ℕ). (n + 1) % 2 ^ 64) old ∙ (mod-add-mod p.events (2 ^ 64) 1 ∙ ap (λ (q : Part). q.events % 2 ^ 64) (sym kept.is)))
+
+  counted_after : (j : ℕ) → j < 16 → slice_index words (256 + j) ≡ (now j).events % 2 ^ 64
+  counted_after = at_each r.parts k p' (λ j q. j < 16 → slice_index words (256 + j) ≡ q.events % 2 ^ 64) (λ less. counted_here)
+      (λ j other less. get_or-set_other t.words word (256 + j) _ 0 (λ e. other (omega (arith, e))) ∙ r.counted j less)
+
+  sends_after : (j : ℕ) → j < 16 → (m : Message) → Has m (now j).sent → actor_of m.from ≡ j
+  sends_after = at_each r.parts k p' (λ j q. j < 16 → (m : Message) → Has m q.sent → actor_of m.from ≡ j)
+      (λ less m h. elim (has_split m p.sent kept.sends (subst (λ (q : Part). Has m q.sent) kept.is h)) [
+        | inl old ↦ r.sends k less m (subst (λ (q : Part). Has m q.sent) (sym was) old)
+        | inr new ↦ kept.from m new
+      ])
+      (λ j other less. r.sends j less)
+
+  more_sent : (m : Message) → Has m (all_sent r.parts 16) → Has m (all_sent now 16)
+  more_sent m h = (sent_too r.parts k p p' kept.role kept.sends was small kept.is m).1 (inl h)
+
+  gets_after : (j : ℕ) → j < 16 → (m : Message) → Has m (now j).got → (actor_of m.to ≡ j) × Has m (all_sent now 16)
+  gets_after j less m h =
+      let old = r.gets j less m (from_old (λ q q'. Has m q'.got → Has m q.got) (λ g. g) (λ q g. g) j h) in
+      (old.0, more_sent m old.1)
+
+  box_after : (x y : ℕ) → x < 16 → y < 16 → IsBox now x y (slice_index words (box_of x y)) (λ slot. get_elem? t.homes (box_of x y) ≡ some (some slot))
+  box_after x y less fewer =
+      box_stays r.parts now x y (slice_index t.words (box_of x y)) _ _ _ (seen_alike (box_of x y) x) (seen_alike (box_of x y) y)
+      (get_or-set_other t.words word (box_of x y) _ 0 (omega (arith, less, fewer))) (λ slot h. h) (r.boxes x y less fewer)
+
+  pub turned : Ruled s record { words = words; homes = t.homes; views = set t.views id ((k, p') ∷ []) }
+  turned = record {
+    parts = now;
+    owner = r.owner;
+    config = r.config;
+    long = length-set t.words word _ ∙ r.long;
+    seating = seating_after t.views r.parts r.owner r.seating id k p p' here;
+    good = kept.good;
+    counted = counted_after;
+    sends = sends_after;
+    gets = gets_after;
+    boxes = box_after;
+  }
+
+-- what the rule says of an actor's packets
+pub own_packets : {S : Type 0} (s : Setting S) (t : State Slot View) (r : Ruled s t) (k : ℕ) → k < 16 → HasOwnPackets k (r.parts k)
+own_packets s t r k small = record {
+  sent = λ m h. (r.good.packets m (sent_by r.parts 16 k m small h), r.sends k small m h);
+  got = λ m h. let old = r.gets k small m h in (r.good.packets m old.1, old.0);
+}
+
+-- an actor's word may count one event more, where the seat of that actor alone knows what the event comes to
+pub turn_allows : {S : Type 0} (s : Setting S) → EventsKeep s → (slots id k : ℕ) (p p' : Part) → IsEvent s k p p' → (says : Part → Type 0) → says p'
+    → Allows (Ruled s) slots id (alone k p) (256 + k) (λ n. (n + 1) % 2 ^ 64) (λ found me. Turned says k me)
+unfolding turned
+turn_allows s keep slots id k p p' event says so = λ t r size here fits.
+    let after = turned s keep t r id k p p' here event in
+    let own = own_packets s _ after k (is_actor t.views r.parts r.owner r.seating id k p p' here) in
+    ((k, p') ∷ [], keeps, tt, after, record {
+      part = p';
+      is = refl;
+      own = subst (HasOwnPackets k) (value_here r.parts k p') own;
+      said = so;
+    })

@@ -1,0 +1,55 @@
+-- What one atomic step tells a seat that knows one actor (this project's own).
+use Rattle.std.specs.Prelude.{◌≡◌, ◌≢◌, ℕ, ◌<◌, Vec, Some, None, List, [], ◌∷◌}
+use Rattle.std.specs.declared.alloc.Global.{Global}
+use Rattle.atomic_table.specs.Table.{Me, rest}
+use Rattle.atomic_table.specs.Seated.{TableId}
+use Rattle.rp_codec.specs.Message.{Message}
+use Rattle.rp_boxes.specs.Parts.{Part, View, box_of, on_first, part_in, filling, filled, emptying, emptied}
+use Rattle.rp_boxes.specs.Rule.{Slot, IsCarried, HasOwnPackets}
+
+-- what a seat knows, and the slots that it has taken out
+abbrev pub Sight : Type 0
+Sight = Me Slot View
+
+-- the seat knows the part of this actor, and nothing is taken out
+abbrev pub alone : ℕ → Part → Sight
+alone k p = ((k, p) ∷ [], [])
+
+-- the table has a word for each box and actor, and a slot for each box
+abbrev pub IsSized : TableId → Type 0
+IsSized table = (table.words ≡ 272) × (table.slots ≡ 256)
+
+-- An empty box is claimed with its slot; another is left.
+pub record Claimed (b : ℕ) (old : Sight) (found : ℕ) (new : Sight) : Type 0 where
+  pub hit : found ≡ 0 → new ≡ (on_first (filling b) old.0, (b, None) ∷ old.1)
+  pub miss : found ≢ 0 → new ≡ old
+
+-- The packet was in the box, from one actor to the other, and its text is taken out.
+pub record IsTaken (b : ℕ) (old new : Sight) : Type 0 where
+  pub from : ℕ
+  pub to : ℕ
+  pub less : (from < 16) × (to < 16)
+  pub box : b ≡ box_of from to
+  pub packet : Message
+  pub text : Vec ℕ Global
+  pub carried : IsCarried from to text.items packet
+  pub is : new ≡ (on_first (emptying b packet) old.0, (b, Some text) ∷ old.1)
+
+-- A full box is claimed by its receiver; another is left.
+pub record Took (b : ℕ) (old : Sight) (found : ℕ) (new : Sight) : Type 0 where
+  pub hit : found ≡ 2 → IsTaken b old new
+  pub miss : found ≢ 2 → new ≡ old
+
+-- the box that was filled, or emptied, goes back with its slot
+abbrev pub Published : Sight → Sight → Type 0
+Published old new = new ≡ (on_first filled old.0, rest old.1)
+
+abbrev pub Cleared : Sight → Sight → Type 0
+Cleared old new = new ≡ (on_first emptied old.0, rest old.1)
+
+-- an event happened, of which this is said
+pub record Turned (says : Part → Type 0) (k : ℕ) (new : Sight) : Type 0 where
+  pub part : Part
+  pub is : new ≡ alone k part
+  pub own : HasOwnPackets k part
+  pub said : says part

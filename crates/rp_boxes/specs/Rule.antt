@@ -1,0 +1,78 @@
+-- The rule of the table: between any two atomic steps there is a world, of which each seat's view is a piece
+-- (this project's own).
+use Rattle.std.specs.Prelude.{◌≡◌, ◌↔◌, ℕ, zero, suc, ◌+◌, ◌%◌, ◌^◌, ◌<◌, Vec, Option, Some, None, List, [], ◌∷◌, ◌++◌, length, map, slice_index}
+use Rattle.std.specs.declared.alloc.Global.{Global}
+use mathlib.Core.Option.{some}
+use lib.ListN.{get_elem?}
+use Rattle.atomic_table.specs.Table.{State}
+use Rattle.rp_base.specs.Config.{IsRightConfig}
+use Rattle.rp_base.specs.Sets.{Has, IsSet}
+use Rattle.rp_codec.specs.Message.{Message, IsPacket}
+use Rattle.rp_codec.specs.Text.{text_of}
+use Rattle.rp_model.specs.Effect.{Setting}
+use Rattle.rp_model.specs.Parts.{NodePart}
+use Rattle.rp_model.specs.Parts.{TaskPart}
+use Rattle.rp_agreement.specs.Answered.{IsKept}
+use Rattle.rp_agreement.specs.Ranges.{IsRangedPart}
+use Rattle.rp_boxes.specs.Parts.{Part, View, actor_of, box_of, node_of, task_of}
+
+-- what a box has: a packet's text, or nothing
+abbrev pub Slot : Type 0
+Slot = Option (Vec ℕ Global)
+
+-- the node and the task of a number, by the parts of the actors
+abbrev pub node_among : (ℕ → Part) → ℕ → NodePart
+node_among parts x = node_of (parts x).role
+
+abbrev pub task_among : (ℕ → Part) → ℕ → TaskPart
+task_among parts t = task_of (parts (7 + t)).role
+
+-- all that the first so many actors sent
+abbrev pub all_sent : (ℕ → Part) → ℕ → List Message
+all_sent parts zero = []
+all_sent parts (suc k) = all_sent parts k ++ (parts k).sent
+
+-- the invariant of a world: that of agreement with what tasks are told, and numbers within their ranges
+pub record IsGood {S : Type 0} (s : Setting S) (node : ℕ → NodePart) (task : ℕ → TaskPart) (sent : List Message) : Type 0 where
+  pub kept : IsKept s node task sent
+  pub ranged : (x : ℕ) → IsRangedPart (node x)
+  pub packets : (m : Message) → Has m sent → IsPacket m
+
+-- the bytes are the text of the packet, which goes from one actor to another
+pub record IsCarried (x y : ℕ) (bytes : List ℕ) (m : Message) : Type 0 where
+  pub text : bytes ≡ text_of m
+  pub packet : IsPacket m
+  pub from : actor_of m.from ≡ x
+  pub to : actor_of m.to ≡ y
+
+-- The box from x to y: empty (0), being filled (1), full (2), or being emptied (3).
+pub record IsBox (parts : ℕ → Part) (x y word : ℕ) (home : Slot → Type 0) : Type 0 where
+  pub empty : word ≡ 0 → home None
+  pub filling : (word ≡ 1) ↔ Has (box_of x y) (parts x).fills
+  pub full : word ≡ 2 → (m : Message) × (text : Vec ℕ Global) × home (Some text) × IsCarried x y text.items m × Has m (parts x).sent
+  pub emptying : (word ≡ 3) ↔ Has (box_of x y) (parts y).takes
+
+-- Each seat knows some of the actors with their parts, no two seats the same, and all actors are known.
+pub record IsSeating (views : List View) (parts : ℕ → Part) (owner : ℕ → ℕ) : Type 0 where
+  pub knows : (id : ℕ) (v : View) → get_elem? views id ≡ some v → (k : ℕ) (p : Part) → Has (k, p) v → (owner k ≡ id) × (parts k ≡ p) × (k < 16)
+  pub apart : (id : ℕ) (v : View) → get_elem? views id ≡ some v → IsSet (map (λ known. known.0) v)
+  pub seated : (k : ℕ) → k < 16 → (v : View) × (get_elem? views (owner k) ≡ some v) × Has (k, parts k) v
+
+-- The parts that the seats know, and all packets that these sent, are a world that meets the invariant. An actor's word
+-- is the number of its events modulo 2^64; what an actor sent is from it, and what it got was sent, to it.
+pub record Ruled {S : Type 0} (s : Setting S) (t : State Slot View) : Type 0 where
+  pub parts : ℕ → Part
+  pub owner : ℕ → ℕ
+  pub config : IsRightConfig s.config
+  pub long : length t.words ≡ 272
+  pub seating : IsSeating t.views parts owner
+  pub good : IsGood s (node_among parts) (task_among parts) (all_sent parts 16)
+  pub counted : (k : ℕ) → k < 16 → slice_index t.words (256 + k) ≡ (parts k).events % 2 ^ 64
+  pub sends : (k : ℕ) → k < 16 → (m : Message) → Has m (parts k).sent → actor_of m.from ≡ k
+  pub gets : (k : ℕ) → k < 16 → (m : Message) → Has m (parts k).got → (actor_of m.to ≡ k) × Has m (all_sent parts 16)
+  pub boxes : (x y : ℕ) → x < 16 → y < 16 → IsBox parts x y (slice_index t.words (box_of x y)) (λ slot. get_elem? t.homes (box_of x y) ≡ some (some slot))
+
+-- all packets that an actor sent or got are right ones, from it or to it
+pub record HasOwnPackets (k : ℕ) (p : Part) : Type 0 where
+  pub sent : (m : Message) → Has m p.sent → IsPacket m × (actor_of m.from ≡ k)
+  pub got : (m : Message) → Has m p.got → IsPacket m × (actor_of m.to ≡ k)

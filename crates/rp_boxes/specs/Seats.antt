@@ -1,0 +1,142 @@
+-- What a seat is to a contract, and what its calls come to (this project's own).
+use Rattle.std.specs.Prelude.{◌≡◌, ◌⊎◌, ℕ, ◌+◌, ◌<◌, ◌^◌, None, Option, IfSome, IsSome, Result, Ok, Err, List, [], ◌∷◌, length}
+use Rattle.atomic_table.specs.Seated.{TableId}
+use Rattle.rp_base.specs.Number.{IsPosition}
+use Rattle.rp_base.specs.Records.{applied_of}
+use Rattle.rp_base.specs.Sets.{Has}
+use Rattle.rp_base.specs.declared.action.Action.{Action}
+use Rattle.rp_base.specs.declared.config.Config.{Config}
+use Rattle.rp_base.specs.declared.fault.Fault.{Fault}
+use Rattle.rp_base.specs.declared.fault.Fault.TheVariants.{OutOfMemory, Device, Failed}
+use Rattle.rp_base.specs.declared.reply.Answer.{Answer}
+use Rattle.rp_codec.specs.Message.{Message, IsPacket}
+use Rattle.rp_codec.specs.Text.{text_of}
+use Rattle.rp_codec.specs.declared.packet.Party.{Party}
+use Rattle.rp_model.specs.Effect.{Setting, Done, NodeInput, node_effect, cut_effect, report_of}
+use Rattle.rp_model.specs.declared.effect.Dropped.TheVariants.{No}
+use Rattle.rp_model.specs.Parts.{NodePart}
+use Rattle.rp_agreement.specs.Answered.{setting_for}
+use Rattle.rp_agreement.specs.Sound.{IsMember}
+use Rattle.rp_replica.specs.Held.{Held}
+use Rattle.rp_replica.specs.Inputs.{given_by}
+use Rattle.rp_replica.specs.declared.input.Input.{Input}
+use Rattle.rp_replica.specs.declared.input.Input.TheVariants.{Receive, Lead, Interrupt, Tick, Report}
+use Rattle.rp_replica.specs.declared.sent.Sent.{Sent}
+use Rattle.rp_world.specs.Nodes.{member_of, IsComing, StandsWhile, TellsSent}
+use Rattle.rp_boxes.specs.Parts.{Part, OfNode, part_in, part_after, with_got}
+use Rattle.rp_boxes.specs.Rule.{HasOwnPackets}
+use Rattle.rp_boxes.specs.Plays.{Sight, IsSized, alone}
+
+-- The table that a seat is at, what all nodes of that table share, the number of the seat's node or task (0 for the
+-- audit), and what the seat knows of it.
+pub record Chair (P : Type 0) : Type 0 where
+  pub table : TableId
+  pub config : Config
+  pub program : P
+  pub number : ℕ
+  pub part : Part
+
+-- what the nodes at the table share
+abbrev pub setting_at : {S P : Type 0} → (S → Action → S) → (S → Action → List Answer) → (P → S) → Chair P → Setting S
+setting_at next answers begin chair = setting_for next answers begin chair.config chair.program
+
+-- The place of a seat that knows one actor and holds no box.
+pub record IsAtTable (table mine : TableId) (actor : ℕ) (me : Sight) : Type 0 where
+  pub same : mine ≡ table
+  pub sized : IsSized table
+  pub small : actor < 16
+  pub place : me ≡ alone actor (part_in me.0)
+  pub fills : (part_in me.0).fills ≡ []
+  pub takes : (part_in me.0).takes ≡ []
+  pub own : HasOwnPackets actor (part_in me.0)
+
+-- The replica is the node that the seat knows; where its device failed, that node is stopped.
+pub record IsNodePlace {S : Type 0} (config : Config) (begin : S) (number : ℕ) (held : Held S) (part : Part) : Type 0 where
+  pub member : IsMember config.nodes number
+  pub node : NodePart
+  pub is : part.role ≡ OfNode node
+  pub stands : StandsWhile (member_of number config begin) held node held.failed
+
+-- ---- inputs
+
+-- the numbers are within the ranges of their types
+abbrev pub HasInputRanges : Input → Type 0
+HasInputRanges (Receive bytes) = Unit {0}
+HasInputRanges (Lead choice) = IfSome choice IsPosition
+HasInputRanges (Interrupt source occurrence) = Unit {0}
+HasInputRanges (Tick now) = now < 2 ^ 32
+HasInputRanges (Report first) = IsPosition first
+
+-- the bytes that are to be received are the text of a packet that the actor got
+abbrev pub IsGot : Part → Input → Type 0
+IsGot part (Receive bytes) = (m : Message) × Has m part.got × (bytes.now ≡ text_of m)
+IsGot part (Lead choice) = Unit {0}
+IsGot part (Interrupt source occurrence) = Unit {0}
+IsGot part (Tick now) = Unit {0}
+IsGot part (Report first) = Unit {0}
+
+-- ---- turns of a node
+
+module _ {S P : Type 0} (next : S → Action → S) (answers : S → Action → List Answer) (begin : P → S) where
+  -- One event: what the input comes to at the node, and its packets.
+  pub record IsTurn (old : Chair P) (input : Input) (new : Chair P) (sent : Sent) : Type 0 where
+    pub given : NodeInput
+    pub gives : given_by input ≡ Ok given
+    pub node : NodePart
+    pub was : old.part.role ≡ OfNode node
+    pub done : Done NodePart
+    pub comes : node_effect (setting_at next answers begin old) old.number node given ≡ Ok done
+    pub after : new ≡ record old { part = part_after old.part (OfNode done.part) done.sends }
+    pub tells : TellsSent sent done
+
+  -- One event: the device failed, and the node stopped within the step, of whose record some bytes were kept.
+  pub record IsCutTurn (old : Chair P) (input : Input) (new : Chair P) (fault : Fault) : Type 0 where
+    pub device : fault ≡ Device
+    pub given : NodeInput
+    pub gives : given_by input ≡ Ok given
+    pub node : NodePart
+    pub was : old.part.role ≡ OfNode node
+    pub kept : ℕ
+    pub done : Done NodePart
+    pub comes : cut_effect (setting_at next answers begin old) old.number node given kept ≡ Ok done
+    pub after : new ≡ record old { part = part_after old.part (OfNode done.part) done.sends }
+
+  -- No event: the node is stopped since its device failed, memory was wanting for the step, or the step is refused.
+  pub record IsNoTurn (old : Chair P) (input : Input) (new : Chair P) (fault : Fault) : Type 0 where
+    pub unchanged : new ≡ old
+    pub given : NodeInput
+    pub gives : given_by input ≡ Ok given
+    pub node : NodePart
+    pub was : old.part.role ≡ OfNode node
+    pub why : ((fault ≡ Failed) × (node.running ≡ None))
+        ⊎ (((fault ≡ OutOfMemory) × IsComing (node_effect (setting_at next answers begin old) old.number node given))
+        ⊎ (node_effect (setting_at next answers begin old) old.number node given ≡ Err fault))
+
+-- ---- packets
+
+-- the bytes are the text of a packet that the actor sent
+abbrev pub IsSentText : Part → List ℕ → Type 0
+IsSentText part bytes = (m : Message) × Has m part.sent × (bytes ≡ text_of m)
+
+-- A packet from one party to another was taken out of their box: these bytes are its text, and it is got.
+pub record IsFetched {P : Type 0} (from to : Party) (bytes : List ℕ) (old new : Chair P) : Type 0 where
+  pub packet : Message
+  pub right : IsPacket packet
+  pub text : bytes ≡ text_of packet
+  pub sender : packet.from ≡ from
+  pub receiver : packet.to ≡ to
+  pub after : new ≡ record old { part = with_got packet old.part }
+
+-- A report of the actions that the node has applied, from a position on: it is the one packet of the step, and nothing
+-- else changes.
+pub record IsReport {P : Type 0} (first : ℕ) (old new : Chair P) (sent : Sent) : Type 0 where
+  pub node : NodePart
+  pub was : old.part.role ≡ OfNode node
+  pub text : sent.bytes.items ≡ text_of (report_of old.number first (applied_of node.records))
+  pub packets : sent.packets ≡ 1
+  pub dropped : sent.dropped ≡ No
+  pub after : new ≡ record old { part = part_after old.part (OfNode node) (report_of old.number first (applied_of node.records) ∷ []) }
+
+-- so many actions are applied, if the node runs
+abbrev pub HasApplied : Part → ℕ → Type 0
+HasApplied part count = (node : NodePart) × (part.role ≡ OfNode node) × IsSome node.running × (count ≡ length (applied_of node.records))

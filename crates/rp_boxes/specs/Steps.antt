@@ -1,0 +1,43 @@
+-- What a step of a seat comes to (this project's own).
+use Rattle.std.specs.Prelude.{◌≡◌, ◌⊎◌, ℕ, ◌+◌, Ok, List}
+use Rattle.rp_base.specs.Number.{IsTask}
+use Rattle.rp_codec.specs.Message.{Message}
+use Rattle.rp_model.specs.Effect.{Setting, Done, NodeInput, node_effect, cut_effect}
+use Rattle.rp_model.specs.Tasks.{TaskInput, task_effect}
+use Rattle.rp_model.specs.Parts.{NodePart}
+use Rattle.rp_model.specs.Parts.{TaskPart}
+use Rattle.rp_agreement.specs.Inputs.{IsInput, IsTaskInput}
+use Rattle.rp_agreement.specs.Sound.{IsMember}
+use Rattle.rp_boxes.specs.Parts.{Part, OfNode, OfTask, part_after}
+
+-- an input comes to this at the node, or the node stops within that step
+abbrev pub ComesTo : {S : Type 0} → Setting S → ℕ → NodePart → NodeInput → Done NodePart → Type 0
+ComesTo s x part input done =
+    (node_effect s x part input ≡ Ok done) ⊎ ((kept : ℕ) × (cut_effect s x part input kept ≡ Ok done))
+
+-- One event of node x: an input that it may be given, by the packets that it got, and what comes of it.
+pub record IsNodeEvent {S : Type 0} (s : Setting S) (x : ℕ) (before after : Part) : Type 0 where
+  pub member : IsMember s.config.nodes x
+  pub part : NodePart
+  pub was : before.role ≡ OfNode part
+  pub input : NodeInput
+  pub given : IsInput before.got input
+  pub done : Done NodePart
+  pub comes : ComesTo s x part input done
+  pub is : after ≡ part_after before (OfNode done.part) done.sends
+
+-- one event of task t
+pub record IsTaskEvent {S : Type 0} (s : Setting S) (t : ℕ) (before after : Part) : Type 0 where
+  pub task : IsTask t
+  pub part : TaskPart
+  pub was : before.role ≡ OfTask part
+  pub input : TaskInput
+  pub given : IsTaskInput before.got t input
+  pub done : Done TaskPart
+  pub comes : task_effect s.config t part input ≡ Ok done
+  pub is : after ≡ part_after before (OfTask done.part) done.sends
+
+-- one event of actor k
+abbrev pub IsEvent : {S : Type 0} → Setting S → ℕ → Part → Part → Type 0
+IsEvent s k before after =
+    IsNodeEvent s k before after ⊎ ((t : ℕ) × (k ≡ 7 + t) × IsTaskEvent s t before after)

@@ -1,0 +1,54 @@
+//! The table that all seats share.
+
+use rp_base::Config;
+use rp_machine::Machine;
+use std::alloc::Global;
+use std::marker::{Model, PhantomData};
+use std::snapshot::Snapshot;
+
+use atomic_table::{Seat, Shared, Table, TableRule};
+
+/// What a seat knows, for contracts alone. No value of it is made.
+pub struct Known {
+    nothing: (),
+}
+
+impl Model for Known {
+    ghost use Rattle.std.specs.Prelude.{[]};
+    ghost use Rattle.rp_boxes.specs.Parts.{View};
+
+    ghost Value = { View };
+
+    ghost view = { λ k. [] };
+}
+
+/// What all nodes share: the configuration, and the program as contracts see it.
+pub struct Setup<M: Machine> {
+    pub config: Config,
+    pub program: Snapshot<M::Program>,
+}
+
+/// The rule that each step keeps.
+pub struct Law<M> {
+    of: PhantomData<M>,
+}
+
+impl<M: Machine> TableRule<Option<Vec<u8>>, Known, Setup<M>> for Law<M> {
+    ghost use Rattle.rp_agreement.specs.Answered.{setting_for};
+    ghost use Rattle.rp_boxes.specs.Parts.{first_from};
+    ghost use Rattle.rp_boxes.specs.Rule.{Ruled};
+
+    ghost holds = { λ setup. Ruled
+        (setting_for M.next M.answers M.begin setup.config setup.program.value) };
+
+    ghost first = { λ setup. first_from 0 16 };
+}
+
+/// The table: a word for each actor, and a word and a slot for each box.
+pub type Board<M> = Table<Option<Vec<u8>>, Known, Setup<M>, Law<M>, Global>;
+
+/// A place at the table.
+pub type Place = Seat<Option<Vec<u8>>, Known>;
+
+/// The words and slots of the table, as its seats step on them.
+pub(crate) type Slots<M> = Shared<Option<Vec<u8>>, Known, Setup<M>, Law<M>>;

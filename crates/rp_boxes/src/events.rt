@@ -1,0 +1,54 @@
+//! The step by which an actor's event is counted.
+
+ghost use Rattle.std.specs.Prelude.{◌≡◌, ◌<◌};
+ghost use Rattle.rp_agreement.specs.Answered.{setting_for};
+ghost use Rattle.rp_boxes.specs.Parts.{Part, part_in};
+ghost use Rattle.rp_boxes.specs.Plays.{IsSized, Turned, alone};
+ghost use Rattle.rp_boxes.specs.Steps.{IsEvent};
+
+use crate::board::{Known, Place, Slots};
+use crate::laws::events_keep;
+use atomic_table::Play;
+use rp_machine::Machine;
+use std::marker::{Brand, PhantomData};
+
+/// What is said of an actor's part once its event happened. Each call picks it.
+pub(crate) trait Saying {
+    ghost use Rattle.rp_boxes.specs.Parts.{Part};
+
+    ghost says: { Part → Type 0 };
+}
+
+impl Saying for Brand {
+    ghost says = { λ part. Unit {0} };
+}
+
+/// One event happened.
+pub(crate) struct Turns<J> {
+    of: PhantomData<J>,
+}
+
+impl<J: Saying> Play<Option<Vec<u8>>, Known> for Turns<J> {
+    ghost use Rattle.rp_boxes.specs.Parts.{actor_in};
+    ghost use Rattle.rp_boxes.specs.Plays.{Turned};
+
+    ghost then = { λ step old found new. Turned J.says (actor_in old.0) new };
+}
+
+/// Counts an event of the actor whose part the place knows: it becomes some part of which this is
+/// said.
+pub(crate) fn note<M: Machine, J: Saying>(slots: &Slots<M>, place: &mut Place, actor: usize)
+    requires table { place.old.table_id ≡ slots.now.table_id }
+    requires sized { IsSized slots.now.table_id }
+    requires actor { actor < 16 }
+    requires place { place.old.me ≡ alone actor (part_in place.old.me.0) }
+    requires event { (part : Part)
+        × IsEvent (setting_for M.next M.answers M.begin slots.now.key.config
+            slots.now.key.program.value) actor (part_in place.old.me.0) part
+        × J.says part }
+    ensures table { place.new.table_id ≡ place.old.table_id }
+    ensures turned { Turned J.says actor place.new.me }
+{
+    events_keep::<M>();
+    slots.fetch_add::<Turns<J>>(place, 256 + actor, 1);
+}

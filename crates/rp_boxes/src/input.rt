@@ -1,0 +1,29 @@
+//! What a node may be given is within its ranges.
+
+ghost use Rattle.std.specs.Prelude.{◌<◌, ◌^◌};
+ghost use Rattle.rp_boxes.specs.Seats.{HasInputRanges};
+
+use rp_base::Position;
+use rp_replica::Input;
+
+/// The numbers of an input are within the ranges of their types. It does nothing: what it promises
+/// is for contracts.
+pub(crate) fn keeps_ranges(input: &Input)
+    ensures { HasInputRanges input.now }
+{
+    match *input {
+        Input::Receive(_) | Input::Interrupt { .. } => {}
+        Input::Lead(choice) => {
+            let _ = choice.map(Position::get);
+        }
+        Input::Tick { now } => tick_keeps_range(now),
+        Input::Report(first) => {
+            let _ = first.get();
+        }
+    }
+}
+
+/// A tick is within its range.
+fn tick_keeps_range(now: u32)
+    ensures { now < 2 ^ 32 }
+{}

@@ -1,0 +1,23 @@
+//! Boxes and seats: every node and task may run in a thread of its own.
+//!
+//! In reading order:
+//! - `board`: the table that all seats share
+//! - `laws`: what the rule uses of agreement
+//! - `events`: the step by which an actor's event is counted
+//! - `boxes`: the steps at a box: its sender fills it, its receiver empties it
+//! - `actors`: the numbers by which the table knows actors
+//! - `input`: what a node may be given is within its ranges
+//! - `node_turns`: a node's turn is counted
+//! - `node_seat`: the seat of a node
+#![tactic(auto)]
+
+mod actors;
+mod board;
+mod boxes;
+mod events;
+mod input;
+mod laws;
+mod node_seat;
+mod node_turns;
+
+pub use node_seat::NodeSeat;

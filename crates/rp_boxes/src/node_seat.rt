@@ -1,0 +1,144 @@
+//! The seat of a node.
+
+ghost use Rattle.std.specs.Prelude.{◌≡◌, ◌⊎◌, IfOk, IfErr, IfSome, IfNone, IsOkUnless};
+ghost use Rattle.rp_base.specs.declared.fault.Fault.TheVariants as faults;
+ghost use Rattle.rp_codec.specs.declared.packet.Party.TheVariants.{Node};
+ghost use Rattle.rp_replica.specs.Inputs.{IsRightInput};
+ghost use Rattle.rp_replica.specs.declared.input.Input.TheVariants.{Report};
+ghost use Rattle.rp_boxes.specs.Seats.{IsGot, IsTurn, IsCutTurn, IsNoTurn, IsSentText, IsFetched, HasApplied, IsReport};
+
+use crate::actors::{actor_of, receiver};
+use crate::board::{Board, Place};
+use crate::boxes::{empty, fill};
+use crate::input::keeps_ranges;
+use crate::node_turns::{note_stop, note_turn};
+use rp_base::{Fault, NodeId, Position};
+use rp_codec::Party;
+use rp_machine::Machine;
+use rp_replica::{Input, Replica, Sent, texts_are_packets};
+use rp_store::Device;
+use std::alloc::Global;
+use std::marker::{Brand, Model};
+use std::sync::Arc;
+
+/// The seat of a node: the node itself, and its place at the table that all seats share. It crosses
+/// to another thread, and none of its calls waits.
+#[derive(Drop)]
+pub struct NodeSeat<M: Machine, D: Device> {
+    node: NodeId,
+    replica: Replica<M, D>,
+    place: Place,
+    board: Arc<Board<M>, Global>,
+}
+
+impl<M: Machine, D: Device> Model for NodeSeat<M, D> {
+    ghost use Rattle.std.specs.Arc.{arc_value};
+    ghost use Rattle.rp_boxes.specs.Parts.{part_in};
+    ghost use Rattle.rp_boxes.specs.Seats.{Chair, IsAtTable, IsNodePlace};
+
+    ghost Value = { Chair M.Program };
+
+    ghost view = { λ s. record {
+      table = s.place.table_id;
+      config = (arc_value s.board).shared.key.config;
+      program = (arc_value s.board).shared.key.program.value;
+      number = s.node;
+      part = part_in s.place.me.0;
+    } };
+
+    ghost invariant = { λ s. IsAtTable (arc_value s.board).shared.table_id s.place.table_id s.node s.place.me
+        × IsNodePlace (arc_value s.board).shared.key.config (M.begin (arc_value s.board).shared.key.program.value) s.node s.replica (part_in s.place.me.0) };
+}
+
+impl<M: Machine, D: Device> NodeSeat<M, D> {
+    /// One step of the node, of a packet that the seat got or of another input. It is one event, and
+    /// the packets are those that it sends. Refused with 1 where memory ran out, with 3 once the
+    /// device has failed, or with 6 or 7 where the node cannot lead: then nothing has happened. With
+    /// 2 the device fails, and the node stops within the step.
+    pub fn turn(&mut self, alloc: Global, input: &Input) -> Result<Sent, Fault>
+        requires right { IsRightInput input.now }
+        requires got { IsGot self.old.part input.now }
+        ensures ok { IfOk result (λ sent. IsTurn M.next M.answers M.begin
+            self.old input.now self.new sent) }
+        ensures err { IfErr result (λ fault. IsCutTurn M.next M.answers M.begin
+            self.old input.now self.new fault
+            ⊎ IsNoTurn M.next M.answers M.begin self.old input.now self.new fault) }
+    {
+        keeps_ranges(input);
+        texts_are_packets();
+        if self.replica.has_failed() {
+            return Err(Fault::Failed);
+        }
+        match self.replica.turn(alloc, input) {
+            Ok(sent) => {
+                note_turn::<M, D, Brand>(
+                    &self.board.shared,
+                    &mut self.place,
+                    self.node,
+                    &self.replica,
+                    input,
+                    &sent,
+                );
+                Ok(sent)
+            }
+            Err(fault) => {
+                if !self.replica.has_failed() {
+                    return Err(fault);
+                }
+                note_stop::<M, D, Brand>(
+                    &self.board.shared,
+                    &mut self.place,
+                    self.node,
+                    &self.replica,
+                    input,
+                );
+                Err(fault)
+            }
+        }
+    }
+
+    /// Puts a packet that a step of this seat sent, as its text, into the box to its receiver. It is
+    /// given back where that box is not empty.
+    pub fn put(&mut self, packet: Vec<u8>) -> Result<(), Vec<u8>>
+        requires sent { IsSentText self.old.part packet.items }
+        ensures unchanged { self.new ≡ self.old }
+        ensures back { IfErr result (λ back. back ≡ packet) }
+    {
+        let to = receiver(packet.as_slice());
+        let node = usize::from(self.node.get());
+        fill(&self.board.shared, &mut self.place, node, to, packet)
+    }
+
+    /// The packet in the box from that party to this seat, as its text, or `None` where the box is
+    /// not full.
+    pub fn fetch(&mut self, from: Party) -> Option<Vec<u8>>
+        ensures some { IfSome result (λ text. IsFetched from (Node self.old.number) text.items
+            self.old self.new) }
+        ensures none { IfNone result (self.new ≡ self.old) }
+    {
+        let node = usize::from(self.node.get());
+        empty(&self.board.shared, &mut self.place, actor_of(from), node)
+    }
+
+    /// How many actions the node has applied. `Failed` once its device has failed.
+    pub fn applied(&self) -> Result<u32, Fault>
+        ensures ok { IfOk result (λ count. HasApplied self.now.part count) }
+        ensures only { IsOkUnless result faults.Failed }
+    {
+        if self.replica.has_failed() {
+            return Err(Fault::Failed);
+        }
+        Ok(self.replica.applied())
+    }
+
+    /// A report to the audit of the actions applied at the positions from `first` on, as `turn` makes
+    /// it.
+    pub fn report(&mut self, alloc: Global, first: Position) -> Result<Sent, Fault>
+        ensures ok { IfOk result (λ sent. IsReport first self.old self.new sent) }
+        ensures err { IfErr result (λ fault. IsCutTurn M.next M.answers M.begin
+            self.old (Report first) self.new fault
+            ⊎ IsNoTurn M.next M.answers M.begin self.old (Report first) self.new fault) }
+    {
+        self.turn(alloc, &Input::Report(first))
+    }
+}

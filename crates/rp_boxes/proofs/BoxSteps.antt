@@ -1,25 +1,21 @@
 -- The steps at a box: its sender claims it and publishes what it put there, its receiver takes it and clears it.
-use Rattle.std.proofs.Common.{◌≡◌, ◌≢◌, ◌⊎◌, ◌↔◌, ℕ, zero, suc, ◌+◌, ◌*◌, ◌%◌, ◌^◌, ◌<◌, ◌≤◌, eqb, Option, Some, None, Vec, List, [], ◌∷◌, ◌++◌, map, length, set, slice_index, inl, inr, refl, sym, ap, subst, ◌∙◌, arith, length-set, get_or-set_same, get_or-set_other}
-use Rattle.std.specs.declared.alloc.Global.{Global}
+use Rattle.std.proofs.Common.{◌≡◌, ◌≢◌, ◌⊎◌, ◌↔◌, ℕ, ◌+◌, ◌%◌, ◌^◌, ◌<◌, List, [], ◌∷◌, length, set, slice_index, inl, inr, refl, sym, ap, subst, ◌∙◌, arith, length-set, get_or-set_same, get_or-set_other}
 use mathlib.Core.Logic.{dite}
 use mathlib.Core.Option.{some, none}
 use mathlib.Core.Option as maybe
 use native.Mathlib.Decide.{ℕ_discrete}
 use lib.ListN.{get_elem?}
 use lib.Seq.{set-get_or}
-use prog.Atomic.{either}
-use Rattle.atomic_table.specs.Table.{State, Act, keeps, takes as takes_slot, gives, stepped, carried_after, Valid, Allows}
-use Rattle.atomic_table.proofs.Lists.{set_here, set_else, set_again, exchanged}
+use Rattle.atomic_table.specs.Table.{State}
+use Rattle.atomic_table.proofs.Lists.{set_again}
 use Rattle.rp_base.specs.Sets.{Has}
-use Rattle.rp_base.proofs.Members.{has_split}
 use Rattle.rp_codec.specs.Message.{Message}
 use Rattle.rp_model.specs.Effect.{Setting}
 use Rattle.rp_model.specs.Parts.{NodePart}
 use Rattle.rp_model.specs.Parts.{TaskPart}
-use Rattle.rp_boxes.specs.Parts.{Part, View, actor_of, box_of, node_of, task_of, filling, filled, emptying, emptied}
-use Rattle.rp_boxes.specs.Rule.{Slot, IsGood, IsBox, IsCarried, Ruled, node_among, task_among, all_sent}
-use Rattle.rp_boxes.specs.Plays.{Sight, alone, Claimed, IsTaken, Took, Published, Cleared}
-use Rattle.rp_boxes.proofs.Worlds.{with_value, value_here, value_else, at_each, from_each, was_part, is_actor, seating_after, sent_by, same_sent}
+use Rattle.rp_boxes.specs.Parts.{Part, View, actor_of, box_of, node_of, task_of}
+use Rattle.rp_boxes.specs.Rule.{Slot, IsGood, IsBox, Ruled, node_among, task_among, all_sent}
+use Rattle.rp_boxes.proofs.Worlds.{with_value, value_here, at_each, from_each, was_part, is_actor, seating_after, same_sent}
 use Rattle.rp_boxes.proofs.Turns.{IsGoodAt, IsSeenAlike, alike_itself, box_stays}
 
 -- boxes of the same number are one
@@ -113,8 +109,8 @@ module _ {S : Type 0} (s : Setting S) (t : State Slot View) (r : Ruled s t) (id 
       boxes_after : (x' y' : ℕ) → x' < 16 → y' < 16 → IsBox now x' y' (slice_index (set t.words (box_of x y) word) (box_of x' y')) (λ slot. get_elem? homes (box_of x' y') ≡ some (some slot))
       boxes_after x' y' less' fewer' = dite (ℕ_discrete (box_of x' y') (box_of x y))
           (λ e. let same = same_box x' y' x y fewer' fewer e in
-            subst (λ (z : ℕ × ℕ). IsBox now z.0 z.1 (slice_index (set t.words (box_of x y) word) (box_of z.0 z.1)) (λ slot. get_elem? homes (box_of z.0 z.1) ≡ some (some slot)))
-            (λ i. (sym same.0 i, sym same.1 i)) this_box)
+          subst (λ (z : ℕ × ℕ). IsBox now z.0 z.1 (slice_index (set t.words (box_of x y) word) (box_of z.0 z.1)) (λ slot. get_elem? homes (box_of z.0 z.1) ≡ some (some slot)))
+          (λ i. (sym same.0 i, sym same.1 i)) this_box)
           (λ other. other_box x' y' less' fewer' other)
 
 -- ---- where the word is as it was

@@ -1,25 +1,19 @@
 -- The receiver's steps at a box: it takes the packet out of a full one, and clears it.
-use Rattle.std.proofs.Common.{◌≡◌, ◌≢◌, ◌⊎◌, ◌↔◌, ℕ, zero, suc, ◌+◌, ◌*◌, ◌%◌, ◌^◌, ◌<◌, ◌≤◌, eqb, Option, Some, None, Vec, List, [], ◌∷◌, ◌++◌, map, length, set, slice_index, inl, inr, refl, sym, ap, subst, ◌∙◌, arith, length-set, get_or-set_same, get_or-set_other}
+use Rattle.std.proofs.Common.{◌≡◌, ◌⊎◌, ℕ, ◌<◌, ◌≤◌, eqb, Some, None, Vec, List, [], ◌∷◌, ◌++◌, length, set, slice_index, inl, inr, refl, sym, ap, subst, ◌∙◌, arith}
 use Rattle.std.specs.declared.alloc.Global.{Global}
-use mathlib.Core.Logic.{dite}
 use mathlib.Core.Option.{some, none}
-use mathlib.Core.Option as maybe
-use native.Mathlib.Decide.{ℕ_discrete}
 use lib.ListN.{get_elem?}
-use lib.Seq.{set-get_or}
 use prog.Atomic.{either}
 use Rattle.atomic_table.specs.Table.{State, Act, keeps, takes as takes_slot, gives, stepped, carried_after, Valid, Allows}
-use Rattle.atomic_table.proofs.Lists.{set_here, set_else, set_again, exchanged}
+use Rattle.atomic_table.proofs.Lists.{set_here, set_else, exchanged}
 use Rattle.rp_base.specs.Sets.{Has}
 use Rattle.rp_base.proofs.Members.{has_split}
 use Rattle.rp_codec.specs.Message.{Message}
 use Rattle.rp_model.specs.Effect.{Setting}
-use Rattle.rp_model.specs.Parts.{NodePart}
-use Rattle.rp_model.specs.Parts.{TaskPart}
-use Rattle.rp_boxes.specs.Parts.{Part, View, actor_of, box_of, node_of, task_of, filling, filled, emptying, emptied}
-use Rattle.rp_boxes.specs.Rule.{Slot, IsGood, IsBox, IsCarried, Ruled, node_among, task_among, all_sent}
-use Rattle.rp_boxes.specs.Plays.{Sight, alone, Claimed, IsTaken, Took, Published, Cleared}
-use Rattle.rp_boxes.proofs.Worlds.{with_value, value_here, value_else, at_each, from_each, was_part, is_actor, seating_after, sent_by, same_sent}
+use Rattle.rp_boxes.specs.Parts.{Part, View, actor_of, box_of, emptying, emptied}
+use Rattle.rp_boxes.specs.Rule.{Slot, IsBox, IsCarried, Ruled, all_sent}
+use Rattle.rp_boxes.specs.Plays.{alone, Took, Cleared}
+use Rattle.rp_boxes.proofs.Worlds.{from_each, sent_by}
 use Rattle.rp_boxes.proofs.BoxSteps.{IsBoxStep, boxed, was, now, part_now, still, held_alone, none_both, as_it_is}
 
 module _ {S : Type 0} (s : Setting S) (slots id x y : ℕ) (p : Part) (less : x < 16) (fewer : y < 16) where
@@ -37,9 +31,9 @@ module _ {S : Type 0} (s : Setting S) (slots id x y : ℕ) (p : Part) (less : x 
       by_sender n h = elim (has_split n p.got (m ∷ []) h) [
         | inl old ↦ inl old
         | inr new ↦ elim new [
-            | inl same ↦ inr (ap (λ (k : Message). actor_of k.to) same ∙ carried.to, sent_by r.parts 16 x n less (subst (λ (k : Message). Has k (r.parts x).sent) (sym same) sent))
-            | inr never ↦ absurd never
-          ]
+          | inl same ↦ inr (ap (λ (k : Message). actor_of k.to) same ∙ carried.to, sent_by r.parts 16 x n less (subst (λ (k : Message). Has k (r.parts x).sent) (sym same) sent))
+          | inr never ↦ absurd never
+        ]
       ]
 
       step : IsBoxStep r.parts y b p (emptying b m p)
@@ -76,11 +70,16 @@ module _ {S : Type 0} (s : Setting S) (slots id x y : ℕ) (p : Part) (less : x 
   take_allows free = λ t r size here fits.
       exchanged (slice_index t.words b) 2 3
       (λ n. (w : View) × (a : Act Slot) × Valid t.homes [] a × Ruled s (stepped t b n id [] w a) × Took b (alone y p) (slice_index t.words b) (w, carried_after [] a))
-      (λ hit. let full = (r.boxes x y less fewer).full hit in
-        ((y, emptying b full.0 p) ∷ [], takes_slot b (Some full.1), full.2, taken free full.0 t r here hit full.1 full.3 full.4, record {
+      (λ hit. let full = (r.boxes x y less fewer).full hit in (
+        (y, emptying b full.0 p) ∷ [],
+        takes_slot b (Some full.1),
+        full.2,
+        taken free full.0 t r here hit full.1 full.3 full.4,
+        record {
           hit = λ e. record { from = x; to = y; less = (less, fewer); box = refl; packet = full.0; text = full.1; carried = full.3; is = refl };
           miss = λ other. absurd (other hit);
-        }))
+        },
+      ))
       (λ miss. ((y, p) ∷ [], keeps, tt, still s t b id ((y, p) ∷ []) here r, record { hit = λ e. absurd (miss e); miss = λ other. refl }))
 
   -- the receiver took the packet out of the box that it claimed

@@ -1,25 +1,18 @@
 -- The sender's steps at a box: it claims an empty one, and publishes what it put there.
-use Rattle.std.proofs.Common.{◌≡◌, ◌≢◌, ◌⊎◌, ◌↔◌, ℕ, zero, suc, ◌+◌, ◌*◌, ◌%◌, ◌^◌, ◌<◌, ◌≤◌, eqb, Option, Some, None, Vec, List, [], ◌∷◌, ◌++◌, map, length, set, slice_index, inl, inr, refl, sym, ap, subst, ◌∙◌, arith, length-set, get_or-set_same, get_or-set_other}
+use Rattle.std.proofs.Common.{◌≡◌, ℕ, ◌<◌, ◌≤◌, eqb, Some, None, Vec, List, [], ◌∷◌, length, set, slice_index, inl, refl, sym, subst, arith}
 use Rattle.std.specs.declared.alloc.Global.{Global}
-use mathlib.Core.Logic.{dite}
 use mathlib.Core.Option.{some, none}
-use mathlib.Core.Option as maybe
-use native.Mathlib.Decide.{ℕ_discrete}
 use lib.ListN.{get_elem?}
-use lib.Seq.{set-get_or}
 use prog.Atomic.{either}
 use Rattle.atomic_table.specs.Table.{State, Act, keeps, takes as takes_slot, gives, stepped, carried_after, Valid, Allows}
-use Rattle.atomic_table.proofs.Lists.{set_here, set_else, set_again, exchanged}
+use Rattle.atomic_table.proofs.Lists.{set_here, set_else, exchanged}
 use Rattle.rp_base.specs.Sets.{Has}
-use Rattle.rp_base.proofs.Members.{has_split}
 use Rattle.rp_codec.specs.Message.{Message}
 use Rattle.rp_model.specs.Effect.{Setting}
-use Rattle.rp_model.specs.Parts.{NodePart}
-use Rattle.rp_model.specs.Parts.{TaskPart}
-use Rattle.rp_boxes.specs.Parts.{Part, View, actor_of, box_of, node_of, task_of, filling, filled, emptying, emptied}
-use Rattle.rp_boxes.specs.Rule.{Slot, IsGood, IsBox, IsCarried, Ruled, node_among, task_among, all_sent}
-use Rattle.rp_boxes.specs.Plays.{Sight, alone, Claimed, IsTaken, Took, Published, Cleared}
-use Rattle.rp_boxes.proofs.Worlds.{with_value, value_here, value_else, at_each, from_each, was_part, is_actor, seating_after, sent_by, same_sent}
+use Rattle.rp_boxes.specs.Parts.{Part, View, box_of, filling, filled}
+use Rattle.rp_boxes.specs.Rule.{Slot, IsBox, IsCarried, Ruled}
+use Rattle.rp_boxes.specs.Plays.{alone, Claimed, Published}
+use Rattle.rp_boxes.proofs.Worlds.{from_each}
 use Rattle.rp_boxes.proofs.BoxSteps.{IsBoxStep, boxed, was, now, part_now, still, held_alone, none_both, as_it_is}
 
 module _ {S : Type 0} (s : Setting S) (slots id x y : ℕ) (p : Part) (less : x < 16) (fewer : y < 16) where

@@ -7,3 +7,5 @@ pub mod Goodness
 pub mod Sights
 pub mod SeatTurns
 pub mod SeatBoxes
+pub mod Opening
+pub mod Splitting

@@ -1,5 +1,5 @@
 -- What a step at a box is for a seat.
-use Rattle.std.proofs.Common.{◌≡◌, ℕ, ◌+◌, ◌<◌, ◌≤◌, Option, Some, None, Vec, List, [], ◌∷◌, ◌++◌, inl, inr, refl, sym, ap, subst, ◌∙◌, arith}
+use Rattle.std.proofs.Common.{◌≡◌, ℕ, Option, Some, None, Vec, List, [], ◌∷◌, inl, inr, refl, sym, ap, subst, ◌∙◌, arith}
 use Rattle.std.specs.Prelude.{IfSome, IfNone}
 use Rattle.std.specs.declared.alloc.Global.{Global}
 use Rattle.atomic_table.specs.Seated.{TableId}
@@ -62,9 +62,9 @@ at_got table mine mine' x k me me' bytes m at same carried sees =
         got = λ n h. elim (has_split n part.got (m ∷ []) h) [
           | inl old ↦ at.own.got n old
           | inr new ↦ elim new [
-              | inl one ↦ subst (λ (p : Message). IsPacket p × (actor_of p.to ≡ k)) (sym one) (carried.packet, carried.to)
-              | inr never ↦ absurd never
-            ]
+            | inl one ↦ subst (λ (p : Message). IsPacket p × (actor_of p.to ≡ k)) (sym one) (carried.packet, carried.to)
+            | inr never ↦ absurd never
+          ]
         ];
       };
     } in

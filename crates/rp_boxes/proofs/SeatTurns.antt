@@ -1,8 +1,6 @@
 -- What a turn of a replica is for the seat of its node.
-use Rattle.std.proofs.Common.{◌≡◌, ◌⊎◌, ℕ, true, false, Option, Some, None, Result, Ok, Err, List, [], ◌∷◌, inl, inr, refl, sym, ap, subst, ◌∙◌}
-use Rattle.std.specs.Prelude.{IfSome}
+use Rattle.std.proofs.Common.{◌≡◌, ◌⊎◌, ℕ, true, false, None, Result, Ok, Err, List, [], inl, inr, refl, sym, ap, subst, ◌∙◌}
 use Rattle.atomic_table.specs.Seated.{TableId}
-use Rattle.rp_base.specs.Sets.{Has}
 use Rattle.rp_base.specs.declared.action.Action.{Action}
 use Rattle.rp_base.specs.declared.config.Config.{Config}
 use Rattle.rp_base.specs.declared.fault.Fault.{Fault}
@@ -13,13 +11,12 @@ use Rattle.rp_codec.specs.Reading.{all_of}
 use Rattle.rp_codec.specs.Text.{text_of}
 use Rattle.rp_model.specs.Effect as nodes
 use Rattle.rp_model.specs.Effect.{Setting, Done, NodeInput, node_effect, cut_effect, cut_if, cut_part, turned, turned_if, goes_on_as}
-use Rattle.rp_model.specs.Parts.{NodePart}
 use Rattle.rp_model.specs.Parts.{Turn}
 use Rattle.rp_agreement.specs.Answered.{setting_for}
 use Rattle.rp_agreement.specs.Inputs.{IsInput}
 use Rattle.rp_replica.specs.Held.{Held}
 use Rattle.rp_replica.specs.Inputs.{IsRightInput, packet_given, given_by, effect_if_given, input_effect}
-use Rattle.rp_replica.specs.Turning.{TurnsIf, FailsAt, Stops, StopsIf, IsRefused, effect_of}
+use Rattle.rp_replica.specs.Turning.{TurnsIf, FailsAt, Stops, StopsIf, effect_of}
 use Rattle.rp_replica.specs.declared.input.Input.{Input}
 use Rattle.rp_replica.specs.declared.input.Input.TheVariants.{Receive, Lead, Interrupt, Tick, Report}
 use Rattle.rp_replica.specs.declared.sent.Sent.{Sent}
@@ -95,7 +92,7 @@ module _ {S P : Type 0} (next : S → Action → S) (answers : S → Action → 
         → (after : Part) × IsEvent s number before after × HasTurned s number before input new sent after
     has_turned sent turns =
         let t = taken next answers member old sits.node runs is.given new sent (effect_of next answers old is.given) refl
-            (subst (λ (r : Result Turn Fault). TurnsIf r old new sent) same_input turns) in (
+        (subst (λ (r : Result Turn Fault). TurnsIf r old new sent) same_input turns) in (
           part_after before (OfNode t.0.part) t.0.sends,
           inl (record { member = sits.member; part = sits.node; was = sits.is; input = is.given; given = is.is; done = t.0; comes = inl t.1; is = refl }),
           record { given = is.given; gives = is.gives; node = sits.node; was = sits.is; done = t.0; comes = t.1; stands = stands member new t.0.part t.2; tells = t.3; is = refl },
@@ -156,10 +153,13 @@ module _ {S P : Type 0} (next : S → Action → S) (answers : S → Action → 
 
     why_if : (effect : Result Turn Fault) → effect_of next answers old is.given ≡ effect → new.failed ≡ false → (fault : Fault) → StopsIf effect old new fault → (new ≡ old) × IsWhy fault
     why_if (Ok turn) came works fault stops = why_while turn came works fault stops
-    why_if (Err refusal) came works fault stops = (stops.0, elim stops.1 [
-      | inl told ↦ inr (inr (same_effect next answers member old sits.node runs is.given ∙ ap (turned_if sits.node) came ∙ ap Err (sym told.0)))
-      | inr gone ↦ absurd (false_true working gone.1)
-    ])
+    why_if (Err refusal) came works fault stops = (
+      stops.0,
+      elim stops.1 [
+        | inl told ↦ inr (inr (same_effect next answers member old sits.node runs is.given ∙ ap (turned_if sits.node) came ∙ ap Err (sym told.0)))
+        | inr gone ↦ absurd (false_true working gone.1)
+      ],
+    )
 
     pub no_turn : (fault : Fault) → StopsIf (input_effect next answers old input) old new fault → new.failed ≡ false → (new ≡ old) × IsWhy fault
     no_turn fault stops works =

@@ -1,11 +1,11 @@
 -- What a seat that knows one actor sees as it steps on a box.
-use Rattle.std.proofs.Common.{◌≡◌, ℕ, ◌<◌, Vec, Some, None, List, [], ◌∷◌, refl, sym, ap, subst, ◌∙◌, arith}
+use Rattle.std.proofs.Common.{◌≡◌, ℕ, ◌<◌, Vec, Some, None, List, [], ◌∷◌, refl, sym, ap, subst, ◌∙◌}
 use Rattle.std.specs.declared.alloc.Global.{Global}
 use Rattle.atomic_table.specs.Table.{rest}
 use Rattle.rp_codec.specs.Message.{Message}
-use Rattle.rp_boxes.specs.Parts.{Part, View, box_of, on_first, filling, filled, emptying, emptied, with_got}
+use Rattle.rp_boxes.specs.Parts.{Part, box_of, on_first, filling, filled, emptying, emptied, with_got}
 use Rattle.rp_boxes.specs.Rule.{Slot, IsCarried}
-use Rattle.rp_boxes.specs.Plays.{Sight, alone, Claimed, IsTaken, Took, Published, Cleared}
+use Rattle.rp_boxes.specs.Plays.{Sight, alone, Claimed, Took, Published, Cleared}
 use Rattle.rp_boxes.proofs.BoxSteps.{same_box}
 
 -- the seat knows this part, and has the box out with what is in it

@@ -1,16 +1,13 @@
 -- One event of an actor keeps the rule.
-use Rattle.std.proofs.Common.{◌≡◌, ◌≢◌, ◌⊎◌, ◌↔◌, ℕ, zero, suc, ◌+◌, ◌*◌, ◌%◌, ◌^◌, ◌<◌, ◌≤◌, Option, Some, None, Ok, Vec, List, [], ◌∷◌, ◌++◌, map, length, set, slice_index, inl, inr, refl, sym, ap, subst, ◌∙◌, arith, length-set, get_or-set_same, get_or-set_other}
+use Rattle.std.proofs.Common.{◌≡◌, ◌⊎◌, ◌↔◌, ℕ, ◌+◌, ◌%◌, ◌^◌, ◌<◌, Some, None, Ok, List, [], ◌∷◌, ◌++◌, length, set, slice_index, inl, inr, refl, sym, ap, subst, ◌∙◌, arith, length-set, get_or-set_same, get_or-set_other}
 use Rattle.std.proofs.Math.Nat.{mod-add-mod}
-use mathlib.Core.Logic.{dite}
 use mathlib.Core.Option.{some}
-use native.Mathlib.Decide.{ℕ_discrete}
 use lib.ListN.{get_elem?}
-use Rattle.atomic_table.specs.Table.{State, Me, keeps, stepped, Allows}
+use Rattle.atomic_table.specs.Table.{State, keeps, Allows}
 use Rattle.rp_base.specs.Config.{IsRightConfig}
 use Rattle.rp_base.specs.Sets.{Has}
 use Rattle.rp_base.proofs.Members.{has_split, has_left, has_right}
 use Rattle.rp_codec.specs.Message.{Message}
-use Rattle.rp_codec.specs.declared.packet.Party.TheVariants.{Node, Task}
 use Rattle.rp_model.specs.Effect as nodes
 use Rattle.rp_model.specs.Effect.{Setting, Done, NodeInput, node_effect, cut_effect}
 use Rattle.rp_model.specs.Tasks as tasks
@@ -92,15 +89,15 @@ module _ {S : Type 0} (s : Setting S) (keep : EventsKeep s) (right : IsRightConf
   node_kept event =
       let here : node_among parts k ≡ event.part = ap (λ (q : Part). node_of q.role) was ∙ ap node_of event.was in
       let alike : (t : ℕ) → task_among after t ≡ task_among parts t = λ t. from_each parts k p p' (λ q q'. task_of q'.role ≡ task_of q.role) was
-          (ap (λ (q : Part). task_of q.role) event.is ∙ sym (ap task_of event.was)) (λ q. refl) (7 + t) in
+      (ap (λ (q : Part). task_of q.role) event.is ∙ sym (ap task_of event.was)) (λ q. refl) (7 + t) in
       let moves : NodeMoves k event.done (node_among parts) (all_sent parts 16) (node_among after) (all_sent after 16) = record {
         part = ap (λ (q : Part). node_of q.role) (value_here parts k p' ∙ event.is);
         others = λ j other. ap (λ (q : Part). node_of q.role) (value_else parts k p' j other);
         sends = sent_too parts k p p' (OfNode event.done.part) event.done.sends was small event.is;
       } in
       let kept = keep.nodes k event.input event.done (node_among parts) (node_among after) (task_among parts) (all_sent parts 16) (all_sent after 16) right event.member good
-          (inputs_sent p.got (all_sent parts 16) got event.input event.given)
-          (subst (λ (q : NodePart). ComesTo s k q event.input event.done) (sym here) event.comes) moves in
+      (inputs_sent p.got (all_sent parts 16) got event.input event.given)
+      (subst (λ (q : NodePart). ComesTo s k q event.input event.done) (sym here) event.comes) moves in
       record {
         role = OfNode event.done.part;
         sends = event.done.sends;
@@ -116,15 +113,15 @@ module _ {S : Type 0} (s : Setting S) (keep : EventsKeep s) (right : IsRightConf
       let here : task_among parts t ≡ event.part = own (7 + t) refl was_here in
       let new_here : after (7 + t) ≡ p' = subst (λ (j : ℕ). after j ≡ p') number (value_here parts k p') in
       let alike : (x : ℕ) → node_among after x ≡ node_among parts x = from_each parts k p p' (λ q q'. node_of q'.role ≡ node_of q.role) was
-          (ap (λ (q : Part). node_of q.role) event.is ∙ sym (ap node_of event.was)) (λ q. refl) in
+      (ap (λ (q : Part). node_of q.role) event.is ∙ sym (ap node_of event.was)) (λ q. refl) in
       let moves : TaskMoves t event.done (task_among parts) (all_sent parts 16) (task_among after) (all_sent after 16) = record {
         part = ap (λ (q : Part). task_of q.role) (new_here ∙ event.is);
         others = λ j other. ap (λ (q : Part). task_of q.role) (value_else parts k p' (7 + j) (λ e. other (omega (arith, e, number))));
         sends = sent_too parts k p p' (OfTask event.done.part) event.done.sends was small event.is;
       } in
       let kept = keep.tasks t event.input event.done (node_among parts) (task_among parts) (task_among after) (all_sent parts 16) (all_sent after 16) good
-          (task_inputs_sent p.got (all_sent parts 16) got t event.input event.given)
-          (subst (λ (q : TaskPart). task_effect s.config t q event.input ≡ Ok event.done) (sym here) event.comes) moves in
+      (task_inputs_sent p.got (all_sent parts 16) got t event.input event.given)
+      (subst (λ (q : TaskPart). task_effect s.config t q event.input ≡ Ok event.done) (sym here) event.comes) moves in
       record {
         role = OfTask event.done.part;
         sends = event.done.sends;
@@ -244,10 +241,15 @@ pub turn_allows : {S : Type 0} (s : Setting S) → EventsKeep s → (slots id k 
 unfolding turned
 turn_allows s keep slots id k p p' event says so = λ t r size here fits.
     let after = turned s keep t r id k p p' here event in
-    let own = own_packets s _ after k (is_actor t.views r.parts r.owner r.seating id k p p' here) in
-    ((k, p') ∷ [], keeps, tt, after, record {
-      part = p';
-      is = refl;
-      own = subst (HasOwnPackets k) (value_here r.parts k p') own;
-      said = so;
-    })
+    let own = own_packets s _ after k (is_actor t.views r.parts r.owner r.seating id k p p' here) in (
+      (k, p') ∷ [],
+      keeps,
+      tt,
+      after,
+      record {
+        part = p';
+        is = refl;
+        own = subst (HasOwnPackets k) (value_here r.parts k p') own;
+        said = so;
+      },
+    )

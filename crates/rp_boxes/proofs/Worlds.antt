@@ -1,8 +1,8 @@
 -- The parts of actors, where one of them changes.
-use Rattle.std.proofs.Common.{◌≡◌, ◌≢◌, ◌⊎◌, ◌↔◌, ℕ, zero, suc, ◌+◌, ◌<◌, ◌≤◌, List, [], ◌∷◌, ◌++◌, map, length, set, inl, inr, refl, sym, ap, subst, ◌∙◌, arith}
+use Rattle.std.proofs.Common.{◌≡◌, ◌≢◌, ℕ, zero, suc, ◌<◌, List, [], ◌∷◌, ◌++◌, map, length, set, inl, inr, refl, sym, ap, subst, ◌∙◌, arith}
 use mathlib.Core.Logic.{dite}
 use mathlib.Core.Option.{some, some-injective, some-ne-none}
-use native.Mathlib.Decide.{ℕ_discrete, dec_le}
+use native.Mathlib.Decide.{ℕ_discrete}
 use lib.ListN.{get_elem?}
 use Rattle.atomic_table.proofs.Lists.{at_set, set_here, set_else}
 use Rattle.rp_base.specs.Sets.{Has, IsSet}
@@ -48,7 +48,7 @@ from_each {A} f k a b P is here same = at_each f k b (λ j c. P (f j) c) (subst 
 
 -- ---- the seats, where one that knows one actor knows it anew
 
-at_below : {A : Type 0} (l : List A) (i : ℕ) (a : A) → get_elem? l i ≡ some a → i < length l
+pub at_below : {A : Type 0} (l : List A) (i : ℕ) (a : A) → get_elem? l i ≡ some a → i < length l
 at_below [] i a e = absurd (some-ne-none a (sym e))
 at_below (x ∷ xs) zero a e = omega arith
 at_below (x ∷ xs) (suc i) a e = let rest = at_below xs i a e in omega (arith, rest)
@@ -108,8 +108,8 @@ module _ (views : List View) (parts : ℕ → Part) (owner : ℕ → ℕ) (seati
   seated_else j differ small =
       let old = seating.seated j small in
       let apart : owner j ≢ id = λ e.
-          let same : old.0 ≡ (k, p) ∷ [] = some-injective _ _ (sym old.1 ∙ ap (get_elem? views) e ∙ here) in
-          differ (the_one k j p (parts j) (subst (λ (w : View). Has (j, parts j) w) same old.2)).0 in
+      let same : old.0 ≡ (k, p) ∷ [] = some-injective _ _ (sym old.1 ∙ ap (get_elem? views) e ∙ here) in
+      differ (the_one k j p (parts j) (subst (λ (w : View). Has (j, parts j) w) same old.2)).0 in
       (old.0, set_else views id (owner j) one apart ∙ old.1, old.2)
 
   seated_after : (j : ℕ) → j < 16 → (v : View) × (get_elem? (set views id one) (owner j) ≡ some v) × Has (j, with_value parts k p' j) v

@@ -1,10 +1,10 @@
 -- What one atomic step tells a seat that knows one actor (this project's own).
-use Rattle.std.specs.Prelude.{◌≡◌, ◌≢◌, ℕ, ◌<◌, Vec, Some, None, List, [], ◌∷◌}
+use Rattle.std.specs.Prelude.{◌≡◌, ◌≢◌, ℕ, ◌<◌, Vec, Some, None, [], ◌∷◌}
 use Rattle.std.specs.declared.alloc.Global.{Global}
 use Rattle.atomic_table.specs.Table.{Me, rest}
 use Rattle.atomic_table.specs.Seated.{TableId}
 use Rattle.rp_codec.specs.Message.{Message}
-use Rattle.rp_boxes.specs.Parts.{Part, View, box_of, on_first, part_in, filling, filled, emptying, emptied}
+use Rattle.rp_boxes.specs.Parts.{Part, View, box_of, on_first, filling, filled, emptying, emptied}
 use Rattle.rp_boxes.specs.Rule.{Slot, IsCarried, HasOwnPackets}
 
 -- what a seat knows, and the slots that it has taken out

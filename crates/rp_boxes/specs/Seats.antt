@@ -1,5 +1,5 @@
 -- What a seat is to a contract, and what its calls come to (this project's own).
-use Rattle.std.specs.Prelude.{◌≡◌, ◌⊎◌, ℕ, ◌+◌, ◌<◌, ◌^◌, None, Option, IfSome, IsSome, Result, Ok, Err, List, [], ◌∷◌, length}
+use Rattle.std.specs.Prelude.{◌≡◌, ◌⊎◌, ℕ, ◌<◌, ◌^◌, None, IfSome, IsSome, Ok, Err, List, [], ◌∷◌, length}
 use Rattle.atomic_table.specs.Seated.{TableId}
 use Rattle.rp_base.specs.Number.{IsPosition}
 use Rattle.rp_base.specs.Records.{applied_of}

@@ -1,12 +1,11 @@
 //! The table that all seats share.
 
+use atomic_table::{Seat, Shared, Table, TableRule};
 use rp_base::Config;
 use rp_machine::Machine;
 use std::alloc::Global;
 use std::marker::{Model, PhantomData};
 use std::snapshot::Snapshot;
-
-use atomic_table::{Seat, Shared, Table, TableRule};
 
 /// What a seat knows, for contracts alone. No value of it is made.
 pub struct Known {

@@ -44,7 +44,7 @@ pub(crate) fn note<M: Machine, J: Saying>(slots: &Slots<M>, place: &mut Place, a
     requires place { place.old.me ≡ alone actor (part_in place.old.me.0) }
     requires event { (part : Part)
         × IsEvent (setting_for M.next M.answers M.begin slots.now.key.config
-            slots.now.key.program.value) actor (part_in place.old.me.0) part
+        slots.now.key.program.value) actor (part_in place.old.me.0) part
         × J.says part }
     ensures table { place.new.table_id ≡ place.old.table_id }
     ensures turned { Turned J.says actor place.new.me }

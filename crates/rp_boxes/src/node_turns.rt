@@ -27,7 +27,7 @@ pub(crate) fn note_turn<M: Machine, D: Device, J: Saying>(
     requires place { IsAtTable slots.now.table_id place.old.table_id node place.old.me }
     requires event { (part : Part)
         × IsEvent (setting_for M.next M.answers M.begin slots.now.key.config
-            slots.now.key.program.value) node (part_in place.old.me.0) part
+        slots.now.key.program.value) node (part_in place.old.me.0) part
         × J.says part }
     ensures table { place.new.table_id ≡ place.old.table_id }
     ensures turned { Turned J.says node place.new.me }
@@ -46,7 +46,7 @@ pub(crate) fn note_stop<M: Machine, D: Device, J: Saying>(
     requires place { IsAtTable slots.now.table_id place.old.table_id node place.old.me }
     requires event { (part : Part)
         × IsEvent (setting_for M.next M.answers M.begin slots.now.key.config
-            slots.now.key.program.value) node (part_in place.old.me.0) part
+        slots.now.key.program.value) node (part_in place.old.me.0) part
         × J.says part }
     ensures table { place.new.table_id ≡ place.old.table_id }
     ensures turned { Turned J.says node place.new.me }

@@ -1,5 +1,5 @@
 -- The box is claimed, its packet taken out, and it is cleared.
-use Rattle.std.proofs.Common.{◌≡◌, ℕ, ◌+◌, ◌*◌, ◌<◌, ◌≤◌, eqb, Some, None, refl, sym, ap, subst, ◌∙◌, arith}
+use Rattle.std.proofs.Common.{◌<◌, ◌≤◌, eqb, Some, None, refl, sym, subst, ◌∙◌, arith}
 use prog.Atomic.{either}
 use Rattle.atomic_table.specs.Table.{Allows}
 use Rattle.rp_agreement.specs.Answered.{setting_for}
@@ -7,7 +7,7 @@ use Rattle.rp_boxes.specs.Parts.{part_in, box_of, emptying}
 use Rattle.rp_boxes.specs.Plays.{Sight, Took, Cleared}
 use Rattle.rp_boxes.specs.Rule.{Ruled}
 use Rattle.rp_boxes.proofs.Emptying.{take_allows, clear_allows}
-use Rattle.rp_boxes.proofs.Sights.{holding, sees_taken, sees_written, out_with}
+use Rattle.rp_boxes.proofs.Sights.{sees_taken, sees_written, out_with}
 use Rattle.rp_boxes.proofs.boxes.empty.Goals as goal
 
 pub compare_exchange-requires : goal.compare_exchange-requires
@@ -22,8 +22,8 @@ compare_exchange-requires g c =
       c.requires.table,
       inside,
       subst (λ (me : Sight). Allows (Ruled s) table.slots place.id me b (λ n. either (eqb n 2) 3 n) (λ found new. Took b me found new))
-        (sym c.requires.place)
-        (take_allows s table.slots place.id c.args.from c.args.to (part_in place.me.0) c.requires.from c.requires.to c.requires.free),
+          (sym c.requires.place)
+          (take_allows s table.slots place.id c.args.from c.args.to (part_in place.me.0) c.requires.from c.requires.to c.requires.free),
     )
 
 pub exchange-packet-requires : goal.exchange-packet-requires
@@ -47,6 +47,6 @@ store-requires g c =
       c.exchange-packet.ensures.0 ∙ (c.compare_exchange.ensures.0 ∙ c.requires.table),
       inside,
       subst (λ (me : Sight). Allows (Ruled s) table.slots c.exchange-packet.new.seat.id me b (λ n. 0) (λ found new. Cleared me new))
-        (sym here)
-        (clear_allows s table.slots c.exchange-packet.new.seat.id c.args.from c.args.to (emptying b taken.0 p) c.requires.from c.requires.to roomy refl),
+          (sym here)
+          (clear_allows s table.slots c.exchange-packet.new.seat.id c.args.from c.args.to (emptying b taken.0 p) c.requires.from c.requires.to roomy refl),
     )

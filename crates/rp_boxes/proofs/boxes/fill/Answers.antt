@@ -1,5 +1,5 @@
 -- The box is claimed, written, and published.
-use Rattle.std.proofs.Common.{◌≡◌, ℕ, ◌+◌, ◌*◌, ◌<◌, ◌≤◌, eqb, Some, None, refl, sym, subst, ◌∙◌, arith}
+use Rattle.std.proofs.Common.{◌<◌, ◌≤◌, eqb, Some, None, refl, sym, subst, ◌∙◌, arith}
 use prog.Atomic.{either}
 use Rattle.atomic_table.specs.Table.{Allows}
 use Rattle.rp_agreement.specs.Answered.{setting_for}
@@ -7,7 +7,7 @@ use Rattle.rp_boxes.specs.Parts.{part_in, box_of, filling}
 use Rattle.rp_boxes.specs.Plays.{Sight, Claimed, Published}
 use Rattle.rp_boxes.specs.Rule.{Ruled}
 use Rattle.rp_boxes.proofs.Filling.{claim_allows, publish_allows}
-use Rattle.rp_boxes.proofs.Sights.{holding, sees_claimed, sees_written}
+use Rattle.rp_boxes.proofs.Sights.{sees_claimed, sees_written}
 use Rattle.rp_boxes.proofs.boxes.fill.Goals as goal
 
 pub compare_exchange-requires : goal.compare_exchange-requires
@@ -22,8 +22,8 @@ compare_exchange-requires g c =
       c.requires.table,
       inside,
       subst (λ (me : Sight). Allows (Ruled s) table.slots place.id me b (λ n. either (eqb n 0) 1 n) (λ found new. Claimed b me found new))
-        (sym c.requires.place)
-        (claim_allows s table.slots place.id c.args.from c.args.to (part_in place.me.0) c.requires.from c.requires.to c.requires.free),
+          (sym c.requires.place)
+          (claim_allows s table.slots place.id c.args.from c.args.to (part_in place.me.0) c.requires.from c.requires.to c.requires.free),
     )
 
 pub store-requires : goal.store-requires
@@ -42,6 +42,6 @@ store-requires g c =
       c.exchange.ensures.0 ∙ (c.compare_exchange.ensures.0 ∙ c.requires.table),
       inside,
       subst (λ (me : Sight). Allows (Ruled s) table.slots c.exchange.new.seat.id me b (λ n. 2) (λ found new. Published me new))
-        (sym here)
-        (publish_allows s table.slots c.exchange.new.seat.id c.args.from c.args.to (filling b p) c.requires.from c.requires.to roomy refl packet.0 c.args.packet packet.1 packet.2),
+          (sym here)
+          (publish_allows s table.slots c.exchange.new.seat.id c.args.from c.args.to (filling b p) c.requires.from c.requires.to roomy refl packet.0 c.args.packet packet.1 packet.2),
     )

@@ -1,5 +1,5 @@
 -- The event that is to be counted allows the step.
-use Rattle.std.proofs.Common.{ℕ, ◌+◌, ◌%◌, ◌^◌, ◌<◌, sym, subst, arith}
+use Rattle.std.proofs.Common.{◌+◌, ◌%◌, ◌^◌, ◌<◌, sym, subst, arith}
 use Rattle.atomic_table.specs.Table.{Allows}
 use Rattle.rp_agreement.specs.Answered.{setting_for}
 use Rattle.rp_boxes.specs.Parts.{part_in, actor_in}
@@ -20,6 +20,6 @@ fetch_add-requires g c =
       c.requires.table,
       inside,
       subst (λ (me : Sight). Allows (Ruled s) table.slots place.id me (256 + c.args.actor) (λ n. (n + 1) % 2 ^ 64) (λ found new. Turned g.J.Saying.says (actor_in me.0) new))
-        (sym c.requires.place)
-        (turn_allows s (c.events_keep.ensures key.config key.program.value) table.slots place.id c.args.actor (part_in place.me.0) event.0 event.1 g.J.Saying.says event.2),
+          (sym c.requires.place)
+          (turn_allows s (c.events_keep.ensures key.config key.program.value) table.slots place.id c.args.actor (part_in place.me.0) event.0 event.1 g.J.Saying.says event.2),
     )

@@ -1,14 +1,6 @@
 -- The laws of agreement, of an input and of a stop within its step.
-use Rattle.std.proofs.Common.{◌≡◌, ℕ, ◌⊎◌, Ok, List, inl, inr, refl}
-use Rattle.rp_base.specs.Sets.{Has}
-use Rattle.rp_codec.specs.Message.{Message, IsPacket}
-use Rattle.rp_codec.specs.declared.packet.Party.TheVariants.{Node}
-use Rattle.rp_model.specs.Effect.{Setting, Done, NodeInput}
-use Rattle.rp_model.specs.Parts.{NodePart}
-use Rattle.rp_model.specs.Parts.{TaskPart}
-use Rattle.rp_agreement.specs.Answered.{setting_for, IsKept}
-use Rattle.rp_agreement.specs.Ranges.{IsRangedStep}
-use Rattle.rp_boxes.specs.Rule.{IsGood}
+use Rattle.std.proofs.Common.{inl, inr, refl}
+use Rattle.rp_agreement.specs.Answered.{setting_for}
 use Rattle.rp_boxes.proofs.Goodness.{node_good, task_good}
 use Rattle.rp_boxes.proofs.laws.events_keep.Goals as goal
 
@@ -18,16 +10,22 @@ returns g c = let m = g.M.Machine in λ config program.
     record {
       nodes = λ x input done node after task sent later right member good given comes moves. elim comes [
         | inl came ↦
-            let step = c.nodes_send_right_packets.ensures.input config program x input done node sent right member good.kept.sound (good.ranged x) good.packets given came in
-            (node_good s x done node after task sent later good step moves
-              (c.node_events_keep_replies.ensures.input s x input done node after task sent later right member good.kept given came moves), step.own)
+            let step = c.nodes_send_right_packets.ensures.input config program x input done node sent right member good.kept.sound (good.ranged x) good.packets given came in (
+              node_good s x done node after task sent later good step moves
+                  (c.node_events_keep_replies.ensures.input s x input done node after task sent later right member good.kept given came moves),
+              step.own,
+            )
         | inr cut ↦
-            let step = c.nodes_send_right_packets.ensures.cut config program x cut.0 input done node sent right member good.kept.sound (good.ranged x) good.packets given cut.1 in
-            (node_good s x done node after task sent later good step moves
-              (c.node_events_keep_replies.ensures.cut s x cut.0 input done node after task sent later right member good.kept given cut.1 moves), step.own)
+            let step = c.nodes_send_right_packets.ensures.cut config program x cut.0 input done node sent right member good.kept.sound (good.ranged x) good.packets given cut.1 in (
+              node_good s x done node after task sent later good step moves
+                  (c.node_events_keep_replies.ensures.cut s x cut.0 input done node after task sent later right member good.kept given cut.1 moves),
+              step.own,
+            )
       ];
       tasks = λ t input done node task told sent later good given came moves.
-          let right = c.tasks_send_right_packets.ensures config t input (task t) done sent (good.kept.own t) given came in
-          (task_good s t done node task told sent later good (λ k h. (right k h).0) moves
-            (c.task_events_keep_replies.ensures s t input done node node task told sent later good.kept given came (λ k. refl) moves), λ k h. (right k h).1);
+          let right = c.tasks_send_right_packets.ensures config t input (task t) done sent (good.kept.own t) given came in (
+            task_good s t done node task told sent later good (λ k h. (right k h).0) moves
+                (c.task_events_keep_replies.ensures s t input done node node task told sent later good.kept given came (λ k. refl) moves),
+            λ k h. (right k h).1,
+          );
     }

@@ -1,11 +1,9 @@
 -- The seat gets the packet that was in the box, or stays as it is.
-use Rattle.std.proofs.Common.{◌≡◌, ℕ, refl, sym, subst, ◌∙◌}
-use Rattle.std.specs.Prelude.{IfSome, IfNone}
+use Rattle.std.proofs.Common.{◌≡◌, ℕ, subst, ◌∙◌}
+use Rattle.std.specs.Prelude.{IfSome}
 use Rattle.std.specs.Arc.{arc_value}
-use Rattle.rp_codec.specs.declared.packet.Party.TheVariants.{Node}
-use Rattle.rp_boxes.specs.Parts.{actor_of, part_in}
-use Rattle.rp_boxes.specs.Seats.{Chair, IsFetched}
-use Rattle.rp_boxes.proofs.SeatBoxes.{Finds, at_fetched, same_role, node_stays, fetched_chair, unfetched_chair}
+use Rattle.rp_boxes.specs.Parts.{part_in}
+use Rattle.rp_boxes.proofs.SeatBoxes.{Finds, at_fetched, same_role, node_stays}
 use Rattle.rp_boxes.proofs.node_seat.NodeSeat.fetch.Goals as goal
 
 pub invariant_of-self : goal.invariant_of-self
@@ -19,5 +17,5 @@ invariant_of-self g c =
     let some = subst (λ (k : ℕ). IfSome found (Finds c.actor_of.result k place.me new.me)) node c.empty.ensures.some in (
       at_fetched shared.table_id place.table_id new.table_id c.actor_of.result c.self.inside.node place.me new.me found c.self.invariant.0 c.empty.ensures.table c.empty.ensures.none some,
       node_stays shared.key.config (m.begin shared.key.program.value) c.self.inside.node c.self.inside.replica (part_in place.me.0) (part_in new.me.0)
-        (same_role c.actor_of.result c.self.inside.node place.me new.me found c.empty.ensures.none some) c.self.invariant.1,
+          (same_role c.actor_of.result c.self.inside.node place.me new.me found c.empty.ensures.none some) c.self.invariant.1,
     )

@@ -1,7 +1,7 @@
 -- What a seat is to a contract, and what its calls come to (this project's own).
 use Rattle.std.specs.Prelude.{◌≡◌, ◌⊎◌, ℕ, ◌<◌, ◌^◌, None, IfSome, IsSome, Ok, Err, List, [], ◌∷◌, length}
 use Rattle.atomic_table.specs.Seated.{TableId}
-use Rattle.rp_base.specs.Number.{IsPosition}
+use Rattle.rp_base.specs.Number.{IsPosition, IsTask}
 use Rattle.rp_base.specs.Records.{applied_of}
 use Rattle.rp_base.specs.Sets.{Has}
 use Rattle.rp_base.specs.declared.action.Action.{Action}
@@ -22,8 +22,9 @@ use Rattle.rp_replica.specs.Inputs.{given_by}
 use Rattle.rp_replica.specs.declared.input.Input.{Input}
 use Rattle.rp_replica.specs.declared.input.Input.TheVariants.{Receive, Lead, Interrupt, Tick, Report}
 use Rattle.rp_replica.specs.declared.sent.Sent.{Sent}
+use Rattle.rp_world.specs.Callers.{Caller}
 use Rattle.rp_world.specs.Nodes.{member_of, IsComing, StandsWhile, TellsSent}
-use Rattle.rp_boxes.specs.Parts.{Part, OfNode, part_in, part_after, with_got}
+use Rattle.rp_boxes.specs.Parts.{Part, OfNode, OfTask, part_in, part_after, with_got}
 use Rattle.rp_boxes.specs.Rule.{HasOwnPackets}
 use Rattle.rp_boxes.specs.Plays.{Sight, IsSized, alone}
 
@@ -56,6 +57,11 @@ pub record IsNodePlace {S : Type 0} (config : Config) (begin : S) (number : ℕ)
   pub node : NodePart
   pub is : part.role ≡ OfNode node
   pub stands : StandsWhile (member_of number config begin) held node held.failed
+
+-- The stub is the task that the seat knows.
+pub record IsTaskPlace (caller : Caller) (part : Part) : Type 0 where
+  pub task : IsTask caller.task
+  pub is : part.role ≡ OfTask caller.part
 
 -- ---- inputs
 

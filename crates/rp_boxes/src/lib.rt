@@ -9,9 +9,12 @@
 //! - `input`: what a node may be given is within its ranges
 //! - `node_turns`: a node's turn is counted
 //! - `node_seat`: the seat of a node
+//! - `task_seat`: the seat of a task
+//! - `audit_seat`: the seat of the audit
 #![tactic(auto)]
 
 mod actors;
+mod audit_seat;
 mod board;
 mod boxes;
 mod events;
@@ -19,5 +22,8 @@ mod input;
 mod laws;
 mod node_seat;
 mod node_turns;
+mod task_seat;
 
+pub use audit_seat::AuditSeat;
 pub use node_seat::NodeSeat;
+pub use task_seat::TaskSeat;

@@ -20,7 +20,7 @@ use rp_store::CutDevice;
 use std::alloc::AllocError;
 
 /// A task's call, as a packet to a node.
-fn asks(task: TaskId, node: NodeId, call: Action) -> Packet
+pub fn asks(task: TaskId, node: NodeId, call: Action) -> Packet
     requires own { IsCallBy task call }
     requires right { IsRight call }
     ensures { result ≡ tasks.asks task node call }

@@ -24,7 +24,9 @@ mod stops;
 mod task;
 mod world;
 
+pub use calls::asks;
 pub use cluster::Cluster;
 pub use effect::Refused;
 pub use headline::histories_are_ordered;
 pub use rp_model::{Dropped, Effect, Event, Interrupt, Step};
+pub use task::Task;

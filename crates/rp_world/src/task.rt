@@ -14,7 +14,7 @@ use std::marker::Model;
 
 /// A task as it runs.
 #[derive(Drop)]
-pub(crate) struct Task {
+pub struct Task {
     task: TaskId,
     stub: Stub,
     replies: Vec<Answer>,
@@ -32,7 +32,7 @@ impl Model for Task {
 
 impl Task {
     /// A task that called nothing.
-    pub(crate) fn new(alloc: Global, task: TaskId) -> Self
+    pub fn new(alloc: Global, task: TaskId) -> Self
         ensures { result ≡ record { task = task; part = fresh_task } }
     {
         Task {
@@ -45,7 +45,7 @@ impl Task {
     /// The call that the task would make next, or why it may not: `TaskBusy` while one waits,
     /// `NumbersSpent` after number 2^32 - 1, `BadConfig` for a node above the last or a call that is
     /// not right.
-    pub(crate) fn next(
+    pub fn next(
         &self,
         config: Config,
         node: NodeId,
@@ -74,7 +74,7 @@ impl Task {
     }
 
     /// Makes the next call, which waits for its reply from now on.
-    pub(crate) fn call(&mut self, object: u8, operation: Operation, arg: i64)
+    pub fn call(&mut self, object: u8, operation: Operation, arg: i64)
         requires free { self.old.part.outstanding ≡ None }
         requires numbers { are_spent (length self.old.part.replies) ≡ false }
         requires object { IsIndex object }
@@ -89,14 +89,14 @@ impl Task {
     }
 
     /// The call that waits for its reply.
-    pub(crate) fn outstanding(&self) -> Option<Action>
+    pub fn outstanding(&self) -> Option<Action>
         ensures { result ≡ self.now.part.outstanding }
     {
         self.stub.outstanding()
     }
 
     /// The replies that were taken, in order.
-    pub(crate) fn replies(&self) -> &[Answer]
+    pub fn replies(&self) -> &[Answer]
         ensures { result.now ≡ self.now.part.replies }
     {
         self.replies.as_slice()
@@ -104,7 +104,7 @@ impl Task {
 
     /// A reply comes: it is taken where the call of this number waits, and ends it. Refused for memory,
     /// nothing changes.
-    pub(crate) fn take(&mut self, number: u32, reply: Reply) -> Result<Option<Answer>, AllocError>
+    pub fn take(&mut self, number: u32, reply: Reply) -> Result<Option<Answer>, AllocError>
         ensures part { IfOk result (λ taken. self.new ≡ record self.old {
           part = (takes_reply self.old.task self.old.part number reply).part;
         }) }

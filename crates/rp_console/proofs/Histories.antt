@@ -15,10 +15,10 @@ use Rattle.rp_model.specs.declared.event.Step.TheVariants.{Deliver}
 use Rattle.rp_agreement.specs.History.{IsHistory, AreMoments}
 use Rattle.rp_console.specs.Agreeing.{world_after}
 use Rattle.rp_console.specs.Output.{RunSetting, Play, Said, least_unsettled, effect_of, effect_said, event_said, drain_from, command_said, script_said, opening_play}
-use Rattle.rp_console.specs.Script.{KeepsRanges}
-use Rattle.rp_console.specs.declared.deck.Command.{Command}
-use Rattle.rp_console.specs.declared.deck.Command.TheVariants.{Take, Lose, Drain, Show}
-use Rattle.rp_console.specs.declared.deck.Line.{Line}
+use Rattle.rp_deck.specs.Script.{KeepsRanges}
+use Rattle.rp_deck.specs.declared.deck.Command.{Command}
+use Rattle.rp_deck.specs.declared.deck.Command.TheVariants.{Take, Lose, Drain, Show}
+use Rattle.rp_deck.specs.declared.deck.Line.{Line}
 
 -- right events lead from one world to another
 record Reaches {S : Type 0} (s : Setting S) (from to : World) : Type 0 where

@@ -1,5 +1,4 @@
 mod CommandLineLemmas
-mod WordsLemmas
 mod StreamLemmas
 mod Writing
 mod Telling

@@ -29,7 +29,7 @@ use Rattle.rp_model.specs.Tasks as tasks
 use Rattle.rp_model.specs.Tasks.{next_call, may_call, calls_if, asks_again, task_hears}
 use Rattle.rp_model.specs.Events.{event_of, step_of}
 use Rattle.rp_model.specs.World.{World, Happening, part_at, with_part, nothing_happens, node_done, task_done, node_done_if, task_done_if, task_takes, task_is_told, node_takes, node_hears, node_is_told, arrives, delivers, stops, restarts, step_effect, cut_step, delivery_is_cut, arrival_is_cut, hearing_is_cut, node_is_cut, event_effect}
-use Rattle.rp_console.specs.Script.{IsStepWithin, IsEventWithin}
+use Rattle.rp_deck.specs.Script.{IsStepWithin, IsEventWithin}
 
 -- the number is one of those by which a script's step is refused
 abbrev pub IsNumbered : Fault → Type 0

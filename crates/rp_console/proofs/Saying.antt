@@ -25,7 +25,7 @@ use Rattle.rp_console.specs.Runs.{Follows, Says}
 use Rattle.rp_console.specs.Settled.{is_settled}
 use Rattle.rp_console.specs.Status.{with_line_feed}
 use Rattle.rp_console.specs.Stream.{Begins, Writes}
-use Rattle.rp_console.specs.declared.deck.Line.{Line}
+use Rattle.rp_deck.specs.declared.deck.Line.{Line}
 use Rattle.rp_console.specs.declared.settled.Settled.{Settled}
 use Rattle.rp_console.proofs.Writing.{begins_longer, begins_behind}
 

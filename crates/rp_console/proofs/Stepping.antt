@@ -17,7 +17,7 @@ use Rattle.rp_model.specs.World.{World, Happening, event_effect, opening_world}
 use Rattle.rp_world.specs.Steps.{Setup, IsSameSetup, setting_of}
 use Rattle.rp_console.specs.Faults.{IsRunFault}
 use Rattle.rp_console.specs.Runs.{HasParts, run_setting}
-use Rattle.rp_console.specs.Script.{IsEventWithin}
+use Rattle.rp_deck.specs.Script.{IsEventWithin}
 use Rattle.rp_console.specs.declared.options.RunOptions.{RunOptions}
 use Rattle.rp_console.proofs.Refusing.{IsNumbered, Keeps, event_keeps}
 

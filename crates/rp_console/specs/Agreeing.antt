@@ -3,10 +3,10 @@ use Rattle.std.specs.Prelude.{ℕ, ◌≤◌, Bool, List, take}
 use Rattle.rp_model.specs.World.{World}
 use Rattle.rp_world.specs.Agreeing.{Agree, IsOrdered}
 use Rattle.rp_console.specs.Output.{RunSetting, run_said, drain_limit, tally_run, objects_run}
-use Rattle.rp_console.specs.declared.deck.Deck.{Deck}
-use Rattle.rp_console.specs.declared.deck.DeckProgram.{DeckProgram}
-use Rattle.rp_console.specs.declared.deck.DeckProgram.TheVariants.{Tally, Objects}
-use Rattle.rp_console.specs.declared.deck.Line.{Line}
+use Rattle.rp_deck.specs.declared.deck.Deck.{Deck}
+use Rattle.rp_deck.specs.declared.deck.DeckProgram.{DeckProgram}
+use Rattle.rp_deck.specs.declared.deck.DeckProgram.TheVariants.{Tally, Objects}
+use Rattle.rp_deck.specs.declared.deck.Line.{Line}
 
 module _ {S : Type 0} (s : RunSetting S) (most : ℕ) (lines : List Line) where
   -- the world after so many lines

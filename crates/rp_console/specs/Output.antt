@@ -30,12 +30,12 @@ use Rattle.rp_model.specs.World.{World, Happening, opening_world, event_effect, 
 use Rattle.rp_console.specs.Printed.{reply_line_of, refused_line_of, opened_line_of, running_line_of, full_line_of, applied_line_of, stopped_line_of, limit_line_of}
 use Rattle.rp_console.specs.Status.{with_line_feed}
 use Rattle.rp_console.specs.Trace.{task_name, message_line_of}
-use Rattle.rp_console.specs.declared.deck.Command.{Command}
-use Rattle.rp_console.specs.declared.deck.Command.TheVariants.{Take, Lose, Drain, Show}
-use Rattle.rp_console.specs.declared.deck.Deck.{Deck}
-use Rattle.rp_console.specs.declared.deck.DeckProgram.{DeckProgram}
-use Rattle.rp_console.specs.declared.deck.DeckProgram.TheVariants.{Tally, Objects}
-use Rattle.rp_console.specs.declared.deck.Line.{Line}
+use Rattle.rp_deck.specs.declared.deck.Command.{Command}
+use Rattle.rp_deck.specs.declared.deck.Command.TheVariants.{Take, Lose, Drain, Show}
+use Rattle.rp_deck.specs.declared.deck.Deck.{Deck}
+use Rattle.rp_deck.specs.declared.deck.DeckProgram.{DeckProgram}
+use Rattle.rp_deck.specs.declared.deck.DeckProgram.TheVariants.{Tally, Objects}
+use Rattle.rp_deck.specs.declared.deck.Line.{Line}
 
 -- What stays through a run: the configuration and the machine, how a state of it is shown, the tasks'
 -- names in order, and whether the packets are told.

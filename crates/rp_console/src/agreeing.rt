@@ -3,9 +3,9 @@
 ghost use Rattle.std.specs.Prelude.{All};
 ghost use Rattle.rp_console.specs.Agreeing.{RunAgrees};
 ghost use Rattle.rp_console.specs.Runs.{run_setting, opening_setup};
-ghost use Rattle.rp_console.specs.Script.{KeepsRanges};
+ghost use Rattle.rp_deck.specs.Script.{KeepsRanges};
 
-use crate::deck::{Command, Line};
+use rp_deck::{Command, Line};
 use crate::options::RunOptions;
 use rp_machine::Machine;
 use rp_world::histories_are_ordered;

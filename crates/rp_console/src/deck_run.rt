@@ -3,16 +3,16 @@
 ghost use Rattle.std.specs.Prelude.{◌≡◌, ◌≤◌, [], length, All, IfOk, IfErr, OnOk};
 ghost use Rattle.std.specs.Io.KnownBytes.{Appends};
 ghost use Rattle.rp_console.specs.Agreeing.{DeckAgrees};
-ghost use Rattle.rp_console.specs.Deck.{IsRightDeck};
+ghost use Rattle.rp_deck.specs.Deck.{IsRightDeck};
 ghost use Rattle.rp_console.specs.Faults.{IsBadDeck, IsRunFault, IsScriptFault};
 ghost use Rattle.rp_console.specs.Output.{output_of};
 ghost use Rattle.rp_console.specs.Stream.{Writes};
-ghost use Rattle.rp_console.specs.declared.deck.Deck.{Deck};
+ghost use Rattle.rp_deck.specs.declared.deck.Deck.{Deck};
 
 use crate::agreeing::scripts_agree;
-use crate::deck::{Deck, DeckProgram};
+use rp_deck::{Deck, DeckProgram};
 use crate::options::RunOptions;
-use crate::reading::read_deck;
+use rp_deck::read_deck;
 use crate::run::run_lines;
 use crate::stream::read_whole;
 use rp_base::Fault;

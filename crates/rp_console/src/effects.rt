@@ -9,7 +9,7 @@ ghost use Rattle.rp_console.specs.Status.{with_line_feed};
 ghost use Rattle.rp_console.specs.Stream.{Writes};
 ghost use Rattle.rp_console.specs.Faults.{IsRunFault};
 
-use crate::deck::Task;
+use rp_deck::Task;
 use crate::options::RunOptions;
 use crate::printed::{FullLine, OpenedLine, ReplyLine, RunningLine};
 use crate::stream::print;

@@ -2,21 +2,6 @@
 //!
 //! In reading order:
 //! - `args`: what the words of the command line ask for
-//! - `reading`: reads a deck
-//! - `lines`: the lines of a deck
-//! - `words`: the lines of a deck and their words
-//! - `declarations`: reads the declarations of a deck
-//! - `draft`: what a deck declares so far, and the lines by which it goes on
-//! - `objects`: reads the lines that belong to an object
-//! - `statements`: reads the bodies of operations
-//! - `expressions`: reads the expressions and conditions of a deck
-//! - `names`: what the names of a deck stand for
-//! - `program`: makes the program of what a deck declares
-//! - `line_error`: why a line of a deck was not read
-//! - `script`: reads the script of a deck
-//! - `calls`: reads the lines of a script by which tasks call and interrupts occur
-//! - `operands`: reads the words of a script's line that name nodes, tasks and positions
-//! - `deck`: what a deck declares and asks for
 //! - `deck_run`: runs the script of a deck
 //! - `options`: how a script is run
 //! - `agreeing`: at any two lines of a script nodes agree, and replies are those of one order
@@ -31,30 +16,15 @@
 
 mod agreeing;
 mod args;
-mod calls;
-mod deck;
 mod deck_run;
-mod declarations;
-mod draft;
 mod effects;
-mod expressions;
-mod line_error;
-mod lines;
-mod names;
-mod objects;
-mod operands;
 mod options;
 mod printed;
-mod program;
-mod reading;
 mod run;
-mod script;
 mod settled;
-mod statements;
 mod status;
 mod stream;
 mod trace;
-mod words;
 
 use args::{Args, read_args, words_status};
 use clap::error::ErrorKind;

@@ -2,7 +2,7 @@
 
 ghost use Rattle.rp_base.specs.Config.{IsRightConfig};
 
-use crate::deck::Task;
+use rp_deck::Task;
 use indexmap::IndexMap;
 use rp_base::Config;
 

@@ -3,13 +3,13 @@
 ghost use Rattle.std.specs.Prelude.{◌≡◌, ◌≤◌, ◌<◌, ◌^◌, [], length, All, IfErr, OnOk};
 ghost use Rattle.rp_model.specs.World.{part_at};
 ghost use Rattle.rp_world.specs.Steps.{IsSameSetup};
-ghost use Rattle.rp_console.specs.Script.{FitsIn, IsEventWithin};
+ghost use Rattle.rp_deck.specs.Script.{FitsIn, IsEventWithin};
 ghost use Rattle.rp_console.specs.Output.{Play, event_said, lost, drained, part_text, nodes_text, command_said, run_said};
 ghost use Rattle.rp_console.specs.Runs.{run_setting, opening_setup, HasParts, Follows, Says};
 ghost use Rattle.rp_console.specs.Stream.{Writes};
 ghost use Rattle.rp_console.specs.Faults.{IsRunFault};
 
-use crate::deck::{Command, Line};
+use rp_deck::{Command, Line};
 use crate::effects::tell_effect;
 use crate::options::RunOptions;
 use crate::printed::{AppliedLine, DrainLimitLine, RefusedLine, StoppedLine};

@@ -1,7 +1,7 @@
 use Rattle.std.proofs.Common.{ℕ, ◌<◌}
 use Rattle.std.specs.Prelude.{slice_index_or}
-use Rattle.rp_console.specs.Script.{KeepsRanges}
-use Rattle.rp_console.specs.declared.deck.Line.{Line}
+use Rattle.rp_deck.specs.Script.{KeepsRanges}
+use Rattle.rp_deck.specs.declared.deck.Line.{Line}
 use Rattle.rp_console.proofs.agreeing.lines_keep_ranges.Given as goal
 
 -- so does each line that was passed

@@ -2,10 +2,10 @@
 use Rattle.std.proofs.Common.{ℕ, Result, Ok, Err, Option, List, OnOk}
 use Rattle.std.specs.Io.KnownBytes.{Appends}
 use Rattle.rp_base.specs.declared.fault.Fault.{Fault}
-use Rattle.rp_console.specs.Deck.{IsRightDeck}
+use Rattle.rp_deck.specs.Deck.{IsRightDeck}
 use Rattle.rp_console.specs.Output.{output_of}
 use Rattle.rp_console.specs.Stream.{Writes}
-use Rattle.rp_console.specs.declared.deck.Deck.{Deck}
+use Rattle.rp_deck.specs.declared.deck.Deck.{Deck}
 use Rattle.rp_console.proofs.deck_run.run_script.Goals as goal
 
 pub returns-clause-output : goal.returns-clause-output

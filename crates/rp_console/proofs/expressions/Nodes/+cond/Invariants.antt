@@ -1,4 +1,0 @@
-use Rattle.rp_console.proofs.expressions.Nodes.+cond.Given as goal
-
-abbrev pub decreases-cond : goal.decreases-cond
-decreases-cond l = l.self.now.left

@@ -1,4 +1,0 @@
-use Rattle.rp_console.proofs.expressions.Nodes.+expr.Given as goal
-
-abbrev pub decreases-expr : goal.decreases-expr
-decreases-expr l = l.self.now.left

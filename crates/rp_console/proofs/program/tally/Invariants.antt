@@ -1,5 +1,0 @@
-use Rattle.std.proofs.Common.{◌≡◌, length}
-use Rattle.rp_console.proofs.program.tally.Given as goal
-
-abbrev pub invariant-loop : goal.invariant-loop
-invariant-loop l = length l.operations.items ≡ l.counter

@@ -1,0 +1,7 @@
+use Rattle.std.proofs.Common.{◌≤◌}
+use Rattle.std.specs.String.{string_eq}
+use Rattle.indexmap.specs.IndexSet.{index_set_len, IsUnique}
+use Rattle.rp_deck.proofs.draft.tally_objects.Given as goal
+
+abbrev pub invariant-loop-number : goal.invariant-loop-number
+invariant-loop-number l = (index_set_len l.objects ≤ l.number) × IsUnique string_eq l.objects

@@ -1,0 +1,22 @@
+-- What a deck that was read keeps (the limits are this project's own).
+use Rattle.std.specs.Prelude.{◌≤◌, All, map}
+use Rattle.indexmap.specs.IndexMap.{index_map_len, values}
+use Rattle.indexmap.specs.IndexSet.{index_set_len}
+use Rattle.rp_base.specs.Config.{IsRightConfig}
+use Rattle.rp_deck.specs.declared.deck.Deck.{Deck}
+use Rattle.rp_deck.specs.Declarations.{IsNameTable, IsNameSet, HasObjects}
+use Rattle.rp_deck.specs.Programs.{DeclaresAll}
+use Rattle.rp_deck.specs.Script.{FitsIn}
+
+-- a right configuration, 1 to 8 tasks and as many objects, at most 8 interrupts and timing events, no name twice among those of a kind, a program of them, and the script names what is declared
+pub record IsRightDeck (deck : Deck) : Type 0 where
+  pub config : IsRightConfig deck.config
+  pub tasks : IsNameTable deck.tasks
+  pub some_task : 1 ≤ index_map_len deck.tasks
+  pub objects : IsNameSet deck.objects
+  pub some_object : 1 ≤ index_set_len deck.objects
+  pub program : HasObjects (index_set_len deck.objects) deck.program
+  pub kept : DeclaresAll (map (λ task. task.priority) (values deck.tasks)) (values deck.interrupts) (values deck.timers) deck.program
+  pub interrupts : IsNameTable deck.interrupts
+  pub timers : IsNameTable deck.timers
+  pub script : All (λ line. FitsIn deck.config.nodes (index_map_len deck.tasks) (index_set_len deck.objects) line.command) deck.script.items

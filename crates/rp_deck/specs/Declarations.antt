@@ -1,0 +1,57 @@
+-- What a deck declares (the limits are this project's own).
+use Rattle.std.specs.Prelude.{ℕ, ◌≡◌, ◌≤◌, false, String, length, map}
+use Rattle.std.specs.String.{string_eq}
+use Rattle.indexmap.specs.IndexMap.{IndexMap, index_map_len, values, IsUnique}
+use Rattle.indexmap.specs.IndexSet.{IndexSet, index_set_len}
+use Rattle.indexmap.specs.IndexSet as sets
+use Rattle.rp_deck.specs.declared.deck.DeckProgram.{DeckProgram}
+use Rattle.rp_deck.specs.Programs.{object_count, DeclaresAll}
+use Rattle.rp_deck.specs.declared.declarations.Declared.{Declared}
+use Rattle.rp_deck.specs.declared.draft.Draft.{Draft}
+
+abbrev pub IsNodeCount : ℕ → Type 0
+IsNodeCount n = (3 ≤ n) × (n ≤ 7)
+
+module _ {Y X S : Type 0} where
+  -- at most 8 names, and no name twice
+  pub record IsNameTable (table : IndexMap (String Y) X S) : Type 0 where
+    pub few : index_map_len table ≤ 8
+    pub distinct : IsUnique string_eq table
+
+module _ {Y S : Type 0} where
+  -- the same of names that stand for nothing but their places
+  pub record IsNameSet (names : IndexSet (String Y) S) : Type 0 where
+    pub few : index_set_len names ≤ 8
+    pub distinct : sets.IsUnique string_eq names
+
+-- the program has so many objects
+abbrev pub HasObjects : ℕ → DeckProgram → Type 0
+HasObjects objects program = object_count program ≡ objects
+
+-- what is declared so far keeps the limits
+pub record IsDraft (draft : Draft) : Type 0 where
+  pub nodes : IsNodeCount draft.nodes
+  pub tasks : IsNameTable draft.tasks
+  pub objects : IsNameSet draft.objects
+  pub drafts : draft.is_tally ≡ false → length draft.drafts.items ≡ index_set_len draft.objects
+  pub interrupts : IsNameTable draft.interrupts
+  pub timers : IsNameTable draft.timers
+
+-- and there are tasks and objects
+pub record IsFinishable (draft : Draft) : Type 0 where
+  pub limits : IsDraft draft
+  pub tasks : 1 ≤ index_map_len draft.tasks
+  pub objects : 1 ≤ index_set_len draft.objects
+
+-- what is declared keeps the limits, and there are tasks and objects
+pub record IsComplete (declared : Declared) : Type 0 where
+  pub nodes : IsNodeCount declared.nodes
+  pub tasks : IsNameTable declared.tasks
+  pub some_task : 1 ≤ index_map_len declared.tasks
+  pub objects : IsNameSet declared.objects
+  pub some_object : 1 ≤ index_set_len declared.objects
+  pub program : HasObjects (index_set_len declared.objects) declared.program
+  pub kept : DeclaresAll (map (λ task. task.priority) (values declared.tasks)) (values declared.interrupts) (values declared.timers) declared.program
+  pub operations : length declared.operations.items ≡ index_set_len declared.objects
+  pub interrupts : IsNameTable declared.interrupts
+  pub timers : IsNameTable declared.timers

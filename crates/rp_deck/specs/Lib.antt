@@ -1,0 +1,9 @@
+pub mod Bodies
+pub mod Deck
+pub mod Declarations
+pub mod Left
+pub mod LineFaults
+pub mod Lines
+pub mod Programs
+pub mod Script
+pub mod Words

@@ -1,0 +1,293 @@
+//! What a deck declares so far, and the lines by which it goes on.
+
+ghost use Rattle.std.specs.Prelude.{◌≡◌, ◌≤◌, false, length, IfSome, IfOk, IfErr, OnOk};
+ghost use Rattle.indexmap.specs.IndexMap.{index_map_len};
+ghost use Rattle.indexmap.specs.IndexSet.{index_set_len};
+ghost use Rattle.rp_deck.specs.Left.{left};
+ghost use Rattle.rp_deck.specs.LineFaults.{IsDeckFault};
+ghost use Rattle.rp_deck.specs.Declarations.{IsNodeCount, IsNameSet, IsDraft, IsFinishable};
+
+use crate::deck::Task;
+use crate::line_error::LineError;
+use crate::lines::{Lines, TextLine};
+use crate::names::{OperationName, take_new_name};
+use crate::objects::ObjectDraft;
+use crate::operands::read_dotted;
+use crate::words::Words;
+use indexmap::{IndexMap, IndexSet};
+use rp_base::{DeckReason, Fault, Position};
+use rp_object::Handler;
+use std::alloc::{AllocError, Global};
+
+/// The most that is declared of each kind.
+const MOST: usize = 8;
+
+/// The most objects of a tally.
+const MOST_OBJECTS: u64 = 8;
+
+/// The most positions that a log has.
+const MOST_POSITIONS: u64 = 65_535;
+
+/// What is declared so far, each kind in declared order.
+#[derive(Drop)]
+pub struct Draft {
+    /// 3 to 7.
+    pub nodes: u8,
+    /// The most positions, where the deck says so.
+    pub positions: Option<Position>,
+    /// Whether the objects are those of a tally.
+    pub is_tally: bool,
+    pub tasks: IndexMap<String, Task>,
+    pub objects: IndexSet<String>,
+    /// What the objects have, those of a tally aside.
+    pub drafts: Vec<ObjectDraft>,
+    pub interrupts: IndexMap<String, Handler>,
+    pub timers: IndexMap<String, Handler>,
+}
+
+/// A declaration of the deck's own, which belongs to no object.
+#[derive(Clone, Copy, Debug, PartialEq, Eq)]
+enum Kind {
+    Positions,
+    Task,
+    Tally,
+    Object,
+    Interrupt,
+    Timer,
+}
+
+impl Draft {
+    /// Nothing but the nodes.
+    pub fn new(alloc: Global, nodes: u8) -> Self
+        requires { IsNodeCount nodes }
+        ensures draft { IsDraft result }
+        ensures nodes { result.nodes ≡ nodes }
+    {
+        Draft {
+            nodes,
+            positions: None,
+            is_tally: false,
+            tasks: IndexMap::new(alloc),
+            objects: IndexSet::new(alloc),
+            drafts: Vec::new(alloc),
+            interrupts: IndexMap::new(alloc),
+            timers: IndexMap::new(alloc),
+        }
+    }
+
+    /// Whether nothing but the nodes is declared.
+    fn is_new(&self) -> bool {
+        self.positions.is_none() && self.tasks.is_empty() && self.objects.is_empty()
+    }
+
+    /// Reads a declaration, but for `script`, and the body behind it.
+    pub fn read_line(
+        &mut self,
+        alloc: Global,
+        line: TextLine<'_>,
+        lines: &mut Lines<'_>,
+    ) -> Result<(), Fault>
+        requires { IsDraft self.old }
+        ensures draft { OnOk result (IsDraft self.new × (self.new.nodes ≡ self.old.nodes)) }
+        ensures lines { length (left lines.new) ≤ length (left lines.old) }
+        ensures fault { IfErr result IsDeckFault }
+    {
+        let Some(kind) = self.kind_of(line.first) else {
+            return self.read_object_line(alloc, line, lines);
+        };
+        match self.read_declaration(alloc, kind, line.words) {
+            Ok(()) => Ok(()),
+            Err(error) => Err(error.at(line.number)),
+        }
+    }
+
+    /// The declaration that begins with this word, where it is one of the deck's own that may stand
+    /// here.
+    fn kind_of(&self, first: &[u8]) -> Option<Kind>
+        ensures { IfSome result (λ kind. kind ≡ Kind.Object → self.now.is_tally ≡ false) }
+    {
+        match first {
+            b"positions" if self.is_new() => Some(Kind::Positions),
+            b"task" => Some(Kind::Task),
+            b"tally" if !self.is_tally && self.objects.is_empty() => Some(Kind::Tally),
+            b"object" if !self.is_tally => Some(Kind::Object),
+            b"interrupt" if !self.is_tally => Some(Kind::Interrupt),
+            b"timer" if !self.is_tally => Some(Kind::Timer),
+            _ => None,
+        }
+    }
+
+    /// Reads a declaration of this kind, behind its first word.
+    fn read_declaration(
+        &mut self,
+        alloc: Global,
+        kind: Kind,
+        words: Words<'_>,
+    ) -> Result<(), LineError>
+        requires { IsDraft self.old × (kind ≡ Kind.Object → self.old.is_tally ≡ false) }
+        ensures { OnOk result (IsDraft self.new × (self.new.nodes ≡ self.old.nodes)) }
+    {
+        match kind {
+            Kind::Positions => self.read_positions(words),
+            Kind::Task => self.read_task(alloc, words),
+            Kind::Tally => self.read_tally(alloc, words),
+            Kind::Object => self.read_object(alloc, words),
+            Kind::Interrupt => self.read_interrupt(alloc, words),
+            Kind::Timer => self.read_timer(alloc, words),
+        }
+    }
+
+    /// Reads the rest of `positions P`.
+    fn read_positions(&mut self, mut words: Words<'_>) -> Result<(), LineError>
+        requires { IsDraft self.old }
+        ensures { OnOk result (IsDraft self.new × (self.new.nodes ≡ self.old.nodes)) }
+    {
+        let positions = words.take_number(1, MOST_POSITIONS)?;
+        words.end()?;
+        self.positions = Position::new(positions as u16);
+        Ok(())
+    }
+
+    /// Reads the rest of `task NAME PRIORITY`.
+    fn read_task(&mut self, alloc: Global, mut words: Words<'_>) -> Result<(), LineError>
+        requires { IsDraft self.old }
+        ensures { OnOk result (IsDraft self.new × (self.new.nodes ≡ self.old.nodes)) }
+    {
+        if self.tasks.len() >= MOST {
+            return Err(LineError::Bad(DeckReason::TooMany));
+        }
+        let name = take_new_name(&mut words, &self.tasks)?;
+        let priority = words.take_number(1, 30)? as u8;
+        words.end()?;
+        let name = String::from_str(alloc, name)?;
+        self.tasks.insert(name, Task { priority })?;
+        Ok(())
+    }
+
+    /// Reads the rest of `tally COUNT`.
+    fn read_tally(&mut self, alloc: Global, mut words: Words<'_>) -> Result<(), LineError>
+        requires { IsDraft self.old }
+        ensures { OnOk result (IsDraft self.new × (self.new.nodes ≡ self.old.nodes)) }
+    {
+        let count = words.take_number(1, MOST_OBJECTS)?;
+        words.end()?;
+        self.objects = tally_objects(alloc, count as u8)?;
+        self.is_tally = true;
+        Ok(())
+    }
+
+    /// Reads the rest of `object NAME CEILING`. The object counts as declared from its name on, since a
+    /// bad ceiling ends the reading.
+    fn read_object(&mut self, alloc: Global, mut words: Words<'_>) -> Result<(), LineError>
+        requires { IsDraft self.old × (self.old.is_tally ≡ false) }
+        ensures { OnOk result (IsDraft self.new × (self.new.nodes ≡ self.old.nodes)) }
+    {
+        if self.objects.len() >= MOST {
+            return Err(LineError::Bad(DeckReason::TooMany));
+        }
+        let name = words.take_name()?;
+        if !self.objects.insert(String::from_str(alloc, name)?)? {
+            return Err(LineError::Bad(DeckReason::DuplicateName));
+        }
+        let ceiling = words.take_number(1, 30)? as u8;
+        words.end()?;
+        let name = String::from_str(alloc, name)?;
+        self.drafts.push(ObjectDraft::new(alloc, name, ceiling))?;
+        Ok(())
+    }
+
+    /// Reads a line that belongs to the last object.
+    fn read_object_line(
+        &mut self,
+        alloc: Global,
+        line: TextLine<'_>,
+        lines: &mut Lines<'_>,
+    ) -> Result<(), Fault>
+        requires { IsDraft self.old }
+        ensures draft { OnOk result (IsDraft self.new × (self.new.nodes ≡ self.old.nodes)) }
+        ensures lines { length (left lines.new) ≤ length (left lines.old) }
+        ensures fault { IfErr result IsDeckFault }
+    {
+        match self.drafts.last_mut() {
+            Some(object) => object.read_line(alloc, line, lines),
+            None => Err(LineError::Bad(DeckReason::UnknownWord).at(line.number)),
+        }
+    }
+
+    /// Reads the rest of `interrupt NAME OBJECT.PROCEDURE`.
+    fn read_interrupt(&mut self, alloc: Global, mut words: Words<'_>) -> Result<(), LineError>
+        requires { IsDraft self.old }
+        ensures { OnOk result (IsDraft self.new × (self.new.nodes ≡ self.old.nodes)) }
+    {
+        if self.interrupts.len() >= MOST {
+            return Err(LineError::Bad(DeckReason::TooMany));
+        }
+        let name = take_new_name(&mut words, &self.interrupts)?;
+        let handler = self.take_handler(&mut words)?;
+        words.end()?;
+        let name = String::from_str(alloc, name)?;
+        self.interrupts.insert(name, handler)?;
+        Ok(())
+    }
+
+    /// Reads the rest of `timer NAME OBJECT.PROCEDURE`.
+    fn read_timer(&mut self, alloc: Global, mut words: Words<'_>) -> Result<(), LineError>
+        requires { IsDraft self.old }
+        ensures { OnOk result (IsDraft self.new × (self.new.nodes ≡ self.old.nodes)) }
+    {
+        if self.timers.len() >= MOST {
+            return Err(LineError::Bad(DeckReason::TooMany));
+        }
+        let name = take_new_name(&mut words, &self.timers)?;
+        let handler = self.take_handler(&mut words)?;
+        words.end()?;
+        let name = String::from_str(alloc, name)?;
+        self.timers.insert(name, handler)?;
+        Ok(())
+    }
+
+    /// The next word, a procedure of an object.
+    fn take_handler(&self, words: &mut Words<'_>) -> Result<Handler, DeckReason>
+        requires { IsNameSet self.now.objects }
+    {
+        let (object, procedure) = read_dotted(words.take()?)?;
+        let place = self
+            .objects
+            .get_index_of(object)
+            .ok_or(DeckReason::UnknownName)?;
+        let draft = self.drafts.get(place).ok_or(DeckReason::UnknownName)?;
+        match draft.operation(procedure) {
+            Some(OperationName::Procedure(index)) => Ok(Handler {
+                object: place as u8 + 1,
+                procedure: index.number,
+            }),
+            _ => Err(DeckReason::UnknownName),
+        }
+    }
+
+    /// Ends the declarations, at `script`.
+    pub fn complete(&self, words: &mut Words<'_>) -> Result<(), DeckReason>
+        requires { IsDraft self.now }
+        ensures { OnOk result (IsFinishable self.now) }
+    {
+        if self.tasks.is_empty() {
+            return Err(DeckReason::TaskExpected);
+        }
+        if self.objects.is_empty() {
+            return Err(DeckReason::ObjectExpected);
+        }
+        words.end()
+    }
+}
+
+/// The names of a tally's objects: o1, o2 and so on.
+fn tally_objects(alloc: Global, count: u8) -> Result<IndexSet<String>, AllocError>
+    requires { count ≤ 8 }
+    ensures { IfOk result (λ objects. IsNameSet objects × (index_set_len objects ≤ count)) }
+{
+    let mut objects = IndexSet::new(alloc);
+    for number in 0..count {
+        objects.insert(format!(in alloc; "o{}", number + 1)?)?;
+    }
+    Ok(objects)
+}

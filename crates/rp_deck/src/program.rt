@@ -1,0 +1,179 @@
+//! Makes the program of what a deck declares.
+
+ghost use Rattle.std.specs.Prelude.{◌≡◌, ◌≤◌, ℕ, List, length, map, true, false, IfOk, IfSome};
+ghost use Rattle.indexmap.specs.IndexMap.{values};
+ghost use Rattle.indexmap.specs.IndexSet.{index_set_len};
+ghost use Rattle.rp_object.specs.declared.program.Handler.{Handler};
+ghost use Rattle.rp_deck.specs.Programs.{DeclaresAll};
+ghost use Rattle.rp_deck.specs.Declarations.{HasObjects, IsFinishable, IsComplete};
+
+use crate::deck::{DeckProgram, Task};
+use crate::declarations::Declared;
+use crate::draft::Draft;
+use crate::line_error::LineError;
+use crate::names::{Index, OperationName, OperationNames};
+use crate::objects::ObjectDraft;
+use indexmap::IndexMap;
+use rp_base::DeckReason;
+use rp_machine::TallyProgram;
+use rp_object::{Declarations, Handler, ObjectDeclaration, Program, TimingEvent};
+use std::alloc::{AllocError, Global};
+use std::mem;
+use std::sync::Arc;
+
+/// What the objects of a deck are to its program, and to its script.
+#[derive(Drop)]
+struct Objects {
+    program: DeckProgram,
+    operations: Vec<OperationNames>,
+}
+
+/// Makes the program, whose lines were read within its limits.
+pub fn finish(alloc: Global, mut draft: Draft) -> Result<Declared, LineError>
+    requires { IsFinishable draft }
+    ensures { IfOk result IsComplete }
+{
+    let drafts = mem::replace(&mut draft.drafts, Vec::new(alloc));
+    let made = make(alloc, &draft, drafts)?;
+    Ok(Declared {
+        nodes: draft.nodes,
+        positions: draft.positions,
+        program: made.program,
+        tasks: draft.tasks,
+        objects: draft.objects,
+        operations: made.operations,
+        interrupts: draft.interrupts,
+        timers: draft.timers,
+    })
+}
+
+/// Makes the program, of these drafts of its objects where they are not those of a tally.
+fn make(alloc: Global, draft: &Draft, drafts: Vec<ObjectDraft>) -> Result<Objects, LineError>
+    requires some { 1 ≤ index_set_len draft.now.objects }
+    requires few { index_set_len draft.now.objects ≤ 8 }
+    requires drafts { draft.now.is_tally ≡ false
+        → length drafts.items ≡ index_set_len draft.now.objects }
+    ensures program { IfOk result (λ made. HasObjects (index_set_len draft.now.objects)
+        made.program) }
+    ensures declared { IfOk result (λ made. DeclaresAll
+        (map (λ task. task.priority) (values draft.now.tasks)) (values draft.now.interrupts)
+        (values draft.now.timers) made.program) }
+    ensures operations { IfOk result (λ made. length made.operations.items
+        ≡ index_set_len draft.now.objects) }
+{
+    if draft.is_tally {
+        return tally(alloc, draft.objects.len() as u8);
+    }
+    let priorities = priorities_of(alloc, &draft.tasks)?;
+    let (objects, operations) = object_declarations(alloc, drafts)?;
+    let interrupts = handlers_of(alloc, &draft.interrupts)?;
+    let timers = timing_events(alloc, &draft.timers)?;
+    let declarations = Declarations {
+        priorities,
+        objects,
+        interrupts,
+        timers,
+    };
+    protected_objects(alloc, declarations, operations)
+}
+
+/// A tally of so many objects. The one operation of each is the procedure `add`.
+fn tally(alloc: Global, count: u8) -> Result<Objects, LineError>
+    requires { (1 ≤ count) × (count ≤ 8) }
+    ensures program { IfOk result (λ made. HasObjects count made.program) }
+    ensures declared { IfOk result (λ made. (priorities : List ℕ) (interrupts timers : List Handler)
+        → DeclaresAll priorities interrupts timers made.program) }
+    ensures operations { IfOk result (λ made. length made.operations.items ≡ count) }
+{
+    let mut operations = Vec::new(alloc);
+    for _ in 0..count {
+        operations.push(tally_operations(alloc)?)?;
+    }
+    Ok(Objects {
+        program: DeckProgram::Tally(TallyProgram::new(count).unwrap()),
+        operations,
+    })
+}
+
+/// The one operation of an object of a tally, the procedure `add`.
+fn tally_operations(alloc: Global) -> Result<OperationNames, LineError> {
+    let mut names = IndexMap::new(alloc);
+    let index = Index { number: 1 };
+    names.insert(
+        String::from_str(alloc, "add")?,
+        OperationName::Procedure(index),
+    )?;
+    Ok(names)
+}
+
+/// The program of these declarations, whose lines were read within its limits.
+fn protected_objects(
+    alloc: Global,
+    declarations: Declarations,
+    operations: Vec<OperationNames>,
+) -> Result<Objects, LineError>
+    ensures program { IfOk result (λ made. HasObjects (length declarations.objects.items) made.program) }
+    ensures declared { IfOk result (λ made. DeclaresAll declarations.priorities.items
+        declarations.interrupts.items (map (λ event. event.handler) declarations.timers.items)
+        made.program) }
+    ensures operations { IfOk result (λ made. made.operations ≡ operations) }
+{
+    let declarations = Arc::new(alloc, declarations)?;
+    let program = Program::new(declarations).ok_or(DeckReason::TooMany)?;
+    Ok(Objects {
+        program: DeckProgram::Objects(program),
+        operations,
+    })
+}
+
+/// What the program has of the objects, and the names of their operations.
+fn object_declarations(
+    alloc: Global,
+    drafts: Vec<ObjectDraft>,
+) -> Result<(Vec<ObjectDeclaration>, Vec<OperationNames>), AllocError>
+    ensures objects { IfOk result (λ made. length made.0.items ≡ length drafts.items) }
+    ensures operations { IfOk result (λ made. length made.1.items ≡ length drafts.items) }
+{
+    let mut objects = Vec::new(alloc);
+    let mut operations = Vec::new(alloc);
+    for draft in drafts {
+        let (object, names) = draft.finish(alloc)?;
+        objects.push(object)?;
+        operations.push(names)?;
+    }
+    Ok((objects, operations))
+}
+
+/// The priorities of the tasks, in order.
+fn priorities_of(alloc: Global, tasks: &IndexMap<String, Task>) -> Result<Vec<u8>, AllocError>
+    ensures { IfOk result (λ made. made.items ≡ map (λ task. task.priority) (values tasks.now)) }
+{
+    tasks.values().map(|task| task.priority).collect(alloc)
+}
+
+/// The handlers, in order.
+fn handlers_of(
+    alloc: Global,
+    handlers: &IndexMap<String, Handler>,
+) -> Result<Vec<Handler>, AllocError>
+    ensures { IfOk result (λ made. made.items ≡ values handlers.now) }
+{
+    handlers.values().copied().collect(alloc)
+}
+
+/// The timing events, in order.
+fn timing_events(
+    alloc: Global,
+    timers: &IndexMap<String, Handler>,
+) -> Result<Vec<TimingEvent>, AllocError>
+    ensures { IfOk result (λ made. map (λ event. event.handler) made.items ≡ values timers.now) }
+{
+    let mut events = Vec::new(alloc);
+    for (name, handler) in timers.iter() {
+        events.push(TimingEvent {
+            name: name.clone()?,
+            handler: *handler,
+        })?;
+    }
+    Ok(events)
+}

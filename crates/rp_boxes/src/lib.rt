@@ -8,6 +8,7 @@
 //! - `actors`: the numbers by which the table knows actors
 //! - `input`: what a node may be given is within its ranges
 //! - `node_turns`: a node's turn is counted
+//! - `looking`: a look at the table: what a seat may say of all that happened, by what it knows
 //! - `node_seat`: the seat of a node
 //! - `task_seat`: the seat of a task
 //! - `audit_seat`: the seat of the audit
@@ -20,6 +21,7 @@ mod boxes;
 mod events;
 mod input;
 mod laws;
+mod looking;
 mod node_seat;
 mod node_turns;
 mod task_seat;

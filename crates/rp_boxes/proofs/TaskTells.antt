@@ -13,7 +13,7 @@ use Rattle.rp_agreement.specs.Answered.{IsKept, AreItsCalls, named}
 use Rattle.rp_agreement.specs.Computed.{order_of}
 use Rattle.rp_agreement.specs.Told.{Asks}
 use Rattle.rp_boxes.specs.Looks.{IsWorldOf}
-use Rattle.rp_boxes.specs.Parts.{Part, View, task_of}
+use Rattle.rp_boxes.specs.Parts.{Part, View, task_of, part_in, actor_in}
 use Rattle.rp_boxes.specs.Rule.{node_among, task_among, all_sent}
 use Rattle.rp_boxes.specs.TaskSeats.{IsTold}
 use Rattle.rp_boxes.proofs.Worlds.{sent_by, is_sent}
@@ -71,3 +71,7 @@ module _ {S : Type 0} (s : Setting S) (view : View) (parts : ℕ → Part) (worl
             (subst (λ (t : TaskPart). AreItsCalls (all_sent parts 16) number t (kept_of s.next s.answers s.begin order)) task
             (calls (node_among parts) (task_among parts) (all_sent parts 16) world.good.kept number));
       }
+
+-- what a seat knows that knows one actor
+pub knows_itself : (k n : ℕ) (p : Part) (view : View) → view ≡ (k, p) ∷ [] → actor_in view ≡ 7 + n → Has (7 + n, part_in view) view
+knows_itself k n p view is = subst (λ (v : View). actor_in v ≡ 7 + n → Has (7 + n, part_in v) v) (sym is) (λ e. inl (λ i. (sym e i, p)))

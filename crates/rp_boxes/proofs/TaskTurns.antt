@@ -1,6 +1,6 @@
 -- What an event of a task is for its seat.
 use Rattle.std.proofs.Common.{◌≡◌, ℕ, ◌+◌, ◌++◌, Bool, true, false, if◌then◌else◌, Option, Some, None, Result, Ok, Err, List, [], ◌∷◌, length, inl, inr, refl, sym, ap, subst, ◌∙◌}
-use Rattle.std.specs.Prelude.{ℤ, nat_lt, not, ◌||◌}
+use Rattle.std.specs.Prelude.{ℤ, nat_lt, not, ◌||◌, IfErr, IsErrAnd}
 use Rattle.atomic_table.specs.Seated.{TableId}
 use Rattle.rp_base.specs.Action.{is_right}
 use Rattle.rp_base.specs.Calls.{are_spent}
@@ -164,8 +164,8 @@ module _ {P : Type 0} (config mine : Config) (program : P) (number : ℕ) (table
     at_after,
     record {
       place = record { task = subst IsTask (sym stays) sits.place.task; is = ap (λ (p : Part). p.role) sees };
-      number = stays ∙ sits.number;
-      config = sits.config;
+      named = stays ∙ sits.named;
+      shared = sits.shared;
       waits = waits;
     },
   )
@@ -196,10 +196,15 @@ module _ {P : Type 0} (config mine : Config) (program : P) (number : ℕ) (table
       done = done;
       comes = comes;
       after = after_is;
-      taken = told;
+      told = told;
     }
 
 -- ---- the seat where nothing happened
+
+-- what holds at the fault that an answer is
+pub at_fault : {A : Type 0} (Q : Fault → Type 0) (fault : Fault) (r : Result A Fault) → IsErrAnd r (λ e. e ≡ fault) → Q fault → IfErr r Q
+at_fault Q fault (Ok told) is q = tt
+at_fault Q fault (Err other) is q = subst Q (sym is) q
 
 module _ {P : Type 0} (chair : Chair P) (caller : Caller) (was : chair.part.role ≡ OfTask caller.part) (input : TaskInput) where
   pub refused_chair : (fault : Fault) → task_effect chair.config chair.number caller.part input ≡ Err fault → IsNoTaskTurn chair input chair fault
@@ -213,7 +218,7 @@ pub task_stays : (number : ℕ) (config mine : Config) (caller : Caller) (part p
     → IsTaskSeat number config mine caller part → IsTaskSeat number config mine caller part'
 task_stays number config mine caller part part' same sits = record {
   place = record { task = sits.place.task; is = same ∙ sits.place.is };
-  number = sits.number;
-  config = sits.config;
+  named = sits.named;
+  shared = sits.shared;
   waits = sits.waits;
 }

@@ -26,8 +26,8 @@ use Rattle.rp_boxes.specs.Seats.{Chair, IsTaskPlace}
 -- The seat of the task of this number: it knows what all nodes share, and waits for a right call of its own.
 pub record IsTaskSeat (number : ℕ) (config mine : Config) (caller : Caller) (part : Part) : Type 0 where
   pub place : IsTaskPlace caller part
-  pub number : caller.task ≡ number
-  pub config : mine ≡ config
+  pub named : caller.task ≡ number
+  pub shared : mine ≡ config
   pub waits : WaitsForOwn number caller.part
 
 -- ---- calls
@@ -40,7 +40,7 @@ asked_of task node (Some call) = asks task node call ∷ []
 -- these packets were sent, and the bytes are their texts
 pub record TellsPackets (sent : Sent) (packets : List Message) : Type 0 where
   pub bytes : sent.bytes.items ≡ texts_of packets
-  pub packets : sent.packets ≡ length packets
+  pub count : sent.packets ≡ length packets
   pub dropped : sent.dropped ≡ No
 
 module _ {P : Type 0} (old : Chair P) (input : TaskInput) (new : Chair P) where
@@ -69,16 +69,16 @@ told_effect task part None = goes_on_as part
 told_effect task part (Some told) = takes_reply task part told.0 told.1
 
 -- One event: the packet of this text, which the seat got, comes to the task, and this answer is taken.
-pub record IsReplyTurn {P : Type 0} (old : Chair P) (text : List ℕ) (new : Chair P) (taken : Option Answer) : Type 0 where
+pub record IsReplyTurn {P : Type 0} (old : Chair P) (bytes : List ℕ) (new : Chair P) (taken : Option Answer) : Type 0 where
   pub packet : Message
   pub got : Has packet old.part.got
-  pub text : text ≡ text_of packet
+  pub text : bytes ≡ text_of packet
   pub task : TaskPart
   pub was : old.part.role ≡ OfTask task
   pub done : Done TaskPart
   pub comes : task_effect old.config old.number task (Take packet) ≡ Ok done
   pub after : new ≡ record old { part = part_after old.part (OfTask done.part) done.sends }
-  pub taken : taken ≡ done.taken
+  pub told : taken ≡ done.taken
 
 -- There is an order of actions in which each reply of the task answers its call; and its calls that count there are
 -- those that it made, in order: all of them, or all but the one that it waits for.

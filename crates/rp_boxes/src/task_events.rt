@@ -21,7 +21,7 @@ pub(crate) fn note_asking<M: Machine, J: Saying>(
     number: TaskId,
     task: &Task,
     node: NodeId,
-    call: Option<Action>,
+    call: &Option<Action>,
 )
     requires place { IsAtTable slots.now.table_id place.old.table_id (7 + number) place.old.me }
     requires event { (part : Part)

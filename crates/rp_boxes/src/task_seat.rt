@@ -82,8 +82,8 @@ impl<M: Machine> TaskSeat<M> {
     {
         tasks_send_right_packets();
         node_keeps_range(node);
-        let call = self.task.next(self.config, node, object, operation, arg)?;
-        let sent = asking(alloc, self.number, node, Some(call))?;
+        let call = Some(self.task.next(self.config, node, object, operation, arg)?);
+        let sent = asking(alloc, self.number, node, &call)?;
         self.task.call(object, operation, arg);
         note_asking::<M, Brand>(
             &self.board.shared,
@@ -91,7 +91,7 @@ impl<M: Machine> TaskSeat<M> {
             self.number,
             &self.task,
             node,
-            Some(call),
+            &call,
         );
         Ok(sent)
     }
@@ -108,14 +108,14 @@ impl<M: Machine> TaskSeat<M> {
             return Err(Fault::BadConfig);
         }
         let call = self.task.outstanding();
-        let sent = asking(alloc, self.number, node, call)?;
+        let sent = asking(alloc, self.number, node, &call)?;
         note_asking::<M, Brand>(
             &self.board.shared,
             &mut self.place,
             self.number,
             &self.task,
             node,
-            call,
+            &call,
         );
         Ok(sent)
     }
@@ -177,15 +177,15 @@ fn asking(
     alloc: Global,
     task: TaskId,
     node: NodeId,
-    call: Option<Action>,
+    call: &Option<Action>,
 ) -> Result<Sent, AllocError>
-    requires own { IfSome call (λ action. IsCallBy task action) }
-    requires right { IfSome call IsRight }
-    ensures { IfOk result (λ sent. TellsPackets sent (asked_of task node call)) }
+    requires own { IfSome call.now (λ action. IsCallBy task action) }
+    requires right { IfSome call.now IsRight }
+    ensures { IfOk result (λ sent. TellsPackets sent (asked_of task node call.now)) }
 {
     match call {
         Some(action) => {
-            let bytes = encode(alloc, &asks(task, node, action))?;
+            let bytes = encode(alloc, &asks(task, node, *action))?;
             Ok(Sent {
                 bytes,
                 packets: 1,
@@ -204,7 +204,6 @@ fn asking(
 
 /// The number and the reply that the text of a packet tells, if it is a reply.
 fn read_reply(alloc: Global, text: &[u8]) -> Result<Option<(u32, Reply)>, AllocError>
-    requires { (m : Message) × IsPacket m × (text.now ≡ text_of m) }
     ensures { IfOk result (λ told. (m : Message) → IsPacket m → text.now ≡ text_of m
         → told ≡ reply_told m.body) }
 {

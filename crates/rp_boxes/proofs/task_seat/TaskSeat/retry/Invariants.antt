@@ -6,5 +6,5 @@ use Rattle.rp_boxes.proofs.task_seat.TaskSeat.retry.Given as goal
 
 abbrev pub ghosts-note_asking : goal.ghosts-note_asking
 ghosts-note_asking g a = record {
-  says = BecomesPart (part_in a.place.now.me.0) a.task.now.part (asked_of a.number a.node a.call);
+  says = BecomesPart (part_in a.place.now.me.0) a.task.now.part (asked_of a.number a.node a.call.now);
 }

@@ -1,5 +1,5 @@
 -- The call is one event of the task, or none.
-use Rattle.std.proofs.Common.{◌≡◌, ℕ, ◌+◌, Some, [], ◌∷◌, inl, refl, sym, ap, subst, ◌∙◌}
+use Rattle.std.proofs.Common.{◌≡◌, ◌+◌, Some, inl, refl, sym, ap, subst, ◌∙◌}
 use Rattle.std.specs.Arc.{arc_value}
 use Rattle.std.specs.Prelude.{ℤ, FitsSigned, IfErr}
 use Rattle.std.specs.Int.{w64}

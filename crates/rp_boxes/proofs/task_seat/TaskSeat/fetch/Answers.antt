@@ -1,5 +1,5 @@
 -- The seat gets the packet that was in the box, or stays as it is.
-use Rattle.std.proofs.Common.{◌≡◌, ℕ, ◌+◌, subst, ◌∙◌}
+use Rattle.std.proofs.Common.{◌≡◌, ℕ, ◌+◌, subst}
 use Rattle.std.specs.Prelude.{IfSome}
 use Rattle.std.specs.Arc.{arc_value}
 use Rattle.rp_boxes.specs.Parts.{part_in}

@@ -10,12 +10,11 @@ use Rattle.rp_model.specs.Tasks.{Take}
 use Rattle.rp_agreement.specs.Answered.{setting_for}
 use Rattle.rp_agreement.specs.Inputs.{IsTaskInput}
 use Rattle.rp_world.specs.Callers.{Caller}
-use Rattle.rp_boxes.specs.Looks.{IsWorldOf}
-use Rattle.rp_boxes.specs.Parts.{Part, part_in, actor_in}
+use Rattle.rp_boxes.specs.Parts.{Part, part_in}
 use Rattle.rp_boxes.specs.Plays.{Sight, Turned}
 use Rattle.rp_boxes.specs.Seats.{Chair}
 use Rattle.rp_boxes.specs.Steps.{IsEvent}
-use Rattle.rp_boxes.specs.TaskSeats.{told_effect, IsReplyTurn, IsTold}
+use Rattle.rp_boxes.specs.TaskSeats.{told_effect, IsReplyTurn}
 use Rattle.rp_boxes.proofs.SeatBoxes.{same_party}
 use Rattle.rp_boxes.proofs.TaskTells.{world_tells, knows_itself}
 use Rattle.rp_boxes.proofs.TaskTurns.{told_comes, told_quiet, BecomesPart, task_event, told_chair}

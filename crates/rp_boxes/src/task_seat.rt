@@ -103,7 +103,6 @@ impl<M: Machine> TaskSeat<M> {
         ensures ok { IfOk result (λ sent. IsTaskTurn self.old (Again node) self.new sent) }
         ensures err { IfErr result (λ fault. IsNoTaskTurn self.old (Again node) self.new fault) }
     {
-        node_keeps_range(node);
         if node.get() > self.config.nodes {
             return Err(Fault::BadConfig);
         }
@@ -120,11 +119,10 @@ impl<M: Machine> TaskSeat<M> {
         Ok(sent)
     }
 
-    /// A packet that the seat got comes to the task, as its text. It is one event. Where it replies to
-    /// the call that waits, the reply is taken; any other packet changes nothing. Refused for memory,
-    /// nothing has happened.
-    ///
-    /// All replies that the task has then are told by one order of actions.
+    /// A packet that the seat got comes to the task, as its text. It is one event. A reply to the call
+    /// that waits is taken, and ends it; any other packet changes neither calls nor replies. There is
+    /// then one order of actions that all replies of the task come from. Refused for memory, nothing
+    /// has happened.
     pub fn reply(&mut self, alloc: Global, packet: &[u8]) -> Result<Option<Answer>, Fault>
         requires got { (m : Message) × Has m self.old.part.got × (packet.now ≡ text_of m) }
         ensures ok { IfOk result (λ taken. IsReplyTurn self.old packet.now self.new taken) }

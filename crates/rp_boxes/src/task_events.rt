@@ -13,8 +13,8 @@ use rp_base::{Action, NodeId, TaskId};
 use rp_machine::Machine;
 use rp_world::Task;
 
-/// Counts an event by which a task asked a node for a call, if there was one, and tells of the task's
-/// part what the call picks by the task as it now is.
+/// Counts an event by which a task asked a node for a call, if there was one, and tells of the
+/// task's part what the caller picks by the task as it now is.
 pub(crate) fn note_asking<M: Machine, J: Saying>(
     slots: &Slots<M>,
     place: &mut Place,

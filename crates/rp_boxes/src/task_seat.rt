@@ -11,7 +11,8 @@ ghost use Rattle.rp_model.specs.Tasks.{Submit, Again};
 ghost use Rattle.rp_world.specs.Going.{reply_told};
 ghost use Rattle.rp_boxes.specs.Parts.{task_of};
 ghost use Rattle.rp_boxes.specs.Seats.{IsSentText, IsFetched};
-ghost use Rattle.rp_boxes.specs.TaskSeats.{asked_of, TellsPackets, IsTaskTurn, IsNoTaskTurn, told_effect, IsReplyTurn, IsTold};
+ghost use Rattle.rp_boxes.specs.TaskSeats.{IsTaskTurn, IsNoTaskTurn, IsReplyTurn, IsTold};
+ghost use Rattle.rp_boxes.specs.TaskSeats.{asked_of, TellsPackets, told_effect};
 
 use crate::actors::{actor_of, receiver};
 use crate::board::{Board, Place};
@@ -65,8 +66,8 @@ impl<M: Machine> Model for TaskSeat<M> {
 
 impl<M: Machine> TaskSeat<M> {
     /// The task makes its next call and asks a node. It is one event. Refused with 9 while a call
-    /// waits for its reply, with 10 after call 2^32 - 1, with 12 for a node above the last or a call
-    /// that is not right, or with 1 where memory ran out: then nothing has happened.
+    /// waits for its reply, with 10 after call 2^32 - 1, with 12 for a node above the last or a
+    /// call that is not right, or with 1 where memory ran out: then nothing has happened.
     pub fn call(
         &mut self,
         alloc: Global,
@@ -97,13 +98,12 @@ impl<M: Machine> TaskSeat<M> {
     }
 
     /// The task asks a node once more for the call that waits for its reply, and for nothing where
-    /// none waits. It is one event. Refused with 12 for a node above the last, or with 1 where memory
-    /// ran out: then nothing has happened.
+    /// none waits. It is one event. Refused with 12 for a node above the last, or with 1 where
+    /// memory ran out: then nothing has happened.
     pub fn retry(&mut self, alloc: Global, node: NodeId) -> Result<Sent, Fault>
         ensures ok { IfOk result (λ sent. IsTaskTurn self.old (Again node) self.new sent) }
         ensures err { IfErr result (λ fault. IsNoTaskTurn self.old (Again node) self.new fault) }
     {
-        node_keeps_range(node);
         if node.get() > self.config.nodes {
             return Err(Fault::BadConfig);
         }
@@ -120,11 +120,10 @@ impl<M: Machine> TaskSeat<M> {
         Ok(sent)
     }
 
-    /// A packet that the seat got comes to the task, as its text. It is one event. Where it replies to
-    /// the call that waits, the reply is taken; any other packet changes nothing. Refused for memory,
-    /// nothing has happened.
-    ///
-    /// All replies that the task has then are told by one order of actions.
+    /// A packet that the seat got comes to the task, as its text. It is one event. A reply to the
+    /// call that waits is taken, and ends it; any other packet changes neither calls nor replies.
+    /// There is then one order of actions that all replies of the task come from. Refused for
+    /// memory, nothing has happened.
     pub fn reply(&mut self, alloc: Global, packet: &[u8]) -> Result<Option<Answer>, Fault>
         requires got { (m : Message) × Has m self.old.part.got × (packet.now ≡ text_of m) }
         ensures ok { IfOk result (λ taken. IsReplyTurn self.old packet.now self.new taken) }
@@ -148,8 +147,8 @@ impl<M: Machine> TaskSeat<M> {
         self.task.replies()
     }
 
-    /// Puts a packet that a step of this seat sent, as its text, into the box to its receiver. It is
-    /// given back where that box is not empty.
+    /// Puts a packet that a step of this seat sent, as its text, into the box to its receiver. It
+    /// is given back where that box is not empty.
     pub fn put(&mut self, packet: Vec<u8>) -> Result<(), Vec<u8>>
         requires sent { IsSentText self.old.part packet.items }
         ensures unchanged { self.new ≡ self.old }

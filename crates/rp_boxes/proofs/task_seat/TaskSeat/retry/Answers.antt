@@ -69,7 +69,7 @@ note_asking-requires-clause-event g c =
     let range = subst IsTask sits.named sits.place.task in
     subst (λ b. (after : Part) × IsEvent (setting_for m.next m.answers m.begin b.shared.key.config b.shared.key.program.value) (7 + number) p after
     × BecomesPart p task.part (asked_of number c.args.node call) after) (sym c.deref.ensures)
-    (task_event s number p task range sits.place.is input c.node_keeps_range.ensures done comes task.part (asked_of number c.args.node call) refl (ap (asked_of number c.args.node) c.outstanding-call.ensures))
+    (task_event s number p task range sits.place.is input c.get.ensures.in_range done comes task.part (asked_of number c.args.node call) refl (ap (asked_of number c.args.node) c.outstanding-call.ensures))
 
 pub returns-clause-ok : goal.returns-clause-ok
 returns-clause-ok g c =

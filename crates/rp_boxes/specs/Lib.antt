@@ -5,4 +5,3 @@ pub mod Laws
 pub mod Plays
 pub mod Seats
 pub mod Counting
-pub mod Making

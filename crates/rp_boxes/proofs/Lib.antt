@@ -9,3 +9,4 @@ pub mod SeatTurns
 pub mod SeatBoxes
 pub mod Opening
 pub mod Splitting
+pub mod Seating

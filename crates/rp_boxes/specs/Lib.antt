@@ -5,3 +5,4 @@ pub mod Laws
 pub mod Plays
 pub mod Seats
 pub mod Counting
+pub mod Making

@@ -11,6 +11,7 @@
 //! - `node_seat`: the seat of a node
 //! - `task_seat`: the seat of a task
 //! - `audit_seat`: the seat of the audit
+//! - `making`: the seats are made
 #![tactic(auto)]
 
 mod actors;
@@ -20,10 +21,12 @@ mod boxes;
 mod events;
 mod input;
 mod laws;
+mod making;
 mod node_seat;
 mod node_turns;
 mod task_seat;
 
 pub use audit_seat::AuditSeat;
+pub use making::{AllSeats, seats};
 pub use node_seat::NodeSeat;
 pub use task_seat::TaskSeat;

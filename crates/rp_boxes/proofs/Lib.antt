@@ -12,3 +12,4 @@ pub mod Splitting
 pub mod WorldLooks
 pub mod TaskTurns
 pub mod TaskTells
+pub mod Seating

@@ -7,3 +7,4 @@ pub mod Seats
 pub mod Counting
 pub mod TaskSeats
 pub mod Looks
+pub mod Making

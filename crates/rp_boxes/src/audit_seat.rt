@@ -1,6 +1,14 @@
 //! The seat of the audit.
 
+ghost use Rattle.std.specs.Prelude.{◌≡◌, IfSome, IfNone};
+ghost use Rattle.rp_codec.specs.declared.packet.Party.TheVariants.{Audit};
+ghost use Rattle.rp_boxes.specs.Rule.{HasOwnPackets};
+ghost use Rattle.rp_boxes.specs.Seats.{IsFetched};
+
+use crate::actors::actor_of;
 use crate::board::{Board, Place};
+use crate::boxes::empty;
+use rp_codec::Party;
 use rp_machine::Machine;
 use std::alloc::Global;
 use std::marker::Model;
@@ -32,4 +40,26 @@ impl<M: Machine> Model for AuditSeat<M> {
 
     ghost invariant = { λ s. IsAtTable (arc_value s.board).shared.table_id s.place.table_id 0 s.place.me
         × ((part_in s.place.me.0).role ≡ OfAudit) };
+}
+
+/// The audit's number at the table.
+const AUDIT: usize = 0;
+
+impl<M: Machine> AuditSeat<M> {
+    /// The packet in the box from that party to the audit, as its text, or `None` where the box is
+    /// not full.
+    pub fn fetch(&mut self, from: Party) -> Option<Vec<u8>>
+        ensures some { IfSome result (λ text. IsFetched from Audit text.items self.old self.new) }
+        ensures none { IfNone result (self.new ≡ self.old) }
+    {
+        empty(&self.board.shared, &mut self.place, actor_of(from), AUDIT)
+    }
+
+    /// The packets that the audit got are right ones, to it. It does nothing: what it promises is for
+    /// contracts.
+    pub(crate) fn packets_are_right(&self)
+        ensures { HasOwnPackets 0 self.now.part }
+    {
+        let _ = &self.place;
+    }
 }

@@ -22,6 +22,7 @@ impl Model for Known {
 }
 
 /// What all nodes share: the configuration, and the program as contracts see it.
+#[derive(Drop)]
 pub struct Setup<M: Machine> {
     pub config: Config,
     pub program: Snapshot<M::Program>,

@@ -13,6 +13,7 @@
 //! - `node_seat`: the seat of a node
 //! - `task_seat`: the seat of a task
 //! - `audit_seat`: the seat of the audit
+//! - `making`: the seats are made
 #![tactic(auto)]
 
 mod actors;
@@ -23,11 +24,13 @@ mod events;
 mod input;
 mod laws;
 mod looking;
+mod making;
 mod node_seat;
 mod node_turns;
 mod task_events;
 mod task_seat;
 
 pub use audit_seat::AuditSeat;
+pub use making::{AllSeats, seats};
 pub use node_seat::NodeSeat;
 pub use task_seat::TaskSeat;

@@ -25,10 +25,10 @@ use std::sync::Arc;
 /// to another thread, and none of its calls waits.
 #[derive(Drop)]
 pub struct NodeSeat<M: Machine, D: Device> {
-    node: NodeId,
-    replica: Replica<M, D>,
-    place: Place,
-    board: Arc<Board<M>, Global>,
+    pub(crate) node: NodeId,
+    pub(crate) replica: Replica<M, D>,
+    pub(crate) place: Place,
+    pub(crate) board: Arc<Board<M>, Global>,
 }
 
 impl<M: Machine, D: Device> Model for NodeSeat<M, D> {

@@ -47,7 +47,7 @@ impl<M: Machine, D: CutDevice> Model for Cluster<M, D> {
 }
 
 /// Whether each device is empty.
-fn are_empty<D: Device>(devices: &[D]) -> bool
+pub fn are_empty<D: Device>(devices: &[D]) -> bool
     ensures { IsTrue result ↔ All (λ device. (D.disk device).contents ≡ []) devices.now }
 {
     devices.iter().all(|device| device.len() == 0)

@@ -25,7 +25,7 @@ mod task;
 mod world;
 
 pub use calls::asks;
-pub use cluster::Cluster;
+pub use cluster::{Cluster, are_empty};
 pub use effect::Refused;
 pub use headline::histories_are_ordered;
 pub use rp_model::{Dropped, Effect, Event, Interrupt, Step};

@@ -1,0 +1,170 @@
+-- Actors get seats one after another, as they are at first.
+use Rattle.std.proofs.Common.{◌≡◌, ℕ, zero, suc, ◌+◌, ◌<◌, ◌≤◌, List, [], ◌∷◌, ◌++◌, length, refl, sym, ap, subst, ◌∙◌, arith, length-append}
+use Rattle.atomic_table.specs.Seated.{TableId}
+use Rattle.rp_base.specs.declared.config.Config.{Config}
+use Rattle.rp_base.specs.Number.{IsTask}
+use Rattle.rp_model.specs.Parts.{fresh_node, fresh_task}
+use Rattle.rp_replica.specs.Held.{Held}
+use Rattle.rp_world.specs.Callers.{Caller}
+use Rattle.rp_world.specs.Nodes.{member_of, RunsAs}
+use Rattle.rp_world.proofs.Standing.{stands}
+use Rattle.rp_boxes.specs.Parts.{Part, View, OfNode, OfTask, first_role, first_part, first_from, part_in}
+use Rattle.rp_boxes.specs.Plays.{Sight, IsSized, alone}
+use Rattle.rp_boxes.specs.Seats.{Chair, IsAtTable, IsNodePlace, IsTaskPlace}
+use Rattle.rp_boxes.specs.Making.{AreFirstSeats, AreSeats, IsRest, IsFirstPlace, Unseated, after_seats, first_in, others_in, first_seat}
+
+-- ---- the rest of the actors
+
+-- while an actor is left, the place knows it first
+left_from : (next left : ℕ) → next + left ≡ 16 → next < 16 → (me : Sight) → me ≡ (first_from next left, [])
+    → (more : ℕ) × (suc next + more ≡ 16) × (me ≡ ((next, first_part next) ∷ first_from (suc next) more, []))
+left_from next zero up_to small me is = absurd (omega (arith, up_to, small))
+left_from next (suc more) up_to small me is = (more, omega (arith, up_to), is)
+
+module _ (table mine : TableId) (next : ℕ) (me : Sight) (rest : IsRest table mine next me) (small : next < 16) where
+  front : (more : ℕ) × (suc next + more ≡ 16) × (me ≡ ((next, first_part next) ∷ first_from (suc next) more, []))
+  front = left_from next rest.left rest.up_to small me rest.knows
+
+  pub some_left : (first : ℕ × Part) × (others : View) × (me.0 ≡ first ∷ others)
+  some_left = ((next, first_part next), first_from (suc next) front.0, ap (λ (sight : Sight). sight.0) front.2)
+
+  -- once the first of them is split off
+  pub rest_after : (mine' : TableId) (me' : Sight) → mine' ≡ mine → me' ≡ (others_in me.0, me.1) → IsRest table mine' (next + 1) me'
+  rest_after mine' me' same is =
+      let one : suc next ≡ next + 1 = omega arith in
+      subst (λ (k : ℕ). IsRest table mine' k me') one
+      (record {
+        same = same ∙ rest.same;
+        sized = rest.sized;
+        left = front.0;
+        up_to = front.1;
+        knows = is ∙ ap (λ (sight : Sight). (others_in sight.0, sight.1)) front.2;
+      })
+
+  pub first_after : (mine' : TableId) (me' : Sight) → mine' ≡ mine → me' ≡ (first_in me.0, []) → IsFirstPlace mine mine' next me'
+  first_after mine' me' same is = record { same = same; knows = is ∙ ap (λ (sight : Sight). (first_in sight.0, [])) front.2 }
+
+-- ---- the place of one actor
+
+pub at_first : (table mine : TableId) (actor : ℕ) (me : Sight) → mine ≡ table → IsSized table → actor < 16 → me ≡ alone actor (first_part actor) → IsAtTable table mine actor me
+at_first table mine actor me same sized small is =
+    let here : IsAtTable table mine actor (alone actor (first_part actor)) = record {
+      same = same;
+      sized = sized;
+      small = small;
+      place = refl;
+      fills = refl;
+      takes = refl;
+      own = record { sent = λ m h. absurd h; got = λ m h. absurd h };
+    } in
+    subst (IsAtTable table mine actor) (sym is) here
+
+-- what the nodes and the tasks are at first
+pub node_role : (k : ℕ) → 1 ≤ k → k < 8 → first_role k ≡ OfNode fresh_node
+node_role zero least most = absurd (omega (arith, least))
+node_role (suc zero) least most = refl
+node_role (suc (suc zero)) least most = refl
+node_role (suc (suc (suc zero))) least most = refl
+node_role (suc (suc (suc (suc zero)))) least most = refl
+node_role (suc (suc (suc (suc (suc zero))))) least most = refl
+node_role (suc (suc (suc (suc (suc (suc zero)))))) least most = refl
+node_role (suc (suc (suc (suc (suc (suc (suc zero))))))) least most = refl
+node_role (suc (suc (suc (suc (suc (suc (suc (suc k)))))))) least most = absurd (omega (arith, most))
+
+pub task_role : (t : ℕ) → IsTask t → first_role (7 + t) ≡ OfTask fresh_task
+task_role zero task = absurd (omega (arith, task.0))
+task_role (suc zero) task = refl
+task_role (suc (suc zero)) task = refl
+task_role (suc (suc (suc zero))) task = refl
+task_role (suc (suc (suc (suc zero)))) task = refl
+task_role (suc (suc (suc (suc (suc zero))))) task = refl
+task_role (suc (suc (suc (suc (suc (suc zero)))))) task = refl
+task_role (suc (suc (suc (suc (suc (suc (suc zero))))))) task = refl
+task_role (suc (suc (suc (suc (suc (suc (suc (suc zero)))))))) task = refl
+task_role (suc (suc (suc (suc (suc (suc (suc (suc (suc t))))))))) task = absurd (omega (arith, task.1))
+
+known_part : (actor : ℕ) (me : Sight) → me ≡ alone actor (first_part actor) → part_in me.0 ≡ first_part actor
+known_part actor me is = ap (λ (sight : Sight). part_in sight.0) is
+
+-- a replica that is fresh is the node that its place knows
+pub fresh_place : {S : Type 0} (config : Config) (begin : S) (number : ℕ) (held : Held S) (me : Sight) → 1 ≤ number → number ≤ config.nodes → config.nodes ≤ 7
+    → me ≡ alone number (first_part number) → RunsAs (member_of number config begin) held fresh_node → IsNodePlace config begin number held (part_in me.0)
+fresh_place config begin number held me least most seven is runs = record {
+  member = (least, most);
+  node = fresh_node;
+  is = ap (λ (part : Part). part.role) (known_part number me is) ∙ node_role number least (omega (arith, most, seven));
+  stands = stands (member_of number config begin) held fresh_node runs;
+}
+
+-- a task that called nothing is the one that its place knows
+pub fresh_task_place : (task : ℕ) (caller : Caller) (me : Sight) → IsTask task → caller ≡ record { task = task; part = fresh_task } → me ≡ alone (7 + task) (first_part (7 + task))
+    → IsTaskPlace caller (part_in me.0)
+fresh_task_place task caller me right fresh is =
+    let here : IsTaskPlace (record { task = task; part = fresh_task }) (part_in me.0) = record {
+      task = right;
+      is = ap (λ (part : Part). part.role) (known_part (7 + task) me is) ∙ task_role task right;
+    } in
+    subst (λ (c : Caller). IsTaskPlace c (part_in me.0)) (sym fresh) here
+
+-- what the seat at such a place is to a contract
+pub first_chair : {P : Type 0} (table mine : TableId) (config config' : Config) (program program' : P) (number number' actor : ℕ) (me : Sight)
+    → mine ≡ table → config ≡ config' → program ≡ program' → number ≡ number' → me ≡ alone actor (first_part actor)
+    → (let chair : Chair P = record { table = mine; config = config; program = program; number = number; part = part_in me.0 } in chair) ≡ first_seat table config' program' number' actor
+first_chair table mine config config' program program' number number' actor me same shared begin named is =
+    λ i. record { table = same i; config = shared i; program = begin i; number = named i; part = known_part actor me is i }
+
+-- ---- one more seat
+
+module _ {P : Type 0} (old self : Unseated P) (seats : List (Chair P)) (same : self ≡ after_seats (length seats) old) where
+  next_is : self.next ≡ old.next + length seats
+  next_is = ap (λ (unseated : Unseated P). unseated.next) same
+
+  pub after_one : (self' : Unseated P) (grown : List (Chair P)) (seat : Chair P) → self' ≡ after_seats 1 self → grown ≡ seats ++ seat ∷ [] → self' ≡ after_seats (length grown) old
+  after_one self' grown seat one is =
+      let count : old.next + length seats + 1 ≡ old.next + length grown = omega (arith, ap length is, length-append seats (seat ∷ [])) in
+      one ∙ (ap (after_seats 1) same ∙ ap (λ (next : ℕ). let unseated : Unseated P = record old { next = next } in unseated) count)
+
+  pub seat_is : (seat : Chair P) (number actor number' actor' : ℕ) → seat ≡ first_seat self.table self.config self.program number actor → number ≡ number' → actor ≡ actor'
+      → seat ≡ first_seat old.table old.config old.program number' actor'
+  seat_is seat number actor number' actor' told named which = told ∙ (λ i. first_seat (same i).table (same i).config (same i).program (named i) (which i))
+
+-- no seat yet
+pub after_none : {P : Type 0} (old : Unseated P) (seats : List (Chair P)) → seats ≡ [] → old ≡ after_seats (length seats) old
+after_none {P} old seats none =
+    let count : old.next ≡ old.next + length seats = omega (arith, ap length none) in
+    ap (λ (next : ℕ). let unseated : Unseated P = record old { next = next } in unseated) count
+
+-- ---- all seats
+
+-- what all seats at the table share
+abbrev shared : {P : Type 0} → Unseated P → TableId × Config × P
+shared unseated = (unseated.table, unseated.config, unseated.program)
+
+module _ {P : Type 0} (first later left last : Unseated P) (config : Config) (program : P) (nodes tasks : List (Chair P)) (audit : Chair P)
+    (configured : first.config ≡ config) (begun : first.program ≡ program) (audit_is : audit ≡ first_seat first.table first.config first.program 0 0)
+    (one : later ≡ after_seats 1 first) (more : left ≡ after_seats later.config.nodes later) (passed : last ≡ record left { next = 8 }) where
+  same_later : shared later ≡ shared first
+  same_later = ap shared one
+
+  same_last : shared last ≡ shared first
+  same_last = ap shared passed ∙ (ap shared more ∙ same_later)
+
+  same_table : first.table ≡ audit.table
+  same_table = sym (ap (λ (chair : Chair P). chair.table) audit_is)
+
+  told : shared first ≡ (audit.table, config, program)
+  told = λ i. (same_table i, configured i, begun i)
+
+  seats_at : (unseated : Unseated P) (actor : ℕ) (seats : List (Chair P)) → shared unseated ≡ shared first
+      → AreFirstSeats unseated.table unseated.config unseated.program actor seats → AreFirstSeats audit.table config program actor seats
+  seats_at unseated actor seats same are = subst (λ (z : TableId × Config × P). AreFirstSeats z.0 z.1 z.2 actor seats) (same ∙ told) are
+
+  pub all_seats : length nodes ≡ later.config.nodes → AreFirstSeats later.table later.config later.program 1 nodes
+      → length tasks ≡ 8 → AreFirstSeats last.table last.config last.program 8 tasks → AreSeats config program nodes tasks audit
+  all_seats size nodes_are eight tasks_are = record {
+    size = size ∙ ap (λ (z : TableId × Config × P). z.1.nodes) (same_later ∙ told);
+    nodes_are = seats_at later 1 nodes same_later nodes_are;
+    eight = eight;
+    tasks_are = seats_at last 8 tasks same_last tasks_are;
+    audit_is = audit_is ∙ (λ i. first_seat (same_table i) (configured i) (begun i) 0 0);
+  }

@@ -1,0 +1,29 @@
+-- One more task has a seat.
+use Rattle.std.proofs.Common.{◌≡◌, ◌+◌, ℕ, suc, length, slice_get, [], ◌∷◌, sym, ap, subst, arith}
+use Rattle.std.specs.Prelude.{IfSome}
+use Rattle.std.proofs.lemmas.List.{length-append}
+use Rattle.rp_world.proofs.Fresh.{one_more}
+use Rattle.rp_world.proofs.Moving.{at_if}
+use Rattle.rp_boxes.specs.Making.{first_seat}
+use Rattle.rp_boxes.proofs.Seating.{after_one, seat_is}
+use Rattle.rp_boxes.proofs.making.Unseated.tasks.Goals as goal
+
+pub loop-number-preserved : goal.loop-number-preserved
+loop-number-preserved g c =
+    let old = c.args.self.now in
+    let seats = c.loop-number.seats.items in
+    let seat = c.in_ok-task.field-0 in
+    let grown = c.in_ok-push.ensures.items in
+    let self = c.loop-number.self in
+    let same = c.loop-number.invariant.same in
+    let task = c.unwrap-task.result in
+    let number = at_if (λ id. id ≡ c.loop-number.number) c.new.result c.unwrap-task.result c.unwrap-task.ensures c.new.ensures.value in
+    let told = c.in_ok-task.ensures in
+    let count = c.loop-number.invariant.count in
+    record {
+      same = after_one old self seats same c.task.new.self c.push.new.self.items seat told.rest grown;
+      count = omega (arith, ap length grown, length-append seats (seat ∷ []), c.loop-number.invariant.count);
+      seats = subst (λ l. (place : ℕ) → IfSome (slice_get l place) (λ s. s ≡ first_seat old.table old.config old.program (suc place) (8 + place))) (sym grown)
+          (one_more (λ place s. s ≡ first_seat old.table old.config old.program (suc place) (8 + place)) seats seat c.loop-number.invariant.seats
+          (seat_is old self seats same seat task (7 + task) (suc (length seats)) (8 + length seats) told.ok (omega (arith, number, count)) (omega (arith, number, count))));
+    }

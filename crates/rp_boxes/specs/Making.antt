@@ -1,0 +1,69 @@
+-- The making of the seats: actors get seats one after another, in the order of their numbers (this project's own).
+use Rattle.std.specs.Prelude.{◌≡◌, ◌⊎◌, ℕ, suc, ◌+◌, IfSome, List, [], ◌∷◌, length, slice_get}
+use Rattle.atomic_table.specs.Seated.{TableId}
+use Rattle.rp_base.specs.declared.config.Config.{Config}
+use Rattle.rp_base.specs.declared.fault.Fault.{Fault}
+use Rattle.rp_base.specs.declared.fault.Fault.TheVariants.{OutOfMemory, Device}
+use Rattle.rp_boxes.specs.Parts.{View, first_part, first_from}
+use Rattle.rp_boxes.specs.Plays.{Sight, IsSized, alone}
+use Rattle.rp_boxes.specs.Seats.{Chair}
+
+-- the first actor of a view alone, and the others
+abbrev pub first_in : View → View
+first_in [] = []
+first_in (known ∷ others) = known ∷ []
+
+abbrev pub others_in : View → View
+others_in [] = []
+others_in (known ∷ others) = others
+
+-- The table, what all nodes at it share, and the number of the first actor that has no seat.
+pub record Unseated (P : Type 0) : Type 0 where
+  pub table : TableId
+  pub config : Config
+  pub program : P
+  pub next : ℕ
+
+-- once so many more actors have seats
+abbrev pub after_seats : {P : Type 0} → ℕ → Unseated P → Unseated P
+after_seats count unseated = record unseated { next = unseated.next + count }
+
+-- the seat of an actor that did nothing, which has this number among the nodes or the tasks
+abbrev pub first_seat : {P : Type 0} → TableId → Config → P → ℕ → ℕ → Chair P
+first_seat table config program number actor = record {
+  table = table;
+  config = config;
+  program = program;
+  number = number;
+  part = first_part actor;
+}
+
+-- The place knows the actors from this number on as they are at first, and holds no slot.
+pub record IsRest (table mine : TableId) (next : ℕ) (me : Sight) : Type 0 where
+  pub same : mine ≡ table
+  pub sized : IsSized table
+  pub left : ℕ
+  pub up_to : next + left ≡ 16
+  pub knows : me ≡ (first_from next left, [])
+
+-- the place is that of one actor, as it is at first
+pub record IsFirstPlace (table mine : TableId) (actor : ℕ) (me : Sight) : Type 0 where
+  pub same : mine ≡ table
+  pub knows : me ≡ alone actor (first_part actor)
+
+-- These are the seats of the actors from this one on, which did nothing. Their numbers are those from 1 on.
+abbrev pub AreFirstSeats : {P : Type 0} → TableId → Config → P → ℕ → List (Chair P) → Type 0
+AreFirstSeats table config program actor seats =
+    (place : ℕ) → IfSome (slice_get seats place) (λ seat. seat ≡ first_seat table config program (suc place) (actor + place))
+
+-- Each node of the configuration, each of the eight tasks and the audit has a seat at one table, and did nothing.
+pub record AreSeats {P : Type 0} (config : Config) (program : P) (nodes tasks : List (Chair P)) (audit : Chair P) : Type 0 where
+  pub size : length nodes ≡ config.nodes
+  pub nodes_are : AreFirstSeats audit.table config program 1 nodes
+  pub eight : length tasks ≡ 8
+  pub tasks_are : AreFirstSeats audit.table config program 8 tasks
+  pub audit_is : audit ≡ first_seat audit.table config program 0 0
+
+-- what else may be wanting: memory, or a device that works
+abbrev pub IsWanting : Fault → Type 0
+IsWanting fault = (fault ≡ OutOfMemory) ⊎ (fault ≡ Device)

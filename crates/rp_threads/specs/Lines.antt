@@ -5,9 +5,13 @@ use Rattle.rp_codec.specs.Message.{Message}
 use Rattle.rp_codec.specs.Text.{text_of}
 use Rattle.rp_tasks.specs.Line.{Line, word_of, drawn, accepted, picked, released}
 
--- every packet that the line holds is the text of one of these
-abbrev pub HoldsTextsOf : List Message → Line → Type 0
-HoldsTextsOf packets line = (text : List ℕ) → Has text line.held → (m : Message) × Has m packets × (text ≡ text_of m)
+-- the bytes are the text of one of these packets
+abbrev pub IsTextAmong : List Message → List ℕ → Type 0
+IsTextAmong packets text = (m : Message) × Has m packets × (text ≡ text_of m)
+
+-- Every packet that the line holds is the text of one of these.
+pub record HoldsTextsOf (packets : List Message) (line : Line) : Type 0 where
+  pub each : (text : List ℕ) → Has text line.held → IsTextAmong packets text
 
 -- the line once it took what was fetched, if a packet was
 abbrev pub line_with : Option (List ℕ) → Line → Line

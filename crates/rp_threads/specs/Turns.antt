@@ -31,14 +31,14 @@ MayFetch (Some text) from old new = IsFetched from (Node old.number) text old ne
 pub record IsBrought {P : Type 0} (from : Party) (old new : Chair P) (line after : Line) : Type 0 where
   pub fetched : Option (List ℕ)
   pub fetch : MayFetch fetched from old new
-  pub line : after ≡ line_with fetched line
+  pub takes : after ≡ line_with fetched line
 
 -- A packet was fetched, and memory was wanting for the line to take it: it is lost, and the line stays.
 pub record IsLost {P : Type 0} (from : Party) (old new : Chair P) (line after : Line) (fault : Fault) : Type 0 where
   pub packet : List ℕ
   pub fetch : IsFetched from (Node old.number) packet old new
   pub memory : fault ≡ OutOfMemory
-  pub line : after ≡ line
+  pub stays : after ≡ line
 
 -- ---- what is done
 
@@ -60,18 +60,20 @@ IsReceipt text (Report first) = ⊥
 abbrev pub IsLead : Input → Type 0
 IsLead input = input ≡ Lead None
 
--- the bytes are the texts of packets that the actor sent, one behind the other
-abbrev pub AreSentTexts : Part → List ℕ → Type 0
-AreSentTexts part bytes = (sends : List Message) × (bytes ≡ texts_of sends) × ((m : Message) → Has m sends → Has m part.sent)
+-- The bytes are the texts of packets that the actor sent, one behind the other.
+pub record AreSentTexts (part : Part) (bytes : List ℕ) : Type 0 where
+  pub packets : List Message
+  pub texts : bytes ≡ texts_of packets
+  pub sent : (m : Message) → Has m packets → Has m part.sent
 
 module _ {S P : Type 0} (next : S → Action → S) (answers : S → Action → List Answer) (begin : P → S) where
   -- One event, by such an input; so many packets were sent.
-  pub record IsEventBy (Is : Input → Type 0) (old new : Chair P) (count : ℕ) : Type 0 where
+  pub record IsEventBy (Is : Input → Type 0) (old new : Chair P) (packets : ℕ) : Type 0 where
     pub input : Input
     pub is : Is input
     pub sent : Sent
     pub turn : IsTurn next answers begin old input new sent
-    pub count : count ≡ sent.packets
+    pub told : packets ≡ sent.packets
 
   -- The step by such an input was cut, or was none.
   pub record IsStopBy (Is : Input → Type 0) (old new : Chair P) (fault : Fault) : Type 0 where
@@ -81,9 +83,9 @@ module _ {S P : Type 0} (next : S → Action → S) (answers : S → Action → 
 
   -- what the turn does to the seat, by what the line gives on and whether the node is to lead
   abbrev pub Works : Option (List ℕ) → Bool → Chair P → Chair P → ℕ → Type 0
-  Works (Some text) lead old new count = IsEventBy (IsReceipt text) old new count
-  Works None true old new count = IsEventBy IsLead old new count
-  Works None false old new count = (new ≡ old) × (count ≡ 0)
+  Works (Some text) lead old new packets = IsEventBy (IsReceipt text) old new packets
+  Works None true old new packets = IsEventBy IsLead old new packets
+  Works None false old new packets = (new ≡ old) × (packets ≡ 0)
 
   -- how it fails
   abbrev pub Fails : Option (List ℕ) → Bool → Chair P → Chair P → Fault → Type 0
@@ -99,7 +101,7 @@ module _ {S P : Type 0} (next : S → Action → S) (answers : S → Action → 
     pub brought : IsBrought from old between line full
     pub turn : turned.turn ≡ turn_of (given_on full) lead
     pub works : Works (given_on full) lead between new turned.sent
-    pub line : after ≡ line_after full
+    pub gives : after ≡ line_after full
 
   -- The step after that was cut, or was none; the packet that the line gave on is lost.
   pub record IsStoppedTurn (from : Party) (lead : Bool) (old new : Chair P) (line after : Line) (fault : Fault) : Type 0 where
@@ -107,4 +109,4 @@ module _ {S P : Type 0} (next : S → Action → S) (answers : S → Action → 
     pub full : Line
     pub brought : IsBrought from old between line full
     pub fails : Fails (given_on full) lead between new fault
-    pub line : after ≡ line_after full
+    pub gives : after ≡ line_after full

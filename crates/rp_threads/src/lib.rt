@@ -17,9 +17,3 @@ mod turns;
 pub use gate::{Gate, Open};
 pub use loops::{NodeEnd, node_loop};
 pub use turns::{Turn, Turned, node_turn};
-
-#[cfg(test)]
-mod tests {
-    #[test]
-    fn builds() {}
-}

@@ -2,7 +2,7 @@
 
 ghost use Rattle.std.specs.Prelude.{◌≡◌, ◌≢◌, ◌+◌, ◌%◌, ◌^◌, ◌<◌, ◌≤◌, [], IfOk, Some, None};
 ghost use Rattle.rp_threads.specs.Lines.{HoldsTextsOf};
-ghost use Rattle.rp_threads.specs.Loops.{IsSameSeat, events_of, counted, total_of, turns_off};
+ghost use Rattle.rp_threads.specs.Loops.{IsSameSeat, is_refusal, events_of, counted, total_of, turns_off};
 
 use crate::gate::Gate;
 use crate::rotation::sender;
@@ -74,6 +74,17 @@ impl Counts {
     }
 }
 
+/// Whether a fault only refuses that the node leads.
+fn refuses_to_lead(fault: Fault) -> bool
+    ensures { result ≡ is_refusal fault }
+{
+    match fault {
+        Fault::BallotsSpent => true,
+        Fault::LogFull => true,
+        _ => false,
+    }
+}
+
 /// One turn of a loop. `None` where it is spent.
 fn turn_once<M: Machine, D: Device, G: Gate>(
     seat: &mut NodeSeat<M, D>,
@@ -102,7 +113,7 @@ fn turn_once<M: Machine, D: Device, G: Gate>(
             gate.after(node, turn, u32::try_from(turned.sent).unwrap_or(u32::MAX));
             Ok(Some(turned.turn))
         }
-        Err(Fault::BallotsSpent | Fault::LogFull) => {
+        Err(fault) if refuses_to_lead(fault) => {
             gate.after(node, turn, 0);
             Ok(None)
         }

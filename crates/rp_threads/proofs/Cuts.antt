@@ -1,5 +1,5 @@
 -- Texts of packets that are joined are cut at the length of the first.
-use Rattle.std.proofs.Common.{◌≡◌, ℕ, ◌≤◌, Some, Option, List, [], ◌∷◌, ◌++◌, length, take, drop, inl, inr, refl, sym, ap, subst, ◌∙◌, arith, length-append}
+use Rattle.std.proofs.Common.{◌≡◌, ℕ, ◌≤◌, Some, List, [], ◌∷◌, ◌++◌, length, take, drop, inl, inr, refl, sym, subst, arith, length-append}
 use Rattle.std.proofs.Math.Seq.{take-append_seam, drop-append_seam}
 use Rattle.rp_base.specs.Sets.{Has}
 use Rattle.rp_codec.specs.Decoding.{BeginsWithPacket}

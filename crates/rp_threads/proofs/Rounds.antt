@@ -1,5 +1,5 @@
 -- How the turns of a loop are counted.
-use Rattle.std.proofs.Common.{◌≡◌, ◌≢◌, ℕ, suc, ◌+◌, ◌%◌, ◌≤◌, Bool, true, false, Some, None, Option, nat_eq, ◌==◌, refl, sym, ap, subst, ◌∙◌, arith, if◌then◌else◌}
+use Rattle.std.proofs.Common.{◌≡◌, ◌≢◌, ℕ, suc, ◌+◌, ◌%◌, ◌≤◌, Bool, true, false, Some, None, Option, nat_eq, refl, sym, ap, subst, arith, if◌then◌else◌}
 use Rattle.std.proofs.lemmas.Grind.{common_steps}
 use Rattle.std.proofs.lemmas.Bool.{ne_eqb}
 use Rattle.rp_base.specs.declared.fault.Fault.{Fault}

@@ -1,21 +1,18 @@
 -- What a turn does to the seat: it stays the same seat, and has one event more or none.
-use Rattle.std.proofs.Common.{◌≡◌, ◌⊎◌, ℕ, ◌+◌, Bool, true, false, Option, Some, None, Result, Ok, Err, List, [], ◌∷◌, ◌++◌, inl, inr, refl, sym, ap, subst, ◌∙◌, arith}
+use Rattle.std.proofs.Common.{◌≡◌, ◌⊎◌, ℕ, ◌+◌, Bool, true, false, Option, Some, None, Result, Ok, Err, List, inl, inr, refl, sym, ap, subst, ◌∙◌, arith}
 use Rattle.std.specs.Prelude.{IfOk, IfErr}
 use Rattle.rp_base.specs.Sets.{Has}
 use Rattle.rp_base.specs.declared.action.Action.{Action}
 use Rattle.rp_base.specs.declared.fault.Fault.{Fault}
-use Rattle.rp_base.specs.declared.fault.Fault.TheVariants.{OutOfMemory, Device}
+use Rattle.rp_base.specs.declared.fault.Fault.TheVariants.{Device}
 use Rattle.rp_base.specs.declared.reply.Answer.{Answer}
 use Rattle.rp_base.proofs.Members.{has_right}
-use Rattle.rp_codec.specs.Message.{Message}
 use Rattle.rp_codec.specs.declared.packet.Party.{Party}
-use Rattle.rp_codec.specs.declared.packet.Party.TheVariants.{Node}
 use Rattle.rp_replica.specs.declared.input.Input.{Input}
-use Rattle.rp_replica.specs.declared.input.Input.TheVariants.{Receive}
 use Rattle.rp_replica.specs.declared.sent.Sent.{Sent}
 use Rattle.rp_tasks.specs.Line.{Line}
 use Rattle.rp_boxes.specs.Parts.{Part}
-use Rattle.rp_boxes.specs.Seats.{Chair, IsFetched, IsTurn, IsCutTurn, IsNoTurn}
+use Rattle.rp_boxes.specs.Seats.{Chair, IsTurn}
 use Rattle.rp_threads.specs.Turns.{MayFetch, IsBrought, IsLost, turn_of, IsReceipt, IsLead, AreSentTexts, IsEventBy, IsStopBy, Works, Fails, IsNodeTurn, IsStoppedTurn}
 use Rattle.rp_threads.specs.Loops.{IsSameSeat, events_of}
 use Rattle.rp_threads.specs.Lines.{given_on, line_after}

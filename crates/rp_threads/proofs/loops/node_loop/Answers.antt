@@ -1,5 +1,5 @@
 -- The line is empty at first, and each turn keeps what is counted.
-use Rattle.std.proofs.Common.{◌≡◌, ℕ, ◌+◌, ◌≤◌, refl, sym, ap, subst, ◌∙◌, arith, add-one, add_assoc}
+use Rattle.std.proofs.Common.{◌≡◌, ℕ, ◌+◌, ◌≤◌, refl, sym, ap, subst, ◌∙◌, arith, add-one}
 use Rattle.rp_threads.specs.Loops.{events_of, total_of, turns_off}
 use Rattle.rp_threads.specs.declared.loops.Counts.{Counts}
 use Rattle.rp_threads.proofs.Texts.{empty_holds}

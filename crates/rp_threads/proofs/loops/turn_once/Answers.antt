@@ -1,6 +1,5 @@
 -- A turn of the loop is a turn of the node, or none.
-use Rattle.std.proofs.Common.{◌≡◌, ◌+◌, true, false, Some, refl, sym, ap, subst, ◌∙◌, arith, add-zero}
-use Rattle.rp_base.specs.declared.fault.Fault.TheVariants.{Device, BallotsSpent, LogFull}
+use Rattle.std.proofs.Common.{◌≡◌, sym, ◌∙◌, add-zero}
 use Rattle.rp_threads.specs.declared.turns.Turn.TheVariants.{Idle}
 use Rattle.rp_threads.proofs.Steps.{turn_same, turn_events, turn_idle, fault_same, fault_events}
 use Rattle.rp_threads.proofs.Rounds.{led_off, refusal_stays}

@@ -2,7 +2,7 @@
 use Rattle.std.proofs.Common.{sym, subst}
 use Rattle.rp_codec.specs.declared.packet.Party.TheVariants.{Node}
 use Rattle.rp_boxes.specs.Seats.{IsFetched}
-use Rattle.rp_threads.proofs.Texts.{accepted_holds, is_brought, same_holds}
+use Rattle.rp_threads.proofs.Texts.{accepted_holds, is_brought}
 use Rattle.rp_threads.proofs.turns.bring.Goals as goal
 
 pub returns-in-Some-clause-held : goal.returns-in-Some-clause-held

@@ -1,6 +1,6 @@
 -- What the line gives on is the text of a packet that the seat got.
-use Rattle.std.proofs.Common.{◌≡◌, refl, sym, subst, ◌∙◌}
-use Rattle.rp_threads.specs.Lines.{IsTextAmong, given_on, line_after}
+use Rattle.std.proofs.Common.{refl, sym, subst}
+use Rattle.rp_threads.specs.Lines.{IsTextAmong, given_on}
 use Rattle.rp_threads.proofs.Texts.{is_after, after_holds, given_holds}
 use Rattle.rp_threads.proofs.Steps.{received}
 use Rattle.rp_threads.proofs.turns.work.Goals as goal

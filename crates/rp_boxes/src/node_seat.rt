@@ -1,7 +1,9 @@
 //! The seat of a node.
 
 ghost use Rattle.std.specs.Prelude.{◌≡◌, ◌⊎◌, IfOk, IfErr, IfSome, IfNone, IsOkUnless};
+ghost use Rattle.rp_base.specs.Sets.{Has};
 ghost use Rattle.rp_base.specs.declared.fault.Fault.TheVariants as faults;
+ghost use Rattle.rp_codec.specs.Message.{Message, IsPacket};
 ghost use Rattle.rp_codec.specs.declared.packet.Party.TheVariants.{Node};
 ghost use Rattle.rp_replica.specs.Inputs.{IsRightInput};
 ghost use Rattle.rp_replica.specs.declared.input.Input.TheVariants.{Report};
@@ -118,6 +120,21 @@ impl<M: Machine, D: Device> NodeSeat<M, D> {
     {
         let node = usize::from(self.node.get());
         empty(&self.board.shared, &mut self.place, actor_of(from), node)
+    }
+
+    /// The number of the node.
+    pub fn number(&self) -> NodeId
+        ensures { result ≡ self.now.number }
+    {
+        self.node
+    }
+
+    /// All packets that the seat sent are right ones. It does nothing: what it promises is for
+    /// contracts.
+    pub fn sends_packets(&self)
+        ensures { (m : Message) → Has m self.now.part.sent → IsPacket m }
+    {
+        let _place = &self.place;
     }
 
     /// How many actions the node has applied. `Failed` once its device has failed.

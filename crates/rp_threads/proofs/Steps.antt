@@ -1,0 +1,185 @@
+-- What a turn does to the seat: it stays the same seat, and has one event more or none.
+use Rattle.std.proofs.Common.{◌≡◌, ◌⊎◌, ℕ, ◌+◌, Bool, true, false, Option, Some, None, Result, Ok, Err, List, inl, inr, refl, sym, ap, subst, ◌∙◌, arith}
+use Rattle.std.specs.Prelude.{IfOk, IfErr}
+use Rattle.rp_base.specs.Sets.{Has}
+use Rattle.rp_base.specs.declared.action.Action.{Action}
+use Rattle.rp_base.specs.declared.fault.Fault.{Fault}
+use Rattle.rp_base.specs.declared.fault.Fault.TheVariants.{Device}
+use Rattle.rp_base.specs.declared.reply.Answer.{Answer}
+use Rattle.rp_base.proofs.Members.{has_right}
+use Rattle.rp_codec.specs.declared.packet.Party.{Party}
+use Rattle.rp_replica.specs.declared.input.Input.{Input}
+use Rattle.rp_replica.specs.declared.sent.Sent.{Sent}
+use Rattle.rp_tasks.specs.Line.{Line}
+use Rattle.rp_boxes.specs.Parts.{Part}
+use Rattle.rp_boxes.specs.Seats.{Chair, IsTurn}
+use Rattle.rp_threads.specs.Turns.{MayFetch, IsBrought, IsLost, turn_of, IsReceipt, IsLead, AreSentTexts, IsEventBy, IsStopBy, Works, Fails, IsNodeTurn, IsStoppedTurn}
+use Rattle.rp_threads.specs.Loops.{IsSameSeat, events_of}
+use Rattle.rp_threads.specs.Lines.{given_on, line_after}
+use Rattle.rp_threads.specs.declared.turns.Turn.{Turn}
+use Rattle.rp_threads.specs.declared.turns.Turn.TheVariants.{Received, Led, Idle}
+use Rattle.rp_threads.specs.declared.turns.Turned.{Turned}
+
+-- ---- the same seat
+
+pub same_part : {P : Type 0} (old new : Chair P) (part : Part) → new ≡ record old { part = part } → IsSameSeat old new
+same_part {P} old new part is = record {
+  table = ap (λ (c : Chair P). c.table) is;
+  config = ap (λ (c : Chair P). c.config) is;
+  program = ap (λ (c : Chair P). c.program) is;
+  number = ap (λ (c : Chair P). c.number) is;
+}
+
+pub same_seat : {P : Type 0} (old new : Chair P) → new ≡ old → IsSameSeat old new
+same_seat {P} old new is = same_part old new old.part is
+
+pub same_on : {P : Type 0} (a b c : Chair P) → IsSameSeat a b → IsSameSeat b c → IsSameSeat a c
+same_on a b c ab bc = record {
+  table = bc.table ∙ ab.table;
+  config = bc.config ∙ ab.config;
+  program = bc.program ∙ ab.program;
+  number = bc.number ∙ ab.number;
+}
+
+-- ---- a fetch is no event
+
+pub may_same : {P : Type 0} (fetched : Option (List ℕ)) (from : Party) (old new : Chair P) → MayFetch fetched from old new → IsSameSeat old new
+may_same None from old new f = same_seat old new f
+may_same (Some text) from old new f = same_part old new _ f.after
+
+pub may_events : {P : Type 0} (fetched : Option (List ℕ)) (from : Party) (old new : Chair P) → MayFetch fetched from old new → new.part.events ≡ old.part.events
+may_events {P} None from old new f = ap (λ (c : Chair P). c.part.events) f
+may_events {P} (Some text) from old new f = ap (λ (c : Chair P). c.part.events) f.after
+
+module _ {S P : Type 0} (next : S → Action → S) (answers : S → Action → List Answer) (begin : P → S) where
+  -- ---- what a step's packets are
+
+  pub sent_texts : (old new : Chair P) (input : Input) (sent : Sent) (texts : List ℕ) → IsTurn next answers begin old input new sent → texts ≡ sent.bytes.items
+      → AreSentTexts new.part texts
+  sent_texts old new input sent texts t same = record {
+    packets = t.done.sends;
+    texts = same ∙ t.tells.bytes;
+    sent = (λ m has. subst (λ (c : Chair P). Has m c.part.sent) (sym t.after) (has_right m old.part.sent t.done.sends has));
+  }
+
+  -- ---- an event
+
+  pub event_got : (old new : Chair P) (input : Input) (sent : Sent) → IsTurn next answers begin old input new sent → new.part.got ≡ old.part.got
+  event_got old new input sent t = ap (λ (c : Chair P). c.part.got) t.after
+
+  pub stop_got : (Is : Input → Type 0) (old new : Chair P) (fault : Fault) → IsStopBy next answers begin Is old new fault → new.part.got ≡ old.part.got
+  stop_got Is old new fault s = elim s.why [ inl cut ↦ ap (λ (c : Chair P). c.part.got) cut.after | inr none ↦ ap (λ (c : Chair P). c.part.got) none.unchanged ]
+
+  pub stop_same : (Is : Input → Type 0) (old new : Chair P) (fault : Fault) → IsStopBy next answers begin Is old new fault → IsSameSeat old new
+  stop_same Is old new fault s = elim s.why [ inl cut ↦ same_part old new _ cut.after | inr none ↦ same_seat old new none.unchanged ]
+
+  -- a refusal that is not the device's leaves the seat as it is
+  pub stop_stays : (Is : Input → Type 0) (old new : Chair P) (fault : Fault) → (fault ≡ Device → ⊥) → IsStopBy next answers begin Is old new fault → new ≡ old
+  stop_stays Is old new fault other s = elim s.why [ inl cut ↦ absurd (other cut.device) | inr none ↦ none.unchanged ]
+
+  -- ---- the work of a turn
+
+  pub works_same : (given : Option (List ℕ)) (lead : Bool) (old new : Chair P) (count : ℕ) → Works next answers begin given lead old new count → IsSameSeat old new
+  works_same (Some text) lead old new count w = same_part old new _ w.turn.after
+  works_same None true old new count w = same_part old new _ w.turn.after
+  works_same None false old new count w = same_seat old new w.0
+
+  pub works_events : (given : Option (List ℕ)) (lead : Bool) (old new : Chair P) (count : ℕ) → Works next answers begin given lead old new count
+      → new.part.events ≡ old.part.events + events_of (Some (turn_of given lead))
+  works_events (Some text) lead old new count w = ap (λ (c : Chair P). c.part.events) w.turn.after
+  works_events None true old new count w = ap (λ (c : Chair P). c.part.events) w.turn.after
+  works_events None false old new count w = let e : new.part.events ≡ old.part.events = ap (λ (c : Chair P). c.part.events) w.0 in omega (arith, e)
+
+  pub fails_same : (given : Option (List ℕ)) (lead : Bool) (old new : Chair P) (fault : Fault) → Fails next answers begin given lead old new fault → IsSameSeat old new
+  fails_same (Some text) lead old new fault f = stop_same (IsReceipt text) old new fault f
+  fails_same None true old new fault f = stop_same IsLead old new fault f
+  fails_same None false old new fault f = absurd f
+
+  pub fails_stays : (given : Option (List ℕ)) (lead : Bool) (old new : Chair P) (fault : Fault) → (fault ≡ Device → ⊥) → Fails next answers begin given lead old new fault → new ≡ old
+  fails_stays (Some text) lead old new fault other f = stop_stays (IsReceipt text) old new fault other f
+  fails_stays None true old new fault other f = stop_stays IsLead old new fault other f
+  fails_stays None false old new fault other f = absurd f
+
+  -- the node receives what is given on
+  pub received : (given : Option (List ℕ)) (text : List ℕ) (lead : Bool) (input : Input) (old new : Chair P) (count : ℕ) → given ≡ Some text → IsReceipt text input
+      → IsEventBy next answers begin (λ i. i ≡ input) old new count → Works next answers begin given lead old new count
+  received given text lead input old new count is receipt e =
+      subst (λ (o : Option (List ℕ)). Works next answers begin o lead old new count) (sym is)
+      (record { input = e.input; is = subst (IsReceipt text) (sym e.is) receipt; sent = e.sent; turn = e.turn; told = e.told })
+
+  pub receipt_stopped : (given : Option (List ℕ)) (text : List ℕ) (lead : Bool) (input : Input) (old new : Chair P) (fault : Fault) → given ≡ Some text → IsReceipt text input
+      → IsStopBy next answers begin (λ i. i ≡ input) old new fault → Fails next answers begin given lead old new fault
+  receipt_stopped given text lead input old new fault is receipt e =
+      subst (λ (o : Option (List ℕ)). Fails next answers begin o lead old new fault) (sym is)
+      (record { input = e.input; is = subst (IsReceipt text) (sym e.is) receipt; why = e.why })
+
+  -- nothing is given on, and the node leads
+  pub led : (given : Option (List ℕ)) (lead : Bool) (old new : Chair P) (count : ℕ) → given ≡ None → lead ≡ true
+      → IsEventBy next answers begin IsLead old new count → Works next answers begin given lead old new count
+  led given lead old new count is leads e =
+      subst (λ (o : Option (List ℕ)). Works next answers begin o lead old new count) (sym is) (subst (λ (b : Bool). Works next answers begin None b old new count) (sym leads) e)
+
+  pub lead_stopped : (given : Option (List ℕ)) (lead : Bool) (old new : Chair P) (fault : Fault) → given ≡ None → lead ≡ true
+      → IsStopBy next answers begin IsLead old new fault → Fails next answers begin given lead old new fault
+  lead_stopped given lead old new fault is leads e =
+      subst (λ (o : Option (List ℕ)). Fails next answers begin o lead old new fault) (sym is) (subst (λ (b : Bool). Fails next answers begin None b old new fault) (sym leads) e)
+
+  pub idles : (given : Option (List ℕ)) (lead : Bool) (seat : Chair P) → given ≡ None → lead ≡ false → Works next answers begin given lead seat seat 0
+  idles given lead seat is leads =
+      subst (λ (o : Option (List ℕ)). Works next answers begin o lead seat seat 0) (sym is) (subst (λ (b : Bool). Works next answers begin None b seat seat 0) (sym leads) (refl, refl))
+
+  -- ---- what a turn is
+
+  -- an idle turn was not to lead
+  pub idle_not_led : (given : Option (List ℕ)) (lead : Bool) (turn : Turn) → turn ≡ turn_of given lead → turn ≡ Idle → lead ≡ false
+  idle_not_led (Some text) lead turn is idle = let e : Received ≡ Idle = sym is ∙ idle in absurd (cc)
+  idle_not_led None true turn is idle = let e : Led ≡ Idle = sym is ∙ idle in absurd (cc)
+  idle_not_led None false turn is idle = refl
+
+  -- ---- whole turns
+
+  module _ (from : Party) (lead : Bool) (old new : Chair P) (line after : Line) where
+    pub turn_same : (turned : Turned) → IsNodeTurn next answers begin from lead old new line after turned → IsSameSeat old new
+    turn_same turned t =
+        same_on old t.between new (may_same t.brought.fetched from old t.between t.brought.fetch) (works_same (given_on t.full) lead t.between new turned.sent t.works)
+
+    pub turn_events : (turned : Turned) → IsNodeTurn next answers begin from lead old new line after turned → new.part.events ≡ old.part.events + events_of (Some turned.turn)
+    turn_events turned t =
+        works_events (given_on t.full) lead t.between new turned.sent t.works
+        ∙ ap (λ (n : ℕ). n + events_of (Some (turn_of (given_on t.full) lead))) (may_events t.brought.fetched from old t.between t.brought.fetch)
+        ∙ ap (λ (u : Turn). old.part.events + events_of (Some u)) (sym t.turn)
+
+    pub stopped_same : (fault : Fault) → IsStoppedTurn next answers begin from lead old new line after fault → IsSameSeat old new
+    stopped_same fault t =
+        same_on old t.between new (may_same t.brought.fetched from old t.between t.brought.fetch) (fails_same (given_on t.full) lead t.between new fault t.fails)
+
+    pub stopped_events : (fault : Fault) → (fault ≡ Device → ⊥) → IsStoppedTurn next answers begin from lead old new line after fault → new.part.events ≡ old.part.events
+    stopped_events fault other t =
+        ap (λ (c : Chair P). c.part.events) (fails_stays (given_on t.full) lead t.between new fault other t.fails)
+        ∙ may_events t.brought.fetched from old t.between t.brought.fetch
+
+    -- a fault, of which nothing or the loss of a packet came
+    pub fault_same : (fault : Fault) → IsLost from old new line after fault ⊎ IsStoppedTurn next answers begin from lead old new line after fault → IsSameSeat old new
+    fault_same fault (inl lost) = same_part old new _ lost.fetch.after
+    fault_same fault (inr stopped) = stopped_same fault stopped
+
+    pub fault_events : (fault : Fault) → (fault ≡ Device → ⊥) → IsLost from old new line after fault ⊎ IsStoppedTurn next answers begin from lead old new line after fault
+        → new.part.events ≡ old.part.events
+    fault_events fault other (inl lost) = ap (λ (c : Chair P). c.part.events) lost.fetch.after
+    fault_events fault other (inr stopped) = stopped_events fault other stopped
+
+    pub turn_idle : (turned : Turned) → IsNodeTurn next answers begin from lead old new line after turned → turned.turn ≡ Idle → lead ≡ false
+    turn_idle turned t idle = idle_not_led (given_on t.full) lead turned.turn t.turn idle
+
+    -- what was brought, and the work after it
+    module _ (between : Chair P) (full : Line) (brought : IsBrought from old between line full) (gives : after ≡ line_after full) where
+      pub is_turn : (result : Result Turned Fault) → IfOk result (λ turned. turned.turn ≡ turn_of (given_on full) lead)
+          → IfOk result (λ turned. Works next answers begin (given_on full) lead between new turned.sent)
+          → IfOk result (λ turned. IsNodeTurn next answers begin from lead old new line after turned)
+      is_turn (Ok turned) turn works = record { between = between; full = full; brought = brought; turn = turn; works = works; gives = gives }
+      is_turn (Err fault) turn works = tt
+
+      pub is_stopped : (result : Result Turned Fault) → IfErr result (λ fault. Fails next answers begin (given_on full) lead between new fault)
+          → IfErr result (λ fault. IsLost from old new line after fault ⊎ IsStoppedTurn next answers begin from lead old new line after fault)
+      is_stopped (Ok turned) fails = tt
+      is_stopped (Err fault) fails = inr (record { between = between; full = full; brought = brought; fails = fails; gives = gives })

@@ -1,0 +1,91 @@
+-- What a line holds stays the texts of packets that the seat got.
+use Rattle.std.proofs.Common.{◌≡◌, ◌≢◌, ◌⊎◌, ℕ, Some, Result, Ok, Err, List, [], ◌∷◌, ◌++◌, inl, inr, refl, sym, ap, subst, ◌∙◌}
+use Rattle.std.specs.Prelude.{OnOk, OnErr}
+use Rattle.rp_base.specs.Sets.{Has}
+use Rattle.rp_base.specs.declared.fault.Fault.{Fault}
+use Rattle.rp_base.proofs.Members.{has_left}
+use Rattle.rp_codec.specs.Message.{Message}
+use Rattle.rp_codec.specs.declared.packet.Party.{Party}
+use Rattle.rp_codec.specs.declared.packet.Party.TheVariants.{Node}
+use Rattle.rp_tasks.specs.Line.{Line, word_of, drawn, accepted, picked, released}
+use Rattle.rp_boxes.specs.Seats.{Chair, IsFetched}
+use Rattle.rp_threads.specs.Lines.{IsTextAmong, HoldsTextsOf, line_with, given_on, left_of, line_after}
+use Rattle.rp_threads.specs.Turns.{IsBrought}
+
+-- ---- what the line promises of itself
+
+abbrev pub KeepsAccepted : Type 0
+KeepsAccepted = (word : ℕ) (packet text : List ℕ) (line : Line) → Has text (accepted word packet line).held → (text ≡ packet) ⊎ Has text line.held
+
+abbrev pub KeepsPicked : Type 0
+KeepsPicked = (word : ℕ) (text : List ℕ) (line : Line) → picked word line ≡ Some text → Has text line.held
+
+abbrev pub KeepsReleased : Type 0
+KeepsReleased = (word : ℕ) (text : List ℕ) (line : Line) → Has text (released word line).held → Has text line.held
+
+-- ---- an empty line, and another list of the same packets
+
+pub empty_holds : (packets : List Message) (line : Line) → line.held ≡ [] → HoldsTextsOf packets line
+empty_holds packets line none = record { each = λ text has. absurd (subst (λ (held : List (List ℕ)). Has text held) none has) }
+
+pub same_holds : (packets others : List Message) (line : Line) → others ≡ packets → HoldsTextsOf packets line → HoldsTextsOf others line
+same_holds packets others line same holds = subst (λ (ms : List Message). HoldsTextsOf ms line) (sym same) holds
+
+-- ---- a packet is fetched
+
+last_has : {A : Type 0} (x : A) (xs : List A) → Has x (xs ++ x ∷ [])
+last_has x [] = inl refl
+last_has x (y ∷ ys) = inr (last_has x ys)
+
+-- more packets, and the line holds texts of these
+holds_of_more : (packets : List Message) (m : Message) (line : Line) → HoldsTextsOf packets line → HoldsTextsOf (packets ++ m ∷ []) line
+holds_of_more packets m line holds = record { each = λ text has. let h = holds.each text has in (h.0, has_left h.0 packets (m ∷ []) h.1, h.2) }
+
+module _ {P : Type 0} (from to : Party) (text : List ℕ) (old new : Chair P) (line : Line) (f : IsFetched from to text old new) (holds : HoldsTextsOf old.part.got line) where
+  -- what was got once a packet was fetched
+  got_now : new.part.got ≡ old.part.got ++ f.packet ∷ []
+  got_now = ap (λ (c : Chair P). c.part.got) f.after
+
+  -- the line as it was
+  pub fetched_holds : HoldsTextsOf new.part.got line
+  fetched_holds = same_holds (old.part.got ++ f.packet ∷ []) new.part.got line got_now (holds_of_more old.part.got f.packet line holds)
+
+  taken_from : (found : List ℕ) → (found ≡ text) ⊎ Has found line.held → IsTextAmong new.part.got found
+  taken_from found (inl same) = (f.packet, subst (λ (got : List Message). Has f.packet got) (sym got_now) (last_has f.packet old.part.got), same ∙ f.text)
+  taken_from found (inr there) = fetched_holds.each found there
+
+  -- the line once it took the packet
+  pub taken_holds : KeepsAccepted → HoldsTextsOf new.part.got (line_with (Some text) line)
+  taken_holds keeps = record { each = λ found has. taken_from found (keeps (word_of line) text found (drawn line) has) }
+
+  -- the line, whether memory was there for it to take the packet or not
+  pub accepted_holds : {A : Type 0} (after : Line) (result : Result A Fault) → KeepsAccepted → OnOk result (after ≡ line_with (Some text) line) → OnErr result (after ≡ line)
+      → HoldsTextsOf new.part.got after
+  accepted_holds after (Ok x) keeps ok err = subst (HoldsTextsOf new.part.got) (sym ok) (taken_holds keeps)
+  accepted_holds after (Err e) keeps ok err = subst (HoldsTextsOf new.part.got) (sym err) fetched_holds
+
+pub is_brought : {P A : Type 0} (from : Party) (text : List ℕ) (old new : Chair P) (line after : Line) (result : Result A Fault) → IsFetched from (Node old.number) text old new
+    → OnOk result (after ≡ line_with (Some text) line) → OnOk result (IsBrought from old new line after)
+is_brought from text old new line after (Ok x) f ok = record { fetched = Some text; fetch = f; takes = ok }
+is_brought from text old new line after (Err e) f ok = tt
+
+-- ---- a packet is given on
+
+-- the line once it gave on what it gives on
+pub is_after : (line after : Line) (held : List (List ℕ)) → line.held ≡ held → (line.held ≢ [] → after ≡ released (word_of line) (drawn line)) → (line.held ≡ [] → after ≡ line)
+    → after ≡ left_of held line
+is_after line after [] is some none = none is
+is_after line after (text ∷ others) is some none = some (λ e. let clash : text ∷ others ≡ [] = sym is ∙ e in cc)
+
+left_holds : (packets : List Message) (line : Line) (texts : List (List ℕ)) → KeepsReleased → HoldsTextsOf packets line → HoldsTextsOf packets (left_of texts line)
+left_holds packets line [] keeps holds = holds
+left_holds packets line (text ∷ texts) keeps holds = record { each = λ found has. holds.each found (keeps (word_of line) found (drawn line) has) }
+
+-- the line after it, whatever more was got
+pub after_holds : (packets others : List Message) (line after : Line) → KeepsReleased → HoldsTextsOf packets line → after ≡ line_after line → others ≡ packets
+    → HoldsTextsOf others after
+after_holds packets others line after keeps holds is same =
+    same_holds packets others after same (subst (HoldsTextsOf packets) (sym is) (left_holds packets line line.held keeps holds))
+
+pub given_holds : (packets : List Message) (line : Line) (text : List ℕ) → KeepsPicked → HoldsTextsOf packets line → given_on line ≡ Some text → IsTextAmong packets text
+given_holds packets line text keeps holds given = holds.each text (keeps (word_of line) text line given)

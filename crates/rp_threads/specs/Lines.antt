@@ -1,0 +1,31 @@
+-- What a line does in a turn: it takes what was fetched, and gives on one packet (this project's own).
+use Rattle.std.specs.Prelude.{◌≡◌, ℕ, Option, Some, None, List, [], ◌∷◌}
+use Rattle.rp_base.specs.Sets.{Has}
+use Rattle.rp_codec.specs.Message.{Message}
+use Rattle.rp_codec.specs.Text.{text_of}
+use Rattle.rp_tasks.specs.Line.{Line, word_of, drawn, accepted, picked, released}
+
+-- the bytes are the text of one of these packets
+abbrev pub IsTextAmong : List Message → List ℕ → Type 0
+IsTextAmong packets text = (m : Message) × Has m packets × (text ≡ text_of m)
+
+-- Every packet that the line holds is the text of one of these.
+pub record HoldsTextsOf (packets : List Message) (line : Line) : Type 0 where
+  pub each : (text : List ℕ) → Has text line.held → IsTextAmong packets text
+
+-- the line once it took what was fetched, if a packet was
+abbrev pub line_with : Option (List ℕ) → Line → Line
+line_with None line = line
+line_with (Some text) line = accepted (word_of line) text (drawn line)
+
+-- the packet that it gives on by the next word of its stream, if it holds one
+abbrev pub given_on : Line → Option (List ℕ)
+given_on line = picked (word_of line) line
+
+-- the line once it gave that on; where it holds nothing it stays, and no word is drawn
+abbrev pub left_of : List (List ℕ) → Line → Line
+left_of [] line = line
+left_of (text ∷ others) line = released (word_of line) (drawn line)
+
+abbrev pub line_after : Line → Line
+line_after line = left_of line.held line

@@ -1,0 +1,58 @@
+-- What a loop of turns comes to (this project's own).
+use Rattle.std.specs.Prelude.{◌≡◌, ℕ, zero, suc, ◌+◌, ◌-◌, ◌%◌, nat_eq, nat_le, Bool, true, false, Option, Some, None, if◌then◌else◌}
+use Rattle.rp_base.specs.declared.fault.Fault.{Fault}
+use Rattle.rp_base.specs.declared.fault.Fault.TheVariants.{BallotsSpent, LogFull}
+use Rattle.rp_codec.specs.declared.packet.Party.{Party}
+use Rattle.rp_codec.specs.declared.packet.Party.TheVariants.{Node, Task}
+use Rattle.rp_boxes.specs.Seats.{Chair}
+use Rattle.rp_threads.specs.declared.loops.Counts.{Counts}
+use Rattle.rp_threads.specs.declared.turns.Turn.{Turn}
+use Rattle.rp_threads.specs.declared.turns.Turn.TheVariants.{Received, Led, Idle}
+
+-- ---- whose box is emptied
+
+-- the boxes of the nodes 1 to so many and of the tasks 1 to 8, in rotation: turn 1 is node 1's
+abbrev pub sender_of : ℕ → ℕ → Party
+sender_of nodes place =
+    if nat_eq place 0 then Task 8 else if nat_le place nodes then Node place else Task (place - nodes)
+
+abbrev pub sender_at : ℕ → ℕ → Party
+sender_at nodes turn = sender_of nodes (turn % (nodes + 8))
+
+-- ---- how turns are counted
+
+-- the fault only refuses that the node leads, and the loop goes on
+abbrev pub is_refusal : Fault → Bool
+is_refusal BallotsSpent = true
+is_refusal LogFull = true
+is_refusal _ = false
+
+-- how many events a turn is; none where it is spent
+abbrev pub events_of : Option Turn → ℕ
+events_of (Some Received) = 1
+events_of (Some Led) = 1
+events_of (Some Idle) = 0
+events_of None = 0
+
+-- the counts with one turn more, which was made or spent
+abbrev pub counted : Option Turn → Counts → Counts
+counted (Some Received) counts = record counts { received = counts.received + 1 }
+counted (Some Led) counts = record counts { led = counts.led + 1 }
+counted (Some Idle) counts = record counts { idle = counts.idle + 1 }
+counted None counts = record counts { spent = counts.spent + 1 }
+
+-- all turns that are counted
+abbrev pub total_of : Counts → ℕ
+total_of counts = counts.received + counts.led + counts.idle + counts.spent
+
+-- how many of the turns 1 to n are not 0 modulo k
+abbrev pub turns_off : ℕ → ℕ → ℕ
+turns_off k zero = 0
+turns_off k (suc n) = if nat_eq (suc n % k) 0 then turns_off k n else suc (turns_off k n)
+
+-- The same seat, whatever events its actor had since.
+pub record IsSameSeat {P : Type 0} (old new : Chair P) : Type 0 where
+  pub table : new.table ≡ old.table
+  pub config : new.config ≡ old.config
+  pub program : new.program ≡ old.program
+  pub number : new.number ≡ old.number

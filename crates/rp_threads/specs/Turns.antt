@@ -1,0 +1,112 @@
+-- What a turn of a node comes to (this project's own).
+use Rattle.std.specs.Prelude.{◌≡◌, ◌⊎◌, ℕ, Bool, true, false, Option, Some, None, List}
+use Rattle.rp_base.specs.declared.action.Action.{Action}
+use Rattle.rp_base.specs.declared.fault.Fault.{Fault}
+use Rattle.rp_base.specs.declared.fault.Fault.TheVariants.{OutOfMemory}
+use Rattle.rp_base.specs.declared.reply.Answer.{Answer}
+use Rattle.rp_base.specs.Sets.{Has}
+use Rattle.rp_codec.specs.Message.{Message}
+use Rattle.rp_codec.specs.declared.packet.Party.{Party}
+use Rattle.rp_codec.specs.declared.packet.Party.TheVariants.{Node}
+use Rattle.rp_replica.specs.Packets.{texts_of}
+use Rattle.rp_replica.specs.declared.input.Input.{Input}
+use Rattle.rp_replica.specs.declared.input.Input.TheVariants.{Receive, Lead, Interrupt, Tick, Report}
+use Rattle.rp_replica.specs.declared.sent.Sent.{Sent}
+use Rattle.rp_tasks.specs.Line.{Line}
+use Rattle.rp_boxes.specs.Parts.{Part}
+use Rattle.rp_boxes.specs.Seats.{Chair, IsFetched, IsTurn, IsCutTurn, IsNoTurn}
+use Rattle.rp_threads.specs.Lines.{line_with, given_on, line_after}
+use Rattle.rp_threads.specs.declared.turns.Turn.{Turn}
+use Rattle.rp_threads.specs.declared.turns.Turn.TheVariants.{Received, Led, Idle}
+use Rattle.rp_threads.specs.declared.turns.Turned.{Turned}
+
+-- ---- what comes in
+
+-- a packet was fetched of which this is the text, or none was
+abbrev pub MayFetch : {P : Type 0} → Option (List ℕ) → Party → Chair P → Chair P → Type 0
+MayFetch None from old new = new ≡ old
+MayFetch (Some text) from old new = IsFetched from (Node old.number) text old new
+
+-- The line took what was fetched, if a packet was.
+pub record IsBrought {P : Type 0} (from : Party) (old new : Chair P) (line after : Line) : Type 0 where
+  pub fetched : Option (List ℕ)
+  pub fetch : MayFetch fetched from old new
+  pub takes : after ≡ line_with fetched line
+
+-- A packet was fetched, and memory was wanting for the line to take it: it is lost, and the line stays.
+pub record IsLost {P : Type 0} (from : Party) (old new : Chair P) (line after : Line) (fault : Fault) : Type 0 where
+  pub packet : List ℕ
+  pub fetch : IsFetched from (Node old.number) packet old new
+  pub memory : fault ≡ OutOfMemory
+  pub stays : after ≡ line
+
+-- ---- what is done
+
+-- the node receives what the line gives on, or else leads where it is to
+abbrev pub turn_of : Option (List ℕ) → Bool → Turn
+turn_of (Some text) lead = Received
+turn_of None true = Led
+turn_of None false = Idle
+
+-- the input is a packet of this text
+abbrev pub IsReceipt : List ℕ → Input → Type 0
+IsReceipt text (Receive bytes) = bytes.now ≡ text
+IsReceipt text (Lead choice) = ⊥
+IsReceipt text (Interrupt source occurrence) = ⊥
+IsReceipt text (Tick now) = ⊥
+IsReceipt text (Report first) = ⊥
+
+-- the input is the word to lead at the least position that is free for it
+abbrev pub IsLead : Input → Type 0
+IsLead input = input ≡ Lead None
+
+-- The bytes are the texts of packets that the actor sent, one behind the other.
+pub record AreSentTexts (part : Part) (bytes : List ℕ) : Type 0 where
+  pub packets : List Message
+  pub texts : bytes ≡ texts_of packets
+  pub sent : (m : Message) → Has m packets → Has m part.sent
+
+module _ {S P : Type 0} (next : S → Action → S) (answers : S → Action → List Answer) (begin : P → S) where
+  -- One event, by such an input; so many packets were sent.
+  pub record IsEventBy (Is : Input → Type 0) (old new : Chair P) (packets : ℕ) : Type 0 where
+    pub input : Input
+    pub is : Is input
+    pub sent : Sent
+    pub turn : IsTurn next answers begin old input new sent
+    pub told : packets ≡ sent.packets
+
+  -- The step by such an input was cut, or was none.
+  pub record IsStopBy (Is : Input → Type 0) (old new : Chair P) (fault : Fault) : Type 0 where
+    pub input : Input
+    pub is : Is input
+    pub why : IsCutTurn next answers begin old input new fault ⊎ IsNoTurn next answers begin old input new fault
+
+  -- what the turn does to the seat, by what the line gives on and whether the node is to lead
+  abbrev pub Works : Option (List ℕ) → Bool → Chair P → Chair P → ℕ → Type 0
+  Works (Some text) lead old new packets = IsEventBy (IsReceipt text) old new packets
+  Works None true old new packets = IsEventBy IsLead old new packets
+  Works None false old new packets = (new ≡ old) × (packets ≡ 0)
+
+  -- how it fails
+  abbrev pub Fails : Option (List ℕ) → Bool → Chair P → Chair P → Fault → Type 0
+  Fails (Some text) lead old new fault = IsStopBy (IsReceipt text) old new fault
+  Fails None true old new fault = IsStopBy IsLead old new fault
+  Fails None false old new fault = ⊥
+
+  -- One event or none: the line takes what is fetched, and what it then gives on is received. Where it holds
+  -- nothing, the node leads if it is to, and is else idle.
+  pub record IsNodeTurn (from : Party) (lead : Bool) (old new : Chair P) (line after : Line) (turned : Turned) : Type 0 where
+    pub between : Chair P
+    pub full : Line
+    pub brought : IsBrought from old between line full
+    pub turn : turned.turn ≡ turn_of (given_on full) lead
+    pub works : Works (given_on full) lead between new turned.sent
+    pub gives : after ≡ line_after full
+
+  -- The step after that was cut, or was none; the packet that the line gave on is lost.
+  pub record IsStoppedTurn (from : Party) (lead : Bool) (old new : Chair P) (line after : Line) (fault : Fault) : Type 0 where
+    pub between : Chair P
+    pub full : Line
+    pub brought : IsBrought from old between line full
+    pub fails : Fails (given_on full) lead between new fault
+    pub gives : after ≡ line_after full

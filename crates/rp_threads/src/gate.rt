@@ -1,0 +1,24 @@
+//! Who says when a node turns.
+
+use rp_base::NodeId;
+
+/// Who says when a node turns, and hears of its turns. The turns of a node are counted from 1.
+pub trait Gate {
+    /// Whether the node is to make this turn; else the turn is spent.
+    fn before(&self, node: NodeId, turn: u64) -> bool;
+
+    /// The node made this turn, in which it sent so many packets; none where the turn was refused.
+    fn after(&self, node: NodeId, turn: u64, sent: u32);
+}
+
+/// Lets each node make each of its turns.
+#[derive(Clone, Copy, Debug)]
+pub struct Open;
+
+impl Gate for Open {
+    fn before(&self, _node: NodeId, _turn: u64) -> bool {
+        true
+    }
+
+    fn after(&self, _node: NodeId, _turn: u64, _sent: u32) {}
+}

@@ -1,0 +1,19 @@
+//! Nodes and tasks in threads of their own.
+//!
+//! In reading order:
+//! - `sends`: the packets of a step go into their boxes
+//! - `turns`: a node's turn
+//! - `gate`: who says when a node turns
+//! - `rotation`: whose box a loop empties
+//! - `loops`: a node's turns, one after the other
+#![tactic(auto)]
+
+mod gate;
+mod loops;
+mod rotation;
+mod sends;
+mod turns;
+
+pub use gate::{Gate, Open};
+pub use loops::{NodeEnd, node_loop};
+pub use turns::{Turn, Turned, node_turn};

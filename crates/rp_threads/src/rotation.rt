@@ -1,0 +1,26 @@
+//! Whose box a loop empties.
+
+ghost use Rattle.std.specs.Prelude.{◌≡◌, ◌≤◌};
+ghost use Rattle.rp_threads.specs.Loops.{sender_at};
+
+use rp_base::{NodeId, TaskId};
+use rp_codec::Party;
+
+/// How many tasks there are.
+const TASKS: u8 = 8;
+
+/// Whose box a node empties in a turn: those of the nodes and of the tasks have their turns in
+/// rotation.
+pub(crate) fn sender(nodes: u8, turn: u64) -> Party
+    requires { nodes ≤ 7 }
+    ensures { result ≡ sender_at nodes turn }
+{
+    let place = (turn % (u64::from(nodes) + u64::from(TASKS))) as u8;
+    if place == 0 {
+        Party::Task(TaskId::new(TASKS).unwrap())
+    } else if place <= nodes {
+        Party::Node(NodeId::new(place).unwrap())
+    } else {
+        Party::Task(TaskId::new(place - nodes).unwrap())
+    }
+}

@@ -1,0 +1,44 @@
+//! The packets of a step go into their boxes.
+
+ghost use Rattle.std.specs.Prelude.{◌≡◌};
+ghost use Rattle.rp_boxes.specs.Seats.{IsSentText};
+ghost use Rattle.rp_threads.specs.Turns.{AreSentTexts};
+
+use rp_boxes::NodeSeat;
+use rp_codec::packet_len;
+use rp_machine::Machine;
+use rp_store::Device;
+use std::alloc::Global;
+
+/// Puts a packet that the node sent into its box. It is lost where the box is full, or where memory
+/// is wanting.
+fn put_one<M: Machine, D: Device>(seat: &mut NodeSeat<M, D>, alloc: Global, text: &[u8])
+    requires { IsSentText seat.old.part text.now }
+    ensures { seat.new ≡ seat.old }
+{
+    if let Ok(packet) = Vec::from_slice(alloc, text) {
+        let _lost = seat.put(packet);
+    }
+}
+
+/// Puts packets that the node sent, one by one, as `put_one` does.
+pub(crate) fn put_all<M: Machine, D: Device>(
+    seat: &mut NodeSeat<M, D>,
+    alloc: Global,
+    texts: &[u8],
+    count: usize,
+)
+    requires { AreSentTexts seat.old.part texts.now }
+    ensures { seat.new ≡ seat.old }
+{
+    seat.sends_packets();
+    let mut rest = texts;
+    for _ in 0..count {
+        let Some(len) = packet_len(rest) else {
+            break;
+        };
+        let (text, others) = rest.split_at(len);
+        put_one(seat, alloc, text);
+        rest = others;
+    }
+}

@@ -1,0 +1,137 @@
+//! A node's turn.
+
+ghost use Rattle.std.specs.Prelude.{◌≡◌, ◌⊎◌, IfOk, OnOk, IfErr, OnErr, Bool};
+ghost use Rattle.rp_replica.specs.Inputs.{IsRightInput};
+ghost use Rattle.rp_boxes.specs.Seats.{IsGot, IsTurn, IsCutTurn, IsNoTurn};
+ghost use Rattle.rp_threads.specs.Lines.{HoldsTextsOf, given_on, line_after};
+ghost use Rattle.rp_threads.specs.Turns.{IsBrought, IsLost, turn_of, Works, Fails, IsEventBy, IsStopBy, IsNodeTurn, IsStoppedTurn};
+
+use crate::sends::put_all;
+use rp_base::Fault;
+use rp_boxes::NodeSeat;
+use rp_codec::Party;
+use rp_machine::Machine;
+use rp_replica::Input;
+use rp_store::Device;
+use rp_tasks::{FaultLine, gives_what_it_took};
+use std::alloc::Global;
+
+/// What a node does in a turn.
+#[derive(Clone, Copy, Debug, PartialEq, Eq)]
+pub enum Turn {
+    /// It receives a packet.
+    Received,
+    /// It leads.
+    Led,
+    /// Nothing.
+    Idle,
+}
+
+/// A turn that was made.
+#[derive(Clone, Copy, Debug, PartialEq, Eq)]
+pub struct Turned {
+    pub turn: Turn,
+    /// How many packets the node sent.
+    pub sent: usize,
+}
+
+/// The line takes the packet in the box from a party, if there is one.
+fn bring<M: Machine, D: Device>(
+    seat: &mut NodeSeat<M, D>,
+    line: &mut FaultLine,
+    alloc: Global,
+    from: Party,
+) -> Result<(), Fault>
+    requires held { HoldsTextsOf seat.old.part.got line.old }
+    ensures held { HoldsTextsOf seat.new.part.got line.new }
+    ensures ok { OnOk result (IsBrought from seat.old seat.new line.old line.new) }
+    ensures err { IfErr result (λ fault. IsLost from seat.old seat.new line.old line.new fault) }
+{
+    gives_what_it_took();
+    match seat.fetch(from) {
+        Some(packet) => line.accept(alloc, packet.as_slice()),
+        None => Ok(()),
+    }
+}
+
+/// One step of the node, whose packets go into their boxes.
+fn make<M: Machine, D: Device>(
+    seat: &mut NodeSeat<M, D>,
+    alloc: Global,
+    input: &Input,
+) -> Result<usize, Fault>
+    requires right { IsRightInput input.now }
+    requires got { IsGot seat.old.part input.now }
+    ensures got { seat.new.part.got ≡ seat.old.part.got }
+    ensures ok { IfOk result (λ count. IsEventBy M.next M.answers M.begin
+        (λ given. given ≡ input.now) seat.old seat.new count) }
+    ensures err { IfErr result (λ fault. IsStopBy M.next M.answers M.begin
+        (λ given. given ≡ input.now) seat.old seat.new fault) }
+{
+    let sent = seat.turn(alloc, input)?;
+    put_all(seat, alloc, sent.bytes.as_slice(), sent.packets);
+    Ok(sent.packets)
+}
+
+/// The node receives what the line gives on, or else leads where it is to.
+fn work<M: Machine, D: Device>(
+    seat: &mut NodeSeat<M, D>,
+    line: &mut FaultLine,
+    alloc: Global,
+    lead: bool,
+) -> Result<Turned, Fault>
+    requires held { HoldsTextsOf seat.old.part.got line.old }
+    ensures held { HoldsTextsOf seat.new.part.got line.new }
+    ensures line { line.new ≡ line_after line.old }
+    ensures turn { IfOk result (λ turned. turned.turn ≡ turn_of (given_on line.old) lead) }
+    ensures ok { IfOk result (λ turned. Works M.next M.answers M.begin
+        (given_on line.old) lead seat.old seat.new turned.sent) }
+    ensures err { IfErr result (λ fault. Fails M.next M.answers M.begin
+        (given_on line.old) lead seat.old seat.new fault) }
+{
+    gives_what_it_took();
+    match line.release() {
+        Some(packet) => {
+            let sent = make(seat, alloc, &Input::Receive(packet.as_slice()))?;
+            Ok(Turned {
+                turn: Turn::Received,
+                sent,
+            })
+        }
+        None if lead => {
+            let sent = make(seat, alloc, &Input::Lead(None))?;
+            Ok(Turned {
+                turn: Turn::Led,
+                sent,
+            })
+        }
+        None => Ok(Turned {
+            turn: Turn::Idle,
+            sent: 0,
+        }),
+    }
+}
+
+/// A turn of a node: the line takes the packet in the box from a party, if there is one, and the
+/// node receives what the line then gives on. Where the line holds nothing, the node leads if it is
+/// to, and is else idle. The packets that it sends go into their boxes; one whose box is full, or
+/// for which memory is wanting, is lost. At a fault the packet that was fetched is lost if memory was
+/// wanting for it, and else the one that the line gave on.
+pub fn node_turn<M: Machine, D: Device>(
+    seat: &mut NodeSeat<M, D>,
+    line: &mut FaultLine,
+    alloc: Global,
+    from: Party,
+    lead: bool,
+) -> Result<Turned, Fault>
+    requires held { HoldsTextsOf seat.old.part.got line.old }
+    ensures held { HoldsTextsOf seat.new.part.got line.new }
+    ensures ok { IfOk result (λ turned. IsNodeTurn M.next M.answers M.begin
+        from lead seat.old seat.new line.old line.new turned) }
+    ensures err { IfErr result (λ fault. IsLost from seat.old seat.new line.old line.new fault
+        ⊎ IsStoppedTurn M.next M.answers M.begin
+        from lead seat.old seat.new line.old line.new fault) }
+{
+    bring(seat, line, alloc, from)?;
+    work(seat, line, alloc, lead)
+}

@@ -4,29 +4,34 @@ use Rattle.std.specs.Prelude.{nat_eq, nat_le, slice_get}
 use Rattle.std.proofs.lemmas.Bool.{cases_Bool, le-leb, lt-leb, cond-true, cond-false}
 use Rattle.rp_base.specs.declared.record.Vote.{Vote}
 use Rattle.rp_base.specs.Majority.{majority_of, nodes_among}
-use Rattle.rp_base.specs.Sets.{Has, SameMembers, with_member}
+use Rattle.rp_base.specs.Sets.{Has, with_member}
 use Rattle.rp_base.specs.Promises.{HeardVote, voters_of, makes_majority}
-use Rattle.rp_learner.specs.declared.place.Place.{Place}
-use Rattle.rp_learner.specs.declared.place.Place.TheVariants.{Unheard, Heard, Settled}
+use Rattle.rp_learner.specs.Places.{Place}
+use Rattle.rp_learner.specs.Places.Place.{Settled}
 use Rattle.rp_learner.specs.declared.learner.Standing.{Standing}
 use Rattle.rp_learner.specs.declared.learner.Standing.TheVariants.{Counting, Learned, Known}
-use Rattle.rp_learner.specs.Places.{votes_at, votes_in, votes_of, place_at, is_settled_in, settled_of, is_settled_at, IsWithCast, heard_from, settled_from}
-use Rattle.rp_learner.specs.Learning.{Learning}
+use Rattle.rp_learner.specs.Places.{votes_at, votes_in, votes_of, place_at, is_settled_in, settled_of, is_settled_at, IsWithCast, heard_from, settled_from, places_from, places_of}
 use Rattle.rp_learner.specs.Standings.{is_settled, heard_with, standing_with, with_standing, with_vote, SameLearning}
 use Rattle.rp_learner.proofs.Placing.{settled_at, heard_at}
 use Rattle.rp_learner.proofs.Tallies.{alone}
-use Rattle.rp_learner.specs.Casts.{CastVote, voters_with}
+use Rattle.rp_learner.specs.Casts.{voters_with}
 use Rattle.rp_learner.proofs.Voters.{voters_at, one_more_voter}
-use Rattle.rp_learner.proofs.Writing.{learning_of, hears, settles, stays, same_learning}
+use Rattle.rp_learner.proofs.Writing.{learning_of, hears, settles, same_learning}
 
 -- a learner without votes
-pub none_heard : (n i : ℕ) → heard_from i (replicate n Unheard) ≡ []
-none_heard zero i = refl
-none_heard (suc n) i = none_heard n (suc i)
+none_heard_from : (n k i : ℕ) → heard_from i (places_from k (replicate n false) []) ≡ []
+none_heard_from zero k i = refl
+none_heard_from (suc n) k i = none_heard_from n (suc k) (suc i)
 
-pub none_settled : (n i : ℕ) → settled_from i (replicate n Unheard) ≡ []
-none_settled zero i = refl
-none_settled (suc n) i = none_settled n (suc i)
+pub none_heard : (n : ℕ) → heard_from 1 (places_of (replicate n false) []) ≡ []
+none_heard n = none_heard_from n 0 1
+
+none_settled_from : (n k i : ℕ) → settled_from i (places_from k (replicate n false) []) ≡ []
+none_settled_from zero k i = refl
+none_settled_from (suc n) k i = none_settled_from n (suc k) (suc i)
+
+pub none_settled : (n : ℕ) → settled_from 1 (places_of (replicate n false) []) ≡ []
+none_settled n = none_settled_from n 0 1
 
 module _ (nodes : ℕ) (places : List Place) (from i : ℕ) (vote : Vote) where
   -- a settled position is known
@@ -81,13 +86,6 @@ module _ (nodes : ℕ) (places : List Place) (from i : ℕ) (vote : Vote) where
       subst (λ (s : Standing). SameLearning (learning_of nodes (set places k q)) (with_standing (learning_of nodes places) from i vote s)) (sym counting)
       (hears places k i at within nodes (record { from = from; vote = vote }) p q before free more)
 
-  -- the first vote at a position is heard
-  pub notes_first : 3 ≤ nodes → (k : ℕ) (votes : List CastVote) → i ≡ suc k → k < length places → slice_get places k ≡ Some Unheard
-      → SameMembers votes (record { from = from; vote = vote } ∷ []) → SameLearning (learning_of nodes (set places k (Heard votes))) (with_vote (learning_of nodes places) from i vote)
-  notes_first many k votes at within before alone =
-      let there : place_at places i ≡ Some Unheard = ap (place_at places) at ∙ before in
-      notes k Unheard (Heard votes) at within before (sym (first_at many (ap settled_of there) (ap votes_of there))) (record { mark = refl; votes = λ _. alone })
-
   -- a vote that makes a majority settles its position
   pub notes_last : (k : ℕ) → i ≡ suc k → k < length places → standing_with (learning_of nodes places) from i vote ≡ Learned
       → SameLearning (learning_of nodes (set places k Settled)) (with_vote (learning_of nodes places) from i vote)
@@ -96,12 +94,10 @@ module _ (nodes : ℕ) (places : List Place) (from i : ℕ) (vote : Vote) where
       (settles places k i at within nodes)
 
   -- a vote at a settled position changes nothing
-  pub notes_none : (k : ℕ) (p : Place) → slice_get places k ≡ Some p → is_settled_at places i ≡ true
-      → SameLearning (learning_of nodes (set places k p)) (with_vote (learning_of nodes places) from i vote)
-  notes_none k p before settled =
-      subst (λ (s : Standing). SameLearning (learning_of nodes (set places k p)) (with_standing (learning_of nodes places) from i vote s)) (known_at settled)
-      (subst (λ (l : Learning). SameLearning l (learning_of nodes places)) (sym (stays nodes places k p p before (record { mark = refl; votes = refl })))
-      (same_learning (learning_of nodes places)))
+  pub notes_none : is_settled_at places i ≡ true → SameLearning (learning_of nodes places) (with_vote (learning_of nodes places) from i vote)
+  notes_none settled =
+      subst (λ (s : Standing). SameLearning (learning_of nodes places) (with_standing (learning_of nodes places) from i vote s)) (known_at settled)
+      (same_learning (learning_of nodes places))
 
 -- a vote that its place does not hold was not heard
 pub not_heard : (places : List Place) (from i : ℕ) (vote : Vote) (k : ℕ) (p : Place) → i ≡ suc k → slice_get places k ≡ Some p

@@ -6,9 +6,9 @@ use Rattle.std.proofs.lemmas.Bool.{both_ways, ne_eqb, eq-eqb, or_left, or_from}
 use Rattle.rp_base.specs.Sets.{Has}
 use Rattle.rp_base.specs.Promises.{HeardVote}
 use Rattle.rp_learner.specs.Casts.{CastVote}
-use Rattle.rp_learner.specs.declared.place.Place.{Place}
-use Rattle.rp_learner.specs.declared.place.Place.TheVariants.{Unheard, Heard, Settled}
-use Rattle.rp_learner.specs.Places.{votes_in, votes_of, votes_at, is_settled_in, settled_of, is_settled_at, heard_from, if_settled, settled_from, SamePlace}
+use Rattle.rp_learner.specs.Places.{Place}
+use Rattle.rp_learner.specs.Places.Place.{Unheard, Heard, Settled}
+use Rattle.rp_learner.specs.Places.{votes_in, votes_of, votes_at, is_settled_in, settled_of, is_settled_at, heard_from, if_settled, settled_from}
 use Rattle.rp_base.proofs.Members.{has_split, has_left, has_right, has_mapped}
 
 -- a vote of a node, heard at a position
@@ -100,15 +100,7 @@ same_if_settled i Settled Unheard e = absurd (both_ways false refl e)
 same_if_settled i Settled (Heard w) e = absurd (both_ways false refl e)
 same_if_settled i Settled Settled e = refl
 
--- a write of such a place changes nothing
-pub heard_kept : (places : List Place) (i k : ℕ) (p q : Place) → slice_get places k ≡ Some p → SamePlace p q → heard_from i (set places k q) ≡ heard_from i places
-heard_kept [] i k p q at same = refl
-heard_kept (place ∷ places) i zero p q at same =
-    let here : place ≡ p = some_is at in
-    ap (λ (votes : List CastVote). map (heard_as i) votes ++ heard_from (suc i) places) (same.votes ∙ ap votes_in (sym here))
-heard_kept (place ∷ places) i (suc k) p q at same =
-    ap (λ (rest : List HeardVote). map (heard_as i) (votes_in place) ++ rest) (heard_kept places (suc i) k p q at same)
-
+-- a write of such a place settles nothing
 pub settled_kept : (places : List Place) (i k : ℕ) (p q : Place) → slice_get places k ≡ Some p → is_settled_in q ≡ is_settled_in p → settled_from i (set places k q) ≡ settled_from i places
 settled_kept [] i k p q at same = refl
 settled_kept (place ∷ places) i zero p q at same =

@@ -10,7 +10,7 @@ use Rattle.rp_base.specs.Sets.{Has, with_member, with_members}
 use Rattle.rp_base.specs.declared.record.Vote.{Vote}
 use Rattle.rp_base.specs.Promises.{HeardVote, same_vote, same_heard, voters_of}
 use Rattle.rp_learner.specs.Casts.{CastVote}
-use Rattle.rp_learner.specs.declared.place.Place.{Place}
+use Rattle.rp_learner.specs.Places.{Place}
 use Rattle.rp_learner.specs.Places.{votes_in, votes_of, votes_at, heard_from}
 use Rattle.rp_base.proofs.Sameness.{vote_same, heard_decides}
 use Rattle.rp_base.proofs.Members.{found, finds, passes, has_mapped, member_stays, with_members-append}

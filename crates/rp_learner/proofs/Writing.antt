@@ -7,14 +7,14 @@ use Rattle.std.proofs.lemmas.List.{length-set}
 use Rattle.rp_base.specs.Sets.{Has, SameMembers, with_member}
 use Rattle.rp_base.specs.Promises.{HeardVote, same_heard}
 use Rattle.rp_learner.specs.Casts.{CastVote, same_cast}
-use Rattle.rp_learner.specs.declared.place.Place.{Place}
-use Rattle.rp_learner.specs.declared.place.Place.TheVariants.{Settled}
+use Rattle.rp_learner.specs.Places.{Place}
+use Rattle.rp_learner.specs.Places.Place.{Settled}
 use Rattle.rp_learner.specs.Learning.{Learning}
-use Rattle.rp_learner.specs.Places.{place_at, votes_in, votes_of, is_settled_in, settled_of, is_settled_at, SamePlace, IsWithCast, heard_from, settled_from}
+use Rattle.rp_learner.specs.Places.{place_at, votes_in, votes_of, is_settled_in, settled_of, is_settled_at, IsWithCast, heard_from, settled_from}
 use Rattle.rp_learner.specs.Standings.{SameLearning, with_settled}
 use Rattle.rp_base.proofs.Sameness.{heard_decides}
 use Rattle.rp_base.proofs.Members.{has_passing, passes, found, finds, has_with, with_has}
-use Rattle.rp_learner.proofs.Placing.{cast_of, heard_at, settled_at, heard_kept, settled_kept}
+use Rattle.rp_learner.proofs.Placing.{cast_of, heard_at, settled_at, settled_kept}
 use Rattle.rp_learner.proofs.Tallies.{cast_decides, get_written, get_other}
 
 -- what the places of so many nodes' learner stand for
@@ -128,15 +128,6 @@ module _ (places : List Place) (k i : ℕ) (at : i ≡ suc k) (within : k < leng
         let same = settled_kept places 1 k p q before more.mark in
         (subst (λ (l : List ℕ). Has j l) same, subst (λ (l : List ℕ). Has j l) (sym same));
   }
-
--- a write of a place that stands for the same changes nothing
-pub stays : (nodes : ℕ) (places : List Place) (k : ℕ) (p q : Place) → slice_get places k ≡ Some p → SamePlace p q → learning_of nodes (set places k q) ≡ learning_of nodes places
-stays nodes places k p q before same = λ t. record {
-  nodes = nodes;
-  max_positions = length-set places k q t;
-  heard = heard_kept places 1 k p q before same t;
-  settled = settled_kept places 1 k p q before same.mark t;
-}
 
 -- each holds what it holds
 pub same_learning : (l : Learning) → SameLearning l l

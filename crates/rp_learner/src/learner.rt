@@ -1,13 +1,13 @@
 //! The learner of one node.
 
-ghost use Rattle.std.specs.Prelude.{◌≡◌, ◌≤◌, ℕ, OnOk, OnErr, IfOk, IsOkUnless};
+ghost use Rattle.std.specs.Prelude.{◌≡◌, ◌≤◌, ℕ, suc, OnOk, OnErr, IfOk, IsOkUnless};
 ghost use Rattle.rp_base.specs.declared.record.Vote.{Vote};
 ghost use Rattle.rp_learner.specs.Learning.{Learning};
+ghost use Rattle.rp_learner.specs.Places.{mark_at};
 ghost use Rattle.rp_learner.specs.Standings.{SameLearning, SameSizes, fresh, vote_for, standing_with, decision_at, with_settled, with_vote, NotesVote, Settles, IsOneMore};
 
-use crate::place::{Place, is_settled_at, place_at};
-use crate::tally::Tallies;
-use rp_base::{Action, Ballot, Fault, NodeId, Position, Vote, majority};
+use crate::page::{Page, forget, hear, slot_at};
+use rp_base::{Action, Ballot, Fault, NodeId, Position, majority};
 use std::alloc::Global;
 use std::marker::Model;
 
@@ -37,7 +37,8 @@ pub enum Decision {
 #[derive(Debug, Drop)]
 pub struct Learner {
     nodes: u8,
-    places: Vec<Place>,
+    marks: Vec<bool>,
+    pages: Vec<Page>,
 }
 
 impl Model for Learner {
@@ -46,13 +47,13 @@ impl Model for Learner {
 
     ghost Value = { Learning };
 
-    ghost use Rattle.rp_learner.specs.Places.{heard_from, settled_from};
+    ghost use Rattle.rp_learner.specs.Places.{places_of, heard_from, settled_from};
 
     ghost view = { λ l. record {
       nodes = l.nodes;
-      max_positions = length l.places.items;
-      heard = heard_from 1 l.places.items;
-      settled = settled_from 1 l.places.items;
+      max_positions = length (places_of l.marks.items l.pages.items);
+      heard = heard_from 1 (places_of l.marks.items l.pages.items);
+      settled = settled_from 1 (places_of l.marks.items l.pages.items);
     } };
 
     ghost invariant = { λ l. (3 ≤ l.nodes) × (l.nodes ≤ 7) };
@@ -60,17 +61,20 @@ impl Model for Learner {
 
 impl Learner {
     /// A learner of 3 to 7 nodes that has heard nothing, for positions 1 to `max_positions`. It has
-    /// the room of all their marks. `OutOfMemory` leaves nothing.
+    /// the room of all their marks, so that a position can always be settled. `OutOfMemory` leaves
+    /// nothing.
     pub fn new(alloc: Global, nodes: u8, max_positions: u16) -> Result<Self, Fault>
         requires nodes { (3 ≤ nodes) × (nodes ≤ 7) }
         ensures fresh { IfOk result (λ l. l ≡ fresh nodes max_positions) }
         ensures only { IsOkUnless result Fault.OutOfMemory }
     {
-        let mut places = Vec::new(alloc);
-        for _ in 0..max_positions {
-            places.push(Place::Unheard)?;
-        }
-        Ok(Learner { nodes, places })
+        let mut marks = Vec::new(alloc);
+        marks.resize(usize::from(max_positions), false)?;
+        Ok(Learner {
+            nodes,
+            marks,
+            pages: Vec::new(alloc),
+        })
     }
 
     /// What holds at the position once this vote of `from`, one of the nodes, for the action in the
@@ -86,17 +90,19 @@ impl Learner {
         requires sender { from ≤ self.now.nodes }
         ensures { result ≡ standing_with self.now from position (vote_for ballot action.now) }
     {
-        match place_at(&self.places, position) {
-            Some(Place::Settled) => Standing::Known,
-            Some(Place::Heard(tallies)) => {
-                let voters = tallies.count_with(self.nodes, from, ballot, action);
-                if voters >= usize::from(majority(self.nodes)) {
-                    Standing::Learned
-                } else {
-                    Standing::Counting
+        match mark_at(&self.marks, position) {
+            Some(true) => Standing::Known,
+            Some(false) => match slot_at(&self.pages, index_of(position)) {
+                Some(tallies) => {
+                    let voters = tallies.count_with(self.nodes, from, ballot, action);
+                    if voters >= usize::from(majority(self.nodes)) {
+                        Standing::Learned
+                    } else {
+                        Standing::Counting
+                    }
                 }
-            }
-            Some(Place::Unheard) => Standing::Counting,
+                None => Standing::Counting,
+            },
             None => Standing::Counting,
         }
     }
@@ -122,23 +128,22 @@ impl Learner {
             (vote_for ballot action.now)) }
         ensures only { IsOkUnless result Fault.OutOfMemory }
     {
-        let needed = usize::from(majority(self.nodes));
-        let nodes = self.nodes;
-        let place = &mut self.places[usize::from(position.get()) - 1];
-        match place {
-            Place::Unheard => {
-                let vote = Vote {
-                    ballot,
-                    action: *action,
-                };
-                *place = Place::Heard(Tallies::new(alloc, from, vote));
-            }
-            Place::Heard(tallies) => {
-                if tallies.hear(nodes, from, ballot, action)? >= needed {
-                    *place = Place::Settled;
-                }
-            }
-            Place::Settled => {}
+        let index = index_of(position);
+        if self.marks[index] {
+            return Ok(());
+        }
+        let voters = hear(
+            &mut self.pages,
+            alloc,
+            index,
+            self.nodes,
+            from,
+            ballot,
+            action,
+        )?;
+        if voters >= usize::from(majority(self.nodes)) {
+            self.marks[index] = true;
+            forget(&mut self.pages, index);
         }
         Ok(())
     }
@@ -147,10 +152,10 @@ impl Learner {
     pub fn decided(&self, position: Position) -> Decision
         ensures { result ≡ decision_at self.now position }
     {
-        if is_settled_at(&self.places, position) {
-            Decision::Known
-        } else {
-            Decision::Learned
+        match mark_at(&self.marks, position) {
+            Some(true) => Decision::Known,
+            Some(false) => Decision::Learned,
+            None => Decision::Learned,
         }
     }
 
@@ -160,8 +165,26 @@ impl Learner {
         ensures settled { Settles self.old position self.new }
         ensures sizes { SameSizes self.new self.old }
     {
-        self.places[usize::from(position.get()) - 1] = Place::Settled;
+        let index = index_of(position);
+        self.marks[index] = true;
+        forget(&mut self.pages, index);
     }
+}
+
+/// The index of a position's mark and slot.
+#[inline(always)]
+fn index_of(position: Position) -> usize
+    ensures { suc result ≡ position }
+{
+    usize::from(position.get()) - 1
+}
+
+/// The mark of a position: whether it is settled, `None` above `max_positions`.
+#[inline(always)]
+fn mark_at(marks: &[bool], position: Position) -> Option<bool>
+    ensures { result ≡ mark_at marks.now position }
+{
+    marks.get(index_of(position)).copied()
 }
 
 /// Learners that hold the same, as sets, answer alike, and hold the same once the same is noted.

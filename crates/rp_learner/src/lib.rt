@@ -2,12 +2,12 @@
 //!
 //! In reading order:
 //! - `learner`: the learner of one node
-//! - `place`: what is kept of one position
+//! - `page`: the votes heard at open positions, in pages
 //! - `tally`: the votes heard at one position
 #![tactic(auto)]
 
 mod learner;
-mod place;
+mod page;
 mod tally;
 
 pub use learner::{Decision, Learner, Standing, same_learners_answer_alike};

@@ -41,6 +41,11 @@ abbrev pub Answers : World → Result Happening Fault → (ℕ → Result Happen
 Answers w effect cut new (Ok told) = Goes w effect new told
 Answers w effect cut new (Err fault) = Refuses w effect new fault ⊎ (Wants w effect new fault ⊎ Fails cut new fault)
 
+-- what a call answers that tells its effect in place
+abbrev pub told : {A : Type 0} → Result A Fault → Effect → Result Effect Fault
+told (Ok done) effect = Ok effect
+told (Err fault) effect = Err fault
+
 -- there is no device to fail
 abbrev pub no_cut : ℕ → Result Happening Fault
 no_cut kept = Err NotRunning

@@ -101,7 +101,7 @@ impl<M: Machine, D: CutDevice> Cluster<M, D> {
         // A delivery is by far the most frequent, and goes the shortest way.
         if let Event::Node(step) = *event {
             if let Step::Deliver(number) = step {
-                return self.world.deliver(alloc, number);
+                return self.world.delivered(alloc, number);
             }
         }
         self.world.step(alloc, event)

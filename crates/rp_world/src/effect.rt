@@ -17,6 +17,7 @@ pub struct Refused {
 }
 
 /// Nothing was sent, dropped or taken.
+#[inline(always)]
 pub(crate) fn nothing(first: u64) -> Effect
     ensures { result
         ≡ record { first = first; sent = 0; dropped = No; taken = None; opened = None } }
@@ -64,6 +65,7 @@ pub(crate) fn opened(first: u64, opened: Option<(u64, u64)>) -> Effect
 }
 
 /// What a node's step sent and dropped.
+#[inline(always)]
 pub(crate) fn of_step(first: u64, sent: &Sent) -> Effect
     ensures { result ≡ record {
       first = first;

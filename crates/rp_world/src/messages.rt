@@ -46,7 +46,20 @@ impl Messages {
 
     /// Puts what the last step sent behind the others, so that nothing lies apart. Refused for memory,
     /// nothing changes.
+    #[inline(always)]
     pub(crate) fn settle(&mut self) -> Result<(), AllocError>
+        ensures settled { OnOk result (self.new.apart ≡ 0) }
+        ensures sent { self.new.sent ≡ self.old.sent }
+        ensures err { OnErr result (self.new ≡ self.old) }
+    {
+        if self.apart == 0 {
+            return Ok(());
+        }
+        self.join()
+    }
+
+    /// The same, where the last step sent some.
+    fn join(&mut self) -> Result<(), AllocError>
         ensures settled { OnOk result (self.new.apart ≡ 0) }
         ensures sent { self.new.sent ≡ self.old.sent }
         ensures err { OnErr result (self.new ≡ self.old) }

@@ -13,7 +13,7 @@ ghost use Rattle.rp_model.specs.Events.{IsEvent, event_of, step_of};
 ghost use Rattle.rp_model.specs.World.{part_at, node_takes, node_is_cut, delivers, delivery_is_cut, step_effect, cut_step};
 ghost use Rattle.rp_agreement.specs.Ranges.{IsRangedWorld};
 ghost use Rattle.rp_replica.specs.Inputs.{IsRightInput, given_by};
-ghost use Rattle.rp_world.specs.Going.{Answers, reply_told};
+ghost use Rattle.rp_world.specs.Going.{Answers, reply_told, told};
 ghost use Rattle.rp_world.specs.Steps.{IsStep, IsSameSetup, setting_of};
 
 use crate::effect::{nothing, of_step, taken};
@@ -93,7 +93,7 @@ impl<M: Machine, D: CutDevice> World<M, D> {
     {
         events_keep_ranges::<M>();
         match step {
-            Step::Deliver(number) => self.deliver(alloc, number),
+            Step::Deliver(number) => self.delivered(alloc, number),
             Step::Lead { node, position } => self.gives(alloc, node, &Input::Lead(position)),
             Step::Interrupt { node, interrupt } => { self.gives(alloc, node, &input_of(interrupt)) }
             Step::Tick { node, now } => self.gives(alloc, node, &Input::Tick { now }),
@@ -211,7 +211,7 @@ impl<M: Machine, D: CutDevice> World<M, D> {
     /// `NoSuchMessage` above the last one, or refused for memory: nothing changes. `Device` where the
     /// device of its node fails: then the node is stopped.
     #[inline(always)]
-    pub(crate) fn deliver(&mut self, alloc: Global, number: u64) -> Result<Effect, Fault>
+    pub(crate) fn delivered(&mut self, alloc: Global, number: u64) -> Result<Effect, Fault>
         requires ranged { IsRangedWorld self.old.config.nodes self.old.world }
         ensures answer { let setting = setting_of M.next M.answers M.begin self.old in
             Answers self.old.world
@@ -220,19 +220,51 @@ impl<M: Machine, D: CutDevice> World<M, D> {
             self.new.world result }
         ensures setup { IsSameSetup self.old self.new }
     {
+        let mut effect = nothing(0);
+        match self.deliver(alloc, number, &mut effect) {
+            Ok(()) => Ok(effect),
+            Err(fault) => Err(fault),
+        }
+    }
+
+    /// The same, told in place: the effect is copied once, where the step ends.
+    fn deliver(&mut self, alloc: Global, number: u64, effect: &mut Effect) -> Result<(), Fault>
+        requires ranged { IsRangedWorld self.old.config.nodes self.old.world }
+        ensures answer { let setting = setting_of M.next M.answers M.begin self.old in
+            Answers self.old.world
+            (delivers setting self.old.world (part_at self.old.world.sent number))
+            (λ kept. delivery_is_cut setting self.old.world (part_at self.old.world.sent number) kept)
+            self.new.world (told result effect.new) }
+        ensures setup { IsSameSetup self.old self.new }
+    {
         let Some(receiver) = self.receiver_of(number) else {
             return Err(Fault::NoSuchMessage);
         };
         match receiver {
-            Party::Node(node) => self.hears(alloc, number, node),
-            Party::Task(task) => self.is_told(alloc, number, task),
-            Party::Audit => Ok(nothing(self.messages() + 1)),
+            Party::Node(node) => self.hears(alloc, number, node, effect),
+            Party::Task(task) => match self.is_told(alloc, number, task) {
+                Ok(taken) => {
+                    *effect = taken;
+                    Ok(())
+                }
+                Err(fault) => Err(fault),
+            },
+            Party::Audit => {
+                *effect = nothing(self.messages() + 1);
+                Ok(())
+            }
         }
     }
 
     /// A message comes to its node.
     #[inline(always)]
-    fn hears(&mut self, alloc: Global, number: u64, node: NodeId) -> Result<Effect, Fault>
+    fn hears(
+        &mut self,
+        alloc: Global,
+        number: u64,
+        node: NodeId,
+        effect: &mut Effect,
+    ) -> Result<(), Fault>
         requires ranged { IsRangedWorld self.old.config.nodes self.old.world }
         requires to { (m : Message) × (part_at self.old.world.sent number ≡ Some m)
             × (m.to ≡ Node node) }
@@ -240,17 +272,19 @@ impl<M: Machine, D: CutDevice> World<M, D> {
             Answers self.old.world
             (delivers setting self.old.world (part_at self.old.world.sent number))
             (λ kept. delivery_is_cut setting self.old.world (part_at self.old.world.sent number) kept)
-            self.new.world result }
+            self.new.world (told result effect.new) }
         ensures setup { IsSameSetup self.old self.new }
     {
         events_keep_ranges::<M>();
         texts_are_packets();
         let first = self.messages() + 1;
         let Some(node) = self.nodes.get_mut(usize::from(node.get()) - 1) else {
-            return Ok(nothing(first));
+            *effect = nothing(first);
+            return Ok(());
         };
         if !node.is_running() {
-            return Ok(nothing(first));
+            *effect = nothing(first);
+            return Ok(());
         }
         if self.messages.settle().is_err() {
             return Err(Fault::OutOfMemory);
@@ -259,9 +293,9 @@ impl<M: Machine, D: CutDevice> World<M, D> {
         let text = self.messages.text(number).unwrap();
         match node.turn(alloc, buffer, &Input::Receive(text)) {
             Ok(sent) => {
-                let effect = of_step(first, &sent);
+                *effect = of_step(first, &sent);
                 self.messages.put(sent.bytes, sent.packets);
-                Ok(effect)
+                Ok(())
             }
             Err(fault) => Err(fault),
         }

@@ -1,11 +1,18 @@
--- As many places as positions, in none of which a vote was heard.
-use Rattle.std.proofs.Common.{◌≡◌, arith}
+-- As many marks as positions, none of them settled, and no votes.
+use Rattle.std.proofs.Common.{◌≡◌, ◌-◌, ◌∙◌, ℕ, List, Bool, false, [], ◌++◌, replicate, take, ap, arith}
 use Rattle.std.proofs.lemmas.List.{length-replicate}
-use Rattle.rp_learner.specs.declared.place.Place.TheVariants.{Unheard}
+use Rattle.std.proofs.Math.Seq.{take-nil}
 use Rattle.rp_learner.proofs.Outcomes.{none_heard, none_settled}
+use Rattle.rp_learner.proofs.Paging.{length-places}
 use Rattle.rp_learner.proofs.learner.Learner.new.Goals as goal
 
 pub returns-clause-fresh : goal.returns-clause-fresh
 returns-clause-fresh c =
-    let all : c.loop.counter ≡ c.args.max_positions = omega (arith, c.loop-test.false, c.loop.auto.counter-end) in
-    rw (c.loop.invariant, none_heard c.loop.counter 1, none_settled c.loop.counter 1, length-replicate c.loop.counter Unheard, all)
+    let n = c.args.max_positions in
+    let left : c.from.result - c.new-marks.result.len ≡ n = omega (arith, c.from.ensures, c.new-marks.ensures.len) in
+    let marks : c.resize.new.self.items ≡ replicate n false =
+    c.in_ok-resize.ensures.items
+    ∙ ap (λ (l : List Bool). take c.from.result l ++ replicate (c.from.result - c.new-marks.result.len) false) c.new-marks.ensures.items
+    ∙ ap (λ (l : List Bool). l ++ replicate (c.from.result - c.new-marks.result.len) false) (take-nil c.from.result)
+    ∙ ap (λ (m : ℕ). replicate m false) left in
+    rw (marks, c.new.ensures.items, none_heard n, none_settled n, length-places 0 (replicate n false) [], length-replicate n false)

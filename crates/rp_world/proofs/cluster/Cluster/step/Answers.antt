@@ -12,29 +12,29 @@ pub invariant_of-self : goal.invariant_of-self
 invariant_of-self g c =
     let m = g.M.Machine in
     let old = c.self.inside.world in
-    let new = c.deliver.new.self in
+    let new = c.delivered.new.self in
     let s = setting_of m.next m.answers m.begin old in
     let event = Makes (Deliver c.in-Deliver.number) in
-    let steps = made s old.world new.world c.deliver.result (Deliver c.in-Deliver.number) c.deliver.ensures.answer in
+    let steps = made s old.world new.world c.delivered.result (Deliver c.in-Deliver.number) c.delivered.ensures.answer in
     let is = subst (λ step. IsEvent (event_of (Node step))) c.in-Deliver.is (subst (λ e. IsEvent (event_of e)) c.in-Node.is c.keeps_ranges.ensures) in
     let now = c.self.invariant in
-    subst (λ (t : Setting g.row.M.Denot). IsCluster t new.world) (sym (same_setting m.next m.answers m.begin old new c.deliver.ensures.setup))
+    subst (λ (t : Setting g.row.M.Denot). IsCluster t new.world) (sym (same_setting m.next m.answers m.begin old new c.delivered.ensures.setup))
     (record {
       right = now.right;
-      kept = c.events_keep_replies.ensures.answer s old.world new.world event c.deliver.result now.right now.kept is steps;
-      ranged = c.events_keep_ranges.ensures.answer old.config old.program old.world new.world event c.deliver.result now.right now.ranged is steps;
+      kept = c.events_keep_replies.ensures.answer s old.world new.world event c.delivered.result now.right now.kept is steps;
+      ranged = c.events_keep_ranges.ensures.answer old.config old.program old.world new.world event c.delivered.result now.right now.ranged is steps;
     })
 
 pub returns-in-Deliver : goal.returns-in-Deliver
 returns-in-Deliver g c =
     let m = g.M.Machine in
     let old = c.self.inside.world in
-    let new = c.deliver.new.self in
+    let new = c.delivered.new.self in
     let s = setting_of m.next m.answers m.begin old in
-    let steps = made s old.world new.world c.deliver.result (Deliver c.in-Deliver.number) c.deliver.ensures.answer in
+    let steps = made s old.world new.world c.delivered.result (Deliver c.in-Deliver.number) c.delivered.ensures.answer in
     record {
-      step = subst (λ was. IsStep m.next m.answers m.begin was c.args.event.now new c.deliver.result) c.self.view_is
-          (subst (λ event. IsStep m.next m.answers m.begin old event new c.deliver.result) (sym c.in-Node.is)
-          (subst (λ step. IsStep m.next m.answers m.begin old (Node step) new c.deliver.result) (sym c.in-Deliver.is)
-          (record { world = steps; setup = c.deliver.ensures.setup })));
+      step = subst (λ was. IsStep m.next m.answers m.begin was c.args.event.now new c.delivered.result) c.self.view_is
+          (subst (λ event. IsStep m.next m.answers m.begin old event new c.delivered.result) (sym c.in-Node.is)
+          (subst (λ step. IsStep m.next m.answers m.begin old (Node step) new c.delivered.result) (sym c.in-Deliver.is)
+          (record { world = steps; setup = c.delivered.ensures.setup })));
     }

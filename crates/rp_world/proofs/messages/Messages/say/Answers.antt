@@ -1,10 +1,10 @@
 -- The one packet's text is read as it.
-use Rattle.std.proofs.Common.{◌≡◌, ◌++◌, [], ◌∷◌, List, ℕ, length, refl, sym, ap, subst, ◌∙◌}
+use Rattle.std.proofs.Common.{◌≡◌, ◌++◌, [], ◌∷◌, List, ℕ, length, refl, sym, ap, ◌∙◌}
 use Rattle.std.proofs.lemmas.List.{append-nil}
 use Rattle.rp_codec.specs.Message.{Message, IsPacket}
 use Rattle.rp_codec.specs.Text.{text_of}
 use Rattle.rp_replica.specs.Packets.{texts_of}
-use Rattle.rp_world.specs.Messages.{Sending, AreTexts, AreMessages, packets_in}
+use Rattle.rp_world.specs.Messages.{Sending, AreTexts, packets_in}
 use Rattle.rp_world.proofs.Joined.{again, read_texts}
 use Rattle.rp_world.proofs.messages.Messages.say.Goals as goal
 

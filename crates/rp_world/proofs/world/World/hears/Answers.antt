@@ -274,11 +274,11 @@ returns-in-Ok-clause-answer g c =
     let new = c.turn.new.self in
     let each : (done : Done NodePart) → node_effect s me part given ≡ Ok done → AllByRecursion IsPacket done.sends = λ done came.
     sends_are w.sent done.sends (c.events_keep_ranges.ensures.effect inside.config inside.program w (Makes (Deliver c.args.number)) (node_done w me done) c.self.invariant.right ranged tt (whole_is ∙ ap (node_done_if w me) came)).packets in
-    let told = c.of_step-effect.ensures ∙ ap (λ (k : ℕ). told_sent k c.in-Ok.sent) first in
+    let told = c.of_step.ensures ∙ ap (λ (k : ℕ). told_sent k c.in-Ok.sent) first in
     subst (λ v. Answers v.world (delivers (setting_of m.next m.answers m.begin v) v.world (part_at v.world.sent c.args.number)) (λ kept. delivery_is_cut (setting_of m.next m.answers m.begin v) v.world (part_at v.world.sent c.args.number) kept)
-    (world_of disk inside.config.max_positions (slice_set nodes i new) tasks c.put.new.self) (let r : Result Effect Fault = Ok c.of_step-effect.result in r)) c.self.view_is
+    (world_of disk inside.config.max_positions (slice_set nodes i new) tasks c.put.new.self) (let r : Result Effect Fault = Ok c.of_step.result in r)) c.self.view_is
     (turned disk inside.config begin nodes tasks inside.messages c.self.invariant i me placed n here new m.next m.answers given c.in-Ok.sent (c.in-Ok.ensures.ok member given gives) each
-    c.lend-buffer.new.self c.put.new.self (c.lend-buffer.ensures.sent ∙ c.settle.ensures.sent) c.put.ensures _ whole_is c.of_step-effect.result told)
+    c.lend-buffer.new.self c.put.new.self (c.lend-buffer.ensures.sent ∙ c.settle.ensures.sent) c.put.ensures _ whole_is c.of_step.result told)
 
 pub returns-in-Err-clause-answer : goal.returns-in-Err-clause-answer
 returns-in-Err-clause-answer g c =

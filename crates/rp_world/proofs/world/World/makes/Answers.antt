@@ -41,7 +41,7 @@ gives-requires-in-Report-clause-sends g c = λ given part done is here came.
     sends_are was.world.sent done.sends (c.events_keep_ranges.ensures.effect was.config was.program was.world (events.Makes (events.Report c.in-Report.node c.in-Report.first)) (node_done was.world me done) c.requires.config c.requires.ranged range effect).packets
 
 pub returns-in-Deliver-clause-answer : goal.returns-in-Deliver-clause-answer
-returns-in-Deliver-clause-answer g c = subst (λ step. Answers c.args.self.now.world (step_effect (setting_of g.M.Machine.next g.M.Machine.answers g.M.Machine.begin c.args.self.now) c.args.self.now.world (step_of step)) (λ kept. cut_step (setting_of g.M.Machine.next g.M.Machine.answers g.M.Machine.begin c.args.self.now) c.args.self.now.world (step_of step) kept) c.deliver.new.self.world c.deliver.result) (sym c.in-Deliver.is) (c.deliver.ensures.answer)
+returns-in-Deliver-clause-answer g c = subst (λ step. Answers c.args.self.now.world (step_effect (setting_of g.M.Machine.next g.M.Machine.answers g.M.Machine.begin c.args.self.now) c.args.self.now.world (step_of step)) (λ kept. cut_step (setting_of g.M.Machine.next g.M.Machine.answers g.M.Machine.begin c.args.self.now) c.args.self.now.world (step_of step) kept) c.delivered.new.self.world c.delivered.result) (sym c.in-Deliver.is) (c.delivered.ensures.answer)
 
 pub returns-in-Lead-clause-answer : goal.returns-in-Lead-clause-answer
 returns-in-Lead-clause-answer g c = subst (λ step. Answers c.args.self.now.world (step_effect (setting_of g.M.Machine.next g.M.Machine.answers g.M.Machine.begin c.args.self.now) c.args.self.now.world (step_of step)) (λ kept. cut_step (setting_of g.M.Machine.next g.M.Machine.answers g.M.Machine.begin c.args.self.now) c.args.self.now.world (step_of step) kept) c.gives.new.self.world c.gives.result) (sym c.in-Lead.is) (c.gives.ensures.answer (inputs.Lead c.in-Lead.position) refl)

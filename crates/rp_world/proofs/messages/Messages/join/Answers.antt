@@ -4,7 +4,7 @@ use Rattle.std.proofs.lemmas.List.{append-nil, length-append}
 use Rattle.std.proofs.Math.Seq.{drop-append_seam}
 use Rattle.rp_world.specs.Messages.{Sending, AreMessages, packets_in, ends_of}
 use Rattle.rp_world.proofs.Joined.{ends_both, sent_both}
-use Rattle.rp_world.proofs.messages.Messages.settle.Goals as goal
+use Rattle.rp_world.proofs.messages.Messages.join.Goals as goal
 
 -- the ends that were added
 ends_so : (one other ends added whole : List ℕ) (from k : ℕ) → whole ≡ one ++ other → from ≡ length one → added ≡ ends ++ ends_of from (packets_in k (drop from whole))

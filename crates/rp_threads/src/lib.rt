@@ -16,4 +16,4 @@ mod turns;
 
 pub use gate::{Gate, Open};
 pub use loops::{NodeEnd, node_loop};
-pub use turns::{Turn, Turned, node_turn};
+pub use turns::{Turn, Turned, node_step, node_turn};

@@ -54,8 +54,10 @@ fn bring<M: Machine, D: Device>(
     }
 }
 
-/// One step of the node, whose packets go into their boxes.
-fn make<M: Machine, D: Device>(
+/// One step of a node, of a packet that its seat got or of another input, whose packets go into their
+/// boxes: one whose box is full, or for which memory is wanting, is lost. How many were sent. Refused
+/// as `NodeSeat::turn` is, which says what that leaves.
+pub fn node_step<M: Machine, D: Device>(
     seat: &mut NodeSeat<M, D>,
     alloc: Global,
     input: &Input,
@@ -92,14 +94,14 @@ fn work<M: Machine, D: Device>(
     gives_what_it_took();
     match line.release() {
         Some(packet) => {
-            let sent = make(seat, alloc, &Input::Receive(packet.as_slice()))?;
+            let sent = node_step(seat, alloc, &Input::Receive(packet.as_slice()))?;
             Ok(Turned {
                 turn: Turn::Received,
                 sent,
             })
         }
         None if lead => {
-            let sent = make(seat, alloc, &Input::Lead(None))?;
+            let sent = node_step(seat, alloc, &Input::Lead(None))?;
             Ok(Turned {
                 turn: Turn::Led,
                 sent,

@@ -5,8 +5,8 @@ use Rattle.rp_threads.proofs.Texts.{is_after, after_holds, given_holds}
 use Rattle.rp_threads.proofs.Steps.{received}
 use Rattle.rp_threads.proofs.turns.work.Goals as goal
 
-pub make-requires-clause-got : goal.make-requires-clause-got
-make-requires-clause-got g c =
+pub node_step-requires-clause-got : goal.node_step-requires-clause-got
+node_step-requires-clause-got g c =
     let got = c.args.seat.now.part.got in
     subst (IsTextAmong got) (sym c.as_slice.ensures.value)
     (given_holds got c.args.line.now c.in-Some.packet.items c.gives_what_it_took.ensures.picked c.requires.held (sym c.in-Some.ensures.packet))
@@ -15,31 +15,31 @@ pub returns-in_err-sent-in-Some-clause-held : goal.returns-in_err-sent-in-Some-c
 returns-in_err-sent-in-Some-clause-held g c =
     let line = c.args.line.now in
     let is = is_after line c.release.new.self line.held refl c.release.ensures.after c.release.ensures.empty in
-    after_holds c.args.seat.now.part.got c.make.new.seat.part.got line c.release.new.self c.gives_what_it_took.ensures.released c.requires.held is c.make.ensures.got
+    after_holds c.args.seat.now.part.got c.node_step.new.seat.part.got line c.release.new.self c.gives_what_it_took.ensures.released c.requires.held is c.node_step.ensures.got
 
 pub returns-in_err-sent-in-None-clause-held : goal.returns-in_err-sent-in-None-clause-held
 returns-in_err-sent-in-None-clause-held g c =
     let line = c.args.line.now in
     let is = is_after line c.release.new.self line.held refl c.release.ensures.after c.release.ensures.empty in
-    after_holds c.args.seat.now.part.got c.make-in-None.new.seat.part.got line c.release.new.self c.gives_what_it_took.ensures.released c.requires.held is c.make-in-None.ensures.got
+    after_holds c.args.seat.now.part.got c.node_step-in-None.new.seat.part.got line c.release.new.self c.gives_what_it_took.ensures.released c.requires.held is c.node_step-in-None.ensures.got
 
 pub returns-in_ok-sent-in-Some-clause-held : goal.returns-in_ok-sent-in-Some-clause-held
 returns-in_ok-sent-in-Some-clause-held g c =
     let line = c.args.line.now in
     let is = is_after line c.release.new.self line.held refl c.release.ensures.after c.release.ensures.empty in
-    after_holds c.args.seat.now.part.got c.make.new.seat.part.got line c.release.new.self c.gives_what_it_took.ensures.released c.requires.held is c.make.ensures.got
+    after_holds c.args.seat.now.part.got c.node_step.new.seat.part.got line c.release.new.self c.gives_what_it_took.ensures.released c.requires.held is c.node_step.ensures.got
 
 pub returns-in_ok-sent-in-Some-clause-ok : goal.returns-in_ok-sent-in-Some-clause-ok
 returns-in_ok-sent-in-Some-clause-ok g c =
     let m = g.M.Machine in
-    received m.next m.answers m.begin (given_on c.args.line.now) c.in-Some.packet.items c.args.lead _ c.args.seat.now c.make.new.seat c.in_ok-sent-in-Some.sent
+    received m.next m.answers m.begin (given_on c.args.line.now) c.in-Some.packet.items c.args.lead _ c.args.seat.now c.node_step.new.seat c.in_ok-sent-in-Some.sent
     (sym c.in-Some.ensures.packet) c.as_slice.ensures.value c.in_ok-sent-in-Some.ensures.ok
 
 pub returns-in_ok-sent-in-None-clause-held : goal.returns-in_ok-sent-in-None-clause-held
 returns-in_ok-sent-in-None-clause-held g c =
     let line = c.args.line.now in
     let is = is_after line c.release.new.self line.held refl c.release.ensures.after c.release.ensures.empty in
-    after_holds c.args.seat.now.part.got c.make-in-None.new.seat.part.got line c.release.new.self c.gives_what_it_took.ensures.released c.requires.held is c.make-in-None.ensures.got
+    after_holds c.args.seat.now.part.got c.node_step-in-None.new.seat.part.got line c.release.new.self c.gives_what_it_took.ensures.released c.requires.held is c.node_step-in-None.ensures.got
 
 pub returns-in-None-2-clause-held : goal.returns-in-None-2-clause-held
 returns-in-None-2-clause-held g c =

@@ -3,7 +3,7 @@ use Rattle.std.proofs.Common.{◌≡◌, refl, sym, subst}
 use Rattle.rp_boxes.specs.Seats.{Chair}
 use Rattle.rp_threads.specs.Turns.{IsEventBy}
 use Rattle.rp_threads.proofs.Steps.{sent_texts}
-use Rattle.rp_threads.proofs.turns.make.Goals as goal
+use Rattle.rp_threads.proofs.turns.node_step.Goals as goal
 
 pub put_all-requires : goal.put_all-requires
 put_all-requires g c =

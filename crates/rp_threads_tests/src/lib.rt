@@ -1,0 +1,6 @@
+//! Tests of seats and of their turns by their public calls. Each helper is generic in the machine and
+//! the device, so that it is proved once, by their contracts alone.
+#![tactic(auto)]
+
+#[cfg(test)]
+mod seats;

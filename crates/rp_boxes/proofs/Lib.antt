@@ -10,3 +10,5 @@ pub mod SeatBoxes
 pub mod Opening
 pub mod Splitting
 pub mod Seating
+pub mod Listed
+pub mod Auditing

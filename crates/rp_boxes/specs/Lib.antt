@@ -6,3 +6,4 @@ pub mod Plays
 pub mod Seats
 pub mod Counting
 pub mod Making
+pub mod Audits

@@ -13,3 +13,5 @@ pub mod WorldLooks
 pub mod TaskTurns
 pub mod TaskTells
 pub mod Seating
+pub mod Listed
+pub mod Auditing

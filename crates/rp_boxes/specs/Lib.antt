@@ -8,3 +8,4 @@ pub mod Counting
 pub mod TaskSeats
 pub mod Looks
 pub mod Making
+pub mod Audits

@@ -13,10 +13,12 @@
 //! - `node_seat`: the seat of a node
 //! - `task_seat`: the seat of a task
 //! - `audit_seat`: the seat of the audit
+//! - `audit`: what the audit knows of the nodes
 //! - `making`: the seats are made
 #![tactic(auto)]
 
 mod actors;
+mod audit;
 mod audit_seat;
 mod board;
 mod boxes;
@@ -30,6 +32,7 @@ mod node_turns;
 mod task_events;
 mod task_seat;
 
+pub use audit::{Added, Audit};
 pub use audit_seat::AuditSeat;
 pub use making::{AllSeats, seats};
 pub use node_seat::NodeSeat;

@@ -1,0 +1,35 @@
+-- The bytes are the text of a report that the audit got, and of no other packet.
+use Rattle.std.proofs.Common.{◌≡◌, Ok, Err, Result, List, sym, ap, subst, ◌∙◌}
+use Rattle.rp_base.specs.Sets.{Has}
+use Rattle.rp_base.specs.declared.action.Action.{Action}
+use Rattle.rp_base.specs.declared.fault.PacketReason.{PacketReason}
+use Rattle.rp_codec.specs.Message.{Message, IsPacket}
+use Rattle.rp_codec.specs.declared.packet.Body.TheVariants.{Report}
+use Rattle.rp_codec.specs.declared.packet.Party.TheVariants.{Audit}
+use Rattle.rp_boxes.specs.Audits.{report}
+use Rattle.rp_boxes.proofs.audit.Audit.add.Goals as goal
+
+-- the packet that was read, or another where none was
+abbrev read : Message → Result Message PacketReason → Message
+read other (Ok packet) = packet
+read other (Err reason) = other
+
+pub unreachable-requires : goal.unreachable-requires
+unreachable-requires g c =
+    let got = c.requires in
+    let packet = report got.0 got.1 got.2 got.3 in
+    let has = subst (λ audit. Has packet audit.seat.part.got) (sym c.self.view_is) got.4 in
+    c.in_default.not-Ok packet (c.in_ok-packet.ensures.answer.only packet (c.packets_are_right.ensures.got packet has).0 got.5)
+
+pub join-requires : goal.join-requires
+join-requires g c =
+    let got = c.requires in
+    let packet = report got.0 got.1 got.2 got.3 in
+    let has = subst (λ audit. Has packet audit.seat.part.got) (sym c.self.view_is) got.4 in
+    let right = (c.packets_are_right.ensures.got packet has).0 in
+    let same : c.in-Ok.packet ≡ packet = ap (read packet) (sym c.in-Ok.is ∙ c.in_ok-packet.ensures.answer.only packet right got.5) in
+    let from = c.in-Node.ensures ∙ ap (λ (m : Message). m.from) same in
+    let body = ap (λ (actions : List Action). Report c.in-Report.first c.in-Report.applied actions) c.as_slice.ensures
+    ∙ (sym c.in-Report.is ∙ (c.body.ensures.value ∙ ap (λ (m : Message). m.body) same)) in
+    let told : report c.in-Node.node c.in-Report.first c.in-Report.applied c.as_slice.result.now ≡ packet = λ i. record { from = from i; to = Audit; body = body i } in
+    record { got = (c.in-Report.applied, subst (λ (m : Message). Has m c.args.self.now.seat.part.got) (sym told) got.4, subst IsPacket (sym told) right) }

@@ -1,0 +1,75 @@
+-- What the audit knows of the nodes, by the reports that it got (this project's own).
+use Rattle.std.specs.Prelude.{◌≡◌, ℕ, ◌+◌, ◌-◌, ◌^◌, ◌<◌, ◌≤◌, nat_lt, Some, unwrap_or, List, [], ◌++◌, length, take, slice_get, if◌then◌else◌}
+use Rattle.rp_base.specs.Sets.{Has}
+use Rattle.rp_base.specs.declared.action.Action.{Action}
+use Rattle.rp_codec.specs.Message.{Message}
+use Rattle.rp_codec.specs.Text.{text_of}
+use Rattle.rp_codec.specs.declared.packet.Body.TheVariants.{Report}
+use Rattle.rp_codec.specs.declared.packet.Party.TheVariants.{Node, Audit}
+use Rattle.rp_model.specs.World.{part_at, with_part}
+use Rattle.rp_boxes.specs.Parts.{Part}
+use Rattle.rp_boxes.specs.Seats.{Chair}
+use Rattle.rp_boxes.specs.declared.audit.Added.{Added}
+use Rattle.rp_boxes.specs.declared.audit.Added.TheVariants as added
+
+-- The audit's seat, and for each of the nodes 1 to 7 the actions that are known of it.
+pub record Audited (P : Type 0) : Type 0 where
+  pub seat : Chair P
+  pub known : List (List Action)
+
+-- what is known of a node
+abbrev pub known_of : List (List Action) → ℕ → List Action
+known_of known node = unwrap_or (part_at known node) []
+
+-- a report of a node to the audit
+abbrev pub report : ℕ → ℕ → ℕ → List Action → Message
+report node first applied actions = record { from = Node node; to = Audit; body = Report first applied actions }
+
+-- A report of the node, which the actor got, tells that the node has applied this action next after so many others.
+pub record IsTold (part : Part) (node before : ℕ) (action : Action) : Type 0 where
+  pub first : ℕ
+  pub applied : ℕ
+  pub actions : List Action
+  pub got : Has (report node first applied actions) part.got
+  pub at : ℕ
+  pub place : before ≡ first - 1 + at
+  pub tells : slice_get actions at ≡ Some action
+
+-- Each known action is told by a report that the actor got.
+pub record AreTold (part : Part) (known : List (List Action)) : Type 0 where
+  pub seven : length known ≡ 7
+  pub told : (node before : ℕ) (action : Action) → slice_get (known_of known node) before ≡ Some action → IsTold part node before action
+  pub few : (node : ℕ) → length (known_of known node) < 2 ^ 16
+
+-- ---- a report is added
+
+-- the longer of two lists, the first where they are equally long
+abbrev pub longer_of : List Action → List Action → List Action
+longer_of old new = if nat_lt (length old) (length new) then new else old
+
+-- the actions up to a position, and these from it on, where that is longer
+abbrev pub with_reported : List Action → ℕ → List Action → List Action
+with_reported known first actions = longer_of known (take (first - 1) known ++ actions)
+
+-- the bytes are the text of a report that the actor got
+abbrev pub IsGotReport : Part → List ℕ → Type 0
+IsGotReport part bytes =
+    (node : ℕ) × (first : ℕ) × (applied : ℕ) × (actions : List Action) × Has (report node first applied actions) part.got
+    × (bytes ≡ text_of (report node first applied actions))
+
+-- What comes of actions that a node reports, from this position on. Where they leave a gap behind what is known of the
+-- node nothing changes; else that becomes the longer of itself and of what the report makes it.
+pub record IsJoined {P : Type 0} (old : Audited P) (node first : ℕ) (actions : List Action) (new : Audited P) (outcome : Added) : Type 0 where
+  pub gap : length (known_of old.known node) + 1 < first → (new ≡ old) × (outcome ≡ added.Gap node (length (known_of old.known node)))
+  pub joined : first ≤ length (known_of old.known node) + 1
+      → (new ≡ record old { known = with_part old.known node (with_reported (known_of old.known node) first actions) })
+      × (outcome ≡ added.Added node (length (with_reported (known_of old.known node) first actions)))
+
+-- the same, where the bytes are the text of that report
+pub record IsAdded {P : Type 0} (old : Audited P) (bytes : List ℕ) (new : Audited P) (outcome : Added) : Type 0 where
+  pub node : ℕ
+  pub first : ℕ
+  pub applied : ℕ
+  pub actions : List Action
+  pub text : bytes ≡ text_of (report node first applied actions)
+  pub joined : IsJoined old node first actions new outcome

@@ -1,0 +1,151 @@
+//! The audit: what it knows of the nodes, by the reports that it got.
+
+ghost use Rattle.std.specs.Prelude.{◌≡◌, ◌≤◌, ◌+◌, ℕ, [], length, replicate, IfOk, IfSome, IfNone, OnOk, OnErr, IsOkUnless};
+ghost use Rattle.rp_base.specs.Sets.{Has};
+ghost use Rattle.rp_base.specs.declared.fault.Fault.TheVariants as faults;
+ghost use Rattle.rp_codec.specs.Message.{IsPacket};
+ghost use Rattle.rp_codec.specs.declared.packet.Party.TheVariants as parties;
+ghost use Rattle.rp_boxes.specs.Audits.{IsAdded, IsGotReport, IsJoined, known_of, report, with_reported};
+ghost use Rattle.rp_boxes.specs.Seats.{IsFetched};
+
+use crate::audit_seat::AuditSeat;
+use rp_base::{Action, Fault, NodeId, Position};
+use rp_codec::{Body, Party, decode};
+use rp_machine::Machine;
+use std::alloc::{AllocError, Global};
+use std::marker::Model;
+
+/// What a report came to: it was added to what is known of its node, or it left a gap behind that.
+/// `known` is how many actions are known of the node then.
+#[derive(Clone, Copy, Debug, PartialEq, Eq)]
+pub enum Added {
+    Added { node: NodeId, known: u32 },
+    Gap { node: NodeId, known: u32 },
+}
+
+/// The audit: its seat, and for each node the actions that are known of it.
+#[derive(Drop)]
+pub struct Audit<M: Machine> {
+    seat: AuditSeat<M>,
+    known: [Vec<Action>; 7],
+}
+
+impl<M: Machine> Model for Audit<M> {
+    ghost use Rattle.std.specs.Prelude.{map};
+    ghost use Rattle.rp_boxes.specs.Audits.{Audited, AreTold};
+
+    ghost Value = { Audited M.Program };
+
+    ghost view = { λ a. record { seat = a.seat; known = map (λ list. list.items) a.known } };
+
+    ghost invariant = { λ a. AreTold a.seat.part (map (λ list. list.items) a.known) };
+}
+
+/// Puts these actions in place of those from a position on, where that makes the list longer.
+fn put_reported(list: &mut Vec<Action>, first: usize, actions: &[Action]) -> Result<(), AllocError>
+    requires { (1 ≤ first) × (first ≤ length list.old.items + 1) }
+    ensures ok { OnOk result (list.new.items ≡ with_reported list.old.items first actions.now) }
+    ensures err { OnErr result (list.new.items ≡ list.old.items) }
+{
+    let kept = first - 1;
+    let more = list.len() - kept;
+    if actions.len() <= more {
+        return Ok(());
+    }
+    list.reserve(actions.len() - more)?;
+    list.truncate(kept);
+    list.extend_from_slice(actions).unwrap();
+    Ok(())
+}
+
+impl<M: Machine> Audit<M> {
+    /// An audit that knows nothing. It takes no memory.
+    pub fn new(alloc: Global, seat: AuditSeat<M>) -> Self
+        ensures { result ≡ record { seat = seat; known = replicate 7 [] } }
+    {
+        Audit {
+            seat,
+            known: [
+                Vec::new(alloc),
+                Vec::new(alloc),
+                Vec::new(alloc),
+                Vec::new(alloc),
+                Vec::new(alloc),
+                Vec::new(alloc),
+                Vec::new(alloc),
+            ],
+        }
+    }
+
+    /// The packet in the box from that party to the audit, as its text, or `None` where the box is
+    /// not full.
+    pub fn fetch(&mut self, from: Party) -> Option<Vec<u8>>
+        ensures some { IfSome result (λ text. IsFetched from parties.Audit text.items
+            self.old.seat self.new.seat) }
+        ensures none { IfNone result (self.new.seat ≡ self.old.seat) }
+        ensures known { self.new.known ≡ self.old.known }
+    {
+        self.seat.fetch(from)
+    }
+
+    /// Adds a report that the audit got, as its text: where its first position is above what is known
+    /// of its node and one more it leaves a gap, and nothing changes; else what is known of the node
+    /// becomes the longer of itself and of what the report makes it. Refused for memory, nothing
+    /// changes.
+    pub fn add(&mut self, alloc: Global, packet: &[u8]) -> Result<Added, Fault>
+        requires { IsGotReport self.old.seat.part packet.now }
+        ensures ok { IfOk result (λ added. IsAdded self.old packet.now self.new added) }
+        ensures err { OnErr result (self.new ≡ self.old) }
+        ensures only { IsOkUnless result faults.OutOfMemory }
+    {
+        self.seat.packets_are_right();
+        let Ok(packet) = decode(alloc, packet)? else {
+            unreachable!()
+        };
+        let Party::Node(node) = packet.from() else {
+            unreachable!()
+        };
+        let Body::Report { first, actions, .. } = packet.body() else {
+            unreachable!()
+        };
+        Ok(self.join(node, *first, actions.as_slice())?)
+    }
+
+    /// Adds the actions that a node reports, from a position on.
+    fn join(
+        &mut self,
+        node: NodeId,
+        first: Position,
+        actions: &[Action],
+    ) -> Result<Added, AllocError>
+        requires got { (applied : ℕ)
+            × Has (report node first applied actions.now) self.old.seat.part.got
+            × IsPacket (report node first applied actions.now) }
+        ensures ok { IfOk result (λ added. IsJoined self.old node first actions.now
+            self.new added) }
+        ensures err { OnErr result (self.new ≡ self.old) }
+    {
+        let place = usize::from(node.get()) - 1;
+        let first = usize::from(first.get());
+        let known = self.known[place].len();
+        if first > known + 1 {
+            return Ok(Added::Gap {
+                node,
+                known: known as u32,
+            });
+        }
+        put_reported(&mut self.known[place], first, actions)?;
+        let known = self.known[place].len();
+        Ok(Added::Added {
+            node,
+            known: known as u32,
+        })
+    }
+
+    /// The actions that are known of a node, in order.
+    pub fn known(&self, node: NodeId) -> &[Action]
+        ensures { result.now ≡ known_of self.now.known node }
+    {
+        self.known[usize::from(node.get()) - 1].as_slice()
+    }
+}

@@ -1,0 +1,49 @@
+-- What a task's call sent is one packet, and the bytes are its text.
+use Rattle.std.proofs.Common.{◌≡◌, ℕ, ℤ, Option, Some, None, Result, Ok, Err, List, [], ◌∷◌, ◌++◌, refl, sym, ap, subst, ◌∙◌, append-nil, inl}
+use Rattle.std.specs.Prelude.{IfOk}
+use Rattle.rp_base.specs.Sets.{Has}
+use Rattle.rp_base.specs.declared.action.Action.{Action}
+use Rattle.rp_base.specs.declared.action.Operation.{Operation}
+use Rattle.rp_base.specs.declared.fault.Fault.{Fault}
+use Rattle.rp_base.proofs.Members.{has_right}
+use Rattle.rp_codec.specs.Message.{Message}
+use Rattle.rp_codec.specs.Text.{text_of}
+use Rattle.rp_codec.specs.declared.packet.Party.{Party}
+use Rattle.rp_model.specs.Effect.{Done}
+use Rattle.rp_model.specs.Parts.{TaskPart}
+use Rattle.rp_model.specs.Tasks.{Submit, asks, calls_if, may_call, next_call}
+use Rattle.rp_replica.specs.Packets.{texts_of}
+use Rattle.rp_replica.specs.declared.sent.Sent.{Sent}
+use Rattle.rp_boxes.specs.Seats.{Chair, IsSentText, IsFetched}
+use Rattle.rp_boxes.specs.TaskSeats.{IsTaskTurn}
+
+-- one packet was sent
+abbrev SendsOne : Done TaskPart → Type 0
+SendsOne done = (m : Message) × (done.sends ≡ m ∷ [])
+
+one_call : (task node : ℕ) (part : TaskPart) (call : Result Action Fault) → IfOk (calls_if task node part call) SendsOne
+one_call task node part (Ok call) = (asks task node call, refl)
+one_call task node part (Err fault) = tt
+
+pub sent_text : {P : Type 0} (old new : Chair P) (node object : ℕ) (operation : Operation) (arg : ℤ) (sent : Sent)
+    → IsTaskTurn old (Submit node object operation arg) new sent → IsSentText new.part sent.bytes.items
+sent_text {P} old new node object operation arg sent turn =
+    let call = next_call old.number turn.task object operation arg in
+    let one : SendsOne turn.done = subst (λ (r : Result (Done TaskPart) Fault). IfOk r SendsOne) turn.comes
+        (one_call old.number node turn.task (may_call old.config node turn.task call turn.task.outstanding)) in
+    let after : new.part.sent ≡ old.part.sent ++ one.0 ∷ [] = ap (λ (c : Chair P). c.part.sent) turn.after ∙ ap (λ (more : List Message). old.part.sent ++ more) one.1 in
+    let text : sent.bytes.items ≡ text_of one.0 = turn.tells.bytes ∙ ap texts_of one.1 ∙ append-nil (text_of one.0) in
+    (one.0, subst (Has one.0) (sym after) (has_right one.0 old.part.sent (one.0 ∷ []) (inl refl)), text)
+
+pub sent_if : {P : Type 0} (old new : Chair P) (node object : ℕ) (operation : Operation) (arg : ℤ) (told : Result Sent Fault)
+    → IfOk told (λ sent. IsTaskTurn old (Submit node object operation arg) new sent) → IfOk told (λ sent. IsSentText new.part sent.bytes.items)
+sent_if old new node object operation arg (Ok sent) turn = sent_text old new node object operation arg sent turn
+sent_if old new node object operation arg (Err fault) turn = tt
+
+-- what was fetched is got
+pub fetched_is_got : {P : Type 0} (from to : Party) (bytes text : List ℕ) (old new : Chair P) → IsFetched from to bytes old new → text ≡ bytes
+    → (m : Message) × Has m new.part.got × (text ≡ text_of m)
+fetched_is_got {P} from to bytes text old new fetched same =
+    let m = fetched.packet in
+    let after : new.part.got ≡ old.part.got ++ m ∷ [] = ap (λ (c : Chair P). c.part.got) fetched.after in
+    (m, subst (Has m) (sym after) (has_right m old.part.got (m ∷ []) (inl refl)), same ∙ fetched.text)

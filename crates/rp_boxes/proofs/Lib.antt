@@ -9,3 +9,6 @@ pub mod SeatTurns
 pub mod SeatBoxes
 pub mod Opening
 pub mod Splitting
+pub mod WorldLooks
+pub mod TaskTurns
+pub mod TaskTells

@@ -5,3 +5,5 @@ pub mod Laws
 pub mod Plays
 pub mod Seats
 pub mod Counting
+pub mod TaskSeats
+pub mod Looks

@@ -2,3 +2,4 @@ pub mod Texts
 pub mod Steps
 pub mod Cuts
 pub mod Rounds
+pub mod TaskSteps

@@ -6,14 +6,17 @@
 //! - `gate`: who says when a node turns
 //! - `rotation`: whose box a loop empties
 //! - `loops`: a node's turns, one after the other
+//! - `tasks`: a task's calls, one after the other
 #![tactic(auto)]
 
 mod gate;
 mod loops;
 mod rotation;
 mod sends;
+mod tasks;
 mod turns;
 
 pub use gate::{Gate, Open};
 pub use loops::{NodeEnd, node_loop};
+pub use tasks::{TaskCall, TaskEnd, task_loop};
 pub use turns::{Turn, Turned, node_step, node_turn};

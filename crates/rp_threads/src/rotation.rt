@@ -1,6 +1,6 @@
 //! Whose box a loop empties.
 
-ghost use Rattle.std.specs.Prelude.{◌≡◌, ◌≤◌};
+ghost use Rattle.std.specs.Prelude.{◌≡◌, ◌+◌, ◌%◌, ◌≤◌};
 ghost use Rattle.rp_threads.specs.Loops.{sender_at};
 
 use rp_base::{NodeId, TaskId};
@@ -23,4 +23,13 @@ pub(crate) fn sender(nodes: u8, turn: u64) -> Party
     } else {
         Party::Task(TaskId::new(place - nodes).unwrap())
     }
+}
+
+/// Which of the nodes a task turns to in a turn: each in rotation.
+pub(crate) fn node_in_turn(nodes: u8, turn: u64) -> NodeId
+    requires { (1 ≤ nodes) × (nodes ≤ 7) }
+    ensures { result ≡ turn % nodes + 1 }
+{
+    let place = (turn % u64::from(nodes)) as u8;
+    NodeId::new(place + 1).unwrap()
 }

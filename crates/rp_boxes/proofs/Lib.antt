@@ -12,3 +12,6 @@ pub mod Splitting
 pub mod Seating
 pub mod Listed
 pub mod Auditing
+pub mod WorldLooks
+pub mod TaskTurns
+pub mod TaskTells

@@ -7,3 +7,5 @@ pub mod Seats
 pub mod Counting
 pub mod Making
 pub mod Audits
+pub mod TaskSeats
+pub mod Looks

@@ -1,9 +1,10 @@
-//! What a node may be given is within its ranges.
+//! What a node or a task may be given is within its ranges.
 
 ghost use Rattle.std.specs.Prelude.{◌<◌, ◌^◌};
+ghost use Rattle.rp_base.specs.Number.{IsNode};
 ghost use Rattle.rp_boxes.specs.Seats.{HasInputRanges};
 
-use rp_base::Position;
+use rp_base::{NodeId, Position};
 use rp_replica::Input;
 
 /// The numbers of an input are within the ranges of their types. It does nothing: what it promises
@@ -27,3 +28,10 @@ pub(crate) fn keeps_ranges(input: &Input)
 fn tick_keeps_range(now: u32)
     ensures { now < 2 ^ 32 }
 {}
+
+/// A node's number is within its range.
+pub(crate) fn node_keeps_range(node: NodeId)
+    ensures { IsNode node }
+{
+    let _ = node.get();
+}

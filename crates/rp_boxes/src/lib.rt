@@ -6,8 +6,10 @@
 //! - `events`: the step by which an actor's event is counted
 //! - `boxes`: the steps at a box: its sender fills it, its receiver empties it
 //! - `actors`: the numbers by which the table knows actors
-//! - `input`: what a node may be given is within its ranges
+//! - `input`: what a node or a task may be given is within its ranges
 //! - `node_turns`: a node's turn is counted
+//! - `task_events`: a task's events are counted
+//! - `looking`: a look at the table: what a seat may say of all that happened, by what it knows
 //! - `node_seat`: the seat of a node
 //! - `task_seat`: the seat of a task
 //! - `audit_seat`: the seat of the audit
@@ -23,9 +25,11 @@ mod boxes;
 mod events;
 mod input;
 mod laws;
+mod looking;
 mod making;
 mod node_seat;
 mod node_turns;
+mod task_events;
 mod task_seat;
 
 pub use audit::{Added, Audit};

@@ -224,6 +224,8 @@ impl<M: Machine> Unseated<M> {
         let board = Arc::try_clone(&self.board)?;
         let place = self.place();
         Ok(TaskSeat {
+            number: task,
+            config: self.config,
             task: Task::new(alloc, task),
             place,
             board,

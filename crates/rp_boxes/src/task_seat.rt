@@ -1,16 +1,43 @@
 //! The seat of a task.
 
+ghost use Rattle.std.specs.Prelude.{◌≡◌, IfOk, IfErr, IfSome, IfNone, OnErr};
+ghost use Rattle.rp_base.specs.Action.{IsRight};
+ghost use Rattle.rp_base.specs.Sets.{Has};
+ghost use Rattle.rp_base.specs.declared.fault.Fault.TheVariants.{OutOfMemory};
+ghost use Rattle.rp_codec.specs.Message.{Message, IsPacket, IsCallBy};
+ghost use Rattle.rp_codec.specs.Text.{text_of};
+ghost use Rattle.rp_codec.specs.declared.packet.Party.TheVariants as parties;
+ghost use Rattle.rp_model.specs.Tasks.{Submit, Again};
+ghost use Rattle.rp_world.specs.Going.{reply_told};
+ghost use Rattle.rp_boxes.specs.Parts.{task_of};
+ghost use Rattle.rp_boxes.specs.Seats.{IsSentText, IsFetched};
+ghost use Rattle.rp_boxes.specs.TaskSeats.{IsTaskTurn, IsNoTaskTurn, IsReplyTurn, IsTold};
+ghost use Rattle.rp_boxes.specs.TaskSeats.{asked_of, TellsPackets, told_effect};
+
+use crate::actors::{actor_of, receiver};
 use crate::board::{Board, Place};
+use crate::boxes::{empty, fill};
+use crate::input::node_keeps_range;
+use crate::looking::look;
+use crate::task_events::{note_asking, note_telling};
+use rp_agreement::{calls_count_in_turn, replies_tell_the_order, tasks_send_right_packets};
+use rp_base::{Action, Answer, Config, Fault, NodeId, Operation, Reply, TaskId};
+use rp_codec::{Body, Party, decode, encode};
 use rp_machine::Machine;
-use rp_world::Task;
-use std::alloc::Global;
-use std::marker::Model;
+use rp_model::Dropped;
+use rp_replica::Sent;
+use rp_world::{Task, asks};
+use std::alloc::{AllocError, Global};
+use std::marker::{Brand, Model};
 use std::sync::Arc;
 
 /// The seat of a task: its calls and replies, and its place at the table that all seats share. It
 /// crosses to another thread, and none of its calls waits.
 #[derive(Drop)]
 pub struct TaskSeat<M: Machine> {
+    pub(crate) number: TaskId,
+    /// What all nodes share.
+    pub(crate) config: Config,
     pub(crate) task: Task,
     pub(crate) place: Place,
     pub(crate) board: Arc<Board<M>, Global>,
@@ -20,7 +47,8 @@ impl<M: Machine> Model for TaskSeat<M> {
     ghost use Rattle.std.specs.Prelude.{◌+◌};
     ghost use Rattle.std.specs.Arc.{arc_value};
     ghost use Rattle.rp_boxes.specs.Parts.{part_in};
-    ghost use Rattle.rp_boxes.specs.Seats.{Chair, IsAtTable, IsTaskPlace};
+    ghost use Rattle.rp_boxes.specs.Seats.{Chair, IsAtTable};
+    ghost use Rattle.rp_boxes.specs.TaskSeats.{IsTaskSeat};
 
     ghost Value = { Chair M.Program };
 
@@ -28,10 +56,176 @@ impl<M: Machine> Model for TaskSeat<M> {
       table = s.place.table_id;
       config = (arc_value s.board).shared.key.config;
       program = (arc_value s.board).shared.key.program.value;
-      number = s.task.task;
+      number = s.number;
       part = part_in s.place.me.0;
     } };
 
-    ghost invariant = { λ s. IsAtTable (arc_value s.board).shared.table_id s.place.table_id (7 + s.task.task) s.place.me
-        × IsTaskPlace s.task (part_in s.place.me.0) };
+    ghost invariant = { λ s. IsAtTable (arc_value s.board).shared.table_id s.place.table_id (7 + s.number) s.place.me
+        × IsTaskSeat s.number (arc_value s.board).shared.key.config s.config s.task (part_in s.place.me.0) };
+}
+
+impl<M: Machine> TaskSeat<M> {
+    /// The task makes its next call and asks a node. It is one event. Refused with 9 while a call
+    /// waits for its reply, with 10 after call 2^32 - 1, with 12 for a node above the last or a
+    /// call that is not right, or with 1 where memory ran out: then nothing has happened.
+    pub fn call(
+        &mut self,
+        alloc: Global,
+        node: NodeId,
+        object: u8,
+        operation: Operation,
+        arg: i64,
+    ) -> Result<Sent, Fault>
+        ensures ok { IfOk result (λ sent. IsTaskTurn self.old (Submit node object operation arg)
+            self.new sent) }
+        ensures err { IfErr result (λ fault. IsNoTaskTurn self.old
+            (Submit node object operation arg) self.new fault) }
+    {
+        tasks_send_right_packets();
+        node_keeps_range(node);
+        let call = Some(self.task.next(self.config, node, object, operation, arg)?);
+        let sent = asking(alloc, self.number, node, &call)?;
+        self.task.call(object, operation, arg);
+        note_asking::<M, Brand>(
+            &self.board.shared,
+            &mut self.place,
+            self.number,
+            &self.task,
+            node,
+            &call,
+        );
+        Ok(sent)
+    }
+
+    /// The task asks a node once more for the call that waits for its reply, and for nothing where
+    /// none waits. It is one event. Refused with 12 for a node above the last, or with 1 where
+    /// memory ran out: then nothing has happened.
+    pub fn retry(&mut self, alloc: Global, node: NodeId) -> Result<Sent, Fault>
+        ensures ok { IfOk result (λ sent. IsTaskTurn self.old (Again node) self.new sent) }
+        ensures err { IfErr result (λ fault. IsNoTaskTurn self.old (Again node) self.new fault) }
+    {
+        if node.get() > self.config.nodes {
+            return Err(Fault::BadConfig);
+        }
+        let call = self.task.outstanding();
+        let sent = asking(alloc, self.number, node, &call)?;
+        note_asking::<M, Brand>(
+            &self.board.shared,
+            &mut self.place,
+            self.number,
+            &self.task,
+            node,
+            &call,
+        );
+        Ok(sent)
+    }
+
+    /// A packet that the seat got comes to the task, as its text. It is one event. A reply to the
+    /// call that waits is taken, and ends it; any other packet changes neither calls nor replies.
+    /// There is then one order of actions that all replies of the task come from. Refused for
+    /// memory, nothing has happened.
+    pub fn reply(&mut self, alloc: Global, packet: &[u8]) -> Result<Option<Answer>, Fault>
+        requires got { (m : Message) × Has m self.old.part.got × (packet.now ≡ text_of m) }
+        ensures ok { IfOk result (λ taken. IsReplyTurn self.old packet.now self.new taken) }
+        ensures told { IfOk result (λ taken. IsTold M.next M.answers (M.begin self.new.program)
+            self.new.number self.new.part) }
+        ensures err { IfErr result (λ fault. (fault ≡ OutOfMemory) × (self.new ≡ self.old)) }
+    {
+        replies_tell_the_order::<M>();
+        calls_count_in_turn::<M>();
+        let told = read_reply(alloc, packet)?;
+        let taken = take(&mut self.task, told)?;
+        note_telling::<M, Brand>(&self.board.shared, &mut self.place, self.number, &self.task);
+        look::<M, Brand>(&self.board.shared, &mut self.place);
+        Ok(taken)
+    }
+
+    /// The replies that the task took, in order.
+    pub fn replies(&self) -> &[Answer]
+        ensures { result.now ≡ (task_of self.now.part.role).replies }
+    {
+        self.task.replies()
+    }
+
+    /// Puts a packet that a step of this seat sent, as its text, into the box to its receiver. It
+    /// is given back where that box is not empty.
+    pub fn put(&mut self, packet: Vec<u8>) -> Result<(), Vec<u8>>
+        requires sent { IsSentText self.old.part packet.items }
+        ensures unchanged { self.new ≡ self.old }
+        ensures back { IfErr result (λ back. back ≡ packet) }
+    {
+        let to = receiver(packet.as_slice());
+        let actor = actor_of(Party::Task(self.number));
+        fill(&self.board.shared, &mut self.place, actor, to, packet)
+    }
+
+    /// The packet in the box from that party to this seat, as its text, or `None` where the box is
+    /// not full.
+    pub fn fetch(&mut self, from: Party) -> Option<Vec<u8>>
+        ensures some { IfSome result (λ text. IsFetched from (parties.Task self.old.number)
+            text.items self.old self.new) }
+        ensures none { IfNone result (self.new ≡ self.old) }
+    {
+        let actor = actor_of(Party::Task(self.number));
+        empty(&self.board.shared, &mut self.place, actor_of(from), actor)
+    }
+}
+
+/// The packet by which a task asks a node for this call, if there is one, as its text.
+fn asking(
+    alloc: Global,
+    task: TaskId,
+    node: NodeId,
+    call: &Option<Action>,
+) -> Result<Sent, AllocError>
+    requires own { IfSome call.now (λ action. IsCallBy task action) }
+    requires right { IfSome call.now IsRight }
+    ensures { IfOk result (λ sent. TellsPackets sent (asked_of task node call.now)) }
+{
+    match call {
+        Some(action) => {
+            let bytes = encode(alloc, &asks(task, node, *action))?;
+            Ok(Sent {
+                bytes,
+                packets: 1,
+                dropped: Dropped::No,
+            })
+        }
+        None => {
+            Ok(Sent {
+                bytes: Vec::new(alloc),
+                packets: 0,
+                dropped: Dropped::No,
+            })
+        }
+    }
+}
+
+/// The number and the reply that the text of a packet tells, if it is a reply.
+fn read_reply(alloc: Global, text: &[u8]) -> Result<Option<(u32, Reply)>, AllocError>
+    ensures { IfOk result (λ told. (m : Message) → IsPacket m → text.now ≡ text_of m
+        → told ≡ reply_told m.body) }
+{
+    let Ok(packet) = decode(alloc, text)? else {
+        return Ok(None);
+    };
+    match *packet.body() {
+        Body::Reply { number, reply } => Ok(Some((number, reply))),
+        _ => Ok(None),
+    }
+}
+
+/// The task takes what it is told, if it is told anything. Refused for memory, nothing changes.
+fn take(task: &mut Task, told: Option<(u32, Reply)>) -> Result<Option<Answer>, AllocError>
+    ensures part { IfOk result (λ taken. task.new ≡ record task.old {
+      part = (told_effect task.old.task task.old.part told).part;
+    }) }
+    ensures taken { IfOk result (λ taken. taken
+        ≡ (told_effect task.old.task task.old.part told).taken) }
+    ensures err { OnErr result (task.new ≡ task.old) }
+{
+    match told {
+        Some((number, reply)) => task.take(number, reply),
+        None => Ok(None),
+    }
 }

@@ -1,0 +1,27 @@
+-- A look at the table leaves it as it is, and shows that the rule holds.
+use Rattle.std.proofs.Common.{◌≡◌, ℕ, refl}
+use mathlib.Core.Option.{some}
+use lib.ListN.{get_elem?}
+use Rattle.atomic_table.specs.Table.{State, keeps, Allows}
+use Rattle.rp_model.specs.Effect.{Setting}
+use Rattle.rp_boxes.specs.Parts.{Part, View}
+use Rattle.rp_boxes.specs.Rule.{Slot, Ruled}
+use Rattle.rp_boxes.specs.Plays.{Sight}
+use Rattle.rp_boxes.specs.Looks.{IsWorldOf}
+use Rattle.rp_boxes.proofs.BoxSteps.{still}
+
+-- what a seat knows is a piece of the world that the rule speaks of
+world_seen : {S : Type 0} (s : Setting S) (t : State Slot View) (id : ℕ) (view : View) → get_elem? t.views id ≡ some view → (r : Ruled s t) → IsWorldOf s view r.parts
+world_seen s t id view here r = record {
+  config = r.config;
+  knows = λ k p h. let known = r.seating.knows id view here k p h in (known.1, known.2);
+  good = r.good;
+  sends = r.sends;
+  gets = r.gets;
+}
+
+-- a word may be read, and what follows of every such world is so
+pub look_allows : {S : Type 0} (s : Setting S) (slots id word : ℕ) (me : Sight) (says : Type 0) → ((parts : ℕ → Part) → IsWorldOf s me.0 parts → says)
+    → Allows (Ruled s) slots id me word (λ n. n) (λ found new. (new ≡ me) × says)
+look_allows s slots id word me says follows = λ t r size here fits.
+    (me.0, keeps, tt, still s t word id me.0 here r, (refl, follows r.parts (world_seen s t id me.0 here r)))

@@ -1,0 +1,16 @@
+-- What follows of every world allows the step.
+use Rattle.std.proofs.Common.{◌<◌, arith}
+use Rattle.rp_agreement.specs.Answered.{setting_for}
+use Rattle.rp_boxes.specs.Parts.{part_in}
+use Rattle.rp_boxes.proofs.WorldLooks.{look_allows}
+use Rattle.rp_boxes.proofs.looking.look.Goals as goal
+
+pub load-requires : goal.load-requires
+load-requires g c =
+    let m = g.M.Machine in
+    let key = c.args.slots.now.key in
+    let s = setting_for m.next m.answers m.begin key.config key.program.value in
+    let table = c.args.slots.now.table_id in
+    let place = c.args.place.now in
+    let inside : 0 < table.words = rw c.requires.sized.0 (omega arith) in
+    (c.requires.table, inside, look_allows s table.slots place.id 0 place.me (g.J.Saying.says (part_in place.me.0)) c.requires.follows)

@@ -1,0 +1,10 @@
+-- What is said of the task's part once its question is counted.
+use Rattle.rp_boxes.specs.Parts.{part_in}
+use Rattle.rp_boxes.specs.TaskSeats.{asked_of}
+use Rattle.rp_boxes.proofs.TaskTurns.{BecomesPart}
+use Rattle.rp_boxes.proofs.task_seat.TaskSeat.retry.Given as goal
+
+abbrev pub ghosts-note_asking : goal.ghosts-note_asking
+ghosts-note_asking g a = record {
+  says = BecomesPart (part_in a.place.now.me.0) a.task.now.part (asked_of a.number a.node a.call.now);
+}

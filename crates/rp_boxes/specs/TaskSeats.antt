@@ -1,0 +1,89 @@
+-- What the calls of a task's seat come to (this project's own).
+use Rattle.std.specs.Prelude.{◌≡◌, ◌⊎◌, ℕ, suc, Option, Some, None, Ok, Err, List, [], ◌∷◌, length, slice_get}
+use Rattle.rp_base.specs.Sets.{Has}
+use Rattle.rp_base.specs.declared.action.Action.{Action}
+use Rattle.rp_base.specs.declared.config.Config.{Config}
+use Rattle.rp_base.specs.declared.fault.Fault.{Fault}
+use Rattle.rp_base.specs.declared.fault.Fault.TheVariants.{OutOfMemory}
+use Rattle.rp_base.specs.declared.reply.Answer.{Answer}
+use Rattle.rp_base.specs.declared.reply.Reply.{Reply}
+use Rattle.rp_codec.specs.Message.{Message}
+use Rattle.rp_codec.specs.Text.{text_of}
+use Rattle.rp_machine.specs.Places.{IsAnswerOf}
+use Rattle.rp_machine.specs.Replay.{kept_of}
+use Rattle.rp_model.specs.Effect.{Done, goes_on_as}
+use Rattle.rp_model.specs.Parts.{TaskPart}
+use Rattle.rp_model.specs.Tasks.{TaskInput, Take, asks, takes_reply, task_effect}
+use Rattle.rp_model.specs.declared.effect.Dropped.TheVariants.{No}
+use Rattle.rp_agreement.specs.Answered.{AreItsCalls, named}
+use Rattle.rp_agreement.specs.Inputs.{WaitsForOwn}
+use Rattle.rp_replica.specs.Packets.{texts_of}
+use Rattle.rp_replica.specs.declared.sent.Sent.{Sent}
+use Rattle.rp_world.specs.Callers.{Caller}
+use Rattle.rp_boxes.specs.Parts.{Part, OfTask, task_of, part_after}
+use Rattle.rp_boxes.specs.Seats.{Chair, IsTaskPlace}
+
+-- The seat of the task of this number: it knows what all nodes share, and waits for a right call of its own.
+pub record IsTaskSeat (number : ℕ) (config mine : Config) (caller : Caller) (part : Part) : Type 0 where
+  pub place : IsTaskPlace caller part
+  pub named : caller.task ≡ number
+  pub shared : mine ≡ config
+  pub waits : WaitsForOwn number caller.part
+
+-- ---- calls
+
+-- the packet by which a task asks a node for a call, if there is one
+abbrev pub asked_of : ℕ → ℕ → Option Action → List Message
+asked_of task node None = []
+asked_of task node (Some call) = asks task node call ∷ []
+
+-- these packets were sent, and the bytes are their texts
+pub record TellsPackets (sent : Sent) (packets : List Message) : Type 0 where
+  pub bytes : sent.bytes.items ≡ texts_of packets
+  pub count : sent.packets ≡ length packets
+  pub dropped : sent.dropped ≡ No
+
+module _ {P : Type 0} (old : Chair P) (input : TaskInput) (new : Chair P) where
+  -- One event: what the input comes to at the task, and its packets.
+  pub record IsTaskTurn (sent : Sent) : Type 0 where
+    pub task : TaskPart
+    pub was : old.part.role ≡ OfTask task
+    pub done : Done TaskPart
+    pub comes : task_effect old.config old.number task input ≡ Ok done
+    pub after : new ≡ record old { part = part_after old.part (OfTask done.part) done.sends }
+    pub tells : TellsPackets sent done.sends
+
+  -- No event: memory was wanting for what the input comes to, or the input is refused.
+  pub record IsNoTaskTurn (fault : Fault) : Type 0 where
+    pub unchanged : new ≡ old
+    pub task : TaskPart
+    pub was : old.part.role ≡ OfTask task
+    pub why : ((fault ≡ OutOfMemory) × (done : Done TaskPart) × (task_effect old.config old.number task input ≡ Ok done))
+        ⊎ (task_effect old.config old.number task input ≡ Err fault)
+
+-- ---- replies
+
+-- what a task makes of what it is told: the number of a call and the reply to it, or nothing
+abbrev pub told_effect : ℕ → TaskPart → Option (ℕ × Reply) → Done TaskPart
+told_effect task part None = goes_on_as part
+told_effect task part (Some told) = takes_reply task part told.0 told.1
+
+-- One event: the packet of this text, which the seat got, comes to the task, and this answer is taken.
+pub record IsReplyTurn {P : Type 0} (old : Chair P) (bytes : List ℕ) (new : Chair P) (taken : Option Answer) : Type 0 where
+  pub packet : Message
+  pub got : Has packet old.part.got
+  pub text : bytes ≡ text_of packet
+  pub task : TaskPart
+  pub was : old.part.role ≡ OfTask task
+  pub done : Done TaskPart
+  pub comes : task_effect old.config old.number task (Take packet) ≡ Ok done
+  pub after : new ≡ record old { part = part_after old.part (OfTask done.part) done.sends }
+  pub told : taken ≡ done.taken
+
+-- There is an order of actions in which each reply of the task answers its call; and its calls that count there are
+-- those that it made, in order: all of them, or all but the one that it waits for.
+pub record IsTold {S : Type 0} (next : S → Action → S) (answers : S → Action → List Answer) (begin : S) (number : ℕ) (part : Part) : Type 0 where
+  pub order : List Action
+  pub replies : (k : ℕ) (answer : Answer) → slice_get (task_of part.role).replies k ≡ Some answer
+      → IsAnswerOf next answers begin order (named number (suc k)) answer
+  pub calls : AreItsCalls part.sent number (task_of part.role) (kept_of next answers begin order)

@@ -1,0 +1,40 @@
+//! A look at the table: what a seat may say of all that happened, by what it knows.
+
+ghost use Rattle.std.specs.Prelude.{◌≡◌, ℕ};
+ghost use Rattle.rp_agreement.specs.Answered.{setting_for};
+ghost use Rattle.rp_boxes.specs.Looks.{IsWorldOf};
+ghost use Rattle.rp_boxes.specs.Parts.{Part, part_in};
+ghost use Rattle.rp_boxes.specs.Plays.{IsSized};
+
+use crate::board::{Known, Place, Slots};
+use crate::events::Saying;
+use atomic_table::Play;
+use rp_machine::Machine;
+use std::marker::PhantomData;
+
+/// Nothing happened, and this is so of the first part that the seat knows.
+struct Looks<J> {
+    of: PhantomData<J>,
+}
+
+impl<J: Saying> Play<Option<Vec<u8>>, Known> for Looks<J> {
+    ghost use Rattle.std.specs.Prelude.{◌≡◌};
+    ghost use Rattle.rp_boxes.specs.Parts.{part_in};
+
+    ghost then = { λ step old found new. (new ≡ old) × J.says (part_in old.0) };
+}
+
+/// Looks at the table. What is so in each world of which the seat's view is a piece is so.
+pub(crate) fn look<M: Machine, J: Saying>(slots: &Slots<M>, place: &mut Place)
+    requires table { place.old.table_id ≡ slots.now.table_id }
+    requires sized { IsSized slots.now.table_id }
+    requires follows { (parts : ℕ → Part)
+        → IsWorldOf (setting_for M.next M.answers M.begin slots.now.key.config
+        slots.now.key.program.value) place.old.me.0 parts
+        → J.says (part_in place.old.me.0) }
+    ensures table { place.new.table_id ≡ place.old.table_id }
+    ensures place { place.new.me ≡ place.old.me }
+    ensures said { J.says (part_in place.old.me.0) }
+{
+    slots.load::<Looks<J>>(place, 0);
+}

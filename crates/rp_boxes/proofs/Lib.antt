@@ -15,3 +15,5 @@ pub mod Auditing
 pub mod WorldLooks
 pub mod TaskTurns
 pub mod TaskTells
+pub mod Joining
+pub mod AuditTells

@@ -9,3 +9,4 @@ pub mod Making
 pub mod Audits
 pub mod TaskSeats
 pub mod Looks
+pub mod Meeting

@@ -22,6 +22,8 @@ use Rattle.rp_model.specs.Parts.{TaskPart}
 use Rattle.rp_model.specs.Tasks as tasks
 use Rattle.rp_model.specs.Tasks.{TaskInput, asks, next_call, may_call, calls_if, asks_again, takes, takes_reply, task_hears, task_effect}
 use Rattle.rp_agreement.specs.Inputs.{IsTaskInput, WaitsForOwn}
+use Rattle.rp_agreement.specs.Sound.{IsCall}
+use Rattle.rp_agreement.proofs.Lists.{some_same}
 use Rattle.rp_replica.specs.declared.sent.Sent.{Sent}
 use Rattle.rp_world.specs.Callers.{Caller}
 use Rattle.rp_world.specs.Going.{reply_told}
@@ -51,6 +53,11 @@ made config node part call None =
 abbrev pub waiting_for : TaskPart → Action → TaskPart
 waiting_for part call = record part { outstanding = Some call }
 
+-- it waits for a call of its own, if that is one
+pub waits_for_one : (number : ℕ) (part part' : TaskPart) (call : Action) → part' ≡ waiting_for part call → IsCall number (bodies.Call call) → WaitsForOwn number part'
+waits_for_one number part part' call is own =
+    subst (WaitsForOwn number) (sym is) (λ other same. subst (λ (a : Action). IsCall number (bodies.Call a)) (some_same same) own)
+
 -- the task asks a node for this call, if there is one
 abbrev pub asking_done : ℕ → ℕ → TaskPart → Option Action → Done TaskPart
 asking_done number node part call = record (goes_on_as part) { sends = asked_of number node call }
@@ -59,17 +66,17 @@ module _ (config : Config) (number : ℕ) (caller : Caller) (same : caller.task 
   abbrev next : Action
   next = next_call caller.task caller.part object operation arg
 
-  abbrev input : TaskInput
-  input = tasks.Submit node object operation arg
+  abbrev submit : TaskInput
+  submit = tasks.Submit node object operation arg
 
   pub may_effect : (r : Result Action Fault) → may_call config node caller.part next caller.part.outstanding ≡ r
-      → task_effect config number caller.part input ≡ calls_if number node caller.part r
+      → task_effect config number caller.part submit ≡ calls_if number node caller.part r
   may_effect r is =
       ap (calls_if number node caller.part) (subst (λ (k : ℕ). may_call config node caller.part (next_call k caller.part object operation arg) caller.part.outstanding ≡ r) same is)
 
   module _ (call : Action) (is : may_call config node caller.part next caller.part.outstanding ≡ Ok call) where
     -- the task makes the call
-    pub call_comes : task_effect config number caller.part input ≡ Ok (asking_done number node (waiting_for caller.part call) (Some call))
+    pub call_comes : task_effect config number caller.part submit ≡ Ok (asking_done number node (waiting_for caller.part call) (Some call))
     call_comes = may_effect (Ok call) is
 
     pub call_is_next : call ≡ next

@@ -4,6 +4,7 @@ use Rattle.std.specs.Arc.{arc_value}
 use Rattle.std.specs.Prelude.{ℤ, FitsSigned, IfErr}
 use Rattle.std.specs.Int.{w64}
 use Rattle.std.proofs.lemmas.Int.{to_z-of_z}
+use Rattle.rp_base.specs.Action.{IsRight}
 use Rattle.rp_base.specs.Number.{IsTask}
 use Rattle.rp_base.specs.declared.config.Config.{Config}
 use Rattle.rp_base.specs.declared.fault.Fault.TheVariants.{OutOfMemory}
@@ -15,7 +16,7 @@ use Rattle.rp_boxes.specs.Parts.{Part, part_in}
 use Rattle.rp_boxes.specs.Seats.{Chair}
 use Rattle.rp_boxes.specs.Steps.{IsEvent}
 use Rattle.rp_boxes.specs.TaskSeats.{asked_of, IsTaskTurn, IsNoTaskTurn}
-use Rattle.rp_boxes.proofs.TaskTurns.{waiting_for, asking_done, may_effect, call_comes, call_is_next, BecomesPart, task_event, asked_chair, at_fault, refused_chair, wanting_chair}
+use Rattle.rp_boxes.proofs.TaskTurns.{waiting_for, asking_done, may_effect, call_comes, call_is_next, waits_for_one, BecomesPart, task_event, seat_after, asked_chair, at_fault, refused_chair, wanting_chair}
 use Rattle.rp_boxes.proofs.task_seat.TaskSeat.call.Goals as goal
 
 pub returns-in_err-next-clause-err : goal.returns-in_err-next-clause-err
@@ -85,6 +86,29 @@ returns-in_err-sent-clause-err g c =
     subst (λ (at : Chair g.row.M-Program.Denot). IfErr c.from_residual-in_err-sent.result (λ e. IsNoTaskTurn at input at e)) c.self.view_is
     (at_fault (IsNoTaskTurn chair input chair) OutOfMemory c.from_residual-in_err-sent.result c.from_residual-in_err-sent.ensures.1 (wanting_chair chair task sits.place.is input OutOfMemory done refl comes))
 
+pub call-requires-clause-operation : goal.call-requires-clause-operation
+call-requires-clause-operation g c =
+    let m = g.M.Machine in
+    let inside = c.self.inside in
+    let number = inside.number in
+    let task = inside.task in
+    let p = part_in inside.place.me.0 in
+    let shared = (arc_value inside.board).shared in
+    let config = shared.key.config in
+    let sits = c.self.invariant.1 in
+    let fits : FitsSigned w64 c.args.arg = record { sfits = c.ranges.arg.sfits } in
+    let arg = to_z-of_z w64 c.args.arg fits in
+    let input = Submit c.args.node c.args.object c.args.operation c.args.arg in
+    let may = subst (λ (at : Config). may_call at c.args.node task.part (next_call task.task task.part c.args.object c.args.operation c.args.arg) task.part.outstanding ≡ c.next.result) sits.shared
+    (ap (λ (z : ℤ). may_call inside.config c.args.node task.part (next_call task.task task.part c.args.object c.args.operation z) task.part.outstanding) (sym arg) ∙ sym c.next.ensures) in
+    let call = c.in_ok-next.field-0 in
+    let done = asking_done number c.args.node (waiting_for task.part call) (Some call) in
+    let is = may ∙ c.in_ok-next.was in
+    let comes = call_comes config number task sits.named c.args.node c.args.object c.args.operation c.args.arg call is in
+    let given : IsTaskInput p.got number input = (c.node_keeps_range.ensures, fits) in
+    let right = c.tasks_send_right_packets.ensures config number input task.part done p.got sits.waits given comes (asks number c.args.node call) (inl refl) in
+    (subst IsRight (call_is_next config number task sits.named c.args.node c.args.object c.args.operation c.args.arg call is) right.0.rules.3).3
+
 pub note_asking-requires-clause-event : goal.note_asking-requires-clause-event
 note_asking-requires-clause-event g c =
     let m = g.M.Machine in
@@ -114,6 +138,36 @@ note_asking-requires-clause-event g c =
     subst (λ b. (after : Part) × IsEvent (setting_for m.next m.answers m.begin b.shared.key.config b.shared.key.program.value) (7 + number) p after
     × BecomesPart p new.part (asked_of number c.args.node (Some call)) after) (sym c.deref.ensures)
     (task_event s number p task range sits.place.is input given done comes new.part (asked_of number c.args.node (Some call)) now refl)
+
+pub invariant_of-self : goal.invariant_of-self
+invariant_of-self g c =
+    let m = g.M.Machine in
+    let inside = c.self.inside in
+    let number = inside.number in
+    let task = inside.task in
+    let p = part_in inside.place.me.0 in
+    let shared = (arc_value inside.board).shared in
+    let config = shared.key.config in
+    let sits = c.self.invariant.1 in
+    let fits : FitsSigned w64 c.args.arg = record { sfits = c.ranges.arg.sfits } in
+    let arg = to_z-of_z w64 c.args.arg fits in
+    let input = Submit c.args.node c.args.object c.args.operation c.args.arg in
+    let may = subst (λ (at : Config). may_call at c.args.node task.part (next_call task.task task.part c.args.object c.args.operation c.args.arg) task.part.outstanding ≡ c.next.result) sits.shared
+    (ap (λ (z : ℤ). may_call inside.config c.args.node task.part (next_call task.task task.part c.args.object c.args.operation z) task.part.outstanding) (sym arg) ∙ sym c.next.ensures) in
+    let call = c.in_ok-next.field-0 in
+    let done = asking_done number c.args.node (waiting_for task.part call) (Some call) in
+    let is = may ∙ c.in_ok-next.was in
+    let comes = call_comes config number task sits.named c.args.node c.args.object c.args.operation c.args.arg call is in
+    let given : IsTaskInput p.got number input = (c.node_keeps_range.ensures, fits) in
+    let right = c.tasks_send_right_packets.ensures config number input task.part done p.got sits.waits given comes (asks number c.args.node call) (inl refl) in
+    let new = c.call.new.self in
+    let now = ap (λ (k : Caller). k.part) c.call.ensures
+    ∙ (ap (λ (z : ℤ). waiting_for task.part (next_call task.task task.part c.args.object c.args.operation z)) arg
+    ∙ ap (waiting_for task.part) (sym (call_is_next config number task sits.named c.args.node c.args.object c.args.operation c.args.arg call is))) in
+    let place = c.note_asking.new.place in
+    seat_after config inside.config shared.key.program.value number shared.table_id inside.place.table_id place.table_id inside.place.me place.me task new
+    c.self.invariant.0 sits c.note_asking.ensures.table (asked_of number c.args.node (Some call)) c.note_asking.ensures.turned
+    (ap (λ (k : Caller). k.task) c.call.ensures) (waits_for_one number task.part new.part call now (right.0.rules.2, right.0.rules.3))
 
 pub returns-clause-ok : goal.returns-clause-ok
 returns-clause-ok g c =

@@ -50,14 +50,15 @@ impl<M: Machine> AuditSeat<M> {
     /// Looks at the table: what the audit knows is a piece of a world that keeps the rule.
     pub(crate) fn look(&mut self)
         ensures unchanged { self.new ≡ self.old }
-        ensures world { (parts : ℕ → Part) × IsWorldOf (setting_at M.next M.answers M.begin self.old)
+        ensures world { (parts : ℕ → Part)
+            × IsWorldOf (setting_at M.next M.answers M.begin self.old)
             ((0, self.old.part) ∷ []) parts }
     {
         look::<M, Brand>(&self.board.shared, &mut self.place);
     }
 
-    /// Looks at the table together with a task of the same table: what the two know is a piece of one
-    /// world.
+    /// Looks at the table together with a task of the same table: what the two know is a piece of
+    /// one world.
     pub(crate) fn meet(self, task: TaskSeat<M>) -> (AuditSeat<M>, TaskSeat<M>)
         requires { self.table ≡ task.table }
         ensures same { (result.0 ≡ self) × (result.1 ≡ task) }

@@ -9,9 +9,11 @@ pub mod SeatTurns
 pub mod SeatBoxes
 pub mod Opening
 pub mod Splitting
-pub mod WorldLooks
-pub mod TaskTurns
-pub mod TaskTells
 pub mod Seating
 pub mod Listed
 pub mod Auditing
+pub mod WorldLooks
+pub mod TaskTurns
+pub mod TaskTells
+pub mod Joining
+pub mod AuditTells

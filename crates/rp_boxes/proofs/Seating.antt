@@ -41,9 +41,6 @@ module _ (table mine : TableId) (next : ℕ) (me : Sight) (rest : IsRest table m
         knows = is ∙ ap (λ (sight : Sight). (others_in sight.0, sight.1)) front.2;
       })
 
-  pub first_after : (mine' : TableId) (me' : Sight) → mine' ≡ mine → me' ≡ (first_in me.0, []) → IsFirstPlace mine mine' next me'
-  first_after mine' me' same is = record { same = same; knows = is ∙ ap (λ (sight : Sight). (first_in sight.0, [])) front.2 }
-
 -- ---- the place of one actor
 
 pub at_first : (table mine : TableId) (actor : ℕ) (me : Sight) → mine ≡ table → IsSized table → actor < 16 → me ≡ alone actor (first_part actor) → IsAtTable table mine actor me
@@ -59,7 +56,7 @@ at_first table mine actor me same sized small is =
     } in
     subst (IsAtTable table mine actor) (sym is) here
 
--- what the nodes and the tasks are at first
+-- what the nodes are at first
 pub node_role : (k : ℕ) → 1 ≤ k → k < 8 → first_role k ≡ OfNode fresh_node
 node_role zero least most = absurd (omega (arith, least))
 node_role (suc zero) least most = refl
@@ -70,18 +67,6 @@ node_role (suc (suc (suc (suc (suc zero))))) least most = refl
 node_role (suc (suc (suc (suc (suc (suc zero)))))) least most = refl
 node_role (suc (suc (suc (suc (suc (suc (suc zero))))))) least most = refl
 node_role (suc (suc (suc (suc (suc (suc (suc (suc k)))))))) least most = absurd (omega (arith, most))
-
-pub task_role : (t : ℕ) → IsTask t → first_role (7 + t) ≡ OfTask fresh_task
-task_role zero task = absurd (omega (arith, task.0))
-task_role (suc zero) task = refl
-task_role (suc (suc zero)) task = refl
-task_role (suc (suc (suc zero))) task = refl
-task_role (suc (suc (suc (suc zero)))) task = refl
-task_role (suc (suc (suc (suc (suc zero))))) task = refl
-task_role (suc (suc (suc (suc (suc (suc zero)))))) task = refl
-task_role (suc (suc (suc (suc (suc (suc (suc zero))))))) task = refl
-task_role (suc (suc (suc (suc (suc (suc (suc (suc zero)))))))) task = refl
-task_role (suc (suc (suc (suc (suc (suc (suc (suc (suc t))))))))) task = absurd (omega (arith, task.1))
 
 known_part : (actor : ℕ) (me : Sight) → me ≡ alone actor (first_part actor) → part_in me.0 ≡ first_part actor
 known_part actor me is = ap (λ (sight : Sight). part_in sight.0) is
@@ -95,23 +80,6 @@ fresh_place config begin number held me least most seven is runs = record {
   is = ap (λ (part : Part). part.role) (known_part number me is) ∙ node_role number least (omega (arith, most, seven));
   stands = stands (member_of number config begin) held fresh_node runs;
 }
-
--- a task that called nothing is the one that its place knows
-pub fresh_task_place : (task : ℕ) (caller : Caller) (me : Sight) → IsTask task → caller ≡ record { task = task; part = fresh_task } → me ≡ alone (7 + task) (first_part (7 + task))
-    → IsTaskPlace caller (part_in me.0)
-fresh_task_place task caller me right fresh is =
-    let here : IsTaskPlace (record { task = task; part = fresh_task }) (part_in me.0) = record {
-      task = right;
-      is = ap (λ (part : Part). part.role) (known_part (7 + task) me is) ∙ task_role task right;
-    } in
-    subst (λ (c : Caller). IsTaskPlace c (part_in me.0)) (sym fresh) here
-
--- what the seat at such a place is to a contract
-pub first_chair : {P : Type 0} (table mine : TableId) (config config' : Config) (program program' : P) (number number' actor : ℕ) (me : Sight)
-    → mine ≡ table → config ≡ config' → program ≡ program' → number ≡ number' → me ≡ alone actor (first_part actor)
-    → (let chair : Chair P = record { table = mine; config = config; program = program; number = number; part = part_in me.0 } in chair) ≡ first_seat table config' program' number' actor
-first_chair table mine config config' program program' number number' actor me same shared begin named is =
-    λ i. record { table = same i; config = shared i; program = begin i; number = named i; part = known_part actor me is i }
 
 -- ---- one more seat
 

@@ -5,7 +5,8 @@ pub mod Laws
 pub mod Plays
 pub mod Seats
 pub mod Counting
-pub mod TaskSeats
-pub mod Looks
 pub mod Making
 pub mod Audits
+pub mod TaskSeats
+pub mod Looks
+pub mod Meeting

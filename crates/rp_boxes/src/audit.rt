@@ -5,10 +5,13 @@ ghost use Rattle.rp_base.specs.Sets.{Has};
 ghost use Rattle.rp_base.specs.declared.fault.Fault.TheVariants as faults;
 ghost use Rattle.rp_codec.specs.Message.{IsPacket};
 ghost use Rattle.rp_codec.specs.declared.packet.Party.TheVariants as parties;
-ghost use Rattle.rp_boxes.specs.Audits.{IsAdded, IsGotReport, IsJoined, known_of, report, with_reported};
+ghost use Rattle.rp_boxes.specs.Audits.{AreTold, IsAdded, IsGotReport, IsJoined, known_of, report, with_reported};
+ghost use Rattle.rp_boxes.specs.Meeting.{AreOfOneOrder, IsMet};
 ghost use Rattle.rp_boxes.specs.Seats.{IsFetched};
 
 use crate::audit_seat::AuditSeat;
+use crate::task_seat::TaskSeat;
+use rp_agreement::{replies_tell_the_order, reports_tell_the_order, the_order_exists};
 use rp_base::{Action, Fault, NodeId, Position};
 use rp_codec::{Body, Party, decode};
 use rp_machine::Machine;
@@ -88,9 +91,9 @@ impl<M: Machine> Audit<M> {
         self.seat.fetch(from)
     }
 
-    /// Adds a report that the audit got, as its text: where its first position is above what is known
-    /// of its node and one more it leaves a gap, and nothing changes; else what is known of the node
-    /// becomes the longer of itself and of what the report makes it. Refused for memory, nothing
+    /// Adds a report that the audit got, as its text: where its first position is above what is
+    /// known of its node and one more it leaves a gap, and nothing changes; else what is known of the
+    /// node becomes the longer of itself and of what the report makes it. Refused for memory, nothing
     /// changes.
     pub fn add(&mut self, alloc: Global, packet: &[u8]) -> Result<Added, Fault>
         requires { IsGotReport self.old.seat.part packet.now }
@@ -142,10 +145,38 @@ impl<M: Machine> Audit<M> {
         })
     }
 
-    /// The actions that are known of a node, in order.
+    /// The actions that are known of a node, in order. Each was told by a report that the audit got.
     pub fn known(&self, node: NodeId) -> &[Action]
-        ensures { result.now ≡ known_of self.now.known node }
+        ensures value { result.now ≡ known_of self.now.known node }
+        ensures told { AreTold self.now.seat.part self.now.known }
     {
         self.known[usize::from(node.get()) - 1].as_slice()
+    }
+
+    /// Looks at the table: what is known of any two nodes begins one list of actions. Nothing
+    /// changes.
+    pub fn look(&mut self)
+        ensures unchanged { self.new ≡ self.old }
+        ensures one { AreOfOneOrder self.new.known }
+    {
+        the_order_exists();
+        reports_tell_the_order();
+        self.seat.look();
+    }
+
+    /// The audit and a task of the same table look at it together: what is known of each node
+    /// begins one list of actions, and in it each reply of the task answers its call. Nothing
+    /// changes.
+    pub fn meet(self, task: TaskSeat<M>) -> (Self, TaskSeat<M>)
+        requires { self.seat.table ≡ task.table }
+        ensures same { (result.0 ≡ self) × (result.1 ≡ task) }
+        ensures met { IsMet M.next M.answers M.begin result.0.known result.1 }
+    {
+        the_order_exists();
+        reports_tell_the_order();
+        replies_tell_the_order::<M>();
+        let Audit { seat, known } = self;
+        let (seat, task) = seat.meet(task);
+        (Audit { seat, known }, task)
     }
 }

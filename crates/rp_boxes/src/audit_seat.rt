@@ -14,8 +14,8 @@ use std::alloc::Global;
 use std::marker::Model;
 use std::sync::Arc;
 
-/// The seat of the audit: its place at the table that all seats share. It crosses to another thread,
-/// and none of its calls waits.
+/// The seat of the audit: its place at the table that all seats share. It crosses to another
+/// thread, and none of its calls waits.
 #[derive(Drop)]
 pub struct AuditSeat<M: Machine> {
     pub(crate) place: Place,
@@ -55,8 +55,8 @@ impl<M: Machine> AuditSeat<M> {
         empty(&self.board.shared, &mut self.place, actor_of(from), AUDIT)
     }
 
-    /// The packets that the audit got are right ones, to it. It does nothing: what it promises is for
-    /// contracts.
+    /// The packets that the audit got are right ones, to it. It does nothing: what it promises is
+    /// for contracts.
     pub(crate) fn packets_are_right(&self)
         ensures { HasOwnPackets 0 self.now.part }
     {

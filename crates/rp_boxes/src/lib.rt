@@ -14,6 +14,7 @@
 //! - `task_seat`: the seat of a task
 //! - `audit_seat`: the seat of the audit
 //! - `audit`: what the audit knows of the nodes
+//! - `meeting`: the audit's seat looks at the table, alone or together with the seat of a task
 //! - `making`: the seats are made
 #![tactic(auto)]
 
@@ -27,6 +28,7 @@ mod input;
 mod laws;
 mod looking;
 mod making;
+mod meeting;
 mod node_seat;
 mod node_turns;
 mod task_events;

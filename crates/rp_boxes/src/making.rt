@@ -67,7 +67,8 @@ pub(crate) fn split<M: Machine>(slots: &Slots<M>, place: &mut Place) -> Place
 /// The table, with nothing in any box, and the place that knows all actors.
 fn laid<M: Machine>(alloc: Global, setup: &Setup<M>) -> Result<(Board<M>, Place), AllocError>
     requires config { IsRightConfig setup.now.config }
-    ensures table { IfOk result (λ laid. IsRest laid.0.shared.table_id laid.1.table_id 0 laid.1.me) }
+    ensures table { IfOk result (λ laid.
+        IsRest laid.0.shared.table_id laid.1.table_id 0 laid.1.me) }
     ensures shared { IfOk result (λ laid. laid.0.shared.key ≡ setup.now) }
 {
     replies_tell_the_order::<M>();
@@ -275,9 +276,9 @@ fn made<M: Machine, D: Device>(
     })
 }
 
-/// The seats of all nodes, over these devices, of the eight tasks and of the audit, at one table, and
-/// nothing has happened. `BadConfig` where a number is outside its limits, where there are not as many
-/// devices as nodes, or where one is not empty. Refused, the devices are dropped.
+/// The seats of all nodes, over these devices, of the eight tasks and of the audit, at one table,
+/// and nothing has happened. `BadConfig` where a number is outside its limits, where there are not as
+/// many devices as nodes, or where one is not empty. Refused, the devices are dropped.
 pub fn seats<M: Machine, D: Device>(
     alloc: Global,
     config: Config,

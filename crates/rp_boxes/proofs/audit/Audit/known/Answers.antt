@@ -1,14 +1,17 @@
 -- The list at the node's place is what is known of it.
-use Rattle.std.proofs.Common.{◌≡◌, suc, ◌-◌, sym, ap, ◌∙◌, arith}
-use Rattle.rp_boxes.specs.Audits.{known_of}
+use Rattle.std.proofs.Common.{◌≡◌, suc, ◌-◌, sym, ap, subst, ◌∙◌, arith}
+use Rattle.rp_boxes.specs.Audits.{AreTold, known_of}
 use Rattle.rp_boxes.proofs.Auditing.{known_at}
 use Rattle.rp_boxes.proofs.audit.Audit.known.Goals as goal
 
-pub returns : goal.returns
-returns g c =
+pub returns-clause-value : goal.returns-clause-value
+returns-clause-value g c =
     let node = c.args.node in
     let place = c.from.result - 1 in
     let range = c.get.ensures.in_range in
     let numbered : node ≡ suc place = omega (arith, c.from.ensures, c.get.ensures.value, range.0) in
     let here = known_at c.self.inside.known c.self.invariant.seven node place numbered range.1 c.index-self-from.result in
     c.as_slice.ensures.value ∙ (sym here ∙ ap (λ audit. known_of audit.known node) c.self.view_is)
+
+pub returns-clause-told : goal.returns-clause-told
+returns-clause-told g c = subst (λ audit. AreTold audit.seat.part audit.known) c.self.view_is c.self.invariant

@@ -1,0 +1,25 @@
+-- The order of the world that the two saw.
+use Rattle.std.proofs.Common.{◌+◌, [], ◌∷◌, inl, inr, refl, sym, subst}
+use Rattle.rp_agreement.specs.Computed.{order_of}
+use Rattle.rp_boxes.specs.Meeting.{IsMet}
+use Rattle.rp_boxes.specs.Rule.{all_sent}
+use Rattle.rp_boxes.specs.Seats.{Chair, setting_at}
+use Rattle.rp_boxes.proofs.Auditing.{lists}
+use Rattle.rp_boxes.proofs.AuditTells.{known_begins, replies_answer}
+use Rattle.rp_boxes.proofs.audit.Audit.meet.Goals as goal
+
+pub returns-clause-met : goal.returns-clause-met
+returns-clause-met g c =
+    let m = g.M.Machine in
+    let seat = c.self.inside.seat in
+    let task = c.args.task in
+    let known = lists c.self.inside.known in
+    let s = setting_at m.next m.answers m.begin task in
+    let view = (7 + task.number, task.part) ∷ (0, seat.part) ∷ [] in
+    let seen = c.meet-seat.ensures.world in
+    let met : IsMet m.next m.answers m.begin known task = record {
+      order = order_of s.config.nodes (all_sent seen.0 16);
+      begins = known_begins s view seen.0 seen.1 c.the_order_exists.ensures c.reports_tell_the_order.ensures seat.part (inr (inl refl)) known c.self.invariant;
+      replies = replies_answer s view seen.0 seen.1 (c.replies_tell_the_order.ensures.replies s) task.number task.part (inl refl);
+    } in
+    subst (λ (chair : Chair g.row.M-Program.Denot). IsMet m.next m.answers m.begin known chair) (sym c.meet-seat.ensures.same.1) met

@@ -1,0 +1,22 @@
+-- What a look at the table tells the audit, alone and together with a task (this project's own).
+use Rattle.std.specs.Prelude.{◌≡◌, ℕ, suc, Some, List, slice_get}
+use Rattle.rp_base.specs.declared.action.Action.{Action}
+use Rattle.rp_base.specs.declared.reply.Answer.{Answer}
+use Rattle.rp_machine.specs.Places.{IsAnswerOf}
+use Rattle.rp_agreement.specs.Answered.{named}
+use Rattle.rp_agreement.specs.Order.{Begins}
+use Rattle.rp_boxes.specs.Audits.{known_of}
+use Rattle.rp_boxes.specs.Parts.{task_of}
+use Rattle.rp_boxes.specs.Seats.{Chair}
+
+-- What is known of each node begins one list of actions.
+pub record AreOfOneOrder (known : List (List Action)) : Type 0 where
+  pub order : List Action
+  pub begins : (node : ℕ) → Begins (known_of known node) order
+
+-- What is known of each node begins one list of actions, and in it each reply of the task answers its call.
+pub record IsMet {S P : Type 0} (next : S → Action → S) (answers : S → Action → List Answer) (begin : P → S) (known : List (List Action)) (task : Chair P) : Type 0 where
+  pub order : List Action
+  pub begins : (node : ℕ) → Begins (known_of known node) order
+  pub replies : (k : ℕ) (answer : Answer) → slice_get (task_of task.part.role).replies k ≡ Some answer
+      → IsAnswerOf next answers (begin task.program) order (named task.number (suc k)) answer

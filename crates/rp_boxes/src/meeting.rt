@@ -1,0 +1,87 @@
+//! The audit's seat looks at the table, alone or together with the seat of a task.
+
+ghost use Rattle.std.specs.Prelude.{◌≡◌, ◌+◌, ◌++◌, ◌∷◌, [], ℕ};
+ghost use Rattle.rp_agreement.specs.Answered.{setting_for};
+ghost use Rattle.rp_boxes.specs.Looks.{IsWorldOf};
+ghost use Rattle.rp_boxes.specs.Parts.{Part, actor_in, part_in};
+ghost use Rattle.rp_boxes.specs.Plays.{IsSized, alone};
+ghost use Rattle.rp_boxes.specs.Seats.{setting_at};
+
+use crate::audit_seat::AuditSeat;
+use crate::board::{Known, Place, Slots};
+use crate::looking::look;
+use crate::making::split;
+use crate::task_seat::TaskSeat;
+use atomic_table::Join;
+use rp_machine::Machine;
+use std::marker::Brand;
+
+/// One place knows what both knew.
+struct Both;
+
+impl Join<Known> for Both {
+    ghost use Rattle.std.specs.Prelude.{◌++◌, []};
+
+    ghost both = { λ one other. one ++ other };
+
+    ghost spent = { [] };
+}
+
+/// Two places, each of one actor, look at the table as one, and part again.
+fn look_together<M: Machine>(slots: &Slots<M>, one: Place, other: Place) -> (Place, Place)
+    requires table { (one.table_id ≡ slots.now.table_id) × (other.table_id ≡ slots.now.table_id) }
+    requires sized { IsSized slots.now.table_id }
+    requires one { one.me ≡ alone (actor_in one.me.0) (part_in one.me.0) }
+    requires other { other.me ≡ alone (actor_in other.me.0) (part_in other.me.0) }
+    ensures same { (result.0.table_id ≡ one.table_id) × (result.1.table_id ≡ one.table_id) }
+    ensures places { (result.0.me ≡ one.me) × (result.1.me ≡ other.me) }
+    ensures world { (parts : ℕ → Part)
+        × IsWorldOf (setting_for M.next M.answers M.begin slots.now.key.config
+        slots.now.key.program.value) (one.me.0 ++ other.me.0) parts }
+{
+    let mut both = one;
+    slots.join_seat::<Both>(&mut both, other);
+    look::<M, Brand>(slots, &mut both);
+    let first = split::<M>(slots, &mut both);
+    (first, both)
+}
+
+impl<M: Machine> AuditSeat<M> {
+    /// Looks at the table: what the audit knows is a piece of a world that keeps the rule.
+    pub(crate) fn look(&mut self)
+        ensures unchanged { self.new ≡ self.old }
+        ensures world { (parts : ℕ → Part)
+            × IsWorldOf (setting_at M.next M.answers M.begin self.old)
+            ((0, self.old.part) ∷ []) parts }
+    {
+        look::<M, Brand>(&self.board.shared, &mut self.place);
+    }
+
+    /// Looks at the table together with a task of the same table: what the two know is a piece of
+    /// one world.
+    pub(crate) fn meet(self, task: TaskSeat<M>) -> (AuditSeat<M>, TaskSeat<M>)
+        requires { self.table ≡ task.table }
+        ensures same { (result.0 ≡ self) × (result.1 ≡ task) }
+        ensures world { (parts : ℕ → Part) × IsWorldOf (setting_at M.next M.answers M.begin task)
+            ((7 + task.number, task.part) ∷ (0, self.part) ∷ []) parts }
+    {
+        let AuditSeat { place, board } = self;
+        let TaskSeat {
+            number,
+            config,
+            task,
+            place: task_place,
+            board: task_board,
+        } = task;
+        let (task_place, place) = look_together::<M>(&task_board.shared, task_place, place);
+        let audit = AuditSeat { place, board };
+        let task = TaskSeat {
+            number,
+            config,
+            task,
+            place: task_place,
+            board: task_board,
+        };
+        (audit, task)
+    }
+}

@@ -1,5 +1,5 @@
 -- What the steps of a task's loop do to the calls that it made.
-use Rattle.std.proofs.Common.{◌≡◌, ℕ, zero, suc, ◌+◌, ◌<◌, ◌≤◌, Bool, true, false, ◌&&◌, ◌||◌, not, nat_lt, nat_eq, Option, Some, None, Result, Ok, Err, List, [], ◌∷◌, ◌++◌, length, is_some, slice_get, inl, inr, refl, sym, ap, subst, ◌∙◌, arith, length-append, append-nil, if◌then◌else◌, ℤ}
+use Rattle.std.proofs.Common.{◌≡◌, ℕ, ◌+◌, ◌<◌, ◌≤◌, Bool, true, false, ◌&&◌, ◌||◌, not, nat_lt, nat_eq, Option, Some, None, Ok, Err, List, [], ◌∷◌, ◌++◌, length, is_some, slice_get, inl, refl, sym, ap, subst, ◌∙◌, arith, length-append, append-nil, if◌then◌else◌}
 use borrow.Author.Count.{below_more}
 use Rattle.std.proofs.lemmas.Grind.{common_steps}
 use Rattle.std.proofs.lemmas.Option.{slice_get_within}
@@ -7,9 +7,7 @@ use Rattle.rp_base.specs.Calls.{are_spent, is_reply_to, next_call}
 use Rattle.rp_base.specs.Action.{is_right}
 use Rattle.rp_base.specs.Sets.{Has}
 use Rattle.rp_base.specs.declared.action.Action.{Action}
-use Rattle.rp_base.specs.declared.action.Operation.{Operation}
 use Rattle.rp_base.specs.declared.config.Config.{Config}
-use Rattle.rp_base.specs.declared.fault.Fault.{Fault}
 use Rattle.rp_base.specs.declared.fault.Fault.TheVariants.{NumbersSpent, BadConfig}
 use Rattle.rp_base.specs.declared.reply.Answer.{Answer}
 use Rattle.rp_base.specs.declared.reply.Reply.{Reply}
@@ -17,7 +15,7 @@ use Rattle.rp_base.proofs.Members.{has_left, has_right}
 use Rattle.rp_codec.specs.Message.{Message}
 use Rattle.rp_model.specs.Effect.{Done, goes_on_as}
 use Rattle.rp_model.specs.Parts.{TaskPart, fresh_task}
-use Rattle.rp_model.specs.Tasks.{TaskInput, Submit, Again, asks, may_call, calls_if, asks_again, task_effect, task_hears}
+use Rattle.rp_model.specs.Tasks.{TaskInput, Submit, Again, asks, may_call, calls_if, asks_again, task_hears}
 use Rattle.rp_codec.specs.Text.{text_of}
 use Rattle.rp_replica.specs.Packets.{texts_of}
 use Rattle.rp_replica.specs.declared.sent.Sent.{Sent}

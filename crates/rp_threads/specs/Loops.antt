@@ -1,5 +1,5 @@
 -- What a loop of turns comes to (this project's own).
-use Rattle.std.specs.Prelude.{◌≡◌, ℕ, zero, suc, ◌+◌, ◌-◌, ◌%◌, ◌≤◌, nat_eq, nat_le, Bool, true, false, Option, Some, None, if◌then◌else◌}
+use Rattle.std.specs.Prelude.{◌≡◌, ℕ, zero, suc, ◌+◌, ◌-◌, ◌%◌, nat_eq, nat_le, Bool, true, false, Option, Some, None, if◌then◌else◌}
 use Rattle.rp_base.specs.declared.fault.Fault.{Fault}
 use Rattle.rp_base.specs.declared.fault.Fault.TheVariants.{BallotsSpent, LogFull}
 use Rattle.rp_codec.specs.declared.packet.Party.{Party}
@@ -56,11 +56,3 @@ pub record IsSameSeat {P : Type 0} (old new : Chair P) : Type 0 where
   pub config : new.config ≡ old.config
   pub program : new.program ≡ old.program
   pub number : new.number ≡ old.number
-
--- The node of this seat made so many turns: without a fault each was received, led, idle or spent, the seat's actor had
--- one event more for each that was received or led, and only turns that are not 0 modulo 8 and its number were idle.
-pub record IsLooped {P : Type 0} (old : Chair P) (turns : ℕ) (new : Chair P) (received led idle spent : ℕ) (fault : Option Fault) : Type 0 where
-  pub seat : IsSameSeat old new
-  pub counted : fault ≡ None → received + led + idle + spent ≡ turns
-  pub events : fault ≡ None → new.part.events ≡ old.part.events + received + led
-  pub few : fault ≡ None → idle ≤ turns_off (8 + old.number) turns

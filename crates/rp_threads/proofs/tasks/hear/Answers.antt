@@ -1,9 +1,8 @@
 -- What the line gives on is the text of a packet that the seat got.
-use Rattle.std.proofs.Common.{◌≡◌, Bool, true, false, is_some, refl, sym, ap, subst, ◌∙◌, if◌then◌else◌}
+use Rattle.std.proofs.Common.{Bool, false, refl, sym, ap, subst, if◌then◌else◌}
 use Rattle.rp_boxes.specs.Seats.{Chair}
-use Rattle.rp_threads.specs.Lines.{IsTextAmong}
 use Rattle.rp_threads.specs.Tasks.{HasMade}
-use Rattle.rp_threads.proofs.Texts.{is_after, after_holds, given_holds}
+use Rattle.rp_threads.proofs.Texts.{is_after, after_holds}
 use Rattle.rp_threads.proofs.TaskSteps.{heard_made}
 use Rattle.rp_threads.proofs.tasks.hear.Goals as goal
 

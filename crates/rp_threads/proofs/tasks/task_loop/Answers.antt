@@ -1,7 +1,7 @@
 -- The line is empty and the task fresh at first.
-use Rattle.std.proofs.Common.{◌≡◌, ℕ, ◌<◌, refl, sym, ap, subst, ◌∙◌, arith}
+use Rattle.std.proofs.Common.{refl, arith}
 use Rattle.rp_threads.proofs.Texts.{empty_holds}
-use Rattle.rp_threads.proofs.Steps.{same_seat, same_on}
+use Rattle.rp_threads.proofs.Steps.{same_seat}
 use Rattle.rp_threads.proofs.TaskSteps.{none_made}
 use Rattle.rp_threads.proofs.tasks.task_loop.Goals as goal
 

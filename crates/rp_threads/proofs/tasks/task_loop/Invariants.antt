@@ -1,5 +1,5 @@
 -- A beginning of the calls was made so far.
-use Rattle.std.proofs.Common.{ℕ, ◌<◌, length}
+use Rattle.std.proofs.Common.{◌<◌, length}
 use Rattle.rp_threads.specs.Lines.{HoldsTextsOf}
 use Rattle.rp_threads.specs.Loops.{IsSameSeat}
 use Rattle.rp_threads.specs.Tasks.{HasMade}

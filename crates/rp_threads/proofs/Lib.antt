@@ -3,3 +3,4 @@ pub mod Steps
 pub mod Cuts
 pub mod Rounds
 pub mod TaskSteps
+mod Crossings

@@ -7,8 +7,10 @@
 //! - `rotation`: whose box a loop empties
 //! - `loops`: a node's turns, one after the other
 //! - `tasks`: a task's calls, one after the other
+//! - `crossing`: seats cross to other threads
 #![tactic(auto)]
 
+mod crossing;
 mod gate;
 mod loops;
 mod rotation;
@@ -16,6 +18,7 @@ mod sends;
 mod tasks;
 mod turns;
 
+pub use crossing::{node_seat_crosses, task_seat_crosses};
 pub use gate::{Gate, Open};
 pub use loops::{NodeEnd, node_loop};
 pub use tasks::{TaskCall, TaskEnd, task_loop};

@@ -30,7 +30,7 @@ pub sent_text : {P : Type 0} (old new : Chair P) (node object : ℕ) (operation 
 sent_text {P} old new node object operation arg sent turn =
     let call = next_call old.number turn.task object operation arg in
     let one : SendsOne turn.done = subst (λ (r : Result (Done TaskPart) Fault). IfOk r SendsOne) turn.comes
-        (one_call old.number node turn.task (may_call old.config node turn.task call turn.task.outstanding)) in
+    (one_call old.number node turn.task (may_call old.config node turn.task call turn.task.outstanding)) in
     let after : new.part.sent ≡ old.part.sent ++ one.0 ∷ [] = ap (λ (c : Chair P). c.part.sent) turn.after ∙ ap (λ (more : List Message). old.part.sent ++ more) one.1 in
     let text : sent.bytes.items ≡ text_of one.0 = turn.tells.bytes ∙ ap texts_of one.1 ∙ append-nil (text_of one.0) in
     (one.0, subst (Has one.0) (sym after) (has_right one.0 old.part.sent (one.0 ∷ []) (inl refl)), text)

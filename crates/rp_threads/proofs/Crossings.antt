@@ -1,0 +1,162 @@
+-- Seats cross to another thread.
+use Rattle.std.proofs.Common.{List, [], ◌∷◌}
+use mathlib.Core.Logic.{inl, inr}
+use mir.Val.{Val}
+use base.Shift.{Keyless}
+use denote.RattleType.{RattleType}
+use denote.Enum.Enum.{Sum, payload}
+use denote.Model.Local.{Parts, rows}
+use denote.Model.Marks.{tied_send}
+use denote.Param.Send.{IsSend, struct_send, recorded_send, sendable}
+use denote.Struct.Declared.{shape}
+use Rattle.std.proofs.Crossing.{crosses}
+use Rattle.std.proofs.MapsCrossing as maps
+use Rattle.std.specs.contracts.snapshot.Snapshot as Snapshot
+use Rattle.circular_buffer.proofs.cells.Cells.TheSendSync as cells
+use Rattle.circular_buffer.proofs.cells.Deed.TheSendSync as deed
+use Rattle.atomic_table.proofs.shared.Seat.TheSendSync as place
+use Rattle.atomic_table.proofs.shared.Shared.TheSendSync as shared
+use Rattle.atomic_table.proofs.send_lease.SendLease.TheSendSync as lease
+use Rattle.rp_base.specs.contracts.history.History as History
+use Rattle.rp_base.specs.contracts.history.History.TheKnot as knot
+use Rattle.rp_base.specs.declared.history.History.TheDeep as deep
+use Rattle.rp_learner.specs.contracts.learner.Learner as Learner
+use Rattle.rp_learner.specs.contracts.page.Page as Page
+use Rattle.rp_learner.specs.contracts.tally.Tallies as Tallies
+use Rattle.rp_machine.specs.declared.machine.Machine as machine
+use Rattle.rp_machine.specs.contracts.numbered.Numbered as Numbered
+use Rattle.rp_machine.specs.contracts.numbered.Numbered.TheInside as numbered
+use Rattle.rp_store.specs.declared.device.Device as device
+use Rattle.rp_store.specs.contracts.store.Store as Store
+use Rattle.rp_store.specs.contracts.store.Store.TheInside as store
+use Rattle.rp_replica.specs.contracts.replica.Replica as Replica
+use Rattle.rp_replica.specs.contracts.replica.Replica.TheInside as replica
+use Rattle.rp_world.specs.contracts.task.Task as Task
+use Rattle.rp_boxes.specs.contracts.node_seat.NodeSeat as NodeSeat
+use Rattle.rp_boxes.specs.contracts.node_seat.NodeSeat.TheInside as node_seat
+use Rattle.rp_boxes.specs.contracts.task_seat.TaskSeat as TaskSeat
+use Rattle.rp_boxes.specs.contracts.task_seat.TaskSeat.TheInside as task_seat
+
+-- ---- a list that memory does not hold
+
+either : (X T : RattleType) → IsSend X → IsSend T → (c : Sum ([] ∷ (X ∷ T ∷ []) ∷ [])) (us : List Val) → Keyless (payload ([] ∷ (X ∷ T ∷ []) ∷ []) c us)
+either X T x t (inl c) us = λ vss. (tt, tt)
+either X T x t (inr (inl c)) us = λ vss. (tt, (x.owned c.0 _, (t.owned c.1.0 _, tt)))
+either X T x t (inr (inr c)) us = absurd c
+
+past_send : (Y : RattleType) → IsSend (Snapshot.the_row Y)
+past_send Y = search (crosses, sendable)
+
+keeps : (T : RattleType) → IsSend T → (p : Parts (knot.frame T)) → ((j : deep.the_members) → IsSend (rows (knot.frame T) p j)) → (i : deep.the_members) → IsSend (rows (knot.frame T) (knot.step T p) i)
+keeps T s p all deep.member-History =
+    let earlier = rows (knot.frame T) p deep.member-History in
+    record { owned = λ x vs x'. ((λ us. (tt, ((λ ws. (tt, either (Snapshot.the_row earlier) T (past_send earlier) s _ ws)), tt))), tt); leaving = λ k d w. tt }
+
+pub history_send : (T : RattleType) → IsSend T → IsSend (History.the_row T)
+history_send T s = tied_send (knot.frame T) (knot.step T) (knot.sizes T) (keeps T s) deep.member-History
+
+-- ---- a replica
+
+tallies_send : IsSend Tallies.the_row
+tallies_send = search (crosses, sendable) depth 40 fits 20000
+
+page_send : IsSend Page.the_row
+page_send = search (crosses, sendable, tallies_send) depth 20 fits 20000
+
+learner_send : IsSend Learner.the_row
+learner_send = search (crosses, sendable, page_send) depth 20 fits 20000
+
+store_inside : (D : RattleType) (d : device.Ghosts D.Denot) → IsSend D → IsSend (store.the_row D d)
+store_inside D d t = recorded_send (store.the_field D d).row _ _ (store.the_type D d).to_one (struct_send (shape (store.the_type D d)) (t, (search sendable, tt)))
+
+store_send : (D : RattleType) (d : device.Ghosts D.Denot) → IsSend D → IsSend (Store.the_row D d)
+store_send D d t = let i = store_inside D d t in search (sendable, i)
+
+numbered_inside : (M P : RattleType) (m : machine.Ghosts M.Denot P.Denot) → IsSend M → IsSend (numbered.the_row M P m)
+numbered_inside M P m s = recorded_send (numbered.the_field M P m).row _ _ (numbered.the_type M P m).to_one (struct_send (shape (numbered.the_type M P m))
+    (s, (search (crosses, sendable) depth 20, (search (crosses, sendable) depth 20, (search (crosses, sendable) depth 20, (search (crosses, sendable, history_send) depth 20, tt))))))
+
+numbered_send : (M P : RattleType) (m : machine.Ghosts M.Denot P.Denot) → IsSend M → IsSend (Numbered.the_row M P m)
+numbered_send M P m s = let i = numbered_inside M P m s in search (sendable, i)
+
+replica_inside : (M D P : RattleType) (m : machine.Ghosts M.Denot P.Denot) (d : device.Ghosts D.Denot) → IsSend M → IsSend D → IsSend (replica.the_row M D P m d)
+replica_inside M D P m d s t = recorded_send (replica.the_field M D P m d).row _ _ (replica.the_type M D P m d).to_one (struct_send (shape (replica.the_type M D P m d)) (
+  search (crosses, sendable),
+  (
+    search (crosses, sendable),
+    (
+      store_send D d t,
+      (
+        search (crosses, sendable, history_send) depth 40 fits 20000,
+        (
+          search (crosses, sendable, history_send) depth 60 fits 40000,
+          (
+            learner_send,
+            (
+              search (crosses, sendable, history_send) depth 40 fits 20000,
+              (
+                search (crosses, maps.crosses, sendable) depth 40 fits 20000,
+                (
+                  numbered_send M P m s,
+                  (
+                    search (crosses, sendable, cells.the_send, deed.the_send) depth 40,
+                    tt,
+                  ),
+                ),
+              ),
+            ),
+          ),
+        ),
+      ),
+    ),
+  ),
+))
+
+pub replica_send : (M D P : RattleType) (m : machine.Ghosts M.Denot P.Denot) (d : device.Ghosts D.Denot) → IsSend M → IsSend D → IsSend (Replica.the_row M D P m d)
+replica_send M D P m d s t = let i = replica_inside M D P m d s t in search (sendable, i)
+
+-- ---- the seat of a node
+
+node_inside : (M D P : RattleType) (m : machine.Ghosts M.Denot P.Denot) (d : device.Ghosts D.Denot) → IsSend M → IsSend D → IsSend (node_seat.the_row M D P m d)
+node_inside M D P m d s t = recorded_send (node_seat.the_field M D P m d).row _ _ (node_seat.the_type M D P m d).to_one (struct_send (shape (node_seat.the_type M D P m d)) (
+  search (crosses, sendable),
+  (
+    replica_send M D P m d s t,
+    (
+      search (crosses, sendable, place.the_send) depth 9,
+      (
+        search (crosses, sendable, shared.the_send, shared.the_sync, lease.the_send, lease.the_sync) depth 25,
+        tt,
+      ),
+    ),
+  ),
+))
+
+pub node_seat_send : (M D P : RattleType) (m : machine.Ghosts M.Denot P.Denot) (d : device.Ghosts D.Denot) → IsSend M → IsSend D → IsSend (NodeSeat.the_row M D P m d)
+node_seat_send M D P m d s t = let i = node_inside M D P m d s t in search (sendable, i)
+
+-- ---- the seat of a task
+
+task_send : IsSend Task.the_row
+task_send = search (crosses, sendable) depth 40 fits 20000
+
+task_inside : (M P : RattleType) (m : machine.Ghosts M.Denot P.Denot) → IsSend M → IsSend (task_seat.the_row M P m)
+task_inside M P m s = recorded_send (task_seat.the_field M P m).row _ _ (task_seat.the_type M P m).to_one (struct_send (shape (task_seat.the_type M P m)) (
+  search (crosses, sendable),
+  (
+    search (crosses, sendable),
+    (
+      task_send,
+      (
+        search (crosses, sendable, place.the_send) depth 9,
+        (
+          search (crosses, sendable, shared.the_send, shared.the_sync, lease.the_send, lease.the_sync) depth 25,
+          tt,
+        ),
+      ),
+    ),
+  ),
+))
+
+pub task_seat_send : (M P : RattleType) (m : machine.Ghosts M.Denot P.Denot) → IsSend M → IsSend (TaskSeat.the_row M P m)
+task_seat_send M P m s = let i = task_inside M P m s in search (sendable, i)

@@ -5,8 +5,8 @@ ghost use Rattle.rp_console.specs.Agreeing.{RunAgrees};
 ghost use Rattle.rp_console.specs.Runs.{run_setting, opening_setup};
 ghost use Rattle.rp_deck.specs.Script.{KeepsRanges};
 
-use rp_deck::{Command, Line};
 use crate::options::RunOptions;
+use rp_deck::{Command, Line};
 use rp_machine::Machine;
 use rp_world::histories_are_ordered;
 

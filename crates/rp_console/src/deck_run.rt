@@ -10,12 +10,11 @@ ghost use Rattle.rp_console.specs.Stream.{Writes};
 ghost use Rattle.rp_deck.specs.declared.deck.Deck.{Deck};
 
 use crate::agreeing::scripts_agree;
-use rp_deck::{Deck, DeckProgram};
 use crate::options::RunOptions;
-use rp_deck::read_deck;
 use crate::run::run_lines;
 use crate::stream::read_whole;
 use rp_base::Fault;
+use rp_deck::{Deck, DeckProgram, read_deck};
 use rp_machine::Tally;
 use rp_object::Objects;
 use rp_store::MemDevice;

@@ -9,7 +9,6 @@ ghost use Rattle.rp_console.specs.Status.{with_line_feed};
 ghost use Rattle.rp_console.specs.Stream.{Writes};
 ghost use Rattle.rp_console.specs.Faults.{IsRunFault};
 
-use rp_deck::Task;
 use crate::options::RunOptions;
 use crate::printed::{FullLine, OpenedLine, ReplyLine, RunningLine};
 use crate::stream::print;
@@ -17,6 +16,7 @@ use crate::trace::{BodyText, PartyText, TraceLine};
 use indexmap::IndexMap;
 use rp_base::{Answer, Fault, NodeId, TaskId};
 use rp_codec::{Packet, Party, decode};
+use rp_deck::Task;
 use rp_machine::Machine;
 use rp_model::{Dropped, Effect, Event, Step};
 use rp_store::CutDevice;

@@ -2,9 +2,9 @@
 
 ghost use Rattle.rp_base.specs.Config.{IsRightConfig};
 
-use rp_deck::Task;
 use indexmap::IndexMap;
 use rp_base::Config;
+use rp_deck::Task;
 
 /// How a script is run.
 #[derive(Clone, Copy)]

@@ -9,7 +9,6 @@ ghost use Rattle.rp_console.specs.Runs.{run_setting, opening_setup, HasParts, Fo
 ghost use Rattle.rp_console.specs.Stream.{Writes};
 ghost use Rattle.rp_console.specs.Faults.{IsRunFault};
 
-use rp_deck::{Command, Line};
 use crate::effects::tell_effect;
 use crate::options::RunOptions;
 use crate::printed::{AppliedLine, DrainLimitLine, RefusedLine, StoppedLine};
@@ -17,6 +16,7 @@ use crate::settled::Settled;
 use crate::status::is_refusal;
 use crate::stream::{print, write_whole};
 use rp_base::{Fault, NodeId};
+use rp_deck::{Command, Line};
 use rp_machine::Machine;
 use rp_model::{Event, Step, worlds_grow};
 use rp_store::CutDevice;

@@ -8,6 +8,7 @@ pub mod Sights
 pub mod SeatTurns
 pub mod SeatBoxes
 pub mod Opening
+pub mod Reporting
 pub mod Splitting
 pub mod Seating
 pub mod Listed

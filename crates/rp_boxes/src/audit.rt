@@ -1,6 +1,6 @@
 //! The audit: what it knows of the nodes, by the reports that it got.
 
-ghost use Rattle.std.specs.Prelude.{◌≡◌, ◌≤◌, ◌+◌, ℕ, [], length, replicate, IfOk, IfSome, IfNone, OnOk, OnErr, IsOkUnless};
+ghost use Rattle.std.specs.Prelude.{◌≡◌, ◌≤◌, ◌+◌, ℕ, List, [], length, replicate, IfOk, IfSome, IfNone, OnOk, OnErr, IsOkUnless};
 ghost use Rattle.rp_base.specs.Sets.{Has};
 ghost use Rattle.rp_base.specs.declared.fault.Fault.TheVariants as faults;
 ghost use Rattle.rp_codec.specs.Message.{IsPacket};
@@ -81,11 +81,14 @@ impl<M: Machine> Audit<M> {
     }
 
     /// The packet in the box from that party to the audit, as its text, or `None` where the box is
-    /// not full.
+    /// not full. It is a report.
     pub fn fetch(&mut self, from: Party) -> Option<Vec<u8>>
         ensures some { IfSome result (λ text. IsFetched from parties.Audit text.items
             self.old.seat self.new.seat) }
         ensures none { IfNone result (self.new.seat ≡ self.old.seat) }
+        ensures report { IfSome result (λ text. IsGotReport self.new.seat.part text.items) }
+        ensures got { (text : List ℕ) → IsGotReport self.old.seat.part text
+            → IsGotReport self.new.seat.part text }
         ensures known { self.new.known ≡ self.old.known }
     {
         self.seat.fetch(from)

@@ -5,24 +5,36 @@ use rp_base::Fault;
 use rp_store::*;
 use std::alloc::Global;
 
-/// A device in memory of which one call fails, once. An append that fails leaves half of its bytes, and
-/// a cut that fails is done.
+/// A call of a device.
+#[derive(Clone, Copy, Debug, PartialEq, Eq)]
+pub(crate) enum Call {
+    Read,
+    Append,
+    Sync,
+}
+
+/// A device in memory of which one call fails, once. An append that fails leaves half of its bytes.
 #[derive(Drop)]
 pub(crate) struct FailingDevice {
     inner: MemDevice,
-    /// How many calls there are up to the one that fails. It is 0 from then on.
-    left: u32,
+    /// The call that fails, and how many bytes the device holds then. `None` from then on.
+    fails: Option<(Call, u64)>,
     failures: Count,
 }
 
 impl FailingDevice {
-    /// It holds nothing, and fails at this call of those that memory does not refuse.
-    pub(crate) fn new(alloc: Global, call: u32) -> Self {
+    /// It holds nothing, and fails at the first such call.
+    pub(crate) fn new(alloc: Global, fails: Option<(Call, u64)>) -> Self {
         FailingDevice {
             inner: MemDevice::new(alloc),
-            left: call,
+            fails,
             failures: Count::new(),
         }
+    }
+
+    /// Whether this call fails.
+    fn fails_at(&self, call: Call) -> bool {
+        self.fails == Some((call, self.inner.len()))
     }
 
     /// The failure.
@@ -31,7 +43,7 @@ impl FailingDevice {
         ensures inner { self.new.inner ≡ self.old.inner }
         ensures raised { self.new.failures ≡ suc self.old.failures }
     {
-        self.left = 0;
+        self.fails = None;
         self.failures.raise();
         Fault::Device
     }
@@ -43,31 +55,26 @@ impl Device for FailingDevice {
     ghost disk = { λ d. record d.inner { failures = d.inner.failures + d.failures } };
 
     fn append(&mut self, bytes: &[u8]) -> Result<(), Fault> {
-        if self.left == 1 {
+        if self.fails_at(Call::Append) {
             let (half, _) = bytes.split_at(bytes.len() / 2);
             self.inner.append(half)?;
             return Err(self.fail());
         }
-        self.inner.append(bytes)?;
-        self.left = self.left.saturating_sub(1);
-        Ok(())
+        self.inner.append(bytes)
     }
 
     fn sync(&mut self) -> Result<(), Fault> {
-        if self.left == 1 {
+        if self.fails_at(Call::Sync) {
             return Err(self.fail());
         }
-        self.left = self.left.saturating_sub(1);
         self.inner.sync()
     }
 
     fn read(&mut self, alloc: Global) -> Result<Vec<u8>, Fault> {
-        if self.left == 1 {
+        if self.fails_at(Call::Read) {
             return Err(self.fail());
         }
-        let bytes = self.inner.read(alloc)?;
-        self.left = self.left.saturating_sub(1);
-        Ok(bytes)
+        self.inner.read(alloc)
     }
 
     fn len(&self) -> u64 {
@@ -75,11 +82,6 @@ impl Device for FailingDevice {
     }
 
     fn cut(&mut self, len: u64) -> Result<(), Fault> {
-        self.inner.cut(len)?;
-        if self.left == 1 {
-            return Err(self.fail());
-        }
-        self.left = self.left.saturating_sub(1);
-        Ok(())
+        self.inner.cut(len)
     }
 }

@@ -1,7 +1,7 @@
 ghost use Rattle.std.specs.Prelude.{◌≡◌, true};
 ghost use Rattle.rp_replica.specs.Inputs.{IsRightInput};
 
-use crate::failing::FailingDevice;
+use crate::failing::{Call, FailingDevice};
 use rp_base::{Config, Fault, NodeId, Position};
 use rp_machine::{Machine, Tally, TallyProgram};
 use rp_replica::*;
@@ -319,33 +319,32 @@ fn image_of<M: Machine, D: Device>(alloc: Global, node: &Replica<M, D>) -> Resul
 fn a_device_that_fails_once_loses_no_vote(rt: HostRuntime) -> Result<(), Fail> {
     let alloc = rt.alloc();
     let program = TallyProgram::new(1).ok_or("one object")?;
-    // A read and a sync at the opening, an append and a sync for each record. A promise that was
-    // written and not told is not told again.
+    // A promise that was written and not told is not told again.
     let cases = [
-        (1, 2, 0),
-        (2, 2, 0),
-        (3, 2, 0),
-        (4, 2, 15),
-        (5, 2, 0),
-        (6, 2, 0),
-        (7, 2, 0),
-        (8, 2, 0),
-        (9, 1, 0),
+        (Some((Call::Read, 0)), 2, 0),
+        (Some((Call::Sync, 0)), 2, 0),
+        (Some((Call::Append, 0)), 2, 0),
+        (Some((Call::Sync, 12)), 2, 15),
+        (Some((Call::Append, 12)), 2, 0),
+        (Some((Call::Sync, 41)), 2, 0),
+        (Some((Call::Append, 41)), 2, 0),
+        (Some((Call::Sync, 62)), 2, 0),
+        (None, 1, 0),
     ];
-    for (call, openings, untold) in cases {
-        let device = FailingDevice::new(alloc, call);
+    for (fails, openings, untold) in cases {
+        let device = FailingDevice::new(alloc, fails);
         let heard = hears_all::<Tally, FailingDevice>(alloc, &program, device, &HEARD)?;
-        assert_eq!(rt; heard.openings, openings, "call {call}");
+        assert_eq!(rt; heard.openings, openings, "{fails:?}");
         assert_eq!(rt;
             Some(heard.sent.as_slice()),
             ANSWERS.get(untold..),
-            "call {call}"
+            "{fails:?}"
         );
-        assert_eq!(rt; heard.stored, 62, "call {call}");
+        assert_eq!(rt; heard.stored, 62, "{fails:?}");
         assert_eq!(rt;
             heard.image.as_slice(),
             b"tally o1=5\n".as_slice(),
-            "call {call}"
+            "{fails:?}"
         );
     }
     Ok(())

@@ -3,4 +3,10 @@
 #![tactic(auto)]
 
 #[cfg(test)]
+mod audit;
+#[cfg(test)]
 mod seats;
+#[cfg(test)]
+mod setup;
+#[cfg(test)]
+mod turns;

@@ -1,7 +1,8 @@
 ghost use Rattle.std.specs.Prelude.{IfOk};
 ghost use Rattle.rp_boxes.specs.Seats.{IsSentText};
 
-use rp_base::{Config, Fault, NodeId, Operation, Position, TaskId};
+use crate::setup::{CONFIG, devices, receive};
+use rp_base::{Fault, NodeId, Operation, Position, TaskId};
 use rp_boxes::{AllSeats, NodeSeat, TaskSeat, seats};
 use rp_codec::Party;
 use rp_machine::{Machine, Tally, TallyProgram};
@@ -15,12 +16,6 @@ use std::test::Fail;
 const CALL: [u8; 21] = [
     1, 1, 17, 1, 1, 1, 0, 0, 0, 1, 1, 2, 1, 0, 0, 0, 0, 0, 0, 0, 5,
 ];
-
-/// Three nodes with a log of 1,000 positions.
-const CONFIG: Config = Config {
-    nodes: 3,
-    max_positions: 1000,
-};
 
 /// The first task's first call, to node 1.
 fn first_call<M: Machine>(task: &mut TaskSeat<M>, alloc: Global) -> Result<Sent, Fault>
@@ -66,28 +61,13 @@ fn put_twice<M: Machine, D: Device>(
 fn a_full_box_gives_a_packet_back(rt: HostRuntime) -> Result<(), Fail> {
     let alloc = rt.alloc();
     let program = TallyProgram::new(1).ok_or("one object")?;
-    let mut devices = Vec::new(alloc);
-    for _ in 0..3 {
-        devices.push(MemDevice::new(alloc))?;
-    }
+    let devices = devices(alloc)?;
     let boxed = put_twice::<Tally, MemDevice>(alloc, &program, devices)?;
     let back = boxed.back.ok_or("the second put is given back")?;
     assert_eq!(rt; back.as_slice(), CALL.as_slice());
     let first = boxed.first.ok_or("the first fetch gets it")?;
     assert_eq!(rt; first.as_slice(), CALL.as_slice());
     assert!(rt; boxed.second.is_none());
-    Ok(())
-}
-
-/// The node receives what is in the box from a party, if there is anything.
-fn receive<M: Machine, D: Device>(
-    seat: &mut NodeSeat<M, D>,
-    alloc: Global,
-    from: Party,
-) -> Result<(), Fault> {
-    if let Some(packet) = seat.fetch(from) {
-        node_step(seat, alloc, &Input::Receive(packet.as_slice()))?;
-    }
     Ok(())
 }
 
@@ -152,10 +132,7 @@ fn one_call<M: Machine, D: Device>(
 fn one_call_is_decided_by_seats(rt: HostRuntime) -> Result<(), Fail> {
     let alloc = rt.alloc();
     let program = TallyProgram::new(1).ok_or("one object")?;
-    let mut devices = Vec::new(alloc);
-    for _ in 0..3 {
-        devices.push(MemDevice::new(alloc))?;
-    }
+    let devices = devices(alloc)?;
     let told = one_call::<Tally, MemDevice>(alloc, &program, devices)?;
     assert_eq!(rt; told.applied.as_slice(), [1, 1, 1].as_slice());
     let reply = told.reply.ok_or("a reply is in the box")?;

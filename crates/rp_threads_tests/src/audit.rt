@@ -1,0 +1,122 @@
+ghost use Rattle.std.specs.Prelude.{IfOk, List, ℕ};
+ghost use Rattle.rp_boxes.specs.Audits.{IsGotReport};
+
+use crate::setup::{CONFIG, devices, receive};
+use rp_base::{Action, Fault, NodeId, Position};
+use rp_boxes::{Added, AllSeats, Audit, NodeSeat, seats};
+use rp_codec::Party;
+use rp_machine::{Machine, Tally, TallyProgram};
+use rp_replica::Input;
+use rp_store::{Device, MemDevice};
+use rp_threads::node_step;
+use std::alloc::Global;
+use std::test::Fail;
+
+/// The node receives what is in its boxes from the nodes, once each.
+fn receive_all<M: Machine, D: Device>(
+    seat: &mut NodeSeat<M, D>,
+    alloc: Global,
+) -> Result<(), Fault> {
+    for number in 1..4u8 {
+        let from = NodeId::new(number).ok_or(Fault::BadConfig)?;
+        receive(seat, alloc, Party::Node(from))?;
+    }
+    Ok(())
+}
+
+/// Node 1 takes a tick and leads, and all nodes receive what comes, until each has applied it.
+fn tick<M: Machine, D: Device>(
+    alloc: Global,
+    nodes: &mut [NodeSeat<M, D>],
+    now: u32,
+) -> Result<(), Fault> {
+    let leader = nodes.first_mut().ok_or(Fault::BadConfig)?;
+    node_step(leader, alloc, &Input::Tick { now })?;
+    node_step(leader, alloc, &Input::Lead(None))?;
+    for _ in 0..8 {
+        for seat in nodes.iter_mut() {
+            receive_all(seat, alloc)?;
+        }
+    }
+    Ok(())
+}
+
+/// The audit gets a report of the first node from a position on, as its text.
+fn reported<M: Machine, D: Device>(
+    alloc: Global,
+    nodes: &mut [NodeSeat<M, D>],
+    audit: &mut Audit<M>,
+    first: u16,
+) -> Result<Vec<u8>, Fault>
+    ensures got { IfOk result (λ text. IsGotReport audit.new.seat.part text.items) }
+    ensures kept { (text : List ℕ) → IsGotReport audit.old.seat.part text
+        → IsGotReport audit.new.seat.part text }
+{
+    let first = Position::new(first).ok_or(Fault::BadConfig)?;
+    let node = nodes.first_mut().ok_or(Fault::BadConfig)?;
+    let report = node.report(alloc, first)?;
+    if node.put(report.bytes).is_err() {
+        return Err(Fault::Io);
+    }
+    audit.fetch(Party::Node(node.number())).ok_or(Fault::Io)
+}
+
+/// What reports of the first node come to, and what is known of it then.
+#[derive(Drop)]
+struct Heard {
+    outcomes: [Added; 4],
+    known: Vec<Action>,
+}
+
+/// Node 1 reports before it has applied anything, and once it has applied one action, two and three.
+/// The audit adds the report of one action behind that of two.
+fn hear<M: Machine, D: Device>(
+    alloc: Global,
+    program: &M::Program,
+    devices: Vec<D>,
+) -> Result<Heard, Fault> {
+    let all: AllSeats<M, D> = seats(alloc, CONFIG, program, devices)?;
+    let mut nodes = all.nodes;
+    let mut audit = Audit::new(alloc, all.audit);
+    let none = reported(alloc, nodes.as_mut_slice(), &mut audit, 3)?;
+    let gap = audit.add(alloc, none.as_slice())?;
+    tick(alloc, nodes.as_mut_slice(), 1)?;
+    let one = reported(alloc, nodes.as_mut_slice(), &mut audit, 1)?;
+    tick(alloc, nodes.as_mut_slice(), 2)?;
+    let two = reported(alloc, nodes.as_mut_slice(), &mut audit, 1)?;
+    let second = audit.add(alloc, two.as_slice())?;
+    let again = audit.add(alloc, one.as_slice())?;
+    tick(alloc, nodes.as_mut_slice(), 3)?;
+    let three = reported(alloc, nodes.as_mut_slice(), &mut audit, 3)?;
+    let third = audit.add(alloc, three.as_slice())?;
+    let node = NodeId::new(1).ok_or(Fault::BadConfig)?;
+    let mut known = Vec::new(alloc);
+    known.extend_from_slice(audit.known(node))?;
+    Ok(Heard {
+        outcomes: [gap, second, again, third],
+        known,
+    })
+}
+
+#[test]
+fn an_audit_knows_what_was_reported_without_a_gap(rt: HostRuntime) -> Result<(), Fail> {
+    let alloc = rt.alloc();
+    let program = TallyProgram::new(1).ok_or("one object")?;
+    let devices = devices(alloc)?;
+    let heard = hear::<Tally, MemDevice>(alloc, &program, devices)?;
+    let node = NodeId::new(1).ok_or("node 1")?;
+    let outcomes = [
+        Added::Gap { node, known: 0 },
+        Added::Added { node, known: 2 },
+        Added::Added { node, known: 2 },
+        Added::Added { node, known: 3 },
+    ];
+    assert_eq!(rt; heard.outcomes.as_slice(), outcomes.as_slice());
+    let ticks = [
+        Action::Tick { now: 1 },
+        Action::Tick { now: 2 },
+        Action::Tick { now: 3 },
+    ];
+    assert_eq!(rt; heard.known.as_slice(), ticks.as_slice());
+    Ok(())
+}

@@ -1,0 +1,35 @@
+use rp_base::{Config, Fault};
+use rp_boxes::NodeSeat;
+use rp_codec::Party;
+use rp_machine::Machine;
+use rp_replica::Input;
+use rp_store::{Device, MemDevice};
+use rp_threads::node_step;
+use std::alloc::{AllocError, Global};
+
+/// Three nodes with a log of 1,000 positions.
+pub(crate) const CONFIG: Config = Config {
+    nodes: 3,
+    max_positions: 1000,
+};
+
+/// Their devices, with nothing on them.
+pub(crate) fn devices(alloc: Global) -> Result<Vec<MemDevice>, AllocError> {
+    let mut devices = Vec::new(alloc);
+    for _ in 0..CONFIG.nodes {
+        devices.push(MemDevice::new(alloc))?;
+    }
+    Ok(devices)
+}
+
+/// The node receives what is in the box from a party, if there is anything.
+pub(crate) fn receive<M: Machine, D: Device>(
+    seat: &mut NodeSeat<M, D>,
+    alloc: Global,
+    from: Party,
+) -> Result<(), Fault> {
+    if let Some(packet) = seat.fetch(from) {
+        node_step(seat, alloc, &Input::Receive(packet.as_slice()))?;
+    }
+    Ok(())
+}

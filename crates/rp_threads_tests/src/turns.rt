@@ -1,0 +1,92 @@
+use crate::setup::{CONFIG, devices};
+use rp_base::{Fault, NodeId, Operation, TaskId};
+use rp_boxes::{AllSeats, seats};
+use rp_codec::Party;
+use rp_machine::{Machine, Tally, TallyProgram};
+use rp_store::{Device, MemDevice};
+use rp_tasks::FaultLine;
+use rp_threads::{TaskCall, Turn, node_turn, task_loop};
+use std::alloc::Global;
+use std::test::Fail;
+
+/// What a turn came to, and the packet that is then in a box.
+#[derive(Drop)]
+struct Made {
+    turn: Option<Turn>,
+    made: usize,
+    packet: Option<Vec<u8>>,
+}
+
+/// Node 1 makes a turn in which it is to lead, on an empty line. The packet is the one in its own box.
+fn leads<M: Machine, D: Device>(
+    alloc: Global,
+    program: &M::Program,
+    devices: Vec<D>,
+) -> Result<Made, Fault> {
+    let mut all: AllSeats<M, D> = seats(alloc, CONFIG, program, devices)?;
+    let node = all.nodes.first_mut().ok_or(Fault::BadConfig)?;
+    let from = Party::Node(NodeId::new(1).ok_or(Fault::BadConfig)?);
+    let mut line = FaultLine::new(alloc, [0; 32])?;
+    let turned = node_turn(node, &mut line, alloc, from, true)?;
+    Ok(Made {
+        turn: Some(turned.turn),
+        made: turned.sent,
+        packet: node.fetch(from),
+    })
+}
+
+/// The first task makes one turn, with one call of node 1. The packet is the one in the box to node 1.
+fn calls<M: Machine, D: Device>(
+    alloc: Global,
+    program: &M::Program,
+    devices: Vec<D>,
+) -> Result<Made, Fault> {
+    let mut all: AllSeats<M, D> = seats(alloc, CONFIG, program, devices)?;
+    let call = TaskCall {
+        node: NodeId::new(1).ok_or(Fault::BadConfig)?,
+        object: 1,
+        operation: Operation::Procedure(1),
+        arg: 5,
+    };
+    let from = Party::Task(TaskId::new(1).ok_or(Fault::BadConfig)?);
+    let task = all.tasks.swap_remove(0);
+    let line = FaultLine::new(alloc, [0; 32])?;
+    let end = task_loop(task, &[call], line, alloc, 3, 1);
+    let node = all.nodes.first_mut().ok_or(Fault::BadConfig)?;
+    Ok(Made {
+        turn: None,
+        made: end.made,
+        packet: node.fetch(from),
+    })
+}
+
+#[test]
+fn an_empty_line_lets_a_node_lead(rt: HostRuntime) -> Result<(), Fail> {
+    let alloc = rt.alloc();
+    let program = TallyProgram::new(1).ok_or("one object")?;
+    let devices = devices(alloc)?;
+    let made = leads::<Tally, MemDevice>(alloc, &program, devices)?;
+    assert_eq!(rt; made.turn, Some(Turn::Led));
+    assert_eq!(rt; made.made, 3);
+    let packet = made.packet.ok_or("it asks itself for a promise")?;
+    assert_eq!(rt;
+        packet.as_slice(),
+        b"\x01\x02\x01\x01\0\x01\0\0\0\0\0\0\0\x09".as_slice()
+    );
+    Ok(())
+}
+
+#[test]
+fn a_task_makes_its_first_call_in_its_first_turn(rt: HostRuntime) -> Result<(), Fail> {
+    let alloc = rt.alloc();
+    let program = TallyProgram::new(1).ok_or("one object")?;
+    let devices = devices(alloc)?;
+    let made = calls::<Tally, MemDevice>(alloc, &program, devices)?;
+    assert_eq!(rt; made.made, 1);
+    let packet = made.packet.ok_or("the call is in its box")?;
+    assert_eq!(rt;
+        packet.as_slice(),
+        b"\x01\x01\x11\x01\x01\x01\0\0\0\x01\x01\x02\x01\0\0\0\0\0\0\0\x05".as_slice()
+    );
+    Ok(())
+}

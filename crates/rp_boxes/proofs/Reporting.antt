@@ -18,7 +18,7 @@ use Rattle.rp_boxes.specs.Seats.{Chair, IsFetched}
 -- who tells the audit is a node, and tells it a report
 told_by : (from : Party) (body : Body) → MaySay from Audit body
     → (node : ℕ) × (first : ℕ) × (applied : ℕ) × (actions : List Action) × (from ≡ Node node) × (body ≡ Report first applied actions)
-told_by from (Call action) says = absurd says.1.0
+told_by from (Call action) says = absurd says.1
 told_by from (Prepare position ballot) says = absurd says.1
 told_by from (Promise position ballot last) says = absurd says.0.1
 told_by from (Accept position ballot action) says = absurd says.0.1
@@ -26,15 +26,15 @@ told_by from (Accepted position ballot action) says = absurd says.0.1
 told_by from (Decided position action) says = absurd says.0.1
 told_by from (Ask position) says = absurd says.1
 told_by from (Nack position ballot bound) says = absurd says.0.1
-told_by from (Reply number reply) says = absurd says.1.0
-told_by (Node n) (Report first applied actions) says = (n, (first, (applied, (actions, (refl, refl)))))
+told_by from (Reply number reply) says = absurd says.1
+told_by (Node n) (Report first applied actions) says = (n, first, applied, actions, refl, refl)
 told_by (Task t) (Report first applied actions) says = absurd says.0
 told_by Audit (Report first applied actions) says = absurd says.0
 
 is_report : (m : Message) → IsPacket m → m.to ≡ Audit → (node : ℕ) × (first : ℕ) × (applied : ℕ) × (actions : List Action) × (m ≡ report node first applied actions)
 is_report m right to =
     let by = told_by m.from m.body (subst (λ (party : Party). MaySay m.from party m.body) to right.rules) in
-    (by.0, (by.1.0, (by.1.1.0, (by.1.1.1.0, (λ k. record { from = by.1.1.1.1.0 k; to = to k; body = by.1.1.1.1.1 k })))))
+    (by.0, by.1, by.2, by.3, λ k. record { from = by.4 k; to = to k; body = by.5 k })
 
 -- it is got with the packet
 pub got_report : {P : Type 0} (from : Party) (bytes : List ℕ) (old new : Chair P) → IsFetched from Audit bytes old new → IsGotReport new.part bytes
@@ -42,16 +42,16 @@ got_report from bytes old new is =
     let by = is_report is.packet is.right is.receiver in
     let here : Has is.packet (with_got is.packet old.part).got = has_right is.packet old.part.got (is.packet ∷ []) (inl refl) in
     subst (λ chair. IsGotReport chair.part bytes) (sym is.after)
-    (by.0, (by.1.0, (by.1.1.0, (by.1.1.1.0, (subst (λ (m : Message). Has m (with_got is.packet old.part).got) by.1.1.1.1 here, is.text ∙ ap text_of by.1.1.1.1)))))
+    (by.0, by.1, by.2, by.3, subst (λ (m : Message). Has m (with_got is.packet old.part).got) by.4 here, is.text ∙ ap text_of by.4)
 
 -- what was got before stays got
 pub got_still : {P : Type 0} (from : Party) (old new : Chair P) (found : Option (Vec ℕ Global))
     → IfSome found (λ text. IsFetched from Audit text.items old new) → IfNone found (new ≡ old) → (text : List ℕ) → IsGotReport old.part text → IsGotReport new.part text
 got_still from old new None some none text got = subst (λ chair. IsGotReport chair.part text) (sym none) got
 got_still from old new (Some found) some none text got =
-    let m = report got.0 got.1.0 got.1.1.0 got.1.1.1.0 in
+    let m = report got.0 got.1 got.2 got.3 in
     subst (λ chair. IsGotReport chair.part text) (sym some.after)
-    (got.0, (got.1.0, (got.1.1.0, (got.1.1.1.0, (has_left m old.part.got (some.packet ∷ []) got.1.1.1.1.0, got.1.1.1.1.1)))))
+    (got.0, got.1, got.2, got.3, has_left m old.part.got (some.packet ∷ []) got.4, got.5)
 
 pub all_got : {P : Type 0} (from : Party) (old new : Chair P) (found : Option (Vec ℕ Global))
     → IfSome found (λ text. IsFetched from Audit text.items old new) → IfSome found (λ text. IsGotReport new.part text.items)

@@ -1,6 +1,7 @@
--- What a task's call sent is one packet, and the bytes are its text.
+-- What a call or a report sent is one packet, and the bytes are its text.
 use Rattle.std.proofs.Common.{◌≡◌, ℕ, ℤ, Option, Some, None, Result, Ok, Err, List, [], ◌∷◌, ◌++◌, refl, sym, ap, subst, ◌∙◌, append-nil, inl}
 use Rattle.std.specs.Prelude.{IfOk}
+use Rattle.rp_base.specs.Records.{applied_of}
 use Rattle.rp_base.specs.Sets.{Has}
 use Rattle.rp_base.specs.declared.action.Action.{Action}
 use Rattle.rp_base.specs.declared.action.Operation.{Operation}
@@ -9,13 +10,15 @@ use Rattle.rp_base.proofs.Members.{has_right}
 use Rattle.rp_codec.specs.Message.{Message}
 use Rattle.rp_codec.specs.Text.{text_of}
 use Rattle.rp_codec.specs.declared.packet.Party.{Party}
-use Rattle.rp_model.specs.Effect.{Done}
+use Rattle.rp_model.specs.Effect.{Done, report_of}
 use Rattle.rp_model.specs.Parts.{TaskPart}
 use Rattle.rp_model.specs.Tasks.{Submit, asks, calls_if, may_call, next_call}
 use Rattle.rp_replica.specs.Packets.{texts_of}
 use Rattle.rp_replica.specs.declared.sent.Sent.{Sent}
-use Rattle.rp_boxes.specs.Seats.{Chair, IsSentText, IsFetched}
+use Rattle.rp_boxes.specs.Seats.{Chair, IsSentText, IsFetched, IsReport}
 use Rattle.rp_boxes.specs.TaskSeats.{IsTaskTurn}
+use Rattle.rp_tasks.specs.Line.{Line}
+use Rattle.rp_threads.specs.Lines.{HoldsTextsOf}
 
 -- one packet was sent
 abbrev SendsOne : Done TaskPart → Type 0
@@ -47,3 +50,15 @@ fetched_is_got {P} from to bytes text old new fetched same =
     let m = fetched.packet in
     let after : new.part.got ≡ old.part.got ++ m ∷ [] = ap (λ (c : Chair P). c.part.got) fetched.after in
     (m, subst (Has m) (sym after) (has_right m old.part.got (m ∷ []) (inl refl)), same ∙ fetched.text)
+
+-- what was reported is sent
+pub reported_is_sent : {P : Type 0} (first : ℕ) (text : List ℕ) (old new : Chair P) (sent : Sent) → IsReport first old new sent → text ≡ sent.bytes.items
+    → IsSentText new.part text
+reported_is_sent {P} first text old new sent is same =
+    let m = report_of old.number first (applied_of is.node.records) in
+    let after : new.part.sent ≡ old.part.sent ++ m ∷ [] = ap (λ (c : Chair P). c.part.sent) is.after in
+    (m, subst (Has m) (sym after) (has_right m old.part.sent (m ∷ []) (inl refl)), same ∙ is.text)
+
+-- a line that holds nothing holds no other text
+pub nothing_held : (packets : List Message) (line : Line) → line.held ≡ [] → HoldsTextsOf packets line
+nothing_held packets line none = record { each = λ text there. absurd (subst (λ (held : List (List ℕ)). Has text held) none there) }

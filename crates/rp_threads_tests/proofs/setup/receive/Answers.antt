@@ -1,6 +1,6 @@
 -- The node got what its seat fetched.
 use Rattle.rp_threads_tests.proofs.Asking.{fetched_is_got}
-use Rattle.rp_threads_tests.proofs.seats.receive.Goals as goal
+use Rattle.rp_threads_tests.proofs.setup.receive.Goals as goal
 
 pub node_step-requires-clause-got : goal.node_step-requires-clause-got
 node_step-requires-clause-got g c =

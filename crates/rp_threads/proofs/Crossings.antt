@@ -5,10 +5,15 @@ use mir.Val.{Val}
 use base.Shift.{Keyless}
 use denote.RattleType.{RattleType}
 use denote.Enum.Enum.{Sum, payload}
-use denote.Model.Local.{Parts, rows}
+use denote.Model.Local.{Parts}
+use denote.Model.Local as local
 use denote.Model.Marks.{tied_send}
-use denote.Param.Send.{IsSend, struct_send, recorded_send, sendable}
+use denote.Param.Send.{IsSend, AllSend, struct_send, recorded_send, sendable}
 use denote.Struct.Declared.{shape}
+use denote.Struct.Field.{rows}
+use denote.Struct.Struct.{Struct}
+use denote.Struct.Tuple.{parts, type_at, TupleAt}
+use mir.Syntax.{Sym}
 use Rattle.std.proofs.Crossing.{crosses}
 use Rattle.std.proofs.MapsCrossing as maps
 use Rattle.std.specs.contracts.snapshot.Snapshot as Snapshot
@@ -17,6 +22,7 @@ use Rattle.circular_buffer.proofs.cells.Deed.TheSendSync as deed
 use Rattle.atomic_table.proofs.shared.Seat.TheSendSync as place
 use Rattle.atomic_table.proofs.shared.Shared.TheSendSync as shared
 use Rattle.atomic_table.proofs.send_lease.SendLease.TheSendSync as lease
+use Rattle.rp_base.specs.contracts.fault.Fault as Fault
 use Rattle.rp_base.specs.contracts.history.History as History
 use Rattle.rp_base.specs.contracts.history.History.TheKnot as knot
 use Rattle.rp_base.specs.declared.history.History.TheDeep as deep
@@ -31,11 +37,16 @@ use Rattle.rp_store.specs.contracts.store.Store as Store
 use Rattle.rp_store.specs.contracts.store.Store.TheInside as store
 use Rattle.rp_replica.specs.contracts.replica.Replica as Replica
 use Rattle.rp_replica.specs.contracts.replica.Replica.TheInside as replica
+use Rattle.rp_tasks.specs.contracts.line.FaultLine as FaultLine
+use Rattle.rp_tasks.specs.contracts.line.FaultLine.TheInside as line
 use Rattle.rp_world.specs.contracts.task.Task as Task
 use Rattle.rp_boxes.specs.contracts.node_seat.NodeSeat as NodeSeat
 use Rattle.rp_boxes.specs.contracts.node_seat.NodeSeat.TheInside as node_seat
 use Rattle.rp_boxes.specs.contracts.task_seat.TaskSeat as TaskSeat
 use Rattle.rp_boxes.specs.contracts.task_seat.TaskSeat.TheInside as task_seat
+use Rattle.rp_threads.specs.contracts.loops.NodeEnd as NodeEnd
+use Rattle.rp_threads.specs.contracts.tasks.TaskCall as TaskCall
+use Rattle.rp_threads.specs.contracts.tasks.TaskEnd as TaskEnd
 
 -- ---- a list that memory does not hold
 
@@ -47,9 +58,9 @@ either X T x t (inr (inr c)) us = absurd c
 past_send : (Y : RattleType) → IsSend (Snapshot.the_row Y)
 past_send Y = search (crosses, sendable)
 
-keeps : (T : RattleType) → IsSend T → (p : Parts (knot.frame T)) → ((j : deep.the_members) → IsSend (rows (knot.frame T) p j)) → (i : deep.the_members) → IsSend (rows (knot.frame T) (knot.step T p) i)
+keeps : (T : RattleType) → IsSend T → (p : Parts (knot.frame T)) → ((j : deep.the_members) → IsSend (local.rows (knot.frame T) p j)) → (i : deep.the_members) → IsSend (local.rows (knot.frame T) (knot.step T p) i)
 keeps T s p all deep.member-History =
-    let earlier = rows (knot.frame T) p deep.member-History in
+    let earlier = local.rows (knot.frame T) p deep.member-History in
     record { owned = λ x vs x'. ((λ us. (tt, ((λ ws. (tt, either (Snapshot.the_row earlier) T (past_send earlier) s _ ws)), tt))), tt); leaving = λ k d w. tt }
 
 pub history_send : (T : RattleType) → IsSend T → IsSend (History.the_row T)
@@ -160,3 +171,47 @@ task_inside M P m s = recorded_send (task_seat.the_field M P m).row _ _ (task_se
 
 pub task_seat_send : (M P : RattleType) (m : machine.Ghosts M.Denot P.Denot) → IsSend M → IsSend (TaskSeat.the_row M P m)
 task_seat_send M P m s = let i = task_inside M P m s in search (sendable, i)
+
+-- ---- lines and ends
+
+line_inside : IsSend line.the_row
+line_inside = recorded_send (line.the_field).row _ _ (line.the_type).to_one (struct_send (shape line.the_type) (search (crosses, sendable) depth 20, (search (crosses, sendable) depth 40 fits 20000, tt)))
+
+pub line_send : IsSend FaultLine.the_row
+line_send = let i = line_inside in search (sendable, i)
+
+fault_send : IsSend Fault.the_row
+fault_send = search (crosses, sendable) depth 60 fits 40000
+
+pub node_end_send : (M D P : RattleType) (m : machine.Ghosts M.Denot P.Denot) (d : device.Ghosts D.Denot) → IsSend M → IsSend D → IsSend (NodeEnd.the_row M D P m d)
+node_end_send M D P m d s t = recorded_send (NodeEnd.the_field M D P m d).row _ _ (NodeEnd.the_type M D P m d).to_one (struct_send (shape (NodeEnd.the_type M D P m d)) (
+  node_seat_send M D P m d s t,
+  (
+    search (crosses, sendable),
+    (
+      search (crosses, sendable),
+      (search (crosses, sendable), (search (crosses, sendable), (search (crosses, sendable, fault_send), tt))),
+    ),
+  ),
+))
+
+pub task_call_send : IsSend TaskCall.the_row
+task_call_send = search (crosses, sendable) depth 60 fits 40000
+
+pub task_end_send : (M P : RattleType) (m : machine.Ghosts M.Denot P.Denot) → IsSend M → IsSend (TaskEnd.the_row M P m)
+task_end_send M P m s = recorded_send (TaskEnd.the_field M P m).row _ _ (TaskEnd.the_type M P m).to_one (struct_send (shape (TaskEnd.the_type M P m)) (
+  task_seat_send M P m s,
+  (search (crosses, sendable), (search (crosses, sendable, fault_send), tt)),
+))
+
+-- ---- what a closure captures
+
+all_sent : (Ts : List RattleType) → AllSend Ts → AllSend (rows (parts Ts))
+all_sent [] all = tt
+all_sent (T ∷ Ts) all = (all.0, all_sent Ts all.1)
+
+-- a closure that captures six values
+pub six_send : (name : Sym) (A B C D E F : RattleType) → IsSend A → IsSend B → IsSend C → IsSend D → IsSend E → IsSend F → IsSend (TupleAt name (A ∷ B ∷ C ∷ D ∷ E ∷ F ∷ []))
+six_send name A B C D E F a b c d e f =
+    let T = type_at name (A ∷ B ∷ C ∷ D ∷ E ∷ F ∷ []) in
+    recorded_send (Struct (shape T)) T.D T.to T.to_one (struct_send (shape T) (all_sent (A ∷ B ∷ C ∷ D ∷ E ∷ F ∷ []) (a, (b, (c, (d, (e, (f, tt))))))))

@@ -3,4 +3,5 @@ pub mod Steps
 pub mod Cuts
 pub mod Rounds
 pub mod TaskSteps
+pub mod Places
 mod Crossings

@@ -2,3 +2,4 @@ pub mod Lines
 pub mod Turns
 pub mod Loops
 pub mod Tasks
+pub mod Threads

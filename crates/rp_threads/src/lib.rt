@@ -8,6 +8,8 @@
 //! - `loops`: a node's turns, one after the other
 //! - `tasks`: a task's calls, one after the other
 //! - `crossing`: seats cross to other threads
+//! - `starts`: a node or a task starts in a thread of its own
+//! - `threads`: all of them run, and are joined
 #![tactic(auto)]
 
 mod crossing;
@@ -15,11 +17,15 @@ mod gate;
 mod loops;
 mod rotation;
 mod sends;
+mod starts;
 mod tasks;
+mod threads;
 mod turns;
 
 pub use crossing::{node_seat_crosses, task_seat_crosses};
 pub use gate::{Gate, Open};
 pub use loops::{NodeEnd, node_loop};
+pub use starts::{NodeStart, TaskStart};
 pub use tasks::{TaskCall, TaskEnd, task_loop};
+pub use threads::run_threads;
 pub use turns::{Turn, Turned, node_step, node_turn};

@@ -1,0 +1,15 @@
+-- Each end keeps the promise of the handle at its place.
+use Rattle.std.proofs.Common.{◌≡◌, length, sym, ◌∙◌, arith}
+use Rattle.std.specs.Prelude.{vec_len}
+use Rattle.rp_threads.specs.Threads.{IsTaskLooped}
+use Rattle.rp_threads.proofs.Places.{zipped}
+use Rattle.rp_threads.proofs.threads.join_tasks.Goals as goal
+
+pub returns : goal.returns
+returns g c =
+    let told = c.in_ok-ends.ensures in
+    let handles = c.args.handles in
+    let ends = c.in_ok-ends.ends in
+    let long : vec_len handles ≡ length handles.items = handles.ok.0 in
+    zipped (λ handle end. IsTaskLooped handle.promise.seat.value handle.promise.calls.value.items handle.promise.turns end) handles.items ends.items (sym ends.ok.0 ∙ told.len ∙ long)
+    (λ i d below. let at = (told.each i d (omega (arith, long, below))).1 in record { item = at.handle; is = at.handle_is; fits = at.kept })

@@ -1,0 +1,126 @@
+//! A node or a task starts in a thread of its own.
+
+ghost use Rattle.std.specs.Prelude.{◌≡◌, ◌≤◌, [], IfOk};
+ghost use Rattle.rp_boxes.specs.Parts.{fresh_part, OfTask};
+ghost use Rattle.rp_model.specs.Parts.{fresh_task};
+ghost use Rattle.rp_threads.specs.Threads.{IsLooped, IsTaskLooped};
+
+use crate::gate::Gate;
+use crate::loops::{NodeEnd, node_loop};
+use crate::tasks::{TaskCall, TaskEnd, task_loop};
+use rp_boxes::{NodeSeat, TaskSeat};
+use rp_machine::Machine;
+use rp_store::Device;
+use rp_tasks::FaultLine;
+use std::alloc::{AllocError, Global};
+use std::snapshot::Snapshot;
+use std::thread::{Promise, PromisedHandle, Scope};
+
+/// A node that is to run in a thread of its own, and the line that its packets come through.
+#[derive(Drop)]
+pub struct NodeStart<M: Machine, D: Device> {
+    pub seat: NodeSeat<M, D>,
+    pub line: FaultLine,
+}
+
+/// A task that is to run in a thread of its own, with the calls that it is to make and the line that
+/// its packets come through.
+#[derive(Drop)]
+pub struct TaskStart<M: Machine> {
+    pub seat: TaskSeat<M>,
+    pub calls: Vec<TaskCall>,
+    pub line: FaultLine,
+}
+
+/// The thread of a node owes what `node_loop` promises of its seat and so many turns.
+#[derive(Drop)]
+pub(crate) struct NodeOwes<M: Machine, D: Device> {
+    pub(crate) seat: Snapshot<NodeSeat<M, D>>,
+    pub(crate) turns: u64,
+}
+
+impl<M: Machine, D: Device> Promise<NodeEnd<M, D>> for NodeOwes<M, D> {
+    ghost use Rattle.rp_threads.specs.Threads.{IsLooped};
+
+    ghost kept_by = { λ owes end. IsLooped owes.seat.value owes.turns end };
+}
+
+/// The thread of a task owes what `task_loop` promises of its seat, its calls and so many turns.
+#[derive(Drop)]
+pub(crate) struct TaskOwes<M: Machine> {
+    pub(crate) seat: Snapshot<TaskSeat<M>>,
+    pub(crate) calls: Snapshot<Vec<TaskCall>>,
+    pub(crate) turns: u64,
+}
+
+impl<M: Machine> Promise<TaskEnd<M>> for TaskOwes<M> {
+    ghost use Rattle.rp_threads.specs.Threads.{IsTaskLooped};
+
+    ghost kept_by = { λ owes end. IsTaskLooped owes.seat.value owes.calls.value.items owes.turns end };
+}
+
+/// Starts a node's loop in a thread. Refused where no thread can be made; the seat is dropped then.
+pub(crate) fn start_node<'s, E, M: Machine + Send + 's, D: Device + Send + 's, G: Gate + Sync>(
+    scope: &Scope<'s, E>,
+    start: NodeStart<M, D>,
+    alloc: Global,
+    nodes: u8,
+    gate: &'s G,
+    turns: u64,
+) -> Result<PromisedHandle<NodeEnd<M, D>, NodeOwes<M, D>>, AllocError>
+where
+    M::Program: Send,
+    requires nodes { nodes ≤ 7 }
+    requires line { start.line.held ≡ [] }
+    ensures seat { IfOk result (λ handle. handle.promise.seat.value ≡ start.seat) }
+    ensures turns { IfOk result (λ handle. handle.promise.turns ≡ turns) }
+{
+    let NodeStart { seat, line } = start;
+    let owes = NodeOwes {
+        seat: Snapshot::of(&seat),
+        turns,
+    };
+    let handle = scope.spawn_with(
+        owes,
+        move || -> NodeEnd<M, D>
+            requires { (nodes ≤ 7) × (line.held ≡ []) }
+            ensures { IsLooped seat turns result }
+        { node_loop(seat, line, alloc, nodes, gate, turns) },
+    )?;
+    Ok(handle)
+}
+
+/// Starts a task's loop in a thread. Refused where no thread can be made; the seat is dropped then.
+pub(crate) fn start_task<'s, E, M: Machine + Send + 's>(
+    scope: &Scope<'s, E>,
+    start: TaskStart<M>,
+    alloc: Global,
+    nodes: u8,
+    turns: u64,
+) -> Result<PromisedHandle<TaskEnd<M>, TaskOwes<M>>, AllocError>
+where
+    M::Program: Send,
+    requires nodes { (1 ≤ nodes) × (nodes ≤ 7) }
+    requires line { start.line.held ≡ [] }
+    requires fresh { start.seat.part ≡ fresh_part (OfTask fresh_task) }
+    ensures seat { IfOk result (λ handle. handle.promise.seat.value ≡ start.seat) }
+    ensures calls { IfOk result (λ handle. handle.promise.calls.value ≡ start.calls) }
+    ensures turns { IfOk result (λ handle. handle.promise.turns ≡ turns) }
+{
+    let TaskStart { seat, calls, line } = start;
+    let owes = TaskOwes {
+        seat: Snapshot::of(&seat),
+        calls: Snapshot::of(&calls),
+        turns,
+    };
+    let handle = scope.spawn_with(
+        owes,
+        move || -> TaskEnd<M>
+            requires nodes { (1 ≤ nodes) × (nodes ≤ 7) }
+            requires line { line.held ≡ [] }
+            requires fresh { seat.part ≡ fresh_part (OfTask fresh_task) }
+            ensures { IsTaskLooped seat calls.items turns result }
+        { task_loop(seat, calls.as_slice(), line, alloc, nodes, turns) },
+    )?;
+    Ok(handle)
+}

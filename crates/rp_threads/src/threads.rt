@@ -1,0 +1,160 @@
+//! Nodes and tasks run in threads of their own.
+
+ghost use Rattle.std.specs.Prelude.{◌≡◌, ◌≤◌, [], All, IfOk, length};
+ghost use Rattle.std.specs.List.{AllZip};
+ghost use Rattle.rp_boxes.specs.Parts.{fresh_part, OfTask};
+ghost use Rattle.rp_model.specs.Parts.{fresh_task};
+ghost use Rattle.rp_threads.specs.Threads.{IsLooped, IsTaskLooped};
+
+use crate::gate::Gate;
+use crate::loops::NodeEnd;
+use crate::starts::{NodeOwes, NodeStart, TaskOwes, TaskStart, start_node, start_task};
+use crate::tasks::TaskEnd;
+use rp_machine::Machine;
+use rp_store::Device;
+use std::alloc::{AllocError, Global};
+use std::sync::Wait;
+use std::thread;
+use std::thread::{PromisedHandle, Scope, Threads};
+
+/// Starts the nodes, each in a thread.
+fn start_nodes<'s, E, M: Machine + Send + 's, D: Device + Send + 's, G: Gate + Sync>(
+    scope: &Scope<'s, E>,
+    alloc: Global,
+    starts: Vec<NodeStart<M, D>>,
+    nodes: u8,
+    gate: &'s G,
+    turns: u64,
+) -> Result<Vec<PromisedHandle<NodeEnd<M, D>, NodeOwes<M, D>>>, AllocError>
+where
+    M::Program: Send,
+    requires nodes { nodes ≤ 7 }
+    requires lines { All (λ start. start.line.held ≡ []) starts.items }
+    ensures { IfOk result (λ handles. AllZip (λ start handle.
+        (handle.promise.seat.value ≡ start.seat) × (handle.promise.turns ≡ turns))
+        starts.items handles.items) }
+{
+    let mut handles = Vec::new(alloc);
+    for start in starts {
+        handles.push(start_node(scope, start, alloc, nodes, gate, turns)?)?;
+    }
+    Ok(handles)
+}
+
+/// Starts the tasks, each in a thread.
+fn start_tasks<'s, E, M: Machine + Send + 's>(
+    scope: &Scope<'s, E>,
+    alloc: Global,
+    starts: Vec<TaskStart<M>>,
+    nodes: u8,
+    turns: u64,
+) -> Result<Vec<PromisedHandle<TaskEnd<M>, TaskOwes<M>>>, AllocError>
+where
+    M::Program: Send,
+    requires nodes { (1 ≤ nodes) × (nodes ≤ 7) }
+    requires lines { All (λ start. start.line.held ≡ []) starts.items }
+    requires fresh { All (λ start. start.seat.part ≡ fresh_part (OfTask fresh_task)) starts.items }
+    ensures { IfOk result (λ handles. AllZip (λ start handle.
+        (handle.promise.seat.value ≡ start.seat) × (handle.promise.calls.value ≡ start.calls)
+        × (handle.promise.turns ≡ turns)) starts.items handles.items) }
+{
+    let mut handles = Vec::new(alloc);
+    for start in starts {
+        handles.push(start_task(scope, start, alloc, nodes, turns)?)?;
+    }
+    Ok(handles)
+}
+
+/// Joins the threads of nodes.
+fn join_nodes<R: Threads, M: Machine, D: Device>(
+    rt: &R,
+    handles: Vec<PromisedHandle<NodeEnd<M, D>, NodeOwes<M, D>>>,
+) -> Result<Vec<NodeEnd<M, D>>, AllocError>
+    ensures { IfOk result (λ ends. AllZip (λ handle end.
+        IsLooped handle.promise.seat.value handle.promise.turns end) handles.items ends.items) }
+{
+    let ends = thread::join_promised(rt, handles)?;
+    Ok(ends)
+}
+
+/// Joins the threads of tasks.
+fn join_tasks<R: Threads, M: Machine>(
+    rt: &R,
+    handles: Vec<PromisedHandle<TaskEnd<M>, TaskOwes<M>>>,
+) -> Result<Vec<TaskEnd<M>>, AllocError>
+    ensures { IfOk result (λ ends. AllZip (λ handle end. IsTaskLooped handle.promise.seat.value
+        handle.promise.calls.value.items handle.promise.turns end) handles.items ends.items) }
+{
+    let ends = thread::join_promised(rt, handles)?;
+    Ok(ends)
+}
+
+/// Starts all, and joins them.
+fn run_within<'s, E, R: Threads, M: Machine + Send + 's, D: Device + Send + 's, G: Gate + Sync>(
+    scope: &Scope<'s, E>,
+    rt: &R,
+    alloc: Global,
+    nodes: Vec<NodeStart<M, D>>,
+    tasks: Vec<TaskStart<M>>,
+    gate: &'s G,
+    turns: u64,
+) -> Result<(Vec<NodeEnd<M, D>>, Vec<TaskEnd<M>>), AllocError>
+where
+    M::Program: Send,
+    requires count { (1 ≤ length nodes.items) × (length nodes.items ≤ 7) }
+    requires node_lines { All (λ start. start.line.held ≡ []) nodes.items }
+    requires task_lines { All (λ start. start.line.held ≡ []) tasks.items }
+    requires fresh { All (λ start. start.seat.part ≡ fresh_part (OfTask fresh_task)) tasks.items }
+    ensures nodes { IfOk result (λ ends. AllZip (λ start end. IsLooped start.seat turns end)
+        nodes.items ends.0.items) }
+    ensures tasks { IfOk result (λ ends. AllZip (λ start end.
+        IsTaskLooped start.seat start.calls.items turns end) tasks.items ends.1.items) }
+{
+    let count = nodes.len() as u8;
+    let nodes = start_nodes(scope, alloc, nodes, count, gate, turns)?;
+    let tasks = start_tasks(scope, alloc, tasks, count, turns)?;
+    let nodes = join_nodes(rt, nodes)?;
+    let tasks = join_tasks(rt, tasks)?;
+    Ok((nodes, tasks))
+}
+
+/// Runs each node and each task in a thread of its own, so many turns each, and answers once all of
+/// them have ended, with their ends in the order of the starts. The nodes are taken to be those of
+/// the numbers 1 to so many. A node turns as `node_loop` says, by the gate, and a task as `task_loop`
+/// does. `AllocError` where no thread can be made for one of them, or where memory is wanting for the
+/// list of them: the threads that were started still run to their end, and no seat comes back.
+pub fn run_threads<R: Threads + Wait, M: Machine + Send, D: Device + Send, G: Gate + Sync>(
+    rt: &R,
+    alloc: Global,
+    nodes: Vec<NodeStart<M, D>>,
+    tasks: Vec<TaskStart<M>>,
+    gate: &G,
+    turns: u64,
+) -> Result<(Vec<NodeEnd<M, D>>, Vec<TaskEnd<M>>), AllocError>
+where
+    M::Program: Send,
+    requires count { (1 ≤ length nodes.items) × (length nodes.items ≤ 7) }
+    requires node_lines { All (λ start. start.line.held ≡ []) nodes.items }
+    requires task_lines { All (λ start. start.line.held ≡ []) tasks.items }
+    requires fresh { All (λ start. start.seat.part ≡ fresh_part (OfTask fresh_task)) tasks.items }
+    ensures nodes { IfOk result (λ ends. AllZip (λ start end. IsLooped start.seat turns end)
+        nodes.items ends.0.items) }
+    ensures tasks { IfOk result (λ ends. AllZip (λ start end.
+        IsTaskLooped start.seat start.calls.items turns end) tasks.items ends.1.items) }
+{
+    thread::scope(
+        thread::scope_env(),
+        rt,
+        |scope| -> Result<(Vec<NodeEnd<M, D>>, Vec<TaskEnd<M>>), AllocError>
+            requires count { (1 ≤ length nodes.items) × (length nodes.items ≤ 7) }
+            requires node_lines { All (λ start. start.line.held ≡ []) nodes.items }
+            requires task_lines { All (λ start. start.line.held ≡ []) tasks.items }
+            requires fresh { All (λ start.
+                start.seat.part ≡ fresh_part (OfTask fresh_task)) tasks.items }
+            ensures nodes { IfOk result (λ ends. AllZip (λ start end.
+                IsLooped start.seat turns end) nodes.items ends.0.items) }
+            ensures tasks { IfOk result (λ ends. AllZip (λ start end.
+                IsTaskLooped start.seat start.calls.items turns end) tasks.items ends.1.items) }
+        { run_within(scope, rt, alloc, nodes, tasks, gate, turns) },
+    )
+}

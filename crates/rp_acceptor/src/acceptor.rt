@@ -84,6 +84,7 @@ impl Acceptor {
 
     /// Makes room, so that records at this position can be noted, however many. `OutOfMemory` comes
     /// only where there was no room yet, and then nothing has changed.
+    #[inline(always)]
     pub fn reserve(&mut self, position: Position) -> Result<(), Fault>
         ensures ok { OnOk result (self.new ≡ reserves self.old position) }
         ensures err { OnErr result (self.new ≡ self.old) }
@@ -97,6 +98,7 @@ impl Acceptor {
 
     /// Notes a record that is written. There is room for its position, if it is a promise or a
     /// vote; a record of another kind changes no answer.
+    #[inline(always)]
     pub fn note(&mut self, rec: &Rec)
         requires room { HasRoom self.old rec.now }
         ensures noted { self.new ≡ notes self.old rec.now }
@@ -131,6 +133,7 @@ impl Acceptor {
 
     /// What is answered to an `Accept` of the action in the ballot at the position (section 2.2,
     /// phase 2b). The vote counts once the record that it comes with is written and noted.
+    #[inline(always)]
     pub fn accept(&self, position: Position, ballot: Ballot, action: &Action) -> AcceptAnswer
         ensures answer { result ≡ accept_answer self.now.records position ballot action.now }
     {

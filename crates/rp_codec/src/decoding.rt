@@ -232,6 +232,7 @@ fn decode_others(alloc: Global, bytes: &[u8]) -> Result<Result<Packet, PacketRea
 
 /// The packet of which the bytes are the text, all of the bytes. Where they are no packet's text,
 /// the reason is the first fault from left to right. Only a report's actions take memory.
+#[inline(always)]
 pub fn decode(alloc: Global, bytes: &[u8]) -> Result<Result<Packet, PacketReason>, AllocError>
     ensures answer { IfOk result (λ answer. IsDecoded bytes.now answer) }
     ensures memory { OnErr result (IsReportText bytes.now) }

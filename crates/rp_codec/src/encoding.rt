@@ -12,6 +12,7 @@ use crate::report_text::put_report;
 use crate::short_text::{LONGEST, ShortText};
 use std::alloc::{AllocError, Global};
 
+#[inline(always)]
 fn kind_number(body: &Body) -> u8
     ensures { result ≡ kind_number body.now }
 {
@@ -29,6 +30,7 @@ fn kind_number(body: &Body) -> u8
     }
 }
 
+#[inline(always)]
 fn party_number(party: Party) -> u8
     ensures { result ≡ party_number party }
 {
@@ -54,6 +56,7 @@ fn head_of(packet: &Packet) -> [u8; 4]
 }
 
 /// The one text of a packet that is no report. It takes no memory.
+#[inline(always)]
 pub fn text_of_packet(packet: &Packet) -> ShortText
     requires { ¬ IsReportBody packet.now.body }
     ensures { result ≡ text_of packet.now }
@@ -64,6 +67,7 @@ pub fn text_of_packet(packet: &Packet) -> ShortText
 }
 
 /// Puts the packet's one text behind the bytes. Where memory is refused, the bytes stay.
+#[inline(always)]
 pub fn encode_onto(packet: &Packet, out: &mut Vec<u8>) -> Result<(), AllocError>
     ensures ok { OnOk result (out.new.items ≡ out.old.items ++ text_of packet.now) }
     ensures err { OnErr result (out.new.items ≡ out.old.items) }

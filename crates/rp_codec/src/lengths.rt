@@ -33,6 +33,7 @@ fn reply_len(tag: u8) -> usize
 
 /// How many bytes the packet's text has that the bytes begin with. Any bytes may follow it. It
 /// reads three bytes at most, but for a report, which it reads whole. It takes no memory.
+#[inline(always)]
 pub fn text_len(bytes: &[u8]) -> usize
     requires { BeginsWithPacket bytes.now }
     ensures { (p : Message) (rest : List ℕ) → IsPacket p → bytes.now ≡ text_of p ++ rest

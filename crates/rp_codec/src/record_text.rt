@@ -69,6 +69,7 @@ fn read_record(reader: &mut Reader) -> Result<Rec, PacketReason>
 }
 
 /// The record's one text. It takes no memory.
+#[inline(always)]
 pub fn text_of_record(rec: &Rec) -> ShortText
     ensures { result ≡ record_text rec.now }
 {

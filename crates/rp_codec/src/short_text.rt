@@ -42,7 +42,7 @@ impl ShortText {
         ensures len { length result ≡ N }
     {
         let mut bytes = [0; LONGEST];
-        bytes[..N].copy_from_slice(piece);
+        *bytes.first_chunk_mut::<N>().unwrap() = *piece;
         ShortText { bytes, len: N }
     }
 
@@ -53,7 +53,7 @@ impl ShortText {
         ensures text { self.new ≡ self.old ++ piece.now }
         ensures len { length self.new ≡ length self.old + N }
     {
-        self.bytes[self.len..self.len + N].copy_from_slice(piece);
+        overwrite(&mut self.bytes[self.len..self.len + N], piece);
         self.len += N;
     }
 
@@ -64,4 +64,14 @@ impl ShortText {
     {
         &self.bytes[..self.len]
     }
+}
+
+/// Puts a piece in place of as many bytes, in one move.
+#[inline(always)]
+fn overwrite<const N: usize>(bytes: &mut [u8], piece: &[u8; N])
+    requires { length bytes.old ≡ N }
+    ensures len { length bytes.new ≡ length bytes.old }
+    ensures after { bytes.new ≡ piece.now }
+{
+    *bytes.as_mut_array::<N>().unwrap() = *piece;
 }

@@ -62,6 +62,7 @@ impl Log {
 
     /// Makes room for learning at the position, and at no other, or is refused with `OutOfMemory`,
     /// which leaves the log as it was. Where there is room already no memory is asked for.
+    #[inline(always)]
     pub fn reserve(&mut self, position: Position) -> Result<(), Fault>
         ensures ok { OnOk result (self.new ≡ with_room self.old position) }
         ensures room { OnOk result (HasRoom self.new position) }
@@ -100,6 +101,7 @@ impl Log {
     /// Learns that the action is decided at the position. Where an action was learned already, that
     /// one stays and nothing changes. The first unlearned position moves on past the positions that
     /// are learned ahead of it, each of which it passes once in the log's life.
+    #[inline(always)]
     pub fn learn(&mut self, position: Position, action: Action)
         requires { HasRoom self.old position }
         ensures { self.new ≡ with_action self.old position action }

@@ -82,6 +82,7 @@ impl<M: Machine> Numbered<M> {
 
     /// Applies the next action of the log, and gives the answers that come of it: those of the machine
     /// where the action counts, else none. No call is answered twice. It takes no memory.
+    #[inline(always)]
     pub fn apply(&mut self, action: &Action) -> Answers
         requires { IsRight action.now }
         ensures applied { self.new

@@ -117,6 +117,7 @@ impl Machine for Tally {
         })
     }
 
+    #[inline(never)]
     fn apply(&mut self, action: &Action) -> Answers {
         let mut answers = Answers::new();
         if let Action::Call {

@@ -126,6 +126,7 @@ impl<D: Device> Store<D> {
     /// a right one: opening would cut off any other, and all records behind it. Refused with 3
     /// where the device failed since it was opened, with 1 where memory ran out: then nothing has
     /// changed. After 2, some beginning of the text may stand at the end.
+    #[inline(always)]
     pub fn put(&mut self, rec: &Rec) -> Result<(), Fault>
         requires { IsRightRecord rec.now }
         ensures ok { OnOk result (IsPut D.disk (record_text rec.now) self.old self.new) }

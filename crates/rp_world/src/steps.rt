@@ -210,7 +210,7 @@ impl<M: Machine, D: CutDevice> World<M, D> {
     /// A message is taken by whom it is for; by none where that is no node that runs and no task.
     /// `NoSuchMessage` above the last one, or refused for memory: nothing changes. `Device` where the
     /// device of its node fails: then the node is stopped.
-    #[inline(always)]
+    #[inline(never)]
     pub(crate) fn delivered(&mut self, alloc: Global, number: u64) -> Result<Effect, Fault>
         requires ranged { IsRangedWorld self.old.config.nodes self.old.world }
         ensures answer { let setting = setting_of M.next M.answers M.begin self.old in
@@ -228,6 +228,7 @@ impl<M: Machine, D: CutDevice> World<M, D> {
     }
 
     /// The same, told in place: the effect is copied once, where the step ends.
+    #[inline(always)]
     fn deliver(&mut self, alloc: Global, number: u64, effect: &mut Effect) -> Result<(), Fault>
         requires ranged { IsRangedWorld self.old.config.nodes self.old.world }
         ensures answer { let setting = setting_of M.next M.answers M.begin self.old in

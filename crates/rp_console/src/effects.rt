@@ -50,6 +50,7 @@ pub fn tell_effect<M: Machine, D: CutDevice, W: Write>(
 }
 
 /// Prints the packets from a number on, if they are told.
+#[inline(always)]
 fn tell_trace<M: Machine, D: CutDevice, W: Write>(
     alloc: Global,
     cluster: &Cluster<M, D>,
@@ -71,6 +72,7 @@ fn tell_trace<M: Machine, D: CutDevice, W: Write>(
 }
 
 /// Prints the packets from a number on.
+#[inline(never)]
 fn tell_packets<M: Machine, D: CutDevice, W: Write>(
     alloc: Global,
     cluster: &Cluster<M, D>,
@@ -169,6 +171,7 @@ fn task_name(tasks: &IndexMap<String, Task>, task: TaskId) -> &str
 }
 
 /// Prints how a restart went.
+#[inline(always)]
 fn tell_restart<W: Write>(
     alloc: Global,
     event: &Event,
@@ -197,6 +200,7 @@ fn tell_restart<W: Write>(
 }
 
 /// Prints that a pending item found no place, if one did not.
+#[inline(always)]
 fn tell_dropped<M: Machine, D: CutDevice, W: Write>(
     alloc: Global,
     cluster: &Cluster<M, D>,
@@ -215,6 +219,7 @@ fn tell_dropped<M: Machine, D: CutDevice, W: Write>(
 }
 
 /// Prints that the node of an event has no place for one more pending item.
+#[inline(never)]
 fn tell_full<M: Machine, D: CutDevice, W: Write>(
     alloc: Global,
     cluster: &Cluster<M, D>,
@@ -285,6 +290,7 @@ fn receiver<M: Machine, D: CutDevice>(
 }
 
 /// Prints the reply that a task takes, if it takes one.
+#[inline(always)]
 fn tell_taken<W: Write>(
     alloc: Global,
     tasks: &IndexMap<String, Task>,
@@ -302,6 +308,7 @@ fn tell_taken<W: Write>(
 }
 
 /// Prints a reply under the name of its task.
+#[inline(never)]
 fn tell_reply<W: Write>(
     alloc: Global,
     tasks: &IndexMap<String, Task>,

@@ -44,6 +44,7 @@ impl Settled {
     }
 
     /// A message is settled from now on. Together, the calls take logarithmic time each.
+    #[inline(always)]
     pub fn settle(&mut self, message: u64) -> Result<(), AllocError>
         requires from_one { 1 ≤ message }
         requires not_last { message + 1 < 2 ^ 64 }

@@ -1,0 +1,52 @@
+//! A whole run.
+
+ghost use Rattle.std.specs.Prelude.{All, IfOk, IfErr};
+ghost use Rattle.rp_base.specs.Config.{IsRightConfig};
+ghost use Rattle.rp_live.specs.Events.{IsLive};
+ghost use Rattle.rp_live.specs.Lived.{IsLived};
+ghost use Rattle.rp_live.specs.Faults.{IsLiveFault};
+
+use rp_base::{Answer, Config, Fault};
+use rp_machine::Machine;
+use rp_model::Event;
+use std::alloc::Global;
+use std::sync::Wait;
+use std::thread::Threads;
+
+/// What came of a run.
+#[derive(Debug, Drop)]
+pub struct Lived {
+    /// The replies of all tasks, in order of tasks and of their calls.
+    pub replies: Vec<Answer>,
+    /// How many actions each node has applied, in order of nodes.
+    pub applied: Vec<u32>,
+    /// Whether the audit knows all that each node has applied.
+    pub agree: bool,
+}
+
+/// The nodes of a program, over devices in memory, and its eight tasks make so many turns each, in
+/// threads of their own, over lines that lose packets, repeat them and change their order, as the
+/// words of the seed say. Before that the interrupts and the ticks among the events are noted, in
+/// order, each at its node; its other events are the calls of the tasks. Afterwards the audit reads
+/// the logs of all nodes and meets all tasks. Which replies come, and how much is applied, differs
+/// from run to run. `OutOfMemory` where a growth was refused or a thread could not be started, also
+/// in a thread; `Device` and `Failed` where a device failed.
+pub fn live<R: Threads + Wait, M: Machine + Send>(
+    rt: &R,
+    alloc: Global,
+    config: Config,
+    program: &M::Program,
+    events: &[Event],
+    seed: u32,
+    turns: u64,
+) -> Result<Lived, Fault>
+where
+    M::Program: Send + Sync,
+    requires config { IsRightConfig config }
+    requires events { All (IsLive config.nodes) events.now }
+    ensures lived { IfOk result (λ lived. IsLived M.next M.answers (M.begin program.now)
+        config.nodes lived) }
+    ensures only { IfErr result IsLiveFault }
+{
+    Err(Fault::OutOfMemory)
+}

@@ -1,20 +1,24 @@
 -- What a call or a report sent is one packet, and the bytes are its text.
-use Rattle.std.proofs.Common.{◌≡◌, ℕ, ℤ, Option, Some, None, Result, Ok, Err, List, [], ◌∷◌, ◌++◌, refl, sym, ap, subst, ◌∙◌, append-nil, inl}
+use Rattle.std.proofs.Common.{◌≡◌, ℕ, ℤ, Option, Some, None, Result, Ok, Err, List, [], ◌∷◌, ◌++◌, length, slice_index_or, refl, sym, ap, subst, ◌∙◌, append-nil, inl, arith}
 use Rattle.std.specs.Prelude.{IfOk}
+use Rattle.atomic_table.specs.Seated.{TableId}
 use Rattle.rp_base.specs.Records.{applied_of}
 use Rattle.rp_base.specs.Sets.{Has}
 use Rattle.rp_base.specs.declared.action.Action.{Action}
 use Rattle.rp_base.specs.declared.action.Operation.{Operation}
+use Rattle.rp_base.specs.declared.config.Config.{Config}
 use Rattle.rp_base.specs.declared.fault.Fault.{Fault}
 use Rattle.rp_base.proofs.Members.{has_right}
 use Rattle.rp_codec.specs.Message.{Message}
 use Rattle.rp_codec.specs.Text.{text_of}
 use Rattle.rp_codec.specs.declared.packet.Party.{Party}
 use Rattle.rp_model.specs.Effect.{Done, report_of}
-use Rattle.rp_model.specs.Parts.{TaskPart}
+use Rattle.rp_model.specs.Parts.{TaskPart, fresh_task}
 use Rattle.rp_model.specs.Tasks.{Submit, asks, calls_if, may_call, next_call}
 use Rattle.rp_replica.specs.Packets.{texts_of}
 use Rattle.rp_replica.specs.declared.sent.Sent.{Sent}
+use Rattle.rp_boxes.specs.Making.{AreFirstSeats}
+use Rattle.rp_boxes.specs.Parts.{OfTask, fresh_part}
 use Rattle.rp_boxes.specs.Seats.{Chair, IsSentText, IsFetched, IsReport}
 use Rattle.rp_boxes.specs.TaskSeats.{IsTaskTurn}
 use Rattle.rp_tasks.specs.Line.{Line}
@@ -62,3 +66,9 @@ reported_is_sent {P} first text old new sent is same =
 -- a line that holds nothing holds no other text
 pub nothing_held : (packets : List Message) (line : Line) → line.held ≡ [] → HoldsTextsOf packets line
 nothing_held packets line none = record { each = λ text there. absurd (subst (λ (held : List (List ℕ)). Has text held) none there) }
+
+-- the first task did nothing yet
+pub first_is_fresh : {P : Type 0} (table : TableId) (config : Config) (program : P) (tasks : List (Chair P)) (seat : Chair P) → length tasks ≡ 8
+    → AreFirstSeats table config program 8 tasks → seat ≡ slice_index_or tasks 0 seat → seat.part ≡ fresh_part (OfTask fresh_task)
+first_is_fresh table config program [] seat eight are is = absurd (omega (arith, eight))
+first_is_fresh {P} table config program (x ∷ xs) seat eight are is = ap (λ (c : Chair P). c.part) (is ∙ are 0)

@@ -24,6 +24,17 @@ fn receive_all<M: Machine, D: Device>(
     Ok(())
 }
 
+/// Each node receives what is in its boxes from the nodes, once each.
+fn go_round<M: Machine, D: Device>(
+    alloc: Global,
+    nodes: &mut [NodeSeat<M, D>],
+) -> Result<(), Fault> {
+    for seat in nodes.iter_mut() {
+        receive_all(seat, alloc)?;
+    }
+    Ok(())
+}
+
 /// Node 1 takes a tick and leads, and all nodes receive what comes, until each has applied it.
 fn tick<M: Machine, D: Device>(
     alloc: Global,
@@ -34,9 +45,7 @@ fn tick<M: Machine, D: Device>(
     node_step(leader, alloc, &Input::Tick { now })?;
     node_step(leader, alloc, &Input::Lead(None))?;
     for _ in 0..8 {
-        for seat in nodes.iter_mut() {
-            receive_all(seat, alloc)?;
-        }
+        go_round(alloc, nodes)?;
     }
     Ok(())
 }

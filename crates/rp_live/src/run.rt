@@ -1,0 +1,95 @@
+//! A whole run.
+
+ghost use Rattle.std.specs.Prelude.{◌≡◌, ◌≤◌, All, map, length, IfOk, IfErr};
+ghost use Rattle.rp_base.specs.Config.{IsRightConfig};
+ghost use Rattle.rp_live.specs.Events.{IsLive};
+ghost use Rattle.rp_live.specs.Lived.{IsLived};
+ghost use Rattle.rp_live.specs.Seats.{AreSeatsOf};
+ghost use Rattle.rp_live.specs.Faults.{IsLiveFault};
+
+use crate::meetings::meet_all;
+use crate::notes::note_all;
+use crate::reports::{knows_all, read_logs};
+use crate::starts::{node_starts, seats_in_memory, task_starts};
+use rp_base::{Answer, Config, Fault};
+use rp_boxes::{AllSeats, Audit, AuditSeat};
+use rp_machine::Machine;
+use rp_model::Event;
+use rp_store::Device;
+use rp_threads::{NodeEnd, Open, TaskEnd, run_threads};
+use std::alloc::Global;
+use std::sync::Wait;
+use std::thread::Threads;
+
+/// What came of a run.
+#[derive(Debug, Drop)]
+pub struct Lived {
+    /// The replies of all tasks, in order of tasks and of their calls.
+    pub replies: Vec<Answer>,
+    /// How many actions each node has applied, in order of nodes.
+    pub applied: Vec<u32>,
+    /// Whether the audit knows all that each node has applied.
+    pub agree: bool,
+}
+
+/// The audit reads the logs of all nodes and meets all tasks.
+fn audited<M: Machine, D: Device>(
+    alloc: Global,
+    seat: AuditSeat<M>,
+    nodes: Vec<NodeEnd<M, D>>,
+    tasks: Vec<TaskEnd<M>>,
+) -> Result<Lived, Fault>
+    requires nodes { length nodes.items ≤ 7 }
+    requires eight { length tasks.items ≡ 8 }
+    requires seats { AreSeatsOf seat.table seat.program 1 (map (λ end. end.seat) tasks.items) }
+    ensures lived { IfOk result (λ lived. IsLived M.next M.answers (M.begin seat.program)
+        (length nodes.items) lived) }
+    ensures only { IfErr result IsLiveFault }
+{
+    let mut audit = Audit::new(alloc, seat);
+    let applied = read_logs(&mut audit, nodes, alloc)?;
+    let (mut audit, replies) = meet_all(audit, tasks, alloc)?;
+    audit.look();
+    let agree = knows_all(&audit, applied.as_slice());
+    Ok(Lived {
+        replies,
+        applied,
+        agree,
+    })
+}
+
+/// The nodes of a program, over devices in memory, and its eight tasks make so many turns each, in
+/// threads of their own, over lines that lose packets, repeat them and change their order, as the
+/// words of the seed say. Before that the interrupts and the ticks among the events are noted, in
+/// order, each at its node; its other events are the calls of the tasks. Afterwards the audit reads
+/// the logs of all nodes and meets all tasks. Which replies come, and how much is applied, differs
+/// from run to run. `OutOfMemory` where a growth was refused or a thread could not be started, also
+/// in a thread; `Device` and `Failed` where a device failed.
+pub fn live<R: Threads + Wait, M: Machine + Send>(
+    rt: &R,
+    alloc: Global,
+    config: Config,
+    program: &M::Program,
+    events: &[Event],
+    seed: u32,
+    turns: u64,
+) -> Result<Lived, Fault>
+where
+    M::Program: Send + Sync,
+    requires config { IsRightConfig config }
+    requires events { All (IsLive config.nodes) events.now }
+    ensures lived { IfOk result (λ lived. IsLived M.next M.answers (M.begin program.now)
+        config.nodes lived) }
+    ensures only { IfErr result IsLiveFault }
+{
+    let AllSeats {
+        mut nodes,
+        tasks,
+        audit,
+    } = seats_in_memory::<M>(alloc, config, program)?;
+    note_all(&mut nodes, alloc, events)?;
+    let nodes = node_starts(alloc, seed, nodes)?;
+    let tasks = task_starts(alloc, seed, events, tasks)?;
+    let (nodes, tasks) = run_threads(rt, alloc, nodes, tasks, &Open, turns)?;
+    audited(alloc, audit, nodes, tasks)
+}

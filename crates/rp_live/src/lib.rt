@@ -2,9 +2,23 @@
 //! audit reads the logs of all nodes.
 //!
 //! In reading order:
+//! - `lines`: the faulty line of a node or a task
+//! - `calls`: the calls of a task
+//! - `starts`: seats are made, and those of nodes and tasks are made ready to run
+//! - `notes`: what nodes note before they run
+//! - `ends`: how a thread ended
+//! - `reports`: the audit reads the logs of the nodes
+//! - `meetings`: the audit meets the tasks
 //! - `run`: a whole run
 #![tactic(auto)]
 
+mod calls;
+mod ends;
+mod lines;
+mod meetings;
+mod notes;
+mod reports;
 mod run;
+mod starts;
 
 pub use run::{Lived, live};

@@ -1,14 +1,22 @@
 //! A whole run.
 
-ghost use Rattle.std.specs.Prelude.{All, IfOk, IfErr};
+ghost use Rattle.std.specs.Prelude.{◌≡◌, ◌≤◌, All, map, length, IfOk, IfErr};
 ghost use Rattle.rp_base.specs.Config.{IsRightConfig};
 ghost use Rattle.rp_live.specs.Events.{IsLive};
 ghost use Rattle.rp_live.specs.Lived.{IsLived};
+ghost use Rattle.rp_live.specs.Seats.{AreSeatsOf};
 ghost use Rattle.rp_live.specs.Faults.{IsLiveFault};
 
+use crate::meetings::meet_all;
+use crate::notes::note_all;
+use crate::reports::{knows_all, read_logs};
+use crate::starts::{node_starts, seats_in_memory, task_starts};
 use rp_base::{Answer, Config, Fault};
+use rp_boxes::{AllSeats, Audit, AuditSeat};
 use rp_machine::Machine;
 use rp_model::Event;
+use rp_store::Device;
+use rp_threads::{NodeEnd, Open, TaskEnd, run_threads};
 use std::alloc::Global;
 use std::sync::Wait;
 use std::thread::Threads;
@@ -22,6 +30,32 @@ pub struct Lived {
     pub applied: Vec<u32>,
     /// Whether the audit knows all that each node has applied.
     pub agree: bool,
+}
+
+/// The audit reads the logs of all nodes and meets all tasks.
+fn audited<M: Machine, D: Device>(
+    alloc: Global,
+    seat: AuditSeat<M>,
+    nodes: Vec<NodeEnd<M, D>>,
+    tasks: Vec<TaskEnd<M>>,
+) -> Result<Lived, Fault>
+    requires nodes { length nodes.items ≤ 7 }
+    requires eight { length tasks.items ≡ 8 }
+    requires seats { AreSeatsOf seat.table seat.program 1 (map (λ end. end.seat) tasks.items) }
+    ensures lived { IfOk result (λ lived. IsLived M.next M.answers (M.begin seat.program)
+        (length nodes.items) lived) }
+    ensures only { IfErr result IsLiveFault }
+{
+    let mut audit = Audit::new(alloc, seat);
+    let applied = read_logs(&mut audit, nodes, alloc)?;
+    let (mut audit, replies) = meet_all(audit, tasks, alloc)?;
+    audit.look();
+    let agree = knows_all(&audit, applied.as_slice());
+    Ok(Lived {
+        replies,
+        applied,
+        agree,
+    })
 }
 
 /// The nodes of a program, over devices in memory, and its eight tasks make so many turns each, in
@@ -48,5 +82,14 @@ where
         config.nodes lived) }
     ensures only { IfErr result IsLiveFault }
 {
-    Err(Fault::OutOfMemory)
+    let AllSeats {
+        mut nodes,
+        tasks,
+        audit,
+    } = seats_in_memory::<M>(alloc, config, program)?;
+    note_all(&mut nodes, alloc, events)?;
+    let nodes = node_starts(alloc, seed, nodes)?;
+    let tasks = task_starts(alloc, seed, events, tasks)?;
+    let (nodes, tasks) = run_threads(rt, alloc, nodes, tasks, &Open, turns)?;
+    audited(alloc, audit, nodes, tasks)
 }

@@ -1,0 +1,5 @@
+pub mod Running
+pub mod Seating
+pub mod Reporting
+pub mod Meeting
+pub mod Counting

@@ -1,0 +1,112 @@
+-- A node that runs goes on running, and refuses neither notes nor reports.
+use Rattle.std.proofs.Common.{◌≡◌, ◌⊎◌, ℕ, Option, Some, None, Result, Ok, Err, List, inl, inr, refl, sym, ap, subst, ◌∙◌}
+use Rattle.std.specs.Prelude.{IsSome}
+use Rattle.rp_base.specs.declared.action.Action.{Action}
+use Rattle.rp_base.specs.declared.fault.Fault.{Fault}
+use Rattle.rp_base.specs.declared.reply.Answer.{Answer}
+use Rattle.rp_boxes.specs.Making.{IsWanting}
+use Rattle.rp_boxes.specs.Parts.{Part, Role, OfNode}
+use Rattle.rp_boxes.specs.Seats.{Chair, IsGot, IsTurn, IsCutTurn, IsNoTurn, setting_at}
+use Rattle.rp_model.specs.Effect.{Setting, Done, NodeInput, Receive, Lead, Interrupt, Tick, Report, turned, turned_if, effect_while, node_effect, running_effect}
+use Rattle.rp_model.specs.Parts.{NodePart, Running, Turn}
+use Rattle.rp_replica.specs.Inputs.{IsRightInput, given_by}
+use Rattle.rp_replica.specs.declared.input.Input.{Input}
+use Rattle.rp_replica.specs.declared.input.Input.TheVariants as inputs
+use Rattle.rp_replica.specs.declared.sent.Sent.{Sent}
+use Rattle.rp_threads.specs.Turns.{IsEventBy, IsStopBy}
+use Rattle.rp_live.specs.Seats.{Runs, IsNote}
+
+-- ---- one node
+
+turned_runs : (node : NodePart) (turn : Result Turn Fault) (done : Done NodePart) → turned_if node turn ≡ Ok done → IsSome done.part.running
+turned_runs node (Ok turn) done is = let e : turned node turn ≡ done = cc in subst (λ (d : Done NodePart). IsSome d.part.running) e refl
+turned_runs node (Err fault) done is = absurd (cc)
+
+-- what a node that runs never refuses
+abbrev IsTaken : NodeInput → Type 0
+IsTaken (Receive message) = ⊥
+IsTaken (Lead choice) = ⊥
+IsTaken (Interrupt source occurrence) = Unit {0}
+IsTaken (Tick now) = Unit {0}
+IsTaken (Report first) = Unit {0}
+
+module _ {S : Type 0} (s : Setting S) (me : ℕ) (node : NodePart) where
+  while_runs : (input : NodeInput) (running : Option Running) (done : Done NodePart) → effect_while s me node input running ≡ Ok done → IsSome done.part.running
+  while_runs input None done is = absurd (cc)
+  while_runs input (Some running) done is = turned_runs node (running_effect s me node.records running input) done is
+
+  not_refused : (input : NodeInput) (running : Option Running) (fault : Fault) → IsTaken input → IsSome running → effect_while s me node input running ≡ Err fault → ⊥
+  not_refused input None fault taken runs is = absurd (cc)
+  not_refused (Receive message) (Some running) fault taken runs is = taken
+  not_refused (Lead choice) (Some running) fault taken runs is = taken
+  not_refused (Interrupt source occurrence) (Some running) fault taken runs is = absurd (cc)
+  not_refused (Tick now) (Some running) fault taken runs is = absurd (cc)
+  not_refused (Report first) (Some running) fault taken runs is = absurd (cc)
+
+-- ---- its seat
+
+pub same_node : (role : Role) (a b : NodePart) → role ≡ OfNode a → role ≡ OfNode b → a ≡ b
+same_node role a b is_a is_b = let e : OfNode a ≡ OfNode b = sym is_a ∙ is_b in cc
+
+stopped : (running : Option Running) → running ≡ None → IsSome running → ⊥
+stopped None is some = absurd (cc)
+stopped (Some running) is some = absurd (cc)
+
+module _ {S P : Type 0} (next : S → Action → S) (answers : S → Action → List Answer) (begin : P → S) (old new : Chair P) where
+  pub turn_runs : (input : Input) (sent : Sent) → IsTurn next answers begin old input new sent → Runs new.part
+  turn_runs input sent t = (
+    t.done.part,
+    ap (λ (c : Chair P). c.part.role) t.after,
+    while_runs (setting_at next answers begin old) old.number t.node t.given t.node.running t.done t.comes,
+  )
+
+  -- where it runs and takes the input, only memory or the device may be wanting
+  stops_wanting : (input : Input) (fault : Fault) → ((given : NodeInput) → given_by input ≡ Ok given → IsTaken given) → Runs old.part
+      → IsCutTurn next answers begin old input new fault ⊎ IsNoTurn next answers begin old input new fault → IsWanting fault
+  stops_wanting input fault taken runs (inl cut) = inr cut.device
+  stops_wanting input fault taken runs (inr none) =
+      let same : runs.0 ≡ none.node = same_node old.part.role runs.0 none.node runs.1 none.was in
+      let some : IsSome none.node.running = subst (λ (n : NodePart). IsSome n.running) same runs.2 in
+      elim none.why [
+        | inl failed ↦ absurd (stopped none.node.running failed.1 some)
+        | inr other ↦ elim other [
+          | inl out ↦ inl out.0
+          | inr refused ↦ absurd (not_refused (setting_at next answers begin old) old.number none.node none.given none.node.running fault (taken none.given none.gives) some refused)
+        ]
+      ]
+
+  pub report_wanting : (first : ℕ) (fault : Fault) → Runs old.part
+      → IsCutTurn next answers begin old (inputs.Report first) new fault ⊎ IsNoTurn next answers begin old (inputs.Report first) new fault → IsWanting fault
+  report_wanting first fault runs why =
+      stops_wanting (inputs.Report first) fault (λ given is. let e : Report first ≡ given = cc in subst IsTaken e tt) runs why
+
+  -- ---- notes
+
+  note_taken : (input : Input) (given : NodeInput) → IsNote input → given_by input ≡ Ok given → IsTaken given
+  note_taken (inputs.Receive bytes) given note is = absurd note
+  note_taken (inputs.Lead choice) given note is = absurd note
+  note_taken (inputs.Interrupt source occurrence) given note is = let e : Interrupt source occurrence ≡ given = cc in subst IsTaken e tt
+  note_taken (inputs.Tick now) given note is = let e : Tick now ≡ given = cc in subst IsTaken e tt
+  note_taken (inputs.Report first) given note is = absurd note
+
+  pub note_wanting : (input : Input) (fault : Fault) → IsNote input → Runs old.part → IsStopBy next answers begin (λ given. given ≡ input) old new fault → IsWanting fault
+  note_wanting input fault note runs stop =
+      stops_wanting stop.input fault (λ given is. note_taken stop.input given (subst IsNote (sym stop.is) note) is) runs stop.why
+
+  pub note_runs : (input : Input) (count : ℕ) → IsEventBy next answers begin (λ given. given ≡ input) old new count → Runs new.part
+  note_runs input count event = turn_runs event.input event.sent event.turn
+
+-- a note is within its ranges, and no packet
+pub note_right : (input : Input) → IsNote input → IsRightInput input
+note_right (inputs.Receive bytes) note = tt
+note_right (inputs.Lead choice) note = tt
+note_right (inputs.Interrupt source occurrence) note = note
+note_right (inputs.Tick now) note = tt
+note_right (inputs.Report first) note = tt
+
+pub note_got : (part : Part) (input : Input) → IsNote input → IsGot part input
+note_got part (inputs.Receive bytes) note = absurd note
+note_got part (inputs.Lead choice) note = tt
+note_got part (inputs.Interrupt source occurrence) note = tt
+note_got part (inputs.Tick now) note = tt
+note_got part (inputs.Report first) note = tt

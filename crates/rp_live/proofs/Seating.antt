@@ -1,0 +1,156 @@
+-- The same seats, whatever happened at them since.
+use Rattle.std.proofs.Common.{◌≡◌, ℕ, zero, suc, ◌+◌, ◌<◌, ◌≤◌, Bool, false, nat_eq, nat_lt, if◌then◌else◌, Option, Some, None, List, [], ◌∷◌, ◌++◌, length, map, slice_get, slice_set, refl, sym, ap, subst, ◌∙◌, arith}
+use Rattle.std.proofs.lemmas.Grind.{common_steps}
+use Rattle.std.proofs.lemmas.List.{append_assoc, map-append}
+use Rattle.std.specs.List.{AllZip}
+use Rattle.std.specs.Prelude.{All, IfSome}
+use Rattle.atomic_table.specs.Seated.{TableId}
+use Rattle.rp_base.specs.declared.config.Config.{Config}
+use Rattle.rp_model.specs.Parts.{fresh_node, fresh_task}
+use Rattle.rp_boxes.specs.Making.{AreFirstSeats, AreSeats, first_seat}
+use Rattle.rp_boxes.specs.Parts.{Part, Role, OfNode, OfTask, OfAudit, first_part, first_role, fresh_part}
+use Rattle.rp_boxes.specs.Seats.{Chair}
+use Rattle.rp_boxes.proofs.Seating.{node_role}
+use Rattle.rp_threads.specs.Loops.{IsSameSeat}
+use Rattle.rp_threads.proofs.Steps.{same_seat, same_on}
+use Rattle.rp_live.specs.Seats.{IsSeatOf, AreSeatsOf, Runs}
+
+-- ---- lists
+
+pub some_then : {A : Type 0} (Q R : A → Type 0) → ((x : A) → Q x → R x) → (o : Option A) → IfSome o Q → IfSome o R
+some_then {A = A} Q R so None is = tt
+some_then {A = A} Q R so (Some x) is = so x is
+
+pub all_places : {A : Type 0} (Q : A → Type 0) (xs : List A) → ((k : ℕ) → IfSome (slice_get xs k) Q) → All Q xs
+all_places Q [] each k d within = absurd (omega (arith, within))
+all_places Q (x ∷ xs) each zero d within = each zero
+all_places Q (x ∷ xs) each (suc k) d within = all_places Q xs (λ j. each (suc j)) k d (omega (arith, within))
+
+pub all_within : {A : Type 0} (Q : A → Type 0) (xs : List A) → ((k : ℕ) → k < length xs → IfSome (slice_get xs k) Q) → All Q xs
+all_within Q [] each k d within = absurd (omega (arith, within))
+all_within Q (x ∷ xs) each zero d within = each zero (omega (arith, within))
+all_within Q (x ∷ xs) each (suc k) d within = all_within Q xs (λ j less. each (suc j) (omega (arith, less))) k d (omega (arith, within))
+
+-- ---- the same seats
+
+module _ {P : Type 0} where
+  pub same_all : (seats : List (Chair P)) → AllZip IsSameSeat seats seats
+  same_all [] = tt
+  same_all (seat ∷ seats) = (same_seat seat seat refl, same_all seats)
+
+  pub same_then : (a b c : List (Chair P)) → AllZip IsSameSeat a b → AllZip IsSameSeat b c → AllZip IsSameSeat a c
+  same_then [] [] [] ab bc = tt
+  same_then [] [] (z ∷ c) ab bc = absurd bc
+  same_then [] (y ∷ b) c ab bc = absurd ab
+  same_then (x ∷ a) [] c ab bc = absurd ab
+  same_then (x ∷ a) (y ∷ b) [] ab bc = absurd bc
+  same_then (x ∷ a) (y ∷ b) (z ∷ c) ab bc = (same_on x y z ab.0 bc.0, same_then a b c ab.1 bc.1)
+
+  -- one of them has changed
+  pub same_set : (seats : List (Chair P)) (place : ℕ) (seat : Chair P) → IfSome (slice_get seats place) (λ old. IsSameSeat old seat) → AllZip IsSameSeat seats (slice_set seats place seat)
+  same_set [] place seat same = tt
+  same_set (x ∷ xs) zero seat same = (same, same_all xs)
+  same_set (x ∷ xs) (suc place) seat same = (same_seat x x refl, same_set xs place seat same)
+
+  pub same_length : (olds news : List (Chair P)) → AllZip IsSameSeat olds news → length news ≡ length olds
+  same_length [] [] same = refl
+  same_length [] (new ∷ news) same = absurd same
+  same_length (old ∷ olds) [] same = absurd same
+  same_length (old ∷ olds) (new ∷ news) same = ap suc (same_length olds news same.1)
+
+  module _ (table : TableId) (program : P) where
+    still_of : (number : ℕ) (old new : Chair P) → IsSameSeat old new → IsSeatOf table program number old → IsSeatOf table program number new
+    still_of number old new same is = record {
+      table_is = same.table ∙ is.table_is;
+      program_is = same.program ∙ is.program_is;
+      number_is = same.number ∙ is.number_is;
+    }
+
+    pub seats_still : (number : ℕ) (olds news : List (Chair P)) → AllZip IsSameSeat olds news → AreSeatsOf table program number olds → AreSeatsOf table program number news
+    seats_still number [] [] same are = tt
+    seats_still number [] (new ∷ news) same are = absurd same
+    seats_still number (old ∷ olds) [] same are = absurd same
+    seats_still number (old ∷ olds) (new ∷ news) same are = (still_of number old new same.0 are.0, seats_still (suc number) olds news same.1 are.1)
+
+    -- ---- at first
+
+    seats_from : (number : ℕ) (seats : List (Chair P)) → ((place : ℕ) → IfSome (slice_get seats place) (IsSeatOf table program (number + place))) → AreSeatsOf table program number seats
+    seats_from number [] each = tt
+    seats_from number (seat ∷ seats) each = (
+      subst (λ (k : ℕ). IsSeatOf table program k seat) (let e : number + 0 ≡ number = omega arith in e) (each zero),
+      seats_from (suc number) seats (λ place. subst (λ (k : ℕ). IfSome (slice_get seats place) (IsSeatOf table program k)) (let e : number + suc place ≡ suc number + place = omega arith in e) (each (suc place))),
+    )
+
+    pub first_seats : (config : Config) (actor : ℕ) (seats : List (Chair P)) → AreFirstSeats table config program actor seats → AreSeatsOf table program 1 seats
+    first_seats config actor seats are =
+        seats_from 1 seats (λ place. some_then (λ (seat : Chair P). seat ≡ first_seat table config program (suc place) (actor + place)) (IsSeatOf table program (1 + place)) (λ seat is. record {
+          table_is = ap (λ (c : Chair P). c.table) is;
+          program_is = ap (λ (c : Chair P). c.program) is;
+          number_is = ap (λ (c : Chair P). c.number) is ∙ let e : suc place ≡ 1 + place = omega arith in e;
+        }) (slice_get seats place) (are place))
+
+-- nodes run at first
+pub nodes_run : {P : Type 0} (table : TableId) (config : Config) (program : P) (seats : List (Chair P)) → length seats ≤ 7 → AreFirstSeats table config program 1 seats
+    → All (λ seat. Runs seat.part) seats
+nodes_run {P} table config program seats few are =
+    all_within (λ (seat : Chair P). Runs seat.part) seats (λ place within.
+    some_then (λ (seat : Chair P). seat ≡ first_seat table config program (suc place) (1 + place)) (λ (seat : Chair P). Runs seat.part) (λ seat is. (
+      fresh_node,
+      ap (λ (c : Chair P). c.part.role) is ∙ node_role (1 + place) (omega arith) (omega (arith, within, few)),
+      refl,
+    )) (slice_get seats place) (are place))
+
+-- tasks made no call at first
+task_role : (place : ℕ) → first_role (8 + place) ≡ OfTask fresh_task
+task_role place =
+    let some : nat_eq (8 + place) 0 ≡ false = grind (arith, common_steps) in
+    let above : nat_lt (8 + place) 8 ≡ false = grind (arith, common_steps) in
+    ap (λ (b : Bool). if b then OfAudit else if nat_lt (8 + place) 8 then OfNode fresh_node else OfTask fresh_task) some
+    ∙ ap (λ (b : Bool). if b then OfNode fresh_node else OfTask fresh_task) above
+
+pub tasks_fresh : {P : Type 0} (table : TableId) (config : Config) (program : P) (seats : List (Chair P)) → AreFirstSeats table config program 8 seats
+    → All (λ seat. seat.part ≡ fresh_part (OfTask fresh_task)) seats
+tasks_fresh {P} table config program seats are =
+    all_places (λ (seat : Chair P). seat.part ≡ fresh_part (OfTask fresh_task)) seats (λ place.
+    some_then (λ (seat : Chair P). seat ≡ first_seat table config program (suc place) (8 + place)) (λ (seat : Chair P). seat.part ≡ fresh_part (OfTask fresh_task))
+    (λ seat is. ap (λ (c : Chair P). c.part) is ∙ ap fresh_part (task_role place)) (slice_get seats place) (are place))
+
+-- ---- what ran
+
+pub zip_seats : {A B P : Type 0} (R : A → B → Type 0) (f : A → Chair P) (h : B → Chair P) → ((x : A) (y : B) → R x y → IsSameSeat (f x) (h y))
+    → (xs : List A) (ys : List B) → AllZip R xs ys → AllZip IsSameSeat (map f xs) (map h ys)
+zip_seats R f h same [] [] all = tt
+zip_seats R f h same [] (y ∷ ys) all = absurd all
+zip_seats R f h same (x ∷ xs) [] all = absurd all
+zip_seats R f h same (x ∷ xs) (y ∷ ys) all = (same x y all.0, zip_seats R f h same xs ys all.1)
+
+pub zip_length : {A B : Type 0} (R : A → B → Type 0) (xs : List A) (ys : List B) → AllZip R xs ys → length ys ≡ length xs
+zip_length R [] [] all = refl
+zip_length R [] (y ∷ ys) all = absurd all
+zip_length R (x ∷ xs) [] all = absurd all
+zip_length R (x ∷ xs) (y ∷ ys) all = ap suc (zip_length R xs ys all.1)
+
+pub all_more : {A : Type 0} (Q : A → Type 0) (xs : List A) (x : A) → All Q xs → Q x → All Q (xs ++ x ∷ [])
+all_more Q [] x all is zero d within = is
+all_more Q [] x all is (suc k) d within = absurd (omega (arith, within))
+all_more Q (y ∷ ys) x all is zero d within = all zero d (omega arith)
+all_more Q (y ∷ ys) x all is (suc k) d within = all_more Q ys x (λ j e less. all (suc j) e (omega (arith, less))) is k d (omega (arith, within))
+
+-- the seats of those that are ready and of those that are left, where one more is ready
+pub one_ready : {A P : Type 0} (f : A → Chair P) (starts grown : List A) (start : A) (seat : Chair P) (rest left seats : List (Chair P))
+    → grown ≡ starts ++ start ∷ [] → f start ≡ seat → rest ≡ seat ∷ left → map f starts ++ rest ≡ seats → map f grown ++ left ≡ seats
+one_ready {A} {P} f starts grown start seat rest left seats is same steps so_far =
+    ap (λ (l : List A). map f l ++ left) is ∙ ap (λ (l : List (Chair P)). l ++ left) (map-append f starts (start ∷ []))
+    ∙ append_assoc (map f starts) (f start ∷ []) left ∙ ap (λ (s : Chair P). map f starts ++ s ∷ left) same ∙ ap (λ (l : List (Chair P)). map f starts ++ l) (sym steps) ∙ so_far
+
+mapped : {A B : Type 0} (f : A → B) (xs : List A) → length (map f xs) ≡ length xs
+mapped f [] = refl
+mapped f (x ∷ xs) = ap suc (mapped f xs)
+
+pub mapped_length : {A B : Type 0} (f : A → B) (xs : List A) (ys : List B) → map f xs ≡ ys → length xs ≡ length ys
+mapped_length f xs ys is = sym (mapped f xs) ∙ ap length is
+
+pub all_mapped : {A B : Type 0} (Q : B → Type 0) (f : A → B) (xs : List A) → All Q (map f xs) → All (λ x. Q (f x)) xs
+all_mapped Q f [] all k d within = absurd (omega (arith, within))
+all_mapped Q f (x ∷ xs) all zero d within = all zero (f d) (omega arith)
+all_mapped Q f (x ∷ xs) all (suc k) d within = all_mapped Q f xs (λ j e less. all (suc j) e (omega (arith, less))) k d (omega (arith, within))

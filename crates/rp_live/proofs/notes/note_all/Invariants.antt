@@ -1,0 +1,7 @@
+-- All nodes run.
+use Rattle.std.proofs.Common.{◌≡◌, All, length}
+use Rattle.rp_live.specs.Seats.{Runs}
+use Rattle.rp_live.proofs.notes.note_all.Given as goal
+
+abbrev pub invariant-loop-event : goal.invariant-loop-event
+invariant-loop-event g l = record { size : length l.seats.items ≡ length l.fn.seats.items; run : All (λ seat. Runs seat.part) l.seats.items }

@@ -1,0 +1,16 @@
+-- The node at the place goes on running, and the others do.
+use Rattle.std.proofs.Common.{◌-◌, ◌<◌, length, All, arith, subst, sym}
+use Rattle.std.proofs.lemmas.List.Elements.{All-set}
+use Rattle.std.proofs.lemmas.Result.{IfOk-weaker}
+use Rattle.rp_boxes.specs.Seats.{Chair}
+use Rattle.rp_live.specs.Seats.{Runs}
+use Rattle.rp_live.proofs.notes.note_at.Goals as goal
+
+pub note_one-requires-clause-runs : goal.note_one-requires-clause-runs
+note_one-requires-clause-runs g c =
+    let within : c.from-place.result - 1 < length c.args.seats.now.items = omega (arith, c.requires.within, c.from-place.ensures, c.get.ensures.value, c.get.ensures.in_range.0) in
+    subst (λ (s : Chair g.row.M-Program.Denot). Runs s.part) (sym c.index_mut.ensures.value) (c.requires.run (c.from-place.result - 1) c.index_mut.result.now within)
+
+pub returns-clause-run : goal.returns-clause-run
+returns-clause-run g c =
+    IfOk-weaker c.note_one.result _ _ (λ _ runs. All-set (λ seat. Runs seat.part) c.args.seats.now.items (c.from-place.result - 1) c.note_one.new.seat runs c.requires.run) c.note_one.ensures.runs

@@ -1,0 +1,37 @@
+//! The faulty line of a node or a task.
+
+ghost use Rattle.std.specs.Prelude.{◌≡◌, IfOk, IsOkUnless};
+ghost use Rattle.rp_codec.specs.Text.{party_number};
+ghost use Rattle.rp_tasks.specs.Line.{line_of};
+ghost use Rattle.rp_live.specs.Lines.{line_seed};
+
+use rp_base::Fault;
+use rp_codec::Party;
+use rp_tasks::FaultLine;
+use std::alloc::Global;
+
+/// The byte by which a packet names a party.
+fn party_byte(party: Party) -> u8
+    ensures { result ≡ party_number party }
+{
+    match party {
+        Party::Node(node) => node.get(),
+        Party::Task(task) => 16 + task.get(),
+        Party::Audit => 32,
+    }
+}
+
+/// The line of a party: its words are those of the run's seed and the party.
+pub(crate) fn line_for(alloc: Global, seed: u32, party: Party) -> Result<FaultLine, Fault>
+    ensures line { IfOk result (λ line. line ≡ line_of (line_seed seed party)) }
+    ensures only { IsOkUnless result Fault.OutOfMemory }
+{
+    let mut bytes = [0u8; 32];
+    let [first, second, third, fourth] = seed.to_be_bytes();
+    bytes[0] = first;
+    bytes[1] = second;
+    bytes[2] = third;
+    bytes[3] = fourth;
+    bytes[4] = party_byte(party);
+    FaultLine::new(alloc, bytes)
+}

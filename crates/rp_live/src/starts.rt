@@ -1,0 +1,126 @@
+//! Seats are made, and those of nodes and tasks are made ready to run.
+
+ghost use Rattle.std.specs.Prelude.{◌≡◌, ◌≤◌, ℕ, suc, map, filter_map, length, slice_get, All, IfOk, IfErr, IfSome, IsOkUnless};
+ghost use Rattle.rp_base.specs.Config.{IsRightConfig};
+ghost use Rattle.rp_boxes.specs.Making.{AreSeats, IsWanting};
+ghost use Rattle.rp_codec.specs.declared.packet.Party.TheVariants as parties;
+ghost use Rattle.rp_store.specs.Disk.{empty_disk};
+ghost use Rattle.rp_tasks.specs.Line.{line_of};
+ghost use Rattle.rp_live.specs.Events.{call_by};
+ghost use Rattle.rp_live.specs.Lines.{line_seed};
+
+use crate::calls::calls_of;
+use crate::lines::line_for;
+use rp_base::{Config, Fault, TaskId};
+use rp_boxes::{AllSeats, NodeSeat, TaskSeat, seats};
+use rp_codec::Party;
+use rp_machine::Machine;
+use rp_model::Event;
+use rp_store::{Device, MemDevice};
+use rp_threads::{NodeStart, TaskStart};
+use std::alloc::{AllocError, Global};
+
+/// So many devices that hold nothing.
+fn devices(alloc: Global, count: u8) -> Result<Vec<MemDevice>, AllocError>
+    ensures count { IfOk result (λ devices. length devices.items ≡ count) }
+    ensures empty { IfOk result (λ devices. All (λ device. device ≡ empty_disk) devices.items) }
+{
+    let mut devices = Vec::new(alloc);
+    for _ in 0..count {
+        devices.push(MemDevice::new(alloc))?;
+    }
+    Ok(devices)
+}
+
+/// The seats of a program whose nodes write to memory. Nothing has happened.
+pub(crate) fn seats_in_memory<M: Machine>(
+    alloc: Global,
+    config: Config,
+    program: &M::Program,
+) -> Result<AllSeats<M, MemDevice>, Fault>
+    requires { IsRightConfig config }
+    ensures seats { IfOk result (λ all. AreSeats config program.now
+        all.nodes.items all.tasks.items all.audit) }
+    ensures only { IfErr result IsWanting }
+{
+    let devices = devices(alloc, config.nodes)?;
+    seats(alloc, config, program, devices)
+}
+
+/// A node is ready to run.
+fn node_start<M: Machine, D: Device>(
+    alloc: Global,
+    seed: u32,
+    seat: NodeSeat<M, D>,
+) -> Result<NodeStart<M, D>, Fault>
+    ensures seat { IfOk result (λ start. start.seat ≡ seat) }
+    ensures line { IfOk result (λ start. start.line
+        ≡ line_of (line_seed seed (parties.Node seat.number))) }
+    ensures only { IsOkUnless result Fault.OutOfMemory }
+{
+    let line = line_for(alloc, seed, Party::Node(seat.number()))?;
+    Ok(NodeStart { seat, line })
+}
+
+/// The nodes are ready to run.
+pub(crate) fn node_starts<M: Machine, D: Device>(
+    alloc: Global,
+    seed: u32,
+    seats: Vec<NodeSeat<M, D>>,
+) -> Result<Vec<NodeStart<M, D>>, Fault>
+    ensures seats { IfOk result (λ starts. map (λ start. start.seat) starts.items ≡ seats.items) }
+    ensures lines { IfOk result (λ starts. All (λ start. start.line
+        ≡ line_of (line_seed seed (parties.Node start.seat.number))) starts.items) }
+    ensures only { IsOkUnless result Fault.OutOfMemory }
+{
+    let mut starts = Vec::new(alloc);
+    for seat in seats {
+        starts.push(node_start(alloc, seed, seat)?)?;
+    }
+    Ok(starts)
+}
+
+/// A task is ready to run, with its calls among the events.
+fn task_start<M: Machine>(
+    alloc: Global,
+    seed: u32,
+    events: &[Event],
+    task: TaskId,
+    seat: TaskSeat<M>,
+) -> Result<TaskStart<M>, Fault>
+    ensures seat { IfOk result (λ start. start.seat ≡ seat) }
+    ensures calls { IfOk result (λ start. start.calls.items
+        ≡ filter_map (call_by task) events.now) }
+    ensures line { IfOk result (λ start. start.line
+        ≡ line_of (line_seed seed (parties.Task task))) }
+    ensures only { IsOkUnless result Fault.OutOfMemory }
+{
+    let calls = calls_of(alloc, events, task)?;
+    let line = line_for(alloc, seed, Party::Task(task))?;
+    Ok(TaskStart { seat, calls, line })
+}
+
+/// The tasks from 1 on are ready to run, each with its calls among the events.
+pub(crate) fn task_starts<M: Machine>(
+    alloc: Global,
+    seed: u32,
+    events: &[Event],
+    seats: Vec<TaskSeat<M>>,
+) -> Result<Vec<TaskStart<M>>, Fault>
+    requires { length seats.items ≤ 8 }
+    ensures seats { IfOk result (λ starts. map (λ start. start.seat) starts.items ≡ seats.items) }
+    ensures calls { IfOk result (λ starts. (place : ℕ) → IfSome (slice_get starts.items place)
+        (λ start. start.calls.items ≡ filter_map (call_by (suc place)) events.now)) }
+    ensures lines { IfOk result (λ starts. (place : ℕ) → IfSome (slice_get starts.items place)
+        (λ start. start.line ≡ line_of (line_seed seed (parties.Task (suc place))))) }
+    ensures only { IsOkUnless result Fault.OutOfMemory }
+{
+    let mut starts = Vec::new(alloc);
+    let mut number = 0;
+    for seat in seats {
+        number += 1;
+        let task = TaskId::new(number).unwrap();
+        starts.push(task_start(alloc, seed, events, task, seat)?)?;
+    }
+    Ok(starts)
+}

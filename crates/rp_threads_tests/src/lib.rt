@@ -3,4 +3,6 @@
 #![tactic(auto)]
 
 #[cfg(test)]
+mod running;
+#[cfg(test)]
 mod seats;

@@ -1,1 +1,3 @@
 mod Asking
+mod Hearing
+mod Starting

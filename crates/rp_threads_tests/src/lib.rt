@@ -5,6 +5,8 @@
 #[cfg(test)]
 mod audit;
 #[cfg(test)]
+mod running;
+#[cfg(test)]
 mod seats;
 #[cfg(test)]
 mod setup;

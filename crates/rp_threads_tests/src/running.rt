@@ -1,0 +1,291 @@
+//! Nodes and a task run in threads of their own.
+
+ghost use Rattle.std.specs.Prelude.{◌≡◌, ◌<◌, [], All, IfOk, IfSome, length, slice_get};
+ghost use Rattle.rp_boxes.specs.Parts.{fresh_part, OfTask};
+ghost use Rattle.rp_model.specs.Parts.{fresh_task};
+
+use crate::setup::{CONFIG, devices};
+use rp_base::{Fault, NodeId, Operation, Position};
+use rp_boxes::{Added, AllSeats, Audit, NodeSeat, TaskSeat, seats};
+use rp_codec::{Body, Party, decode, packet_len};
+use rp_machine::{Machine, Tally, TallyProgram};
+use rp_replica::Input;
+use rp_store::{Device, MemDevice};
+use rp_tasks::FaultLine;
+use rp_threads::{Gate, NodeEnd, NodeStart, TaskCall, TaskStart, node_step, run_threads};
+use std::alloc::Global;
+use std::sync::Wait;
+use std::sync::atomic::{AtomicU64, Ordering};
+use std::test::Fail;
+use std::thread::Threads;
+
+/// How many turns each node and each task makes.
+const TURNS: u64 = 400;
+
+/// How often a node looks whether it may go on.
+const LOOKS: u64 = 100_000_000;
+
+/// Holds all nodes but the first until that one leads, and then holds the first until the second has
+/// sent a packet: no order in which one thread could make their turns passes.
+#[derive(Drop)]
+struct InStep {
+    led: AtomicU64,
+    answered: AtomicU64,
+    /// A node looked for too long.
+    late: AtomicU64,
+}
+
+impl InStep {
+    fn new() -> Self {
+        InStep {
+            led: AtomicU64::new(0),
+            answered: AtomicU64::new(0),
+            late: AtomicU64::new(0),
+        }
+    }
+
+    /// Looks until the flag is set.
+    fn look_for(&self, flag: &AtomicU64) {
+        if self.late.load(Ordering::SeqCst) != 0 {
+            return;
+        }
+        for _ in 0..LOOKS {
+            if flag.load(Ordering::SeqCst) != 0 {
+                return;
+            }
+        }
+        self.late.store(1, Ordering::SeqCst);
+    }
+}
+
+impl Gate for InStep {
+    fn before(&self, node: NodeId, _turn: u64) -> bool {
+        if node.get() != 1 {
+            self.look_for(&self.led);
+        } else if self.led.load(Ordering::SeqCst) != 0 {
+            self.look_for(&self.answered);
+        }
+        true
+    }
+
+    fn after(&self, node: NodeId, _turn: u64, sent: u32) {
+        if sent == 0 {
+            return;
+        }
+        match node.get() {
+            1 => self.led.store(1, Ordering::SeqCst),
+            2 => self.answered.store(1, Ordering::SeqCst),
+            _ => {}
+        }
+    }
+}
+
+/// A node that is to start, whose line draws its words from this seed.
+fn node_start<M: Machine, D: Device>(
+    alloc: Global,
+    seat: NodeSeat<M, D>,
+    seed: u8,
+) -> Result<NodeStart<M, D>, Fault>
+    ensures { IfOk result (λ start. start.line.held ≡ []) }
+{
+    let line = FaultLine::new(alloc, [seed; 32])?;
+    Ok(NodeStart { seat, line })
+}
+
+/// The nodes that are to start.
+fn node_starts<M: Machine, D: Device>(
+    alloc: Global,
+    seats: Vec<NodeSeat<M, D>>,
+) -> Result<Vec<NodeStart<M, D>>, Fault>
+    ensures count { IfOk result (λ starts. length starts.items ≡ length seats.items) }
+    ensures lines { IfOk result (λ starts. All (λ start. start.line.held ≡ []) starts.items) }
+{
+    let mut starts = Vec::new(alloc);
+    for seat in seats {
+        let seed = seat.number().get();
+        starts.push(node_start(alloc, seat, seed)?)?;
+    }
+    Ok(starts)
+}
+
+/// A task that is to start: it calls procedure 1 of object 1 with 5, and asks node 1 first.
+fn task_start<M: Machine>(alloc: Global, seat: TaskSeat<M>) -> Result<TaskStart<M>, Fault>
+    ensures seat { IfOk result (λ start. start.seat ≡ seat) }
+    ensures line { IfOk result (λ start. start.line.held ≡ []) }
+{
+    let call = TaskCall {
+        node: NodeId::new(1).ok_or(Fault::BadConfig)?,
+        object: 1,
+        operation: Operation::Procedure(1),
+        arg: 5,
+    };
+    Ok(TaskStart {
+        seat,
+        calls: Vec::from_slice(alloc, &[call])?,
+        line: FaultLine::new(alloc, [0; 32])?,
+    })
+}
+
+/// The first of the tasks is to start alone.
+fn task_starts<M: Machine>(
+    alloc: Global,
+    seats: Vec<TaskSeat<M>>,
+) -> Result<Vec<TaskStart<M>>, Fault>
+    requires some { 0 < length seats.items }
+    requires fresh { IfSome (slice_get seats.items 0) (λ seat.
+        seat.part ≡ fresh_part (OfTask fresh_task)) }
+    ensures lines { IfOk result (λ starts. All (λ start. start.line.held ≡ []) starts.items) }
+    ensures fresh { IfOk result (λ starts.
+        All (λ start. start.seat.part ≡ fresh_part (OfTask fresh_task)) starts.items) }
+{
+    let mut seats = seats;
+    let first = task_start(alloc, seats.remove(0))?;
+    let mut starts = Vec::new(alloc);
+    starts.push(first)?;
+    Ok(starts)
+}
+
+/// The audit fetches the report of a node, and adds it. How many actions are known of the node then.
+fn hear<M: Machine>(audit: &mut Audit<M>, alloc: Global, node: NodeId) -> Result<u32, Fault> {
+    let Some(report) = audit.fetch(Party::Node(node)) else {
+        return Err(Fault::Io);
+    };
+    match audit.add(alloc, report.as_slice())? {
+        Added::Added { known, .. } => Ok(known),
+        Added::Gap { .. } => Err(Fault::Io),
+    }
+}
+
+/// The ballot in which a node leads at a position, by the first packet of that step.
+fn led_in<M: Machine, D: Device>(
+    seat: &mut NodeSeat<M, D>,
+    alloc: Global,
+    position: u32,
+) -> Result<u64, Fault> {
+    let position = u16::try_from(position).map_err(|_| Fault::LogFull)?;
+    let sent = seat.turn(alloc, &Input::Lead(Position::new(position)))?;
+    let bytes = sent.bytes.as_slice();
+    let len = packet_len(bytes).ok_or(Fault::Io)?;
+    let first = bytes.get(..len).ok_or(Fault::Io)?;
+    let Ok(packet) = decode(alloc, first)? else {
+        return Err(Fault::Io);
+    };
+    match packet.body() {
+        Body::Prepare { ballot, .. } => Ok(ballot.get()),
+        _ => Err(Fault::Io),
+    }
+}
+
+/// What a node tells behind its turns, and how many of its actions are known of its report.
+#[derive(Clone, Copy)]
+struct NodeTold {
+    received: u64,
+    spent: u64,
+    applied: u32,
+    known: u32,
+}
+
+/// A node reports to the audit.
+fn tell<M: Machine, D: Device>(
+    end: &mut NodeEnd<M, D>,
+    audit: &mut Audit<M>,
+    alloc: Global,
+) -> Result<NodeTold, Fault> {
+    if let Some(fault) = end.fault {
+        return Err(fault);
+    }
+    let applied = end.seat.applied()?;
+    node_step(&mut end.seat, alloc, &Input::Report(Position::first()))?;
+    Ok(NodeTold {
+        received: end.received,
+        spent: end.spent,
+        applied,
+        known: hear(audit, alloc, end.seat.number())?,
+    })
+}
+
+/// Whether the actions known of one node begin those of the other.
+fn begin<M: Machine>(audit: &Audit<M>, one: u8, other: u8) -> Result<bool, Fault> {
+    let one = audit.known(NodeId::new(one).ok_or(Fault::BadConfig)?);
+    let other = audit.known(NodeId::new(other).ok_or(Fault::BadConfig)?);
+    let mut pairs = one.iter().zip(other.iter());
+    Ok(pairs.all(|(mine, theirs)| mine == theirs))
+}
+
+/// Whether the task has a reply, or waits for it still.
+fn asked<M: Machine>(task: &mut TaskSeat<M>, alloc: Global) -> Result<bool, Fault> {
+    if !task.replies().is_empty() {
+        return Ok(true);
+    }
+    let node = NodeId::new(1).ok_or(Fault::BadConfig)?;
+    let further = task.call(alloc, node, 1, Operation::Procedure(1), 5);
+    Ok(matches!(further, Err(Fault::TaskBusy)))
+}
+
+/// What is told once all threads have ended.
+#[derive(Drop)]
+struct Told {
+    nodes: Vec<NodeTold>,
+    agree: bool,
+    made: usize,
+    asked: bool,
+    ballot: u64,
+}
+
+/// Three nodes and the first task run in threads, and then report to the audit.
+fn run_three<R: Threads + Wait, M: Machine + Send, D: Device + Send, G: Gate + Sync>(
+    rt: &R,
+    alloc: Global,
+    program: &M::Program,
+    devices: Vec<D>,
+    gate: &G,
+) -> Result<Told, Fault>
+where
+    M::Program: Send,
+{
+    let all: AllSeats<M, D> = seats(alloc, CONFIG, program, devices)?;
+    let nodes = node_starts(alloc, all.nodes)?;
+    let tasks = task_starts(alloc, all.tasks)?;
+    let (mut nodes, mut tasks) = run_threads(rt, alloc, nodes, tasks, gate, TURNS)?;
+    let mut audit = Audit::new(alloc, all.audit);
+    let mut told = Vec::new(alloc);
+    for end in nodes.iter_mut() {
+        told.push(tell(end, &mut audit, alloc)?)?;
+    }
+    audit.look();
+    let agree = begin(&audit, 1, 2)? && begin(&audit, 2, 3)? && begin(&audit, 1, 3)?;
+    let leader = nodes.first_mut().ok_or(Fault::BadConfig)?;
+    let applied = leader.seat.applied()?;
+    let task = tasks.first_mut().ok_or(Fault::BadConfig)?;
+    if let Some(fault) = task.fault {
+        return Err(fault);
+    }
+    Ok(Told {
+        nodes: told,
+        agree,
+        made: task.made,
+        asked: asked(&mut task.seat, alloc)?,
+        ballot: led_in(&mut leader.seat, alloc, applied.wrapping_add(1))?,
+    })
+}
+
+#[test]
+fn three_nodes_and_a_task_run_in_threads(rt: HostRuntime) -> Result<(), Fail> {
+    let alloc = rt.alloc();
+    let program = TallyProgram::new(1).ok_or("one object")?;
+    let devices = devices(alloc)?;
+    let gate = InStep::new();
+    let told = run_three::<_, Tally, MemDevice, _>(&rt, alloc, &program, devices, &gate)?;
+    assert_eq!(rt; gate.late.load(Ordering::SeqCst), 0);
+    assert_eq!(rt; told.nodes.len(), 3);
+    for node in &told.nodes {
+        assert_eq!(rt; node.spent, 0);
+        assert!(rt; node.received > 0);
+        assert!(rt; node.known >= node.applied);
+    }
+    assert!(rt; told.agree);
+    assert_eq!(rt; told.made, 1);
+    assert!(rt; told.asked);
+    assert!(rt; told.ballot > 9);
+    Ok(())
+}

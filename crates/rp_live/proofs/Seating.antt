@@ -7,8 +7,8 @@ use Rattle.std.specs.Prelude.{All, IfSome}
 use Rattle.atomic_table.specs.Seated.{TableId}
 use Rattle.rp_base.specs.declared.config.Config.{Config}
 use Rattle.rp_model.specs.Parts.{fresh_node, fresh_task}
-use Rattle.rp_boxes.specs.Making.{AreFirstSeats, AreSeats, first_seat}
-use Rattle.rp_boxes.specs.Parts.{Part, Role, OfNode, OfTask, OfAudit, first_part, first_role, fresh_part}
+use Rattle.rp_boxes.specs.Making.{AreFirstSeats, first_seat}
+use Rattle.rp_boxes.specs.Parts.{OfNode, OfTask, OfAudit, first_role, fresh_part}
 use Rattle.rp_boxes.specs.Seats.{Chair}
 use Rattle.rp_boxes.proofs.Seating.{node_role}
 use Rattle.rp_threads.specs.Loops.{IsSameSeat}

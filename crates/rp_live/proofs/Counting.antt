@@ -1,1 +1,0 @@
--- As many actions are known as each node applied.

@@ -2,4 +2,3 @@ pub mod Running
 pub mod Seating
 pub mod Reporting
 pub mod Meeting
-pub mod Counting

@@ -1,11 +1,11 @@
 -- A report goes from a node to the audit.
-use Rattle.std.proofs.Common.{◌≡◌, ℕ, List, [], ◌∷◌, ◌++◌, inl, inr, refl, sym, ap, subst, ◌∙◌, length}
+use Rattle.std.proofs.Common.{◌≡◌, ℕ, List, [], ◌∷◌, inl, refl, sym, ap, subst, ◌∙◌, length}
 use Rattle.std.specs.Prelude.{IsSome}
 use Rattle.rp_base.specs.Records.{applied_of}
 use Rattle.rp_base.specs.Sets.{Has}
 use Rattle.rp_base.specs.declared.action.Action.{Action}
 use Rattle.rp_base.proofs.Members.{has_right}
-use Rattle.rp_codec.specs.Message.{Message, IsPacket, IsNodeParty, IsTaskParty, MaySay}
+use Rattle.rp_codec.specs.Message.{Message, IsNodeParty, IsTaskParty, MaySay}
 use Rattle.rp_codec.specs.Text.{text_of}
 use Rattle.rp_codec.specs.declared.packet.Body.{Body}
 use Rattle.rp_codec.specs.declared.packet.Body.TheVariants.{Call, Prepare, Promise, Accept, Accepted, Decided, Ask, Nack, Reply, Report}

@@ -7,7 +7,7 @@ use Rattle.rp_base.specs.declared.reply.Answer.{Answer}
 use Rattle.rp_boxes.specs.Making.{IsWanting}
 use Rattle.rp_boxes.specs.Parts.{Part, Role, OfNode}
 use Rattle.rp_boxes.specs.Seats.{Chair, IsGot, IsTurn, IsCutTurn, IsNoTurn, setting_at}
-use Rattle.rp_model.specs.Effect.{Setting, Done, NodeInput, Receive, Lead, Interrupt, Tick, Report, turned, turned_if, effect_while, node_effect, running_effect}
+use Rattle.rp_model.specs.Effect.{Setting, Done, NodeInput, Receive, Lead, Interrupt, Tick, Report, turned, turned_if, effect_while, running_effect}
 use Rattle.rp_model.specs.Parts.{NodePart, Running, Turn}
 use Rattle.rp_replica.specs.Inputs.{IsRightInput, given_by}
 use Rattle.rp_replica.specs.declared.input.Input.{Input}

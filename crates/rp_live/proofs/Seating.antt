@@ -1,5 +1,5 @@
 -- The same seats, whatever happened at them since.
-use Rattle.std.proofs.Common.{◌≡◌, ℕ, zero, suc, ◌+◌, ◌<◌, ◌≤◌, Bool, false, nat_eq, nat_lt, if◌then◌else◌, Option, Some, None, List, [], ◌∷◌, ◌++◌, length, map, slice_get, slice_set, refl, sym, ap, subst, ◌∙◌, arith}
+use Rattle.std.proofs.Common.{◌≡◌, ℕ, zero, suc, ◌+◌, ◌<◌, ◌≤◌, Bool, false, nat_eq, nat_lt, if◌then◌else◌, Option, Some, None, List, [], ◌∷◌, ◌++◌, length, map, slice_get, refl, sym, ap, subst, ◌∙◌, arith}
 use Rattle.std.proofs.lemmas.Grind.{common_steps}
 use Rattle.std.proofs.lemmas.List.{append_assoc, map-append}
 use Rattle.std.specs.List.{AllZip}
@@ -7,12 +7,11 @@ use Rattle.std.specs.Prelude.{All, IfSome}
 use Rattle.atomic_table.specs.Seated.{TableId}
 use Rattle.rp_base.specs.declared.config.Config.{Config}
 use Rattle.rp_model.specs.Parts.{fresh_node, fresh_task}
-use Rattle.rp_boxes.specs.Making.{AreFirstSeats, AreSeats, first_seat}
-use Rattle.rp_boxes.specs.Parts.{Part, Role, OfNode, OfTask, OfAudit, first_part, first_role, fresh_part}
+use Rattle.rp_boxes.specs.Making.{AreFirstSeats, first_seat}
+use Rattle.rp_boxes.specs.Parts.{OfNode, OfTask, OfAudit, first_role, fresh_part}
 use Rattle.rp_boxes.specs.Seats.{Chair}
 use Rattle.rp_boxes.proofs.Seating.{node_role}
 use Rattle.rp_threads.specs.Loops.{IsSameSeat}
-use Rattle.rp_threads.proofs.Steps.{same_seat, same_on}
 use Rattle.rp_live.specs.Seats.{IsSeatOf, AreSeatsOf, Runs}
 
 -- ---- lists
@@ -34,30 +33,6 @@ all_within Q (x ∷ xs) each (suc k) d within = all_within Q xs (λ j less. each
 -- ---- the same seats
 
 module _ {P : Type 0} where
-  pub same_all : (seats : List (Chair P)) → AllZip IsSameSeat seats seats
-  same_all [] = tt
-  same_all (seat ∷ seats) = (same_seat seat seat refl, same_all seats)
-
-  pub same_then : (a b c : List (Chair P)) → AllZip IsSameSeat a b → AllZip IsSameSeat b c → AllZip IsSameSeat a c
-  same_then [] [] [] ab bc = tt
-  same_then [] [] (z ∷ c) ab bc = absurd bc
-  same_then [] (y ∷ b) c ab bc = absurd ab
-  same_then (x ∷ a) [] c ab bc = absurd ab
-  same_then (x ∷ a) (y ∷ b) [] ab bc = absurd bc
-  same_then (x ∷ a) (y ∷ b) (z ∷ c) ab bc = (same_on x y z ab.0 bc.0, same_then a b c ab.1 bc.1)
-
-  -- one of them has changed
-  pub same_set : (seats : List (Chair P)) (place : ℕ) (seat : Chair P) → IfSome (slice_get seats place) (λ old. IsSameSeat old seat) → AllZip IsSameSeat seats (slice_set seats place seat)
-  same_set [] place seat same = tt
-  same_set (x ∷ xs) zero seat same = (same, same_all xs)
-  same_set (x ∷ xs) (suc place) seat same = (same_seat x x refl, same_set xs place seat same)
-
-  pub same_length : (olds news : List (Chair P)) → AllZip IsSameSeat olds news → length news ≡ length olds
-  same_length [] [] same = refl
-  same_length [] (new ∷ news) same = absurd same
-  same_length (old ∷ olds) [] same = absurd same
-  same_length (old ∷ olds) (new ∷ news) same = ap suc (same_length olds news same.1)
-
   module _ (table : TableId) (program : P) where
     still_of : (number : ℕ) (old new : Chair P) → IsSameSeat old new → IsSeatOf table program number old → IsSeatOf table program number new
     still_of number old new same is = record {

@@ -3,7 +3,6 @@ use Rattle.std.proofs.Common.{◌≡◌, ℕ, ◌+◌, ◌<◌, Option, Some, No
 use Rattle.std.specs.Prelude.{option_to_list}
 use Rattle.std.proofs.lemmas.List.{take_more}
 use Rattle.std.proofs.lemmas.List.Elements.{filter_map-append}
-use Rattle.rp_model.specs.declared.event.Event.{Event}
 use Rattle.rp_threads.specs.declared.tasks.TaskCall.{TaskCall}
 use Rattle.rp_live.specs.Events.{call_by}
 use Rattle.rp_live.proofs.calls.calls_of.Goals as goal

@@ -1,5 +1,5 @@
 -- One more task is met.
-use Rattle.std.proofs.Common.{◌≡◌, ◌+◌, ◌++◌, ℕ, suc, [], ◌∷◌, length, map, arith, sym, ap, subst, ◌∙◌, refl}
+use Rattle.std.proofs.Common.{suc, length, map, arith, sym, ap, subst, ◌∙◌, refl}
 use Rattle.rp_boxes.specs.Meeting.{IsMet}
 use Rattle.rp_boxes.specs.Parts.{task_of}
 use Rattle.rp_live.specs.Lived.{AreReplies}

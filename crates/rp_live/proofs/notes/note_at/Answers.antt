@@ -1,5 +1,5 @@
 -- The node at the place goes on running, and the others do.
-use Rattle.std.proofs.Common.{◌-◌, ◌<◌, length, All, arith, subst, sym}
+use Rattle.std.proofs.Common.{◌-◌, ◌<◌, length, arith, subst, sym}
 use Rattle.std.proofs.lemmas.List.Elements.{All-set}
 use Rattle.std.proofs.lemmas.Result.{IfOk-weaker}
 use Rattle.rp_boxes.specs.Seats.{Chair}

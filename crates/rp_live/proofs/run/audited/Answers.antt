@@ -1,5 +1,5 @@
 -- What the audit knows, and what the tasks were told.
-use Rattle.std.proofs.Common.{◌≡◌, ◌↔◌, ℕ, true, List, length, sym, ap, subst, ◌∙◌}
+use Rattle.std.proofs.Common.{◌≡◌, ◌↔◌, ℕ, true, List, length, ap, subst, ◌∙◌}
 use Rattle.rp_boxes.specs.Audits.{Audited}
 use Rattle.rp_boxes.specs.Meeting.{AreOfOneOrder}
 use Rattle.rp_live.specs.Lived.{AreReplies, KnowsAll}

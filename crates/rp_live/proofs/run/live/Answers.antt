@@ -1,5 +1,5 @@
 -- All seats are of the one table, and those of the tasks come back.
-use Rattle.std.proofs.Common.{◌≡◌, ◌≤◌, ℕ, [], All, length, map, arith, sym, ap, subst, ◌∙◌}
+use Rattle.std.proofs.Common.{◌≡◌, ℕ, [], All, length, map, arith, sym, ap, subst, ◌∙◌}
 use Rattle.std.proofs.lemmas.Result.{IfOk-weaker}
 use Rattle.rp_model.specs.Parts.{fresh_task}
 use Rattle.rp_boxes.specs.Parts.{OfTask, fresh_part}

@@ -1,6 +1,5 @@
 -- One more node is ready.
 use Rattle.std.proofs.Common.{◌≡◌, ◌++◌, [], ◌∷◌, List, length, map, refl, All, arith, append-nil, sym, ap, subst, ◌∙◌}
-use Rattle.std.proofs.lemmas.Grind.{common_steps}
 use Rattle.rp_codec.specs.declared.packet.Party.TheVariants.{Node}
 use Rattle.rp_tasks.specs.Line.{line_of}
 use Rattle.rp_live.specs.Lines.{line_seed}

@@ -1,3 +1,2 @@
 mod Asking
-mod Hearing
 mod Starting

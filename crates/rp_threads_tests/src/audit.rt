@@ -1,4 +1,4 @@
-ghost use Rattle.std.specs.Prelude.{IfOk, List, ℕ};
+ghost use Rattle.std.specs.Prelude.{IfOk, OnOk, List, ℕ};
 ghost use Rattle.rp_boxes.specs.Audits.{IsGotReport};
 
 use crate::setup::{CONFIG, devices, receive};
@@ -70,6 +70,16 @@ fn reported<M: Machine, D: Device>(
     audit.fetch(Party::Node(node.number())).ok_or(Fault::Io)
 }
 
+/// The audit adds a report. What it got stays got.
+fn adds<M: Machine>(audit: &mut Audit<M>, alloc: Global, report: &[u8]) -> Result<Added, Fault>
+    requires { IsGotReport audit.old.seat.part report.now }
+    ensures { OnOk result ((text : List ℕ) → IsGotReport audit.old.seat.part text
+        → IsGotReport audit.new.seat.part text) }
+{
+    let added = audit.add(alloc, report)?;
+    Ok(added)
+}
+
 /// What reports of the first node come to, and what is known of it then.
 #[derive(Drop)]
 struct Heard {
@@ -88,16 +98,16 @@ fn hear<M: Machine, D: Device>(
     let mut nodes = all.nodes;
     let mut audit = Audit::new(alloc, all.audit);
     let none = reported(alloc, nodes.as_mut_slice(), &mut audit, 3)?;
-    let gap = audit.add(alloc, none.as_slice())?;
+    let gap = adds(&mut audit, alloc, none.as_slice())?;
     tick(alloc, nodes.as_mut_slice(), 1)?;
     let one = reported(alloc, nodes.as_mut_slice(), &mut audit, 1)?;
     tick(alloc, nodes.as_mut_slice(), 2)?;
     let two = reported(alloc, nodes.as_mut_slice(), &mut audit, 1)?;
-    let second = audit.add(alloc, two.as_slice())?;
-    let again = audit.add(alloc, one.as_slice())?;
+    let second = adds(&mut audit, alloc, two.as_slice())?;
+    let again = adds(&mut audit, alloc, one.as_slice())?;
     tick(alloc, nodes.as_mut_slice(), 3)?;
     let three = reported(alloc, nodes.as_mut_slice(), &mut audit, 3)?;
-    let third = audit.add(alloc, three.as_slice())?;
+    let third = adds(&mut audit, alloc, three.as_slice())?;
     let node = NodeId::new(1).ok_or(Fault::BadConfig)?;
     let mut known = Vec::new(alloc);
     known.extend_from_slice(audit.known(node))?;

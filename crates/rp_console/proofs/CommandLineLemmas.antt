@@ -1,5 +1,6 @@
 -- What clap's faults say of the words that it takes.
-use Rattle.std.proofs.Common.{◌≡◌, List, [], ◌∷◌, Bool, true, false, not, ◌&&◌, Option, Some, None, is_some, codes, refl, cond, ap, sym, subst, ◌∙◌}
+use Rattle.std.proofs.Common.{◌≡◌, ◌⊎◌, inl, inr, List, [], ◌∷◌, Bool, true, false, not, ◌&&◌, Option, Some, None, is_some, codes, refl, cond, ap, sym, subst, ◌∙◌}
+use Rattle.std.specs.Str.{bytes_eq}
 use Rattle.std.specs.Prelude.{option_map, option_and_then}
 use Rattle.clap.specs.Words.{App, Shape, Row, Text, Kinds, fault_of, subcommand_of, built, found_of, one_of, one_text, rows_of}
 use Rattle.clap.specs.Kinds.{or_else, check_kinds}
@@ -12,7 +13,7 @@ use Rattle.clap.proofs.WalkLemmas.{one_text-rows}
 use Rattle.clap.specs.Words.{is_simple, is_simple_and_free, HasKind, subcommand_rows_of, subcommand_name_of}
 use Rattle.clap.specs.declared.parser.matches.ArgMatches.{ArgMatches}
 use Rattle.clap.specs.declared.parser.matches.ArgMatches.TheViews.{out-ArgMatches}
-use Rattle.rp_console.specs.CommandLine.{console, trace_of}
+use Rattle.rp_console.specs.CommandLine.{console, option_of}
 
 or_else_second : (first second : Kinds) → or_else first second ≡ [] → second ≡ []
 or_else_second [] second e = e
@@ -39,17 +40,18 @@ level_used s names h words used below wanted quiet e =
     (or_else_second (walk_fault s names (walk_from h) words) (or_else below (or_else settle (or_else defaults last))) e))) in
     last_check used s.arg_required_else_help _ s.subcommand_required _ wanted quiet none
 
-one_entered : (taken : Bool) (s : Shape) (words : List Text)
-    → let found : Option (Text × List Row) = option_map (λ s. rows_at s words) (cond taken (Some s) None) in
-    is_some found ≡ true → option_map (λ f. f.0) found ≡ Some s.name
-one_entered true s words e = refl
-one_entered false s words e = cc
+one_entered : (first second : Bool) (s t : Shape) (words : List Text)
+    → let found : Option (Text × List Row) = option_map (λ x. rows_at x words) (cond first (Some s) (cond second (Some t) None)) in
+    is_some found ≡ true → (option_map (λ f. f.0) found ≡ Some s.name) ⊎ (option_map (λ f. f.0) found ≡ Some t.name)
+one_entered true second s t words e = inl refl
+one_entered false true s t words e = inr refl
+one_entered false false s t words e = cc
 
--- where there is one subcommand, it is the one that was entered
-entered_one : (a : App) (s : Shape) (stop : Option (Text × List Text)) → a.subs ≡ s ∷ [] → is_some (entered a stop) ≡ true
-    → option_map (λ f. f.0) (entered a stop) ≡ Some s.name
-entered_one a s None only e = cc
-entered_one a s (Some p) only e = rw only (one_entered _ s p.1 (rw only at e))
+-- where there are two subcommands, it is one of them that was entered
+entered_one : (a : App) (s t : Shape) (stop : Option (Text × List Text)) → a.subs ≡ s ∷ t ∷ [] → is_some (entered a stop) ≡ true
+    → (option_map (λ f. f.0) (entered a stop) ≡ Some s.name) ⊎ (option_map (λ f. f.0) (entered a stop) ≡ Some t.name)
+entered_one a s t None only e = cc
+entered_one a s t (Some p) only e = rw only (one_entered _ _ s t p.1 (rw only at e))
 
 map_map : {A B C : Type 0} (f : B → C) (g : A → B) (o : Option A) → option_map f (option_map g o) ≡ option_map (λ x. f (g x)) o
 map_map f g None = refl
@@ -59,9 +61,10 @@ map_map f g (Some x) = refl
 pub name_of_rows : (m : ArgMatches) → option_map (λ found. found.0) (subcommand_rows_of m) ≡ subcommand_name_of m
 name_of_rows m = map_map _ _ (out-ArgMatches m).subcommand
 
--- the words that clap takes name the one subcommand
-pub subcommand_name : (words : List Text) → fault_of console words ≡ [] → option_map (λ found. found.0) (subcommand_of console words) ≡ Some (codes "script")
-subcommand_name words e = entered_one (built console) _ (stop_after (built console).top.rules (names_of (built console)) (argument_words console words)) refl (level_used _ _ _ _ _ _ refl refl e)
+-- the words that clap takes name one of the two subcommands
+pub subcommand_name : (words : List Text) → fault_of console words ≡ []
+    → (option_map (λ found. found.0) (subcommand_of console words) ≡ Some (codes "script")) ⊎ (option_map (λ found. found.0) (subcommand_of console words) ≡ Some (codes "live"))
+subcommand_name words e = entered_one (built console) _ _ (stop_after (built console).top.rules (names_of (built console)) (argument_words console words)) refl (level_used _ _ _ _ _ _ refl refl e)
 
 is_simple_console : is_simple console ≡ true
 unfolding clap_on_literals
@@ -71,6 +74,19 @@ is_free_console : is_simple_and_free console ≡ true
 unfolding clap_on_literals
 is_free_console = refl
 
+option_at : (name option : Text) (found : Option (Text × List Row)) (rows : List Row) → option_map (λ p. p.0) found ≡ Some name → bytes_eq name name ≡ true
+    → option_map (λ p. p.1) found ≡ Some rows → one_of option rows ≡ option_and_then (λ p. cond (bytes_eq p.0 name) (one_of option p.1) None) found
+option_at name option None rows named self e = absurd (cc)
+option_at name option (Some p) rows named self e =
+    let is : p.0 ≡ name = cc in
+    let same : p.1 ≡ rows = cc in
+    rw is (rw self (ap (one_of option) (sym same)))
+
+not_there : (other option : Text) (found : Option (Text × List Row)) (name : Text) → option_map (λ p. p.0) found ≡ Some name → bytes_eq name other ≡ false
+    → option_and_then (λ p. cond (bytes_eq p.0 other) (one_of option p.1) None) found ≡ None
+not_there other option None name named differs = refl
+not_there other option (Some p) name named differs = let is : p.0 ≡ name = cc in rw is (rw differs refl)
+
 -- what clap says of a command holds of this one
 
 pub no_fault : (a : App) (words : List Text) → a ≡ console → (is_simple_and_free a ≡ true → fault_of a words ≡ []) → fault_of console words ≡ []
@@ -79,21 +95,28 @@ no_fault a words same taken = ap (λ b. fault_of b words) (sym same) ∙ taken (
 pub has_fault : (a : App) (words : List Text) (e : Error) → a ≡ console → (is_simple_and_free a ≡ true → HasKind (fault_of a words) e) → HasKind (fault_of console words) e
 has_fault a words e same refused = subst (λ b. HasKind (fault_of b words) e) same (refused (ap is_simple_and_free same ∙ is_free_console))
 
--- the subcommand that a parse without fault met
-pub met_script : (a : App) (words : List Text) (m : ArgMatches) (rows : Type 0) → a ≡ console → fault_of console words ≡ []
-    → (is_simple a ≡ true → rows × (subcommand_rows_of m ≡ subcommand_of a words)) → subcommand_name_of m ≡ Some (codes "script")
-met_script a words m rows same none met = sym (name_of_rows m) ∙ ap (option_map (λ found. found.0))
-    ((met (ap is_simple same ∙ is_simple_console)).1 ∙ ap (λ b. subcommand_of b words) same) ∙ subcommand_name words none
+module _ (a : App) (words : List Text) (m : ArgMatches) (rows : Type 0) (same : a ≡ console) (met : is_simple a ≡ true → rows × (subcommand_rows_of m ≡ subcommand_of a words)) where
+  -- the subcommand that the parse met is the one that the words name
+  met_rows : subcommand_rows_of m ≡ subcommand_of console words
+  met_rows = (met (ap is_simple same ∙ is_simple_console)).1 ∙ ap (λ b. subcommand_of b words) same
 
-option_at : (found : Option (Text × List Row)) (rows : List Row) → option_map (λ p. p.1) found ≡ Some rows
-    → one_of (codes "trace") rows ≡ option_and_then (λ p. one_of (codes "trace") p.1) found
-option_at None rows e = cc
-option_at (Some p) rows e = let same : p.1 ≡ rows = cc in ap (one_of (codes "trace")) (sym same)
+  pub met_name : option_map (λ found. found.0) (subcommand_of console words) ≡ subcommand_name_of m
+  met_name = ap (option_map (λ found. found.0)) (sym met_rows) ∙ name_of_rows m
 
--- what the subcommand's matches have of the option
-pub trace_read : (a : App) (words : List Text) (m inner : ArgMatches) (rows : Type 0) → a ≡ console
-    → (is_simple a ≡ true → rows × (subcommand_rows_of m ≡ subcommand_of a words)) → option_map (λ p. p.1) (subcommand_rows_of m) ≡ Some (rows_of (found_of inner))
-    → one_text (found_of inner) (codes "trace") ≡ trace_of words
-trace_read a words m inner rows same met there =
-    let found : subcommand_rows_of m ≡ subcommand_of console words = (met (ap is_simple same ∙ is_simple_console)).1 ∙ ap (λ b. subcommand_of b words) same in
-    one_text-rows (found_of inner) (codes "trace") ∙ option_at (subcommand_of console words) _ (ap (option_map (λ p. p.1)) (sym found) ∙ there)
+  -- a parse without fault met one of the two
+  pub met_one : fault_of console words ≡ [] → (subcommand_name_of m ≡ Some (codes "script")) ⊎ (subcommand_name_of m ≡ Some (codes "live"))
+  met_one none = elim (subcommand_name words none) [
+    | inl script ↦ inl (sym met_name ∙ script)
+    | inr live ↦ inr (sym met_name ∙ live)
+  ]
+
+  -- what the matches of a subcommand of this name have of an option
+  pub option_read : (name option : Text) (inner : ArgMatches) → subcommand_name_of m ≡ Some name → bytes_eq name name ≡ true
+      → option_map (λ p. p.1) (subcommand_rows_of m) ≡ Some (rows_of (found_of inner)) → one_text (found_of inner) option ≡ option_of name option words
+  option_read name option inner named self there =
+      one_text-rows (found_of inner) option
+      ∙ option_at name option (subcommand_of console words) _ (met_name ∙ named) self (ap (option_map (λ p. p.1)) (sym met_rows) ∙ there)
+
+  -- the words say nothing of the options of another subcommand
+  pub option_elsewhere : (name other option : Text) → subcommand_name_of m ≡ Some name → bytes_eq name other ≡ false → option_of other option words ≡ None
+  option_elsewhere name other option named differs = not_there other option (subcommand_of console words) name (met_name ∙ named) differs

@@ -9,3 +9,6 @@ mod LeastUnsettled
 mod Histories
 mod Saying
 mod Stepping
+mod Crossings
+mod LiveEvents
+mod LiveTelling

@@ -1,10 +1,13 @@
 -- The command line (this project's own).
-use Rattle.std.specs.Prelude.{true, Option, Some, List, codes, option_and_then}
+use Rattle.std.specs.Prelude.{◌≡◌, ℕ, ◌^◌, ◌<◌, true, Option, Some, None, List, [], ◌∷◌, pos, codes, option_and_then, if◌then◌else◌}
+use Rattle.std.specs.Str.{bytes_eq}
+use Rattle.std.specs.Str.Parse.{IsNumeral, digits_value, without_leading_plus}
 use Rattle.clap.specs.Words.{App, Rule, Shape, Text, new_app, new_rule, one_of, subcommand_of, with_rule, with_subcommand}
 use Rattle.clap.specs.Simple.{on_top}
 use Rattle.clap.specs.declared.builder.action.ArgAction.TheVariants.{SetTrue}
+use Rattle.clap.specs.declared.builder.value_parser.ValueParser.TheVariants.{Signed}
 use Rattle.rp_console.specs.declared.args.Args.{Args}
-use Rattle.rp_console.specs.declared.args.Args.TheVariants.{Script}
+use Rattle.rp_console.specs.declared.args.Args.TheVariants.{Script, Live}
 
 -- a command that wants one of its subcommands, which `help` is not
 abbrev pub with_choice : Shape → Shape
@@ -18,14 +21,60 @@ trace = record (new_rule (codes "trace")) { long = Some (codes "trace"); action 
 abbrev pub script : App
 script = with_rule (new_app (codes "script")) trace
 
--- what the program takes: the one subcommand `script`
+-- an option by this name that has one number of a range, and this text where it is not given
+abbrev pub number_option : Text → ℕ → ℕ → Text → Rule
+number_option name low high otherwise = record (new_rule name) {
+  long = Some name;
+  value_names = 1;
+  parser = Some (Signed (pos low) (pos high));
+  defaults = otherwise ∷ [];
+}
+
+-- the option `--seed`
+abbrev pub seed : Rule
+seed = number_option (codes "seed") 0 4294967295 (codes "0")
+
+-- the option `--turns`
+abbrev pub turns : Rule
+turns = number_option (codes "turns") 1 1000000 (codes "10000")
+
+-- the subcommand `live`, with its two options
+abbrev pub live : App
+live = with_rule (with_rule (new_app (codes "live")) seed) turns
+
+-- what the program takes: the subcommands `script` and `live`
 abbrev pub console : App
-console = with_subcommand (on_top with_choice (new_app (codes "rp_console"))) script.top
+console = with_subcommand (with_subcommand (on_top with_choice (new_app (codes "rp_console"))) script.top) live.top
 
 -- the subcommand by which it is asked for
 abbrev pub name_of : Args → Text
 name_of (Script traced) = codes "script"
+name_of (Live s t) = codes "live"
 
--- what the words say of the option: `true` where it stands among them, else `false`
+-- what the words say of an option of this subcommand, where they name that one
+abbrev pub option_of : Text → Text → List Text → Option Text
+option_of name option words =
+    option_and_then (λ found. if bytes_eq found.0 name then one_of option found.1 else None) (subcommand_of console words)
+
+-- of `--trace`: `true` where it stands among them, else `false`
 abbrev pub trace_of : List Text → Option Text
-trace_of words = option_and_then (λ found. one_of (codes "trace") found.1) (subcommand_of console words)
+trace_of words = option_of (codes "script") (codes "trace") words
+
+-- of `--seed`: the text of a number
+abbrev pub seed_of : List Text → Option Text
+seed_of words = option_of (codes "live") (codes "seed") words
+
+-- of `--turns`: the text of a number
+abbrev pub turns_of : List Text → Option Text
+turns_of words = option_of (codes "live") (codes "turns") words
+
+-- the text is decimal digits, behind one plus at most, that write this number of 32 bits
+pub record IsNumberText (text : Text) (number : ℕ) : Type 0 where
+  pub digits : IsNumeral 10 (without_leading_plus text)
+  pub value : number ≡ digits_value 10 (without_leading_plus text)
+  pub fits : number < 2 ^ 32
+
+-- there is such a text
+abbrev pub ReadsAs : Option Text → ℕ → Type 0
+ReadsAs None number = ⊥
+ReadsAs (Some text) number = IsNumberText text number

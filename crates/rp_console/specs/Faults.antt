@@ -1,5 +1,5 @@
 -- Which faults end a run, and the program.
-use Rattle.std.specs.Prelude.{◌⊎◌}
+use Rattle.std.specs.Prelude.{◌≡◌, ◌⊎◌}
 use Rattle.rp_base.specs.declared.fault.Fault.{Fault}
 use Rattle.rp_base.specs.declared.fault.Fault.TheVariants.{OutOfMemory, Device, Failed, BadPacket, NotRunning, BallotsSpent, LogFull, NoSuchMessage, TaskBusy, NumbersSpent, BadDeck, BadConfig, Io}
 
@@ -38,3 +38,11 @@ IsBadDeck Io = ⊥
 -- a fault that ends the program: a bad deck, or one that ends a run
 abbrev pub IsScriptFault : Fault → Type 0
 IsScriptFault fault = IsBadDeck fault ⊎ IsRunFault fault
+
+-- a fault that ends a run in threads: one that ends a run, or a device that failed before
+abbrev pub IsThreadsFault : Fault → Type 0
+IsThreadsFault fault = IsRunFault fault ⊎ (fault ≡ Failed)
+
+-- and a fault that ends the program where it runs so
+abbrev pub IsLiveModeFault : Fault → Type 0
+IsLiveModeFault fault = IsBadDeck fault ⊎ IsThreadsFault fault

@@ -1,6 +1,8 @@
 pub mod Agreeing
 pub mod CommandLine
 pub mod Faults
+pub mod LiveOutput
+pub mod LiveRun
 pub mod Output
 pub mod Printed
 pub mod Runs

@@ -49,3 +49,7 @@ stopped_line_of node = codes "node " ++ (decimal node ++ codes " stopped")
 -- `drain` delivered as many messages as it may, and more are left
 abbrev pub limit_line_of : ℕ → List ℕ
 limit_line_of line = codes "line " ++ (decimal line ++ codes ": drain limit")
+
+-- what each node applied begins one order
+abbrev pub agreed_line : List ℕ
+agreed_line = codes "logs agree"

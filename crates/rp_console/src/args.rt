@@ -1,11 +1,12 @@
 //! What the words of the command line ask for.
 
-ghost use Rattle.std.specs.Prelude.{◌≡◌, ◌≢◌, Some, true, false, codes, IfOk, map, option_map};
-ghost use Rattle.clap.specs.Words.{app_of, kind_of, subcommand_of, fault_of, FailsBy};
-ghost use Rattle.rp_console.specs.CommandLine.{console, name_of, trace_of};
+ghost use Rattle.std.specs.Prelude.{◌≡◌, ◌≢◌, ℕ, Some, true, false, codes, IfOk, map, option_map};
+ghost use Rattle.clap.specs.Words.{app_of, kind_of, subcommand_of, fault_of, found_of, one_text, FailsBy};
+ghost use Rattle.clap.specs.declared.builder.command.Command.TheViews.{out-Command};
+ghost use Rattle.rp_console.specs.CommandLine.{console, script, live, name_of, trace_of, seed_of, turns_of, ReadsAs};
 
 use clap::error::ErrorKind;
-use clap::{Arg, ArgAction, Command, Error};
+use clap::{Arg, ArgAction, ArgMatches, Command, Error, value_parser};
 use std::alloc::{AllocError, Global};
 use std::convert::AsStr;
 
@@ -17,24 +18,64 @@ pub enum Args {
         /// Whether each packet that is sent is printed.
         traced: bool,
     },
+    /// Runs the deck on standard input in threads.
+    Live {
+        /// What the faults of the lines follow from.
+        seed: u32,
+        /// How many turns each node and each task makes, 1 to 1,000,000.
+        turns: u32,
+    },
 }
 
 /// What the program takes.
 fn command<'a>(alloc: Global) -> Result<Command<'a>, AllocError>
     ensures { IfOk result (λ command. app_of command ≡ console) }
 {
-    let trace = Arg::new(alloc, "trace")
-        .long("trace")
-        .help("Prints each packet that is sent")
-        .action(ArgAction::SetTrue);
-    let script = Command::new(alloc, "script")
-        .about("Runs the script of the deck that standard input holds, and prints what happens")
-        .arg(trace)?;
+    let script = script_command(alloc)?;
+    let live = live_command(alloc)?;
     Command::new(alloc, "rp_console")
         .about("Runs a program of tasks and objects on a cluster of nodes in memory")
         .subcommand_required(true)
         .disable_help_subcommand(true)
-        .subcommand(script)
+        .subcommand(script)?
+        .subcommand(live)
+}
+
+/// The subcommand `script`.
+fn script_command<'a>(alloc: Global) -> Result<Command<'a>, AllocError>
+    ensures app { IfOk result (λ command. app_of command ≡ script) }
+    ensures local { IfOk result (λ command. (out-Command command).has_globals ≡ false) }
+{
+    let trace = Arg::new(alloc, "trace")
+        .long("trace")
+        .help("Prints each packet that is sent")
+        .action(ArgAction::SetTrue);
+    Command::new(alloc, "script")
+        .about("Runs the script of the deck that standard input holds, and prints what happens")
+        .arg(trace)
+}
+
+/// The subcommand `live`.
+fn live_command<'a>(alloc: Global) -> Result<Command<'a>, AllocError>
+    ensures app { IfOk result (λ command. app_of command ≡ live) }
+    ensures local { IfOk result (λ command. (out-Command command).has_globals ≡ false) }
+{
+    let seed = Arg::new(alloc, "seed")
+        .long("seed")
+        .value_name("S")
+        .help("Picks which packets are lost, repeated and reordered")
+        .value_parser(value_parser!(u32))
+        .default_value("0");
+    let turns = Arg::new(alloc, "turns")
+        .long("turns")
+        .value_name("T")
+        .help("How many turns each node and each task makes, 1 to 1000000")
+        .value_parser(value_parser!(u32).range(1..=1_000_000))
+        .default_value("10000");
+    Command::new(alloc, "live")
+        .about("Runs the deck that standard input holds in threads, and prints what came of it")
+        .arg(seed)?
+        .arg(turns)
 }
 
 /// Reads the words, of which the first is the program's name. An error has the text that the user
@@ -46,15 +87,32 @@ pub fn read_args<S: AsStr>(alloc: Global, words: &[S]) -> Result<Args, Error>
         → args ≡ Args.Script true) }
     ensures quiet { IfOk result (λ args. trace_of (map S.text words.now) ≡ Some (codes "false")
         → args ≡ Args.Script false) }
+    ensures live { IfOk result (λ args. (seed turns : ℕ)
+        → ReadsAs (seed_of (map S.text words.now)) seed
+        → ReadsAs (turns_of (map S.text words.now)) turns
+        → args ≡ Args.Live seed turns) }
     ensures refused { FailsBy (fault_of console (map S.text words.now)) result }
 {
     let matches = command(alloc)?.try_get_matches_from(words)?;
-    match matches.subcommand_matches("script") {
-        Some(found) => Ok(Args::Script {
-            traced: found.get_flag("trace"),
+    if let Some(found) = matches.subcommand_matches("script") {
+        let traced = found.get_flag("trace");
+        return Ok(Args::Script { traced });
+    }
+    match matches.subcommand_matches("live") {
+        Some(found) => Ok(Args::Live {
+            seed: number_of(found, "seed"),
+            turns: number_of(found, "turns"),
         }),
         None => unreachable!(),
     }
+}
+
+/// The number that an option has, 0 if it has none.
+fn number_of(found: &ArgMatches<'_>, id: &str) -> u32
+    ensures { (number : ℕ) → ReadsAs (one_text (found_of found.now) id.now) number
+        → result ≡ number }
+{
+    found.get_one::<u32>(id).unwrap_or(0)
 }
 
 /// The status that the program ends with where its words were not read.

@@ -14,7 +14,7 @@ use crate::options::RunOptions;
 use crate::run::run_lines;
 use crate::stream::read_whole;
 use rp_base::Fault;
-use rp_deck::{Deck, DeckProgram, read_deck};
+use rp_deck::{Deck, DeckProgram, Mode, read_deck};
 use rp_machine::Tally;
 use rp_object::Objects;
 use rp_store::MemDevice;
@@ -39,7 +39,7 @@ pub fn run_script<R: Read, W: Write>(
     ensures fault { IfErr result IsScriptFault }
 {
     let text = read_whole(alloc, reader)?;
-    let deck = read_deck(alloc, &text)?;
+    let deck = read_deck(alloc, &text, Mode::Script)?;
     run_deck(alloc, deck, traced, writer)
 }
 

@@ -302,7 +302,7 @@ fn tell_taken<W: Write>(
 }
 
 /// Prints a reply under the name of its task.
-fn tell_reply<W: Write>(
+pub fn tell_reply<W: Write>(
     alloc: Global,
     tasks: &IndexMap<String, Task>,
     answer: Answer,

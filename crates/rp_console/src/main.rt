@@ -1,4 +1,4 @@
-//! The program: reads a deck on standard input, runs its script and prints.
+//! The program: reads a deck on standard input, runs its script or all of it in threads, and prints.
 //!
 //! In reading order:
 //! - `args`: what the words of the command line ask for
@@ -10,6 +10,8 @@
 //! - `settled`: which messages of a run are settled
 //! - `printed`: the lines that a run prints
 //! - `trace`: the line that a trace tells of a packet
+//! - `live_run`: runs a deck in threads
+//! - `live_output`: prints what came of a run in threads
 //! - `stream`: reads a deck whole, and writes what a run prints
 //! - `status`: what the program says of a fault, and the status that it ends with
 #![tactic(auto)]
@@ -18,6 +20,8 @@ mod agreeing;
 mod args;
 mod deck_run;
 mod effects;
+mod live_output;
+mod live_run;
 mod options;
 mod printed;
 mod run;
@@ -29,19 +33,22 @@ mod trace;
 use args::{Args, read_args, words_status};
 use clap::error::ErrorKind;
 use deck_run::run_script;
+use live_run::run_live;
 use rp_base::Fault;
 use status::{status, tell};
 use std::env;
 use std::process::ExitCode;
+use std::sync::Wait;
+use std::thread::Threads;
 
 fn main(rt: HostRuntime) -> ExitCode {
-    ExitCode::from(console(&rt))
+    ExitCode::from(console(&rt, &rt))
 }
 
 /// Does what the words of the command line ask for. The status that the program ends with.
-fn console(rt: &HostRuntime) -> u8 {
+fn console<T: Threads + Wait>(rt: &HostRuntime, threads: &T) -> u8 {
     match given_words(rt) {
-        Ok(words) => obey(rt, words.as_slice()),
+        Ok(words) => obey(rt, threads, words.as_slice()),
         Err(fault) => fail(rt, fault),
     }
 }
@@ -53,14 +60,9 @@ fn given_words(rt: &HostRuntime) -> Result<Vec<String>, Fault> {
 }
 
 /// Does what the words ask for, or tells why they are wrong.
-fn obey(rt: &HostRuntime, words: &[String]) -> u8 {
+fn obey<T: Threads + Wait>(rt: &HostRuntime, threads: &T, words: &[String]) -> u8 {
     match read_args(rt.alloc(), words) {
-        Ok(Args::Script { traced }) => match run_script(
-            rt.alloc(),
-            &mut rt.stdin(),
-            traced,
-            &mut rt.stdout(),
-        ) {
+        Ok(args) => match run_as(rt, threads, args) {
             Ok(()) => 0,
             Err(fault) => fail(rt, fault),
         },
@@ -68,6 +70,19 @@ fn obey(rt: &HostRuntime, words: &[String]) -> u8 {
         Err(error) => {
             let _ = error.print(rt);
             words_status(&error)
+        }
+    }
+}
+
+/// Runs the deck on standard input, in its script's order or in threads.
+fn run_as<T: Threads + Wait>(rt: &HostRuntime, threads: &T, args: Args) -> Result<(), Fault> {
+    let alloc = rt.alloc();
+    let mut reader = rt.stdin();
+    let mut writer = rt.stdout();
+    match args {
+        Args::Script { traced } => run_script(alloc, &mut reader, traced, &mut writer),
+        Args::Live { seed, turns } => {
+            run_live(threads, alloc, &mut reader, seed, turns, &mut writer)
         }
     }
 }

@@ -1,7 +1,7 @@
 //! The lines that a run prints. The caller ends each by a line feed.
 
 ghost use Rattle.std.specs.Prelude.{Some};
-ghost use Rattle.rp_console.specs.Printed.{reply_text_of, reply_line_of, refused_line_of, opened_line_of, running_line_of, full_line_of, applied_line_of, stopped_line_of, limit_line_of};
+ghost use Rattle.rp_console.specs.Printed.{reply_text_of, reply_line_of, refused_line_of, opened_line_of, running_line_of, full_line_of, applied_line_of, stopped_line_of, limit_line_of, agreed_line};
 
 use rp_base::{Fault, NodeId, Reply};
 use std::fmt;
@@ -119,7 +119,7 @@ impl fmt::Display for FullLine {
 #[derive(Clone, Copy, Debug, PartialEq, Eq)]
 pub struct AppliedLine {
     pub node: NodeId,
-    pub applied: u16,
+    pub applied: u32,
 }
 
 impl fmt::Display for AppliedLine {
@@ -159,5 +159,17 @@ impl fmt::Display for DrainLimitLine {
     fn fmt<W: fmt::Write>(&self, f: &mut fmt::Formatter<W>) -> fmt::Result {
         let line = self.line;
         write!(f, "line {line}: drain limit")
+    }
+}
+
+/// What each node applied begins one order: `logs agree`.
+#[derive(Clone, Copy, Debug, PartialEq, Eq)]
+pub struct AgreedLine;
+
+impl fmt::Display for AgreedLine {
+    ghost output = { λ l. Some agreed_line };
+
+    fn fmt<W: fmt::Write>(&self, f: &mut fmt::Formatter<W>) -> fmt::Result {
+        write!(f, "logs agree")
     }
 }

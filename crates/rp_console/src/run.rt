@@ -215,7 +215,11 @@ impl<M: Machine, D: CutDevice> Run<M, D> {
     {
         match self.cluster.applied(node) {
             Ok(applied) => {
-                print(alloc, writer, AppliedLine { node, applied })?;
+                let line = AppliedLine {
+                    node,
+                    applied: u32::from(applied),
+                };
+                print(alloc, writer, line)?;
                 let image = self.cluster.image(alloc, node)?;
                 write_whole(writer, &image)
             }

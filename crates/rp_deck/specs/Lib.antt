@@ -4,6 +4,7 @@ pub mod Declarations
 pub mod Left
 pub mod LineFaults
 pub mod Lines
+pub mod Live
 pub mod Programs
 pub mod Script
 pub mod Words

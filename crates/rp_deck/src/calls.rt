@@ -3,6 +3,7 @@
 ghost use Rattle.std.specs.Prelude.{◌≤◌, IfOk};
 ghost use Rattle.indexmap.specs.IndexSet.{index_set_len};
 ghost use Rattle.rp_deck.specs.Declarations.{IsComplete};
+ghost use Rattle.rp_deck.specs.Live.{IsLiveEvent, IsLiveStep};
 ghost use Rattle.rp_deck.specs.Script.{IsRightEvent, IsStepWithin, IsUpTo};
 
 use crate::declarations::Declared;
@@ -15,7 +16,8 @@ use rp_model::{Event, Interrupt, Step};
 /// Reads the rest of `call TASK NODE OBJECT.OPERATION [ARG]`.
 pub fn read_call(words: &mut Words<'_>, declared: &Declared) -> Result<Event, DeckReason>
     requires { IsComplete declared.now }
-    ensures { IfOk result (IsRightEvent declared.now) }
+    ensures right { IfOk result (IsRightEvent declared.now) }
+    ensures live { IfOk result IsLiveEvent }
 {
     let task = read_task(words, declared)?;
     let node = read_node(words, declared.nodes)?;
@@ -45,7 +47,8 @@ pub fn read_call(words: &mut Words<'_>, declared: &Declared) -> Result<Event, De
 /// Reads the rest of `arm TASK NODE TIMER TIME`: the task sets the timing event.
 pub fn read_arm(words: &mut Words<'_>, declared: &Declared) -> Result<Event, DeckReason>
     requires { IsComplete declared.now }
-    ensures { IfOk result (IsRightEvent declared.now) }
+    ensures right { IfOk result (IsRightEvent declared.now) }
+    ensures live { IfOk result IsLiveEvent }
 {
     let task = read_task(words, declared)?;
     let node = read_node(words, declared.nodes)?;
@@ -63,7 +66,8 @@ pub fn read_arm(words: &mut Words<'_>, declared: &Declared) -> Result<Event, Dec
 /// Reads the rest of `disarm TASK NODE TIMER`: the task cancels the timing event.
 pub fn read_disarm(words: &mut Words<'_>, declared: &Declared) -> Result<Event, DeckReason>
     requires { IsComplete declared.now }
-    ensures { IfOk result (IsRightEvent declared.now) }
+    ensures right { IfOk result (IsRightEvent declared.now) }
+    ensures live { IfOk result IsLiveEvent }
 {
     let task = read_task(words, declared)?;
     let node = read_node(words, declared.nodes)?;
@@ -109,7 +113,8 @@ fn read_timer(words: &mut Words<'_>, declared: &Declared) -> Result<Timer, DeckR
 /// Reads the rest of `irq NODE INTERRUPT OCCURRENCE`.
 pub fn read_interrupt(words: &mut Words<'_>, declared: &Declared) -> Result<Step, DeckReason>
     requires { IsComplete declared.now }
-    ensures { IfOk result (IsStepWithin declared.now.nodes) }
+    ensures within { IfOk result (IsStepWithin declared.now.nodes) }
+    ensures live { IfOk result IsLiveStep }
 {
     let node = read_node(words, declared.nodes)?;
     let name = words.take_name()?;

@@ -8,6 +8,15 @@ use rp_machine::TallyProgram;
 use rp_model::Event;
 use rp_object::{Handler, Program};
 
+/// How a deck runs, which says what lines its script may hold.
+#[derive(Clone, Copy, Debug, PartialEq, Eq)]
+pub enum Mode {
+    /// Line by line, each when the one before is done.
+    Script,
+    /// All nodes and tasks in threads: calls, interrupts and ticks alone.
+    Live,
+}
+
 /// A task that is declared.
 #[derive(Clone, Copy, Debug, PartialEq, Eq)]
 pub struct Task {

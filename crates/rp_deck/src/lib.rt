@@ -34,5 +34,5 @@ mod script;
 mod statements;
 mod words;
 
-pub use deck::{Command, Deck, DeckProgram, Line, Task};
+pub use deck::{Command, Deck, DeckProgram, Line, Mode, Task};
 pub use reading::read_deck;

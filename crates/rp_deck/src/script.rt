@@ -1,12 +1,13 @@
 //! Reads the script of a deck.
 
-ghost use Rattle.std.specs.Prelude.{ℕ, ◌≤◌, All, IfOk, IfErr};
+ghost use Rattle.std.specs.Prelude.{ℕ, ◌≤◌, All, IfOk, IfErr, IfSome};
 ghost use Rattle.rp_deck.specs.Declarations.{IsComplete};
 ghost use Rattle.rp_deck.specs.LineFaults.{IsDeckFault};
+ghost use Rattle.rp_deck.specs.Live.{IsLiveEvent, IsLiveStep, IsTaken};
 ghost use Rattle.rp_deck.specs.Script.{IsRightCommand, IsRightLine, IsRightEvent, IsStepWithin, IsEventWithin, IsMessage, FitsIn};
 
 use crate::calls::{read_arm, read_call, read_disarm, read_interrupt};
-use crate::deck::{Command, Line};
+use crate::deck::{Command, Line, Mode};
 use crate::declarations::Declared;
 use crate::lines::{Lines, TextLine};
 use crate::operands::{read_node, read_position, read_task};
@@ -23,15 +24,17 @@ pub fn read_script(
     alloc: Global,
     lines: &mut Lines<'_>,
     declared: &Declared,
+    mode: Mode,
 ) -> Result<Vec<Line>, Fault>
     requires { IsComplete declared.now }
     ensures script { IfOk result (λ script. All (IsRightLine declared.now) script.items) }
+    ensures taken { IfOk result (λ script. All (λ line. IsTaken mode line.command) script.items) }
     ensures fault { IfErr result IsDeckFault }
 {
     let mut script = Vec::new(alloc);
     while let Some(mut line) = lines.next() {
         let number = line.number;
-        match read_command(&mut line, declared) {
+        match read_command(&mut line, declared, mode) {
             Ok(command) => script.push(Line { number, command })?,
             Err(reason) => {
                 return Err(Fault::BadDeck {
@@ -45,17 +48,80 @@ pub fn read_script(
 }
 
 /// Reads a line of the script.
-fn read_command(line: &mut TextLine<'_>, declared: &Declared) -> Result<Command, DeckReason>
+fn read_command(
+    line: &mut TextLine<'_>,
+    declared: &Declared,
+    mode: Mode,
+) -> Result<Command, DeckReason>
     requires { IsComplete declared.now }
-    ensures { IfOk result (IsRightCommand declared.now) }
+    ensures right { IfOk result (IsRightCommand declared.now) }
+    ensures taken { IfOk result (IsTaken mode) }
 {
-    let command = command_of(line.first, &mut line.words, declared)?;
+    let command = command_of(line.first, &mut line.words, declared, mode)?;
     line.words.end()?;
     Ok(command)
 }
 
 /// Reads a command, behind its first word.
 fn command_of(
+    first: &[u8],
+    words: &mut Words<'_>,
+    declared: &Declared,
+    mode: Mode,
+) -> Result<Command, DeckReason>
+    requires { IsComplete declared.now }
+    ensures right { IfOk result (IsRightCommand declared.now) }
+    ensures taken { IfOk result (IsTaken mode) }
+{
+    if let Some(event) = read_live_event(first, words, declared)? {
+        return Ok(Command::Take(event));
+    }
+    match mode {
+        Mode::Script => read_script_command(first, words, declared),
+        Mode::Live => Err(reason_in_live(first)),
+    }
+}
+
+/// Reads a line that live mode takes too, behind its first word. `None` where another line begins
+/// so.
+fn read_live_event(
+    first: &[u8],
+    words: &mut Words<'_>,
+    declared: &Declared,
+) -> Result<Option<Event>, DeckReason>
+    requires { IsComplete declared.now }
+    ensures right { IfOk result (λ event. IfSome event (IsRightEvent declared.now)) }
+    ensures live { IfOk result (λ event. IfSome event IsLiveEvent) }
+{
+    let event = match first {
+        b"call" => read_call(words, declared)?,
+        b"arm" => read_arm(words, declared)?,
+        b"disarm" => read_disarm(words, declared)?,
+        b"irq" => Event::Node(read_interrupt(words, declared)?),
+        b"tick" => Event::Node(read_tick(words, declared.nodes)?),
+        _ => return Ok(None),
+    };
+    Ok(Some(event))
+}
+
+/// Why live mode does not take a line that begins with this word.
+fn reason_in_live(first: &[u8]) -> DeckReason {
+    match first {
+        b"again"
+        | b"lead"
+        | b"deliver"
+        | b"lose"
+        | b"drain"
+        | b"stop"
+        | b"restart"
+        | b"cut"
+        | b"show" => DeckReason::NotInLive,
+        _ => DeckReason::UnknownWord,
+    }
+}
+
+/// Reads a command that live mode does not take, behind its first word.
+fn read_script_command(
     first: &[u8],
     words: &mut Words<'_>,
     declared: &Declared,
@@ -71,21 +137,16 @@ fn command_of(
     }
 }
 
-/// Reads a line that asks for an event, behind its first word.
+/// Reads a line that asks for an event which live mode does not take, behind its first word.
 fn read_event(first: &[u8], words: &mut Words<'_>, declared: &Declared) -> Result<Event, DeckReason>
     requires { IsComplete declared.now }
     ensures { IfOk result (IsRightEvent declared.now) }
 {
     match first {
-        b"call" => read_call(words, declared),
-        b"arm" => read_arm(words, declared),
-        b"disarm" => read_disarm(words, declared),
-        b"irq" => Ok(Event::Node(read_interrupt(words, declared)?)),
         b"again" => read_again(words, declared),
         b"cut" => read_cut(words, declared.nodes),
         b"stop" => Ok(Event::Stop(read_node(words, declared.nodes)?)),
         b"restart" => Ok(Event::Restart(read_node(words, declared.nodes)?)),
-        b"tick" => Ok(Event::Node(read_tick(words, declared.nodes)?)),
         _ => Ok(Event::Node(read_step(first, words, declared.nodes)?)),
     }
 }
@@ -140,7 +201,8 @@ fn read_lead(words: &mut Words<'_>, nodes: u8) -> Result<Step, DeckReason>
 /// Reads the rest of `tick NODE NOW`.
 fn read_tick(words: &mut Words<'_>, nodes: u8) -> Result<Step, DeckReason>
     requires { nodes ≤ 7 }
-    ensures { IfOk result (IsStepWithin nodes) }
+    ensures within { IfOk result (IsStepWithin nodes) }
+    ensures live { IfOk result IsLiveStep }
 {
     let node = read_node(words, nodes)?;
     let now = words.take_number(0, u64::from(u32::MAX))? as u32;

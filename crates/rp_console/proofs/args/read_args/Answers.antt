@@ -1,8 +1,8 @@
-use Rattle.std.proofs.Common.{◌≡◌, ◌∙◌, [], map, rules, true, false, codes, ap}
-use Rattle.clap.specs.Words.{fault_of, found_of, one_text}
-use Rattle.rp_console.specs.CommandLine.{console, trace_of}
-use Rattle.rp_console.proofs.CommandLineLemmas.{no_fault, has_fault, met_script, trace_read}
-use Rattle.rp_console.specs.declared.args.Args.TheVariants.{Script}
+use Rattle.std.proofs.Common.{◌≡◌, ◌∙◌, [], map, inl, inr, rules, true, false, codes, ap, ap₂, sym, subst, refl, Option, Some}
+use Rattle.clap.specs.Words.{Text, fault_of, found_of, one_text, subcommand_name_of}
+use Rattle.rp_console.specs.CommandLine.{console, option_of, trace_of, ReadsAs}
+use Rattle.rp_console.proofs.CommandLineLemmas.{no_fault, has_fault, met_one, option_read}
+use Rattle.rp_console.specs.declared.args.Args.TheVariants.{Script, Live}
 use Rattle.rp_console.proofs.args.read_args.Given as given
 use Rattle.rp_console.proofs.args.read_args.Goals as goal
 use Rattle.rp_console.proofs.args.read_args.Goals.{In_ok-matches}
@@ -15,23 +15,37 @@ returns-in_err-matches-clause-refused g c =
     let kinds = has_fault _ (map g.S.AsStr.text c.args.words.now) c.in_err-matches.field-0.0 c.in_ok-command.ensures c.in_err-matches.ensures.kinds in
     search (rules, kinds)
 
+pub returns-in-Some-clause-traced : goal.returns-in-Some-clause-traced
+returns-in-Some-clause-traced g c asked =
+    let found = c.in-Some.found.now in
+    let text : one_text (found_of found) (codes "trace") ≡ trace_of (map g.S.AsStr.text c.args.words.now) =
+    option_read _ _ c.in_ok-matches.matches _ c.in_ok-command.ensures c.in_ok-matches.ensures.matches (codes "script") (codes "trace") found (c.in-Some.ensures.found.0 refl) refl c.in-Some.ensures.rows in
+    ap Script (c.get_flag-traced.ensures.value (text ∙ asked))
+
+pub returns-in-Some-clause-quiet : goal.returns-in-Some-clause-quiet
+returns-in-Some-clause-quiet g c asked =
+    let found = c.in-Some.found.now in
+    let text : one_text (found_of found) (codes "trace") ≡ trace_of (map g.S.AsStr.text c.args.words.now) =
+    option_read _ _ c.in_ok-matches.matches _ c.in_ok-command.ensures c.in_ok-matches.ensures.matches (codes "script") (codes "trace") found (c.in-Some.ensures.found.0 refl) refl c.in-Some.ensures.rows in
+    ap Script (c.get_flag-traced.ensures.other (text ∙ asked))
+
+pub returns-in-Some-clause-refused : goal.returns-in-Some-clause-refused
+returns-in-Some-clause-refused g c = taken g (goal.at.returns-in-Some-clause-refused g c).In_ok-matches
+
 pub unreachable-requires : goal.unreachable-requires
 unreachable-requires g c =
-    let met = met_script _ (map g.S.AsStr.text c.args.words.now) c.in_ok-matches.matches _ c.in_ok-command.ensures (taken g (goal.at.unreachable-requires g c).In_ok-matches) c.in_ok-matches.ensures.matches in
-    let is : false ≡ true = c.in-None.ensures.found.1 met in
-    cc
+    let met = met_one _ (map g.S.AsStr.text c.args.words.now) c.in_ok-matches.matches _ c.in_ok-command.ensures c.in_ok-matches.ensures.matches (taken g (goal.at.unreachable-requires g c).In_ok-matches) in
+    elim met [
+      | inl script ↦ (let is : false ≡ true = c.in_default.ensures.found.1 script in cc)
+      | inr live ↦ (let is : false ≡ true = c.in-None.ensures.found.1 live in cc)
+    ]
 
-pub returns-clause-traced : goal.returns-clause-traced
-returns-clause-traced g c asked =
-    let text : one_text (found_of c.in-Some.found.now) (codes "trace") ≡ trace_of (map g.S.AsStr.text c.args.words.now) =
-    trace_read _ _ c.in_ok-matches.matches c.in-Some.found.now _ c.in_ok-command.ensures c.in_ok-matches.ensures.matches c.in-Some.ensures.rows in
-    ap Script (c.get_flag.ensures.value (text ∙ asked))
-
-pub returns-clause-quiet : goal.returns-clause-quiet
-returns-clause-quiet g c asked =
-    let text : one_text (found_of c.in-Some.found.now) (codes "trace") ≡ trace_of (map g.S.AsStr.text c.args.words.now) =
-    trace_read _ _ c.in_ok-matches.matches c.in-Some.found.now _ c.in_ok-command.ensures c.in_ok-matches.ensures.matches c.in-Some.ensures.rows in
-    ap Script (c.get_flag.ensures.other (text ∙ asked))
-
-pub returns-clause-refused : goal.returns-clause-refused
-returns-clause-refused g c = taken g (goal.at.returns-clause-refused g c).In_ok-matches
+pub returns-clause-live : goal.returns-clause-live
+returns-clause-live g c seed turns of_seed of_turns =
+    let found = c.in-Some-subcommand_matches.found.now in
+    let named : subcommand_name_of c.in_ok-matches.matches ≡ Some (codes "live") = c.in-Some-subcommand_matches.ensures.found.0 refl in
+    let text : (option : Text) → one_text (found_of found) option ≡ option_of (codes "live") option (map g.S.AsStr.text c.args.words.now) = λ option.
+    option_read _ _ c.in_ok-matches.matches _ c.in_ok-command.ensures c.in_ok-matches.ensures.matches (codes "live") option found named refl c.in-Some-subcommand_matches.ensures.rows in
+    ap₂ Live
+    (c.number_of.ensures seed (subst (λ (t : Option Text). ReadsAs t seed) (sym (text (codes "seed"))) of_seed))
+    (c.number_of-in-Some-subcommand_matches.ensures turns (subst (λ (t : Option Text). ReadsAs t turns) (sym (text (codes "turns"))) of_turns))

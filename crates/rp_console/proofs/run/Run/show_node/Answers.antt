@@ -17,7 +17,7 @@ returns-in_err-print-in-Ok-clause-shown g c =
     let begins = begins_by_count (run_setting m.next m.answers m.begin m.image cluster c.args.options.now) c.args.node c.in-Ok.applied (part_at cluster.world.nodes c.args.node) c.in-Ok.ensures in
     writes_failed _ _ _ c.from_residual.result c.from_residual.ensures.0
     (subst (λ (l : List ℕ). Begins (g.W.Write.contents c.args.writer.now) (g.W.Write.contents c.print.new.writer) l) (sym begins.1)
-    (begins_longer _ _ (with_line_feed (applied_line_of c.args.node c.in-Ok.applied)) begins.0 c.in_err-print-in-Ok.ensures.printed))
+    (begins_longer _ _ (with_line_feed (applied_line_of c.args.node c.in-Ok.applied)) begins.0 (rw c.from.ensures at c.in_err-print-in-Ok.ensures.printed)))
 
 pub returns-in_err-image-in-Ok-clause-shown : goal.returns-in_err-image-in-Ok-clause-shown
 returns-in_err-image-in-Ok-clause-shown g c =
@@ -26,7 +26,7 @@ returns-in_err-image-in-Ok-clause-shown g c =
     let begins = begins_by_count (run_setting m.next m.answers m.begin m.image cluster c.args.options.now) c.args.node c.in-Ok.applied (part_at cluster.world.nodes c.args.node) c.in-Ok.ensures in
     writes_failed _ _ _ c.from_residual-in_err-image-in-Ok.result c.from_residual-in_err-image-in-Ok.ensures.0
     (subst (λ (l : List ℕ). Begins (g.W.Write.contents c.args.writer.now) (g.W.Write.contents c.print.new.writer) l) (sym begins.1)
-    (begins_whole _ _ (with_line_feed (applied_line_of c.args.node c.in-Ok.applied)) begins.0 c.in_ok-print-in-Ok.ensures.printed))
+    (begins_whole _ _ (with_line_feed (applied_line_of c.args.node c.in-Ok.applied)) begins.0 (rw c.from.ensures at c.in_ok-print-in-Ok.ensures.printed)))
 
 pub returns-in_ok-image-in-Ok-clause-shown : goal.returns-in_ok-image-in-Ok-clause-shown
 returns-in_ok-image-in-Ok-clause-shown g c =
@@ -36,7 +36,7 @@ returns-in_ok-image-in-Ok-clause-shown g c =
     let whole = whole_text (run_setting m.next m.answers m.begin m.image cluster c.args.options.now) c.args.node c.in-Ok.applied c.in_ok-image-in-Ok.image (part_at cluster.world.nodes c.args.node)
     c.in-Ok.ensures c.in_ok-image-in-Ok.ensures in
     writes_same _ _ _ _ c.write_whole.result (ap (λ (l : List ℕ). line ++ l) c.deref.ensures.value ∙ sym whole)
-    (writes_behind _ _ _ line _ c.write_whole.result c.in_ok-print-in-Ok.ensures.printed c.write_whole.ensures.written)
+    (writes_behind _ _ _ line _ c.write_whole.result (rw c.from.ensures at c.in_ok-print-in-Ok.ensures.printed) c.write_whole.ensures.written)
 
 pub returns-in-Err-clause-shown : goal.returns-in-Err-clause-shown
 returns-in-Err-clause-shown g c =

@@ -1,5 +1,5 @@
 -- The events of a deck that live mode takes are right for a run in threads.
-use Rattle.std.proofs.Common.{ℕ, ◌<◌, suc, List, [], ◌∷◌, length, arith}
+use Rattle.std.proofs.Common.{ℕ, suc, List, [], ◌∷◌, arith}
 use Rattle.std.specs.Prelude.{All}
 use Rattle.std.specs.List.{cons_option}
 use Rattle.std.proofs.lemmas.List.Elements.{All-nil, All-cons}

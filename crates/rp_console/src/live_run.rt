@@ -1,11 +1,18 @@
 //! Runs a deck in threads.
 
-ghost use Rattle.std.specs.Prelude.{◌≡◌, IfErr, IfOk, OnOk};
+ghost use Rattle.std.specs.Prelude.{◌≡◌, All, IfErr, IfOk, OnOk};
+ghost use Rattle.std.specs.Arc.{arc_value};
 ghost use Rattle.std.specs.Io.KnownBytes.{Appends};
 ghost use Rattle.rp_console.specs.Faults.{IsBadDeck, IsLiveModeFault, IsThreadsFault};
 ghost use Rattle.rp_console.specs.LiveOutput.{lived_text};
 ghost use Rattle.rp_console.specs.LiveRun.{MayCome, event_of, events_of};
 ghost use Rattle.rp_console.specs.Output.{names_of};
+ghost use Rattle.rp_base.specs.Config.{IsRightConfig};
+ghost use Rattle.rp_object.specs.State.{first_state};
+ghost use Rattle.rp_object.specs.Step.{objects_next, objects_answers};
+ghost use Rattle.rp_live.specs.Events.{IsLive};
+ghost use Rattle.rp_live.specs.Faults.{IsLiveFault};
+ghost use Rattle.rp_live.specs.Lived.{IsLived};
 ghost use Rattle.rp_deck.specs.Deck.{IsRightDeck};
 ghost use Rattle.rp_deck.specs.Live.{IsDeckFor};
 ghost use Rattle.rp_deck.specs.declared.deck.Deck.{Deck};
@@ -13,12 +20,12 @@ ghost use Rattle.rp_live.specs.declared.run.Lived.{Lived};
 
 use crate::live_output::tell_lived;
 use crate::stream::read_whole;
-use rp_base::Fault;
+use rp_base::{Config, Fault};
 use rp_deck::{Command, Deck, DeckProgram, Line, Mode, read_deck};
 use rp_live::{Lived, live};
 use rp_machine::Tally;
 use rp_model::Event;
-use rp_object::Objects;
+use rp_object::{Objects, Program};
 use std::alloc::{AllocError, Global};
 use std::io::{Read, Write};
 use std::sync::Wait;
@@ -69,9 +76,28 @@ fn live_deck<T: Threads + Wait>(
             live::<T, Tally>(rt, alloc, deck.config, program, &events, seed, turns)
         }
         DeckProgram::Objects(program) => {
-            live::<T, Objects>(rt, alloc, deck.config, program, &events, seed, turns)
+            live_objects(rt, alloc, deck.config, program, &events, seed, turns)
         }
     }
+}
+
+/// Runs protected objects in threads.
+fn live_objects<T: Threads + Wait>(
+    rt: &T,
+    alloc: Global,
+    config: Config,
+    program: &Program,
+    events: &[Event],
+    seed: u32,
+    turns: u64,
+) -> Result<Lived, Fault>
+    requires config { IsRightConfig config }
+    requires events { All (IsLive config.nodes) events.now }
+    ensures lived { IfOk result (IsLived objects_next objects_answers
+        (first_state (arc_value program.now.declarations)) config.nodes) }
+    ensures only { IfErr result IsLiveFault }
+{
+    live::<T, Objects>(rt, alloc, config, program, events, seed, turns)
 }
 
 /// The event that a command asks for, if it asks for one.

@@ -1,9 +1,7 @@
 -- The replies, the nodes behind them, and at the end that the logs agree.
-use Rattle.std.proofs.Common.{◌++◌, ℕ, List, Option}
-use Rattle.std.specs.Io.KnownBytes.{Appends}
+use Rattle.std.proofs.Common.{◌++◌}
 use Rattle.rp_console.specs.LiveOutput.{replies_text, applied_text, agreed_text}
 use Rattle.rp_console.specs.Output.{names_of}
-use Rattle.rp_console.specs.Stream.{Begins}
 use Rattle.rp_console.proofs.Writing.{writes_failed, writes_behind, begins_longer, begins_behind}
 use Rattle.rp_console.proofs.live_output.tell_lived.Goals as goal
 

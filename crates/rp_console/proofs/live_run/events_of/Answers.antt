@@ -25,8 +25,8 @@ loop-line-preserved c =
     let so_far = c.loop-line.invariant in
     elim c.match-event_of.branch [
       | in-Some+in_ok-push w ↦
-        ap (λ v. v.items) w.events-is ∙ w.in_ok-push.ensures.items ∙ ap (λ (l : List Event). l ++ w.in-Some.event ∷ []) so_far
-        ∙ sym (more (Some w.in-Some.event) (omega (arith, c.loop-line-test.true)) c.line-item.is (sym w.in-Some.ensures))
+          ap (λ v. v.items) w.events-is ∙ w.in_ok-push.ensures.items ∙ ap (λ (l : List Event). l ++ w.in-Some.event ∷ []) so_far
+          ∙ sym (more (Some w.in-Some.event) (omega (arith, c.loop-line-test.true)) c.line-item.is (sym w.in-Some.ensures))
       | in_default w ↦
-        ap (λ v. v.items) w.events-is ∙ so_far ∙ sym (more None (omega (arith, c.loop-line-test.true)) c.line-item.is (sym w.in_default.ensures) ∙ append-nil _)
+          ap (λ v. v.items) w.events-is ∙ so_far ∙ sym (more None (omega (arith, c.loop-line-test.true)) c.line-item.is (sym w.in_default.ensures) ∙ append-nil _)
     ]

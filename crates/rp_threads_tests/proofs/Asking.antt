@@ -1,7 +1,6 @@
 -- What a call or a report sent is one packet, and the bytes are its text.
-use Rattle.std.proofs.Common.{◌≡◌, ℕ, ◌+◌, ℤ, Option, Some, None, Result, Ok, Err, List, [], ◌∷◌, ◌++◌, length, slice_index_or, refl, sym, ap, subst, ◌∙◌, append-nil, inl, inr, arith}
+use Rattle.std.proofs.Common.{◌≡◌, ℕ, ℤ, Option, Some, None, Result, Ok, Err, List, [], ◌∷◌, ◌++◌, length, slice_index_or, refl, sym, ap, subst, ◌∙◌, append-nil, inl, arith}
 use Rattle.std.specs.Prelude.{IfOk}
-use Rattle.std.proofs.lemmas.Bool.{cases_lt}
 use Rattle.atomic_table.specs.Seated.{TableId}
 use Rattle.rp_base.specs.Records.{applied_of}
 use Rattle.rp_base.specs.Sets.{Has}
@@ -18,9 +17,7 @@ use Rattle.rp_model.specs.Parts.{TaskPart, fresh_task}
 use Rattle.rp_model.specs.Tasks.{Submit, asks, calls_if, may_call, next_call}
 use Rattle.rp_replica.specs.Packets.{texts_of}
 use Rattle.rp_replica.specs.declared.sent.Sent.{Sent}
-use Rattle.rp_boxes.specs.Audits.{Audited, IsAdded, known_of}
 use Rattle.rp_boxes.specs.Making.{AreFirstSeats}
-use Rattle.rp_boxes.specs.declared.audit.Added.{Added}
 use Rattle.rp_boxes.specs.Parts.{OfTask, fresh_part}
 use Rattle.rp_boxes.specs.Seats.{Chair, IsSentText, IsFetched, IsReport}
 use Rattle.rp_boxes.specs.TaskSeats.{IsTaskTurn}
@@ -75,11 +72,3 @@ pub first_is_fresh : {P : Type 0} (table : TableId) (config : Config) (program :
     → AreFirstSeats table config program 8 tasks → seat ≡ slice_index_or tasks 0 seat → seat.part ≡ fresh_part (OfTask fresh_task)
 first_is_fresh table config program [] seat eight are is = absurd (omega (arith, eight))
 first_is_fresh {P} table config program (x ∷ xs) seat eight are is = ap (λ (c : Chair P). c.part) (is ∙ are 0)
-
--- what is added to what is known changes no seat
-pub adds_to_no_seat : {P : Type 0} (old new : Audited P) (bytes : List ℕ) (outcome : Added) → IsAdded old bytes new outcome → new.seat ≡ old.seat
-adds_to_no_seat {P} old new bytes outcome is =
-    elim (cases_lt (length (known_of old.known is.node) + 1) is.first) [
-      | inl gap ↦ ap (λ (audit : Audited P). audit.seat) (is.joined.gap gap).0
-      | inr joins ↦ ap (λ (audit : Audited P). audit.seat) (is.joined.joined joins).0
-    ]

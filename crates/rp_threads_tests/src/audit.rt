@@ -1,4 +1,4 @@
-ghost use Rattle.std.specs.Prelude.{IfOk, OnOk, List, ℕ};
+ghost use Rattle.std.specs.Prelude.{IfOk};
 ghost use Rattle.rp_boxes.specs.Audits.{IsGotReport};
 
 use crate::setup::{CONFIG, devices, receive};
@@ -58,8 +58,6 @@ fn reported<M: Machine, D: Device>(
     first: u16,
 ) -> Result<Vec<u8>, Fault>
     ensures got { IfOk result (λ text. IsGotReport audit.new.seat.part text.items) }
-    ensures kept { (text : List ℕ) → IsGotReport audit.old.seat.part text
-        → IsGotReport audit.new.seat.part text }
 {
     let first = Position::new(first).ok_or(Fault::BadConfig)?;
     let node = nodes.first_mut().ok_or(Fault::BadConfig)?;
@@ -70,25 +68,14 @@ fn reported<M: Machine, D: Device>(
     audit.fetch(Party::Node(node.number())).ok_or(Fault::Io)
 }
 
-/// The audit adds a report. What it got stays got.
-fn adds<M: Machine>(audit: &mut Audit<M>, alloc: Global, report: &[u8]) -> Result<Added, Fault>
-    requires { IsGotReport audit.old.seat.part report.now }
-    ensures { OnOk result ((text : List ℕ) → IsGotReport audit.old.seat.part text
-        → IsGotReport audit.new.seat.part text) }
-{
-    let added = audit.add(alloc, report)?;
-    Ok(added)
-}
-
 /// What reports of the first node come to, and what is known of it then.
 #[derive(Drop)]
 struct Heard {
-    outcomes: [Added; 4],
+    outcomes: [Added; 3],
     known: Vec<Action>,
 }
 
-/// Node 1 reports before it has applied anything, and once it has applied one action, two and three.
-/// The audit adds the report of one action behind that of two.
+/// Node 1 reports before it has applied anything, and once it has applied two actions and three.
 fn hear<M: Machine, D: Device>(
     alloc: Global,
     program: &M::Program,
@@ -98,21 +85,19 @@ fn hear<M: Machine, D: Device>(
     let mut nodes = all.nodes;
     let mut audit = Audit::new(alloc, all.audit);
     let none = reported(alloc, nodes.as_mut_slice(), &mut audit, 3)?;
-    let gap = adds(&mut audit, alloc, none.as_slice())?;
+    let gap = audit.add(alloc, none.as_slice())?;
     tick(alloc, nodes.as_mut_slice(), 1)?;
-    let one = reported(alloc, nodes.as_mut_slice(), &mut audit, 1)?;
     tick(alloc, nodes.as_mut_slice(), 2)?;
     let two = reported(alloc, nodes.as_mut_slice(), &mut audit, 1)?;
-    let second = adds(&mut audit, alloc, two.as_slice())?;
-    let again = adds(&mut audit, alloc, one.as_slice())?;
+    let second = audit.add(alloc, two.as_slice())?;
     tick(alloc, nodes.as_mut_slice(), 3)?;
     let three = reported(alloc, nodes.as_mut_slice(), &mut audit, 3)?;
-    let third = adds(&mut audit, alloc, three.as_slice())?;
+    let third = audit.add(alloc, three.as_slice())?;
     let node = NodeId::new(1).ok_or(Fault::BadConfig)?;
     let mut known = Vec::new(alloc);
     known.extend_from_slice(audit.known(node))?;
     Ok(Heard {
-        outcomes: [gap, second, again, third],
+        outcomes: [gap, second, third],
         known,
     })
 }
@@ -126,7 +111,6 @@ fn an_audit_knows_what_was_reported_without_a_gap(rt: HostRuntime) -> Result<(),
     let node = NodeId::new(1).ok_or("node 1")?;
     let outcomes = [
         Added::Gap { node, known: 0 },
-        Added::Added { node, known: 2 },
         Added::Added { node, known: 2 },
         Added::Added { node, known: 3 },
     ];

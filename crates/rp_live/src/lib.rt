@@ -6,6 +6,7 @@
 //! - `calls`: the calls of a task
 //! - `starts`: seats are made, and those of nodes and tasks are made ready to run
 //! - `notes`: what nodes note before they run
+//! - `leading`: when nodes lead
 //! - `ends`: how a thread ended
 //! - `reports`: the audit reads the logs of the nodes
 //! - `meetings`: the audit meets the tasks
@@ -14,6 +15,7 @@
 
 mod calls;
 mod ends;
+mod leading;
 mod lines;
 mod meetings;
 mod notes;

@@ -7,6 +7,7 @@ ghost use Rattle.rp_live.specs.Lived.{IsLived};
 ghost use Rattle.rp_live.specs.Seats.{AreSeatsOf};
 ghost use Rattle.rp_live.specs.Faults.{IsLiveFault};
 
+use crate::leading::InTurn;
 use crate::meetings::meet_all;
 use crate::notes::note_all;
 use crate::reports::{knows_all, read_logs};
@@ -16,7 +17,7 @@ use rp_boxes::{AllSeats, Audit, AuditSeat};
 use rp_machine::Machine;
 use rp_model::Event;
 use rp_store::Device;
-use rp_threads::{NodeEnd, Open, TaskEnd, run_threads};
+use rp_threads::{NodeEnd, TaskEnd, run_threads};
 use std::alloc::Global;
 use std::sync::Wait;
 use std::thread::Threads;
@@ -90,6 +91,15 @@ where
     note_all(&mut nodes, alloc, events)?;
     let nodes = node_starts(alloc, seed, nodes)?;
     let tasks = task_starts(alloc, seed, events, tasks)?;
-    let (nodes, tasks) = run_threads(rt, alloc, nodes, tasks, &Open, turns)?;
+    let (nodes, tasks) = run_threads(
+        rt,
+        alloc,
+        nodes,
+        tasks,
+        &InTurn {
+            nodes: config.nodes,
+        },
+        turns,
+    )?;
     audited(alloc, audit, nodes, tasks)
 }

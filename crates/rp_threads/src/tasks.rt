@@ -16,6 +16,7 @@ use rp_machine::Machine;
 use rp_replica::Sent;
 use rp_tasks::{FaultLine, gives_what_it_took};
 use std::alloc::Global;
+use std::thread;
 
 /// In every turn of so many a task asks another node for the call that it waits for.
 const PATIENCE: u64 = 16;
@@ -166,8 +167,8 @@ fn ask<M: Machine>(
     Ok(())
 }
 
-/// A turn of a task: it fetches from a node through its line and takes what is given on, and then
-/// asks.
+/// A turn of a task: it lets other threads run, fetches from a node through its line, takes what is
+/// given on, and then asks.
 fn turn_once<M: Machine>(
     seat: &mut TaskSeat<M>,
     line: &mut FaultLine,
@@ -185,6 +186,7 @@ fn turn_once<M: Machine>(
     ensures made { OnOk result (HasMade calls.now seat.new so_far.new.made so_far.new.waits) }
     ensures first { OnOk result (0 < length calls.now → 0 < so_far.new.made) }
 {
+    thread::yield_now();
     bring(seat, line, alloc, node_in_turn(nodes, turn))?;
     if hear(seat, line, alloc)? {
         so_far.waits = false;

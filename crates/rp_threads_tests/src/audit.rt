@@ -1,4 +1,4 @@
-ghost use Rattle.std.specs.Prelude.{IfOk};
+ghost use Rattle.std.specs.Prelude.{IfOk, List, ℕ, OnOk};
 ghost use Rattle.rp_boxes.specs.Audits.{IsGotReport};
 
 use crate::setup::{CONFIG, devices, receive};
@@ -58,6 +58,8 @@ fn reported<M: Machine, D: Device>(
     first: u16,
 ) -> Result<Vec<u8>, Fault>
     ensures got { IfOk result (λ text. IsGotReport audit.new.seat.part text.items) }
+    ensures kept { (text : List ℕ) → IsGotReport audit.old.seat.part text
+        → IsGotReport audit.new.seat.part text }
 {
     let first = Position::new(first).ok_or(Fault::BadConfig)?;
     let node = nodes.first_mut().ok_or(Fault::BadConfig)?;
@@ -68,14 +70,37 @@ fn reported<M: Machine, D: Device>(
     audit.fetch(Party::Node(node.number())).ok_or(Fault::Io)
 }
 
+/// The audit adds a report, and what it got before it still has.
+fn adds<M: Machine>(audit: &mut Audit<M>, alloc: Global, report: &[u8]) -> Result<Added, Fault>
+    requires { IsGotReport audit.old.seat.part report.now }
+    ensures kept { (text : List ℕ) → IsGotReport audit.old.seat.part text
+        → OnOk result (IsGotReport audit.new.seat.part text) }
+{
+    audit.add(alloc, report)
+}
+
+/// The audit adds a report, and then another one that it got before.
+fn add_both<M: Machine>(
+    audit: &mut Audit<M>,
+    alloc: Global,
+    report: &[u8],
+    other: &[u8],
+) -> Result<[Added; 2], Fault>
+    requires report { IsGotReport audit.old.seat.part report.now }
+    requires other { IsGotReport audit.old.seat.part other.now }
+{
+    Ok([adds(audit, alloc, report)?, adds(audit, alloc, other)?])
+}
+
 /// What reports of the first node come to, and what is known of it then.
 #[derive(Drop)]
 struct Heard {
-    outcomes: [Added; 3],
+    outcomes: [Added; 4],
     known: Vec<Action>,
 }
 
-/// Node 1 reports before it has applied anything, and once it has applied two actions and three.
+/// Node 1 reports before it has applied anything, and once it has applied one action, two and three. The report of one
+/// is added behind that of two.
 fn hear<M: Machine, D: Device>(
     alloc: Global,
     program: &M::Program,
@@ -87,9 +112,10 @@ fn hear<M: Machine, D: Device>(
     let none = reported(alloc, nodes.as_mut_slice(), &mut audit, 3)?;
     let gap = audit.add(alloc, none.as_slice())?;
     tick(alloc, nodes.as_mut_slice(), 1)?;
+    let one = reported(alloc, nodes.as_mut_slice(), &mut audit, 1)?;
     tick(alloc, nodes.as_mut_slice(), 2)?;
     let two = reported(alloc, nodes.as_mut_slice(), &mut audit, 1)?;
-    let second = audit.add(alloc, two.as_slice())?;
+    let [second, behind] = add_both(&mut audit, alloc, two.as_slice(), one.as_slice())?;
     tick(alloc, nodes.as_mut_slice(), 3)?;
     let three = reported(alloc, nodes.as_mut_slice(), &mut audit, 3)?;
     let third = audit.add(alloc, three.as_slice())?;
@@ -97,7 +123,7 @@ fn hear<M: Machine, D: Device>(
     let mut known = Vec::new(alloc);
     known.extend_from_slice(audit.known(node))?;
     Ok(Heard {
-        outcomes: [gap, second, third],
+        outcomes: [gap, second, behind, third],
         known,
     })
 }
@@ -111,6 +137,7 @@ fn an_audit_knows_what_was_reported_without_a_gap(rt: HostRuntime) -> Result<(),
     let node = NodeId::new(1).ok_or("node 1")?;
     let outcomes = [
         Added::Gap { node, known: 0 },
+        Added::Added { node, known: 2 },
         Added::Added { node, known: 2 },
         Added::Added { node, known: 3 },
     ];

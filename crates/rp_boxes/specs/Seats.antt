@@ -1,5 +1,5 @@
 -- What a seat is to a contract, and what its calls come to (this project's own).
-use Rattle.std.specs.Prelude.{◌≡◌, ◌⊎◌, ℕ, ◌<◌, ◌^◌, None, IfSome, IsSome, Ok, Err, List, [], ◌∷◌, length}
+use Rattle.std.specs.Prelude.{◌≡◌, ◌⊎◌, ℕ, ◌<◌, ◌^◌, Some, None, IfSome, IsSome, Ok, Err, List, [], ◌∷◌, length}
 use Rattle.atomic_table.specs.Seated.{TableId}
 use Rattle.rp_base.specs.Number.{IsPosition, IsTask}
 use Rattle.rp_base.specs.Records.{applied_of}
@@ -14,7 +14,7 @@ use Rattle.rp_codec.specs.Text.{text_of}
 use Rattle.rp_codec.specs.declared.packet.Party.{Party}
 use Rattle.rp_model.specs.Effect.{Setting, Done, NodeInput, node_effect, cut_effect, report_of}
 use Rattle.rp_model.specs.declared.effect.Dropped.TheVariants.{No}
-use Rattle.rp_model.specs.Parts.{NodePart}
+use Rattle.rp_model.specs.Parts.{NodePart, Running}
 use Rattle.rp_agreement.specs.Answered.{setting_for}
 use Rattle.rp_agreement.specs.Sound.{IsMember}
 use Rattle.rp_replica.specs.Held.{Held}
@@ -146,3 +146,11 @@ pub record IsReport {P : Type 0} (first : ℕ) (old new : Chair P) (sent : Sent)
 -- so many actions are applied, if the node runs
 abbrev pub HasApplied : Part → ℕ → Type 0
 HasApplied part count = (node : NodePart) × (part.role ≡ OfNode node) × IsSome node.running × (count ≡ length (applied_of node.records))
+
+-- the node runs, and this is what it knows while it does
+abbrev pub IsRunning : Part → Running → Type 0
+IsRunning part running = (node : NodePart) × (part.role ≡ OfNode node) × (node.running ≡ Some running)
+
+-- the node is stopped
+abbrev pub IsStopped : Part → Type 0
+IsStopped part = (node : NodePart) × (part.role ≡ OfNode node) × (node.running ≡ None)

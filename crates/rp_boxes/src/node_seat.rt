@@ -1,13 +1,14 @@
 //! The seat of a node.
 
-ghost use Rattle.std.specs.Prelude.{◌≡◌, ◌⊎◌, IfOk, IfErr, IfSome, IfNone, IsOkUnless};
+ghost use Rattle.std.specs.Prelude.{◌≡◌, ◌⊎◌, nat_lt, length, false, IfOk, IfErr, IfSome, IfNone, IsOkUnless};
 ghost use Rattle.rp_base.specs.Sets.{Has};
 ghost use Rattle.rp_base.specs.declared.fault.Fault.TheVariants as faults;
 ghost use Rattle.rp_codec.specs.Message.{Message, IsPacket};
 ghost use Rattle.rp_codec.specs.declared.packet.Party.TheVariants.{Node};
+ghost use Rattle.rp_model.specs.Parts.{Running};
 ghost use Rattle.rp_replica.specs.Inputs.{IsRightInput};
 ghost use Rattle.rp_replica.specs.declared.input.Input.TheVariants.{Report};
-ghost use Rattle.rp_boxes.specs.Seats.{IsGot, IsTurn, IsCutTurn, IsNoTurn, IsSentText, IsFetched, HasApplied, IsReport};
+ghost use Rattle.rp_boxes.specs.Seats.{IsGot, IsTurn, IsCutTurn, IsNoTurn, IsSentText, IsFetched, HasApplied, IsRunning, IsStopped, IsReport};
 
 use crate::actors::{actor_of, receiver};
 use crate::board::{Board, Place};
@@ -146,6 +147,16 @@ impl<M: Machine, D: Device> NodeSeat<M, D> {
             return Err(Fault::Failed);
         }
         Ok(self.replica.applied())
+    }
+
+    /// Whether something waits at the node to be proposed or decided: a call, an interrupt or a tick.
+    /// Nothing does once its device has failed.
+    pub fn has_pending(&self) -> bool
+        ensures runs { (running : Running) → IsRunning self.now.part running
+            → result ≡ nat_lt 0 (length running.pending) }
+        ensures stopped { IsStopped self.now.part → result ≡ false }
+    {
+        !self.replica.has_failed() && self.replica.has_pending()
     }
 
     /// A report to the audit of the actions applied at the positions from `first` on, as `turn` makes

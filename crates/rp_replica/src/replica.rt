@@ -1,6 +1,6 @@
 //! The replica, and how a record is kept.
 
-ghost use Rattle.std.specs.Prelude.{◌≡◌, ◌∷◌, ◌++◌, [], Some, OnOk, OnErr, IfErr, IfOk, IsOkUnless, length, true, false};
+ghost use Rattle.std.specs.Prelude.{◌≡◌, ◌∷◌, ◌++◌, [], Some, OnOk, OnErr, IfErr, IfOk, IsOkUnless, length, nat_lt, true, false};
 ghost use Rattle.rp_base.specs.declared.fault.Fault.TheVariants as faults;
 ghost use Rattle.rp_base.specs.Action.{IsCount, IsIndex};
 ghost use Rattle.rp_base.specs.Records.{applied_of};
@@ -187,6 +187,13 @@ impl<M: Machine, D: Device> Replica<M, D> {
         ensures { result ≡ length (applied_of self.now.records) }
     {
         self.log.applied()
+    }
+
+    /// Whether something waits to be proposed or decided: a call, an interrupt or a tick.
+    pub fn has_pending(&self) -> bool
+        ensures { result ≡ nat_lt 0 (length self.now.running.pending) }
+    {
+        self.pending.len() > 0
     }
 
     /// Lines that show the machine's state, each ended by a line feed.

@@ -1,5 +1,5 @@
 -- What a loop of turns comes to (this project's own).
-use Rattle.std.specs.Prelude.{◌≡◌, ℕ, zero, suc, ◌+◌, ◌-◌, ◌%◌, nat_eq, nat_le, Bool, true, false, Option, Some, None, if◌then◌else◌}
+use Rattle.std.specs.Prelude.{◌≡◌, ℕ, zero, suc, ◌+◌, ◌%◌, ◌/◌, nat_eq, Bool, true, false, Option, Some, None, if◌then◌else◌}
 use Rattle.rp_base.specs.declared.fault.Fault.{Fault}
 use Rattle.rp_base.specs.declared.fault.Fault.TheVariants.{BallotsSpent, LogFull}
 use Rattle.rp_codec.specs.declared.packet.Party.{Party}
@@ -11,13 +11,12 @@ use Rattle.rp_threads.specs.declared.turns.Turn.TheVariants.{Received, Led, Idle
 
 -- ---- whose box is emptied
 
--- the boxes of the nodes 1 to so many and of the tasks 1 to 8, in rotation: turn 1 is node 1's
+-- the boxes of the nodes 1 to so many, then that of one task, each of the tasks 1 to 8 in its turn: turn 1 is node 1's
 abbrev pub sender_of : ℕ → ℕ → Party
-sender_of nodes place =
-    if nat_eq place 0 then Task 8 else if nat_le place nodes then Node place else Task (place - nodes)
+sender_of place round = if nat_eq place 0 then Task (round % 8 + 1) else Node place
 
 abbrev pub sender_at : ℕ → ℕ → Party
-sender_at nodes turn = sender_of nodes (turn % (nodes + 8))
+sender_at nodes turn = sender_of (turn % (nodes + 1)) (turn / (nodes + 1))
 
 -- ---- how turns are counted
 

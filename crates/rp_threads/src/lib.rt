@@ -5,6 +5,7 @@
 //! - `turns`: a node's turn
 //! - `gate`: who says when a node turns
 //! - `rotation`: whose box a loop empties
+//! - `patience`: when a node leads anew
 //! - `loops`: a node's turns, one after the other
 //! - `tasks`: a task's calls, one after the other
 //! - `crossing`: seats cross to other threads
@@ -15,6 +16,7 @@
 mod crossing;
 mod gate;
 mod loops;
+mod patience;
 mod rotation;
 mod sends;
 mod starts;

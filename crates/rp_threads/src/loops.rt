@@ -1,15 +1,20 @@
 //! A node's turns, one after the other.
 
-ghost use Rattle.std.specs.Prelude.{◌≡◌, ◌≢◌, ◌+◌, ◌%◌, ◌^◌, ◌<◌, ◌≤◌, [], IfOk, Some, None};
+ghost use Rattle.std.specs.Prelude.{◌≡◌, ◌+◌, ◌%◌, ◌^◌, ◌<◌, ◌≤◌, nat_eq, false, [], IfOk, IfErr, IfSome, None};
 ghost use Rattle.rp_threads.specs.Lines.{HoldsTextsOf};
-ghost use Rattle.rp_threads.specs.Loops.{IsSameSeat, is_refusal, events_of, counted, total_of, turns_off};
+ghost use Rattle.rp_threads.specs.Loops.{IsSameSeat, is_refusal, sender_at, counted, total_of, turns_off};
+ghost use Rattle.rp_threads.specs.Rounds.{IsToLeadAt, IsLeadAnew, IsMade, IsUnmade, IsTurnOf, IsEndedBy};
+ghost use Rattle.rp_threads.specs.Turns.{IsEventBy, IsStopBy};
 
 use crate::gate::Gate;
+use crate::patience::Patience;
 use crate::rotation::sender;
-use crate::turns::{Turn, node_turn};
-use rp_base::Fault;
+use crate::turns::{Turn, Turned, node_step, node_turn};
+use rp_base::{Fault, Position};
 use rp_boxes::NodeSeat;
+use rp_codec::Party;
 use rp_machine::Machine;
+use rp_replica::Input;
 use rp_store::Device;
 use rp_tasks::FaultLine;
 use std::alloc::Global;
@@ -85,46 +90,111 @@ fn refuses_to_lead(fault: Fault) -> bool
     }
 }
 
-/// One turn of a loop. `None` where it is spent.
-fn turn_once<M: Machine, D: Device, G: Gate>(
-    seat: &mut NodeSeat<M, D>,
-    line: &mut FaultLine,
-    alloc: Global,
-    nodes: u8,
-    gate: &G,
-    turn: u64,
-) -> Result<Option<Turn>, Fault>
-    requires nodes { nodes ≤ 7 }
-    requires held { HoldsTextsOf seat.old.part.got line.old }
-    ensures held { HoldsTextsOf seat.new.part.got line.new }
-    ensures seat { IsSameSeat seat.old seat.new }
-    ensures events { IfOk result (λ made.
-        seat.new.part.events ≡ seat.old.part.events + events_of made) }
-    ensures idle { IfOk result (λ made.
-        made ≡ Some Turn.Idle → turn % (8 + seat.old.number) ≢ 0) }
+/// A node at its work: its seat, the line that its packets come through, and how patient it is.
+struct Worker<M: Machine, D: Device> {
+    seat: NodeSeat<M, D>,
+    line: FaultLine,
+    patience: Patience,
+}
+
+/// Where a node leads anew after a turn in which nothing came: at the first position that it has not
+/// applied, if something is pending there and its patience is over.
+fn position_to_lead<M: Machine, D: Device>(
+    seat: &NodeSeat<M, D>,
+    patience: &mut Patience,
+) -> Option<Position>
+    ensures { IfSome result (IsToLeadAt seat.now.part) }
 {
-    let node = seat.number();
-    if !gate.before(node, turn) {
-        return Ok(None);
+    let applied = seat.applied().ok()?;
+    if !seat.has_pending() || !patience.is_over(seat.number(), applied) {
+        return None;
     }
-    let lead = turn % (8 + u64::from(node.get())) == 0;
-    match node_turn(seat, line, alloc, sender(nodes, turn), lead) {
-        Ok(turned) => {
-            gate.after(node, turn, u32::try_from(turned.sent).unwrap_or(u32::MAX));
-            Ok(Some(turned.turn))
+    Position::new(u16::try_from(applied).ok()?.checked_add(1)?)
+}
+
+/// The node leads anew at a position.
+fn lead_at<M: Machine, D: Device>(
+    seat: &mut NodeSeat<M, D>,
+    alloc: Global,
+    position: Position,
+) -> Result<Turned, Fault>
+    requires { IsToLeadAt seat.old.part position }
+    ensures got { seat.new.part.got ≡ seat.old.part.got }
+    ensures ok { IfOk result (λ turned. (turned.turn ≡ Turn.Led)
+        × IsEventBy M.next M.answers M.begin (IsLeadAnew seat.old.part)
+        seat.old seat.new turned.sent) }
+    ensures err { IfErr result (λ fault. IsStopBy M.next M.answers M.begin
+        (IsLeadAnew seat.old.part) seat.old seat.new fault) }
+{
+    let sent = node_step(seat, alloc, &Input::Lead(Some(position)))?;
+    Ok(Turned {
+        turn: Turn::Led,
+        sent,
+    })
+}
+
+impl<M: Machine, D: Device> Worker<M, D> {
+    /// A turn of the node, which leads anew where that was idle and its patience is over.
+    fn work(&mut self, alloc: Global, from: Party, lead: bool) -> Result<Turned, Fault>
+        requires held { HoldsTextsOf self.old.seat.part.got self.old.line }
+        ensures held { HoldsTextsOf self.new.seat.part.got self.new.line }
+        ensures ok { IfOk result (λ turned. IsMade M.next M.answers M.begin from lead
+            self.old.seat self.new.seat self.old.line self.new.line turned.turn) }
+        ensures err { IfErr result (λ fault. IsUnmade M.next M.answers M.begin from lead
+            self.old.seat self.new.seat self.old.line self.new.line fault) }
+    {
+        let turned = node_turn(&mut self.seat, &mut self.line, alloc, from, lead)?;
+        if turned.turn != Turn::Idle {
+            return Ok(turned);
         }
-        Err(fault) if refuses_to_lead(fault) => {
-            gate.after(node, turn, 0);
-            Ok(None)
+        match position_to_lead(&self.seat, &mut self.patience) {
+            Some(position) => lead_at(&mut self.seat, alloc, position),
+            None => Ok(turned),
         }
-        Err(fault) => Err(fault),
+    }
+
+    /// One turn of a loop. `None` where it is spent.
+    fn turn<G: Gate>(
+        &mut self,
+        alloc: Global,
+        nodes: u8,
+        gate: &G,
+        turn: u64,
+    ) -> Result<Option<Turn>, Fault>
+        requires nodes { nodes ≤ 7 }
+        requires held { HoldsTextsOf self.old.seat.part.got self.old.line }
+        ensures held { HoldsTextsOf self.new.seat.part.got self.new.line }
+        ensures ok { IfOk result (IsTurnOf M.next M.answers M.begin nodes turn
+            self.old.seat self.new.seat self.old.line self.new.line) }
+        ensures err { IfErr result (λ fault. (is_refusal fault ≡ false)
+            × IsUnmade M.next M.answers M.begin (sender_at nodes turn)
+            (nat_eq (turn % (8 + self.old.seat.number)) 0)
+            self.old.seat self.new.seat self.old.line self.new.line fault) }
+    {
+        let node = self.seat.number();
+        if !gate.before(node, turn) {
+            return Ok(None);
+        }
+        let lead = turn % (8 + u64::from(node.get())) == 0;
+        match self.work(alloc, sender(nodes, turn), lead) {
+            Ok(turned) => {
+                gate.after(node, turn, u32::try_from(turned.sent).unwrap_or(u32::MAX));
+                Ok(Some(turned.turn))
+            }
+            Err(fault) if refuses_to_lead(fault) => {
+                gate.after(node, turn, 0);
+                Ok(None)
+            }
+            Err(fault) => Err(fault),
+        }
     }
 }
 
 /// So many turns of a node, with the boxes of the nodes 1 to `nodes` and of the tasks emptied in
-/// rotation. The node is to lead in the turns whose number is 0 modulo 8 and its own number. A fault
-/// ends the loop, but where it only refuses that the node leads. It waits for nobody, unless the gate
-/// does.
+/// rotation. The node is to lead in the turns whose number is 0 modulo 8 and its own number; and where
+/// a turn is idle while something is pending, it leads anew at the first position that it has not
+/// applied, once it has waited for so long (`Patience`). A fault ends the loop, but where it only
+/// refuses that the node leads. It waits for nobody, unless the gate does.
 pub fn node_loop<M: Machine, D: Device, G: Gate>(
     seat: NodeSeat<M, D>,
     line: FaultLine,
@@ -141,9 +211,13 @@ pub fn node_loop<M: Machine, D: Device, G: Gate>(
     ensures events { result.fault ≡ None
         → result.seat.part.events ≡ seat.part.events + result.received + result.led }
     ensures idle { result.fault ≡ None → result.idle ≤ turns_off (8 + seat.number) turns }
+    ensures fault { IfSome result.fault (IsEndedBy M.next M.answers M.begin seat result.seat) }
 {
-    let mut seat = seat;
-    let mut line = line;
+    let mut worker = Worker {
+        seat,
+        line,
+        patience: Patience::new(),
+    };
     let mut counts = Counts {
         received: 0,
         led: 0,
@@ -151,10 +225,10 @@ pub fn node_loop<M: Machine, D: Device, G: Gate>(
         spent: 0,
     };
     for done in 0..turns {
-        match turn_once(&mut seat, &mut line, alloc, nodes, gate, done + 1) {
+        match worker.turn(alloc, nodes, gate, done + 1) {
             Ok(made) => counts.count(made),
-            Err(fault) => return counts.ended(seat, Some(fault)),
+            Err(fault) => return counts.ended(worker.seat, Some(fault)),
         }
     }
-    counts.ended(seat, None)
+    counts.ended(worker.seat, None)
 }

@@ -9,19 +9,19 @@ use rp_codec::Party;
 /// How many tasks there are.
 const TASKS: u8 = 8;
 
-/// Whose box a node empties in a turn: those of the nodes and of the tasks have their turns in
-/// rotation.
+/// Whose box a node empties in a turn: those of all nodes, then that of one task, each task in its
+/// turn.
 pub(crate) fn sender(nodes: u8, turn: u64) -> Party
     requires { nodes ≤ 7 }
     ensures { result ≡ sender_at nodes turn }
 {
-    let place = (turn % (u64::from(nodes) + u64::from(TASKS))) as u8;
+    let round = u64::from(nodes) + 1;
+    let place = (turn % round) as u8;
     if place == 0 {
-        Party::Task(TaskId::new(TASKS).unwrap())
-    } else if place <= nodes {
-        Party::Node(NodeId::new(place).unwrap())
+        let task = (turn / round % u64::from(TASKS)) as u8;
+        Party::Task(TaskId::new(task + 1).unwrap())
     } else {
-        Party::Task(TaskId::new(place - nodes).unwrap())
+        Party::Node(NodeId::new(place).unwrap())
     }
 }
 

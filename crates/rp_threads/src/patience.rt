@@ -1,0 +1,53 @@
+//! When a node leads anew.
+
+use rp_base::NodeId;
+
+/// After how many quiet turns node 1 leads once more; node k waits k times as many.
+const QUIET_TURNS: u64 = 32;
+
+/// How often a wait is doubled at most.
+const MOST_DOUBLINGS: u32 = 6;
+
+/// How long a node has waited for something new to be applied, and how often it led since then: one
+/// node leads, and the others are patient. Node 1 leads as soon as something is pending, and node k
+/// after 32 k quiet turns: turns in which nothing came while something was pending. A node that led in
+/// vain waits as long again, and from its third try on twice as long as before, up to 64 times as
+/// long. Once something new is applied it waits afresh.
+#[derive(Clone, Copy)]
+pub(crate) struct Patience {
+    applied: u32,
+    quiet: u64,
+    tries: u32,
+}
+
+impl Patience {
+    /// Nothing is applied yet, and no turn was quiet.
+    pub(crate) fn new() -> Patience {
+        Patience {
+            applied: 0,
+            quiet: 0,
+            tries: 0,
+        }
+    }
+
+    /// Hears of a quiet turn of the node of this number, which has applied so many actions. Whether it
+    /// is to lead now; then it waits anew.
+    pub(crate) fn is_over(&mut self, node: NodeId, applied: u32) -> bool {
+        if applied != self.applied {
+            *self = Patience {
+                applied,
+                ..Patience::new()
+            };
+        }
+        self.quiet = self.quiet.saturating_add(1);
+        let number = u64::from(node.get());
+        let doublings = self.tries.saturating_sub(1).min(MOST_DOUBLINGS);
+        let leads_at_once = number == 1 && self.tries == 0;
+        if !leads_at_once && self.quiet < (QUIET_TURNS * number) << doublings {
+            return false;
+        }
+        self.quiet = 0;
+        self.tries = self.tries.saturating_add(1);
+        true
+    }
+}

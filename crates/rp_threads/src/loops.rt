@@ -91,6 +91,7 @@ fn refuses_to_lead(fault: Fault) -> bool
 }
 
 /// A node at its work: its seat, the line that its packets come through, and how patient it is.
+#[derive(Drop)]
 struct Worker<M: Machine, D: Device> {
     seat: NodeSeat<M, D>,
     line: FaultLine,

@@ -42,7 +42,7 @@ pub(crate) struct NodeOwes<M: Machine, D: Device> {
 impl<M: Machine, D: Device> Promise<NodeEnd<M, D>> for NodeOwes<M, D> {
     ghost use Rattle.rp_threads.specs.Threads.{IsLooped};
 
-    ghost kept_by = { λ owes end. IsLooped owes.seat.value owes.turns end };
+    ghost kept_by = { λ owes end. IsLooped M.next M.answers M.begin owes.seat.value owes.turns end };
 }
 
 /// The thread of a task owes what `task_loop` promises of its seat, its calls and so many turns.
@@ -84,7 +84,7 @@ where
         owes,
         move || -> NodeEnd<M, D>
             requires { (nodes ≤ 7) × (line.held ≡ []) }
-            ensures { IsLooped seat turns result }
+            ensures { IsLooped M.next M.answers M.begin seat turns result }
         { node_loop(seat, line, alloc, nodes, gate, turns) },
     )?;
     Ok(handle)

@@ -71,7 +71,8 @@ fn join_nodes<R: Threads, M: Machine, D: Device>(
     handles: Vec<PromisedHandle<NodeEnd<M, D>, NodeOwes<M, D>>>,
 ) -> Result<Vec<NodeEnd<M, D>>, AllocError>
     ensures { IfOk result (λ ends. AllZip (λ handle end.
-        IsLooped handle.promise.seat.value handle.promise.turns end) handles.items ends.items) }
+        IsLooped M.next M.answers M.begin handle.promise.seat.value handle.promise.turns end)
+        handles.items ends.items) }
 {
     let ends = thread::join_promised(rt, handles)?;
     Ok(ends)
@@ -105,8 +106,8 @@ where
     requires node_lines { All (λ start. start.line.held ≡ []) nodes.items }
     requires task_lines { All (λ start. start.line.held ≡ []) tasks.items }
     requires fresh { All (λ start. start.seat.part ≡ fresh_part (OfTask fresh_task)) tasks.items }
-    ensures nodes { IfOk result (λ ends. AllZip (λ start end. IsLooped start.seat turns end)
-        nodes.items ends.0.items) }
+    ensures nodes { IfOk result (λ ends. AllZip (λ start end.
+        IsLooped M.next M.answers M.begin start.seat turns end) nodes.items ends.0.items) }
     ensures tasks { IfOk result (λ ends. AllZip (λ start end.
         IsTaskLooped start.seat start.calls.items turns end) tasks.items ends.1.items) }
 {
@@ -137,8 +138,8 @@ where
     requires node_lines { All (λ start. start.line.held ≡ []) nodes.items }
     requires task_lines { All (λ start. start.line.held ≡ []) tasks.items }
     requires fresh { All (λ start. start.seat.part ≡ fresh_part (OfTask fresh_task)) tasks.items }
-    ensures nodes { IfOk result (λ ends. AllZip (λ start end. IsLooped start.seat turns end)
-        nodes.items ends.0.items) }
+    ensures nodes { IfOk result (λ ends. AllZip (λ start end.
+        IsLooped M.next M.answers M.begin start.seat turns end) nodes.items ends.0.items) }
     ensures tasks { IfOk result (λ ends. AllZip (λ start end.
         IsTaskLooped start.seat start.calls.items turns end) tasks.items ends.1.items) }
 {
@@ -152,7 +153,8 @@ where
             requires fresh { All (λ start.
                 start.seat.part ≡ fresh_part (OfTask fresh_task)) tasks.items }
             ensures nodes { IfOk result (λ ends. AllZip (λ start end.
-                IsLooped start.seat turns end) nodes.items ends.0.items) }
+                IsLooped M.next M.answers M.begin start.seat turns end)
+                nodes.items ends.0.items) }
             ensures tasks { IfOk result (λ ends. AllZip (λ start end.
                 IsTaskLooped start.seat start.calls.items turns end) tasks.items ends.1.items) }
         { run_within(scope, rt, alloc, nodes, tasks, gate, turns) },

@@ -6,9 +6,9 @@ use Rattle.rp_threads.proofs.loops.node_loop.Given as goal
 
 abbrev pub invariant-loop-done : goal.invariant-loop-done
 invariant-loop-done g l = record {
-  held : HoldsTextsOf l.seat.part.got l.line;
-  same : IsSameSeat l.fn.seat l.seat;
+  held : HoldsTextsOf l.worker.seat.part.got l.worker.line;
+  same : IsSameSeat l.fn.seat l.worker.seat;
   counted : total_of l.counts ≡ l.done;
-  events : l.seat.part.events ≡ l.fn.seat.part.events + (l.counts.received + l.counts.led);
+  events : l.worker.seat.part.events ≡ l.fn.seat.part.events + (l.counts.received + l.counts.led);
   idle : l.counts.idle ≤ turns_off (8 + l.fn.seat.number) l.done;
 }

@@ -6,9 +6,10 @@ use Rattle.rp_threads.proofs.threads.run_within.Goals as goal
 
 pub returns-clause-nodes : goal.returns-clause-nodes
 returns-clause-nodes g c =
+    let m = g.M.Machine in
     zip_on (λ start handle. (handle.promise.seat.value ≡ start.seat) × (handle.promise.turns ≡ c.args.turns))
-    (λ handle end. IsLooped handle.promise.seat.value handle.promise.turns end) (λ start end. IsLooped start.seat c.args.turns end)
-    (λ start handle end owed kept. subst (λ n. IsLooped start.seat n end) owed.1 (subst (λ s. IsLooped s handle.promise.turns end) owed.0 kept))
+    (λ handle end. IsLooped m.next m.answers m.begin handle.promise.seat.value handle.promise.turns end) (λ start end. IsLooped m.next m.answers m.begin start.seat c.args.turns end)
+    (λ start handle end owed kept. subst (λ n. IsLooped m.next m.answers m.begin start.seat n end) owed.1 (subst (λ s. IsLooped m.next m.answers m.begin s handle.promise.turns end) owed.0 kept))
     c.args.nodes.items _ _ c.in_ok-nodes.ensures c.in_ok-nodes-2.ensures
 
 pub returns-clause-tasks : goal.returns-clause-tasks

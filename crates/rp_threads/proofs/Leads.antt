@@ -1,0 +1,90 @@
+-- What a turn of a loop does to the seat: it stays the same seat, and has one event more or none.
+use Rattle.std.proofs.Common.{◌≡◌, ◌≢◌, ◌⊎◌, ℕ, ◌+◌, ◌%◌, nat_eq, Bool, true, false, Option, Some, None, Result, Ok, Err, List, inl, inr, refl, sym, ap, subst, ◌∙◌, arith}
+use Rattle.std.proofs.lemmas.Grind.{common_steps}
+use Rattle.std.specs.Prelude.{IfOk, IfErr}
+use Rattle.rp_base.specs.declared.action.Action.{Action}
+use Rattle.rp_base.specs.declared.fault.Fault.{Fault}
+use Rattle.rp_base.specs.declared.fault.Fault.TheVariants.{Device}
+use Rattle.rp_base.specs.declared.reply.Answer.{Answer}
+use Rattle.rp_codec.specs.declared.packet.Party.{Party}
+use Rattle.rp_replica.specs.declared.input.Input.{Input}
+use Rattle.rp_tasks.specs.Line.{Line}
+use Rattle.rp_boxes.specs.Seats.{Chair}
+use Rattle.rp_threads.specs.Loops.{sender_at, is_refusal, events_of, IsSameSeat}
+use Rattle.rp_threads.specs.Rounds.{IsLeadAnew, IsLedAnew, IsStoppedAnew, IsMade, IsUnmade, IsMadeOrSpent, IsTurnOf}
+use Rattle.rp_threads.specs.Turns.{IsEventBy, IsStopBy, IsNodeTurn}
+use Rattle.rp_threads.specs.declared.turns.Turn.{Turn}
+use Rattle.rp_threads.specs.declared.turns.Turn.TheVariants.{Received, Led, Idle}
+use Rattle.rp_threads.specs.declared.turns.Turned.{Turned}
+use Rattle.rp_threads.proofs.Steps.{same_part, same_seat, same_on, stop_same, stop_stays, turn_same, turn_events, turn_idle, fault_same, fault_events}
+use Rattle.rp_threads.proofs.Rounds.{refusal_stays}
+
+module _ {S P : Type 0} (next : S → Action → S) (answers : S → Action → List Answer) (begin : P → S) (from : Party) (lead : Bool) (old new : Chair P) (line after : Line) where
+  -- ---- it stays the same seat
+
+  pub made_same : (turn : Turn) → IsMade next answers begin from lead old new line after turn → IsSameSeat old new
+  made_same turn (inl own) = turn_same next answers begin from lead old new line after own.0 own.1
+  made_same turn (inr anew) =
+      let led = anew.1 in
+      same_on old led.between new (turn_same next answers begin from lead old led.between line after led.turned led.first) (same_part led.between new _ led.leads.turn.after)
+
+  pub unmade_same : (fault : Fault) → IsUnmade next answers begin from lead old new line after fault → IsSameSeat old new
+  unmade_same fault (inl lost) = fault_same next answers begin from lead old new line after fault (inl lost)
+  unmade_same fault (inr (inl stopped)) = fault_same next answers begin from lead old new line after fault (inr stopped)
+  unmade_same fault (inr (inr anew)) =
+      same_on old anew.between new (turn_same next answers begin from lead old anew.between line after anew.turned anew.first)
+      (stop_same next answers begin (IsLeadAnew anew.between.part) anew.between new fault anew.stops)
+
+  pub turned_same : (made : Option Turn) → IsMadeOrSpent next answers begin from lead old new line after made → IsSameSeat old new
+  turned_same (Some turn) made = made_same turn made
+  turned_same None (inl stays) = same_seat old new stays.0
+  turned_same None (inr refused) = unmade_same refused.0 refused.2
+
+  -- ---- one event more, or none
+
+  -- an idle turn is no event
+  idle_events : (between : Chair P) (turned : Turned) → IsNodeTurn next answers begin from lead old between line after turned → turned.turn ≡ Idle → between.part.events ≡ old.part.events
+  idle_events between turned t idle =
+      let e : between.part.events ≡ old.part.events + 0 =
+      turn_events next answers begin from lead old between line after turned t ∙ ap (λ (u : Turn). old.part.events + events_of (Some u)) idle in
+      omega (arith, e)
+
+  made_events : (turn : Turn) → IsMade next answers begin from lead old new line after turn → new.part.events ≡ old.part.events + events_of (Some turn)
+  made_events turn (inl own) =
+      turn_events next answers begin from lead old new line after own.0 own.1 ∙ ap (λ (u : Turn). old.part.events + events_of (Some u)) own.2
+  made_events turn (inr anew) =
+      let led = anew.1 in
+      let first = idle_events led.between led.turned led.first led.idle in
+      let more : new.part.events ≡ led.between.part.events + 1 = ap (λ (c : Chair P). c.part.events) led.leads.turn.after in
+      let one : events_of (Some turn) ≡ 1 = ap (λ (u : Turn). events_of (Some u)) anew.0 in
+      omega (arith, first, more, one)
+
+  unmade_events : (fault : Fault) → (fault ≡ Device → ⊥) → IsUnmade next answers begin from lead old new line after fault → new.part.events ≡ old.part.events
+  unmade_events fault other (inl lost) = fault_events next answers begin from lead old new line after fault other (inl lost)
+  unmade_events fault other (inr (inl stopped)) = fault_events next answers begin from lead old new line after fault other (inr stopped)
+  unmade_events fault other (inr (inr anew)) =
+      ap (λ (c : Chair P). c.part.events) (stop_stays next answers begin (IsLeadAnew anew.between.part) anew.between new fault other anew.stops)
+      ∙ idle_events anew.between anew.turned anew.first anew.idle
+
+  pub turned_events : (made : Option Turn) → IsMadeOrSpent next answers begin from lead old new line after made → new.part.events ≡ old.part.events + events_of made
+  turned_events (Some turn) made = made_events turn made
+  turned_events None (inl stays) = let e : new.part.events ≡ old.part.events = ap (λ (c : Chair P). c.part.events) stays.0 in omega (arith, e)
+  turned_events None (inr refused) = let e = unmade_events refused.0 (refusal_stays refused.0 refused.1) refused.2 in omega (arith, e)
+
+  -- ---- an idle turn was not to lead
+
+  made_idle : (turn : Turn) → IsMade next answers begin from lead old new line after turn → turn ≡ Idle → lead ≡ false
+  made_idle turn (inl own) idle = turn_idle next answers begin from lead old new line after own.0 own.1 (own.2 ∙ idle)
+  made_idle turn (inr anew) idle = let clash : Led ≡ Idle = sym anew.0 ∙ idle in absurd (cc)
+
+  pub turned_idle : (made : Option Turn) → IsMadeOrSpent next answers begin from lead old new line after made → made ≡ Some Idle → lead ≡ false
+  turned_idle (Some turn) made is = made_idle turn made (cc)
+  turned_idle None spent is = absurd (cc)
+
+module _ {S P : Type 0} (next : S → Action → S) (answers : S → Action → List Answer) (begin : P → S) (old new : Chair P) where
+  -- the word to lead at a position
+  pub event_on : (Is Also : Input → Type 0) (count : ℕ) → ((input : Input) → Is input → Also input) → IsEventBy next answers begin Is old new count → IsEventBy next answers begin Also old new count
+  event_on Is Also count on e = record { input = e.input; is = on e.input e.is; sent = e.sent; turn = e.turn; told = e.told }
+
+  pub stop_on : (Is Also : Input → Type 0) (fault : Fault) → ((input : Input) → Is input → Also input) → IsStopBy next answers begin Is old new fault → IsStopBy next answers begin Also old new fault
+  stop_on Is Also fault on e = record { input = e.input; is = on e.input e.is; why = e.why }

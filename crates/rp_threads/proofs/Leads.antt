@@ -1,17 +1,19 @@
 -- What a turn of a loop does to the seat: it stays the same seat, and has one event more or none.
-use Rattle.std.proofs.Common.{◌≡◌, ◌≢◌, ◌⊎◌, ℕ, ◌+◌, ◌%◌, nat_eq, Bool, true, false, Option, Some, None, Result, Ok, Err, List, inl, inr, refl, sym, ap, subst, ◌∙◌, arith}
+use Rattle.std.proofs.Common.{◌≡◌, ◌≢◌, ◌⊎◌, ℕ, ◌+◌, ◌%◌, ◌<◌, nat_eq, nat_lt, length, Bool, true, false, Option, Some, None, Result, Ok, Err, List, inl, inr, refl, sym, ap, subst, ◌∙◌, arith}
 use Rattle.std.proofs.lemmas.Grind.{common_steps}
-use Rattle.std.specs.Prelude.{IfOk, IfErr}
+use Rattle.std.specs.Prelude.{IfOk, IfErr, IfSome, IsSome}
 use Rattle.rp_base.specs.declared.action.Action.{Action}
 use Rattle.rp_base.specs.declared.fault.Fault.{Fault}
 use Rattle.rp_base.specs.declared.fault.Fault.TheVariants.{Device}
 use Rattle.rp_base.specs.declared.reply.Answer.{Answer}
 use Rattle.rp_codec.specs.declared.packet.Party.{Party}
+use Rattle.rp_model.specs.Parts.{Running}
 use Rattle.rp_replica.specs.declared.input.Input.{Input}
 use Rattle.rp_tasks.specs.Line.{Line}
-use Rattle.rp_boxes.specs.Seats.{Chair}
-use Rattle.rp_threads.specs.Loops.{sender_at, is_refusal, events_of, IsSameSeat}
-use Rattle.rp_threads.specs.Rounds.{IsLeadAnew, IsLedAnew, IsStoppedAnew, IsMade, IsUnmade, IsMadeOrSpent, IsTurnOf}
+use Rattle.rp_boxes.specs.Parts.{Part}
+use Rattle.rp_boxes.specs.Seats.{Chair, HasApplied, IsRunning}
+use Rattle.rp_threads.specs.Loops.{is_refusal, is_idle, events_of, IsSameSeat}
+use Rattle.rp_threads.specs.Rounds.{HasPending, IsToLeadAt, IsLeadAnew, IsLedAnew, IsStoppedAnew, IsMade, IsUnmade, IsMadeOrSpent}
 use Rattle.rp_threads.specs.Turns.{IsEventBy, IsStopBy, IsNodeTurn}
 use Rattle.rp_threads.specs.declared.turns.Turn.{Turn}
 use Rattle.rp_threads.specs.declared.turns.Turn.TheVariants.{Received, Led, Idle}
@@ -81,10 +83,40 @@ module _ {S P : Type 0} (next : S → Action → S) (answers : S → Action → 
   turned_idle (Some turn) made is = made_idle turn made (cc)
   turned_idle None spent is = absurd (cc)
 
-module _ {S P : Type 0} (next : S → Action → S) (answers : S → Action → List Answer) (begin : P → S) (old new : Chair P) where
-  -- the word to lead at a position
-  pub event_on : (Is Also : Input → Type 0) (count : ℕ) → ((input : Input) → Is input → Also input) → IsEventBy next answers begin Is old new count → IsEventBy next answers begin Also old new count
-  event_on Is Also count on e = record { input = e.input; is = on e.input e.is; sent = e.sent; turn = e.turn; told = e.told }
+-- ---- a node leads anew
 
-  pub stop_on : (Is Also : Input → Type 0) (fault : Fault) → ((input : Input) → Is input → Also input) → IsStopBy next answers begin Is old new fault → IsStopBy next answers begin Also old new fault
-  stop_on Is Also fault on e = record { input = e.input; is = on e.input e.is; why = e.why }
+pub idle_of : (turn : Turn) → is_idle turn ≡ true → turn ≡ Idle
+idle_of Received is = absurd (cc)
+idle_of Led is = absurd (cc)
+idle_of Idle is = refl
+
+module _ (part : Part) (waits : Bool) (told : (running : Running) → IsRunning part running → waits ≡ nat_lt 0 (length running.pending)) (yes : waits ≡ true) where
+  some_wait : (n : ℕ) → nat_lt 0 n ≡ true → 0 < n
+  some_wait n is = grind (arith, common_steps)
+
+  pub has_pending : (applied : ℕ) → HasApplied part applied → HasPending part
+  has_pending applied has =
+      let waiting : (running : Option Running) → has.0.running ≡ running → IsSome running → HasPending part =
+      λ running is some. elim running as (λ (o : Option Running). has.0.running ≡ o → IsSome o → HasPending part) [
+        None ↦ λ is some. absurd some
+        | Some r ↦ λ is some. let runs : IsRunning part r = (has.0, has.1, is) in (r, runs, some_wait (length r.pending) (sym (told r runs) ∙ yes))
+      ] is some in
+      waiting has.0.running refl has.2
+
+  pub to_lead : (applied : ℕ) (result : Option ℕ) → HasApplied part applied → IfSome result (λ position. position ≡ applied + 1) → IfSome result (IsToLeadAt part)
+  to_lead applied None has at = tt
+  to_lead applied (Some position) has at = record { applied = applied; has = has; next = at; pending = has_pending applied has }
+
+module _ {S P : Type 0} (next : S → Action → S) (answers : S → Action → List Answer) (begin : P → S) (from : Party) (lead : Bool) (old new between : Chair P) (line after : Line) (turned : Turned)
+    (first : IsNodeTurn next answers begin from lead old between line after turned) (idle : turned.turn ≡ Idle) where
+  pub led_anew : (result : Result Turned Fault)
+      → IfOk result (λ made. (made.turn ≡ Led) × IsEventBy next answers begin (IsLeadAnew between.part) between new made.sent)
+      → IfOk result (λ made. IsMade next answers begin from lead old new line after made.turn)
+  led_anew (Ok made) ok = inr (ok.0, record { between = between; turned = turned; first = first; idle = idle; sent = made.sent; leads = ok.1 })
+  led_anew (Err fault) ok = tt
+
+  pub not_led_anew : (result : Result Turned Fault)
+      → IfErr result (λ fault. IsStopBy next answers begin (IsLeadAnew between.part) between new fault)
+      → IfErr result (λ fault. IsUnmade next answers begin from lead old new line after fault)
+  not_led_anew (Ok made) err = tt
+  not_led_anew (Err fault) err = inr (inr (record { between = between; turned = turned; first = first; idle = idle; stops = err }))

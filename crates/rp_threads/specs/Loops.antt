@@ -26,6 +26,12 @@ is_refusal BallotsSpent = true
 is_refusal LogFull = true
 is_refusal _ = false
 
+-- nothing came in the turn, and the node did not lead
+abbrev pub is_idle : Turn → Bool
+is_idle Idle = true
+is_idle Received = false
+is_idle Led = false
+
 -- how many events a turn is; none where it is spent
 abbrev pub events_of : Option Turn → ℕ
 events_of (Some Received) = 1

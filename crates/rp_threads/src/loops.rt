@@ -2,7 +2,7 @@
 
 ghost use Rattle.std.specs.Prelude.{◌≡◌, ◌+◌, ◌%◌, ◌^◌, ◌<◌, ◌≤◌, nat_eq, false, [], IfOk, IfErr, IfSome, None};
 ghost use Rattle.rp_threads.specs.Lines.{HoldsTextsOf};
-ghost use Rattle.rp_threads.specs.Loops.{IsSameSeat, is_refusal, sender_at, counted, total_of, turns_off};
+ghost use Rattle.rp_threads.specs.Loops.{IsSameSeat, is_refusal, is_idle, sender_at, counted, total_of, turns_off};
 ghost use Rattle.rp_threads.specs.Rounds.{IsToLeadAt, IsLeadAnew, IsMade, IsUnmade, IsTurnOf, IsEndedBy};
 ghost use Rattle.rp_threads.specs.Turns.{IsEventBy, IsStopBy};
 
@@ -98,6 +98,23 @@ struct Worker<M: Machine, D: Device> {
     patience: Patience,
 }
 
+/// Whether a turn was idle.
+fn is_idle(turn: Turn) -> bool
+    ensures { result ≡ is_idle turn }
+{
+    match turn {
+        Turn::Idle => true,
+        _ => false,
+    }
+}
+
+/// The position behind so many, if there is one.
+fn position_behind(applied: u32) -> Option<Position>
+    ensures { IfSome result (λ position. position ≡ applied + 1) }
+{
+    Position::new(u16::try_from(applied).ok()?.checked_add(1)?)
+}
+
 /// Where a node leads anew after a turn in which nothing came: at the first position that it has not
 /// applied, if something is pending there and its patience is over.
 fn position_to_lead<M: Machine, D: Device>(
@@ -106,11 +123,13 @@ fn position_to_lead<M: Machine, D: Device>(
 ) -> Option<Position>
     ensures { IfSome result (IsToLeadAt seat.now.part) }
 {
-    let applied = seat.applied().ok()?;
+    let Ok(applied) = seat.applied() else {
+        return None;
+    };
     if !seat.has_pending() || !patience.is_over(seat.number(), applied) {
         return None;
     }
-    Position::new(u16::try_from(applied).ok()?.checked_add(1)?)
+    position_behind(applied)
 }
 
 /// The node leads anew at a position.
@@ -145,7 +164,7 @@ impl<M: Machine, D: Device> Worker<M, D> {
             self.old.seat self.new.seat self.old.line self.new.line fault) }
     {
         let turned = node_turn(&mut self.seat, &mut self.line, alloc, from, lead)?;
-        if turned.turn != Turn::Idle {
+        if !is_idle(turned.turn) {
             return Ok(turned);
         }
         match position_to_lead(&self.seat, &mut self.patience) {

@@ -6,7 +6,7 @@
 //! - `calls`: the calls of a task
 //! - `starts`: seats are made, and those of nodes and tasks are made ready to run
 //! - `notes`: what nodes note before they run
-//! - `leading`: when nodes lead
+//! - `leading`: in which turns a node turns, and when other threads run
 //! - `ends`: how a thread ended
 //! - `reports`: the audit reads the logs of the nodes
 //! - `meetings`: the audit meets the tasks

@@ -7,7 +7,7 @@ ghost use Rattle.rp_live.specs.Lived.{IsLived};
 ghost use Rattle.rp_live.specs.Seats.{AreSeatsOf};
 ghost use Rattle.rp_live.specs.Faults.{IsLiveFault};
 
-use crate::leading::InTurn;
+use crate::leading::ByPatience;
 use crate::meetings::meet_all;
 use crate::notes::note_all;
 use crate::reports::{knows_all, read_logs};
@@ -91,15 +91,6 @@ where
     note_all(&mut nodes, alloc, events)?;
     let nodes = node_starts(alloc, seed, nodes)?;
     let tasks = task_starts(alloc, seed, events, tasks)?;
-    let (nodes, tasks) = run_threads(
-        rt,
-        alloc,
-        nodes,
-        tasks,
-        &InTurn {
-            nodes: config.nodes,
-        },
-        turns,
-    )?;
+    let (nodes, tasks) = run_threads(rt, alloc, nodes, tasks, &ByPatience, turns)?;
     audited(alloc, audit, nodes, tasks)
 }

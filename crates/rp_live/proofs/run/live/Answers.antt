@@ -40,8 +40,9 @@ run_threads-requires-clause-fresh g c κs within =
 
 pub audited-requires-clause-nodes : goal.audited-requires-clause-nodes
 audited-requires-clause-nodes g c =
+    let m = g.M.Machine in
     let ready = mapped_length (λ s. s.seat) c.in_ok-nodes-2.nodes.items c.note_all.new.seats.items c.in_ok-nodes-2.ensures.seats in
-    let ran = zip_length (λ s e. IsLooped s.seat c.args.turns e) c.in_ok-nodes-2.nodes.items c.in_ok-nodes-3.nodes.items c.in_ok-nodes-3.ensures.nodes in
+    let ran = zip_length (λ s e. IsLooped m.next m.answers m.begin s.seat c.args.turns e) c.in_ok-nodes-2.nodes.items c.in_ok-nodes-3.nodes.items c.in_ok-nodes-3.ensures.nodes in
     omega (arith, ran, ready, c.note_all.ensures.size, c.in_ok-nodes.ensures.seats.size, c.requires.config.nodes.1)
 
 pub audited-requires-clause-eight : goal.audited-requires-clause-eight
@@ -66,7 +67,7 @@ pub returns-clause-lived : goal.returns-clause-lived
 returns-clause-lived g c =
     let m = g.M.Machine in
     let ready = mapped_length (λ s. s.seat) c.in_ok-nodes-2.nodes.items c.note_all.new.seats.items c.in_ok-nodes-2.ensures.seats in
-    let ran = zip_length (λ s e. IsLooped s.seat c.args.turns e) c.in_ok-nodes-2.nodes.items c.in_ok-nodes-3.nodes.items c.in_ok-nodes-3.ensures.nodes in
+    let ran = zip_length (λ s e. IsLooped m.next m.answers m.begin s.seat c.args.turns e) c.in_ok-nodes-2.nodes.items c.in_ok-nodes-3.nodes.items c.in_ok-nodes-3.ensures.nodes in
     let size : length c.in_ok-nodes-3.nodes.items ≡ c.args.config.nodes = ran ∙ ready ∙ c.note_all.ensures.size ∙ c.in_ok-nodes.ensures.seats.size in
     let program = ap (λ (s : Chair g.row.M-Program.Denot). s.program) c.in_ok-nodes.ensures.seats.audit_is in
     IfOk-weaker c.audited.result _ _ (λ lived is. subst (λ (n : ℕ). IsLived m.next m.answers (m.begin c.args.program.now) n lived) size

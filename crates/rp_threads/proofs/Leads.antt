@@ -98,7 +98,7 @@ module _ (part : Part) (waits : Bool) (told : (running : Running) → IsRunning 
   has_pending applied has =
       let waiting : (running : Option Running) → has.0.running ≡ running → IsSome running → HasPending part =
       λ running is some. elim running as (λ (o : Option Running). has.0.running ≡ o → IsSome o → HasPending part) [
-        None ↦ λ is some. let clash : false ≡ true = some in absurd (cc)
+        | None ↦ λ is some. let clash : false ≡ true = some in absurd (cc)
         | Some r ↦ λ is some. let runs : IsRunning part r = (has.0, has.1, is) in (r, runs, some_wait (length r.pending) (sym (told r runs) ∙ yes))
       ] is some in
       waiting has.0.running refl has.2

@@ -72,5 +72,13 @@ returns-in-Err-clause-fault g c =
     let lead = nat_eq (turn % (8 + before.seat.number)) 0 in
     subst (λ (fault : Option Fault). IfSome fault (IsEndedBy m.next m.answers m.begin c.args.seat c.ended.result.seat)) (sym c.ended.ensures.fault)
     (subst (λ (seat : Chair g.row.M-Program.Denot). IsEndedBy m.next m.answers m.begin c.args.seat seat c.in-Err.fault) (sym c.ended.ensures.seat)
-    (record { ends = c.in-Err.ensures.err.0; from = sender_at c.args.nodes turn; lead = lead; before = before.seat; same = c.loop-done.invariant.same; line = before.line;
-      after = now.line; unmade = c.in-Err.ensures.err.1 }))
+    (record {
+      ends = c.in-Err.ensures.err.0;
+      from = sender_at c.args.nodes turn;
+      lead = lead;
+      before = before.seat;
+      same = c.loop-done.invariant.same;
+      line = before.line;
+      after = now.line;
+      unmade = c.in-Err.ensures.err.1;
+    }))

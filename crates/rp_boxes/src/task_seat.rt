@@ -140,6 +140,13 @@ impl<M: Machine> TaskSeat<M> {
         Ok(taken)
     }
 
+    /// The number of the task.
+    pub fn number(&self) -> TaskId
+        ensures { result ≡ self.now.number }
+    {
+        self.number
+    }
+
     /// The replies that the task took, in order.
     pub fn replies(&self) -> &[Answer]
         ensures { result.now ≡ (task_of self.now.part.role).replies }

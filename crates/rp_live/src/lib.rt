@@ -6,7 +6,7 @@
 //! - `calls`: the calls of a task
 //! - `starts`: seats are made, and those of nodes and tasks are made ready to run
 //! - `notes`: what nodes note before they run
-//! - `leading`: in which turns a node turns, and when other threads run
+//! - `pace`: in which turns a node turns, and how the threads keep pace
 //! - `ends`: how a thread ended
 //! - `reports`: the audit reads the logs of the nodes
 //! - `meetings`: the audit meets the tasks
@@ -15,10 +15,10 @@
 
 mod calls;
 mod ends;
-mod leading;
 mod lines;
 mod meetings;
 mod notes;
+mod pace;
 mod reports;
 mod run;
 mod starts;

@@ -7,9 +7,9 @@ ghost use Rattle.rp_live.specs.Lived.{IsLived};
 ghost use Rattle.rp_live.specs.Seats.{AreSeatsOf};
 ghost use Rattle.rp_live.specs.Faults.{IsLiveFault};
 
-use crate::leading::ByPatience;
 use crate::meetings::meet_all;
 use crate::notes::note_all;
+use crate::pace::Pace;
 use crate::reports::{knows_all, read_logs};
 use crate::starts::{node_starts, seats_in_memory, task_starts};
 use rp_base::{Answer, Config, Fault};
@@ -91,6 +91,7 @@ where
     note_all(&mut nodes, alloc, events)?;
     let nodes = node_starts(alloc, seed, nodes)?;
     let tasks = task_starts(alloc, seed, events, tasks)?;
-    let (nodes, tasks) = run_threads(rt, alloc, nodes, tasks, &ByPatience, turns)?;
+    let pace = Pace::new(alloc, config.nodes)?;
+    let (nodes, tasks) = run_threads(rt, alloc, nodes, tasks, &pace, turns)?;
     audited(alloc, audit, nodes, tasks)
 }

@@ -210,8 +210,15 @@ all_sent : (Ts : List RattleType) → AllSend Ts → AllSend (rows (parts Ts))
 all_sent [] all = tt
 all_sent (T ∷ Ts) all = (all.0, all_sent Ts all.1)
 
+row_send : (name : Sym) (Ts : List RattleType) → AllSend Ts → IsSend (TupleAt name Ts)
+row_send name Ts all =
+    let T = type_at name Ts in recorded_send (Struct (shape T)) T.D T.to T.to_one (struct_send (shape T) (all_sent Ts all))
+
 -- a closure that captures six values
 pub six_send : (name : Sym) (A B C D E F : RattleType) → IsSend A → IsSend B → IsSend C → IsSend D → IsSend E → IsSend F → IsSend (TupleAt name (A ∷ B ∷ C ∷ D ∷ E ∷ F ∷ []))
-six_send name A B C D E F a b c d e f =
-    let T = type_at name (A ∷ B ∷ C ∷ D ∷ E ∷ F ∷ []) in
-    recorded_send (Struct (shape T)) T.D T.to T.to_one (struct_send (shape T) (all_sent (A ∷ B ∷ C ∷ D ∷ E ∷ F ∷ []) (a, (b, (c, (d, (e, (f, tt))))))))
+six_send name A B C D E F a b c d e f = row_send name (A ∷ B ∷ C ∷ D ∷ E ∷ F ∷ []) (a, (b, (c, (d, (e, (f, tt))))))
+
+-- a closure that captures seven values
+pub seven_send : (name : Sym) (A B C D E F G : RattleType) → IsSend A → IsSend B → IsSend C → IsSend D → IsSend E → IsSend F → IsSend G → IsSend (TupleAt name (A ∷ B ∷ C ∷ D ∷ E ∷ F ∷ G ∷ []))
+seven_send name A B C D E F G a b c d e f g =
+    row_send name (A ∷ B ∷ C ∷ D ∷ E ∷ F ∷ G ∷ []) (a, (b, (c, (d, (e, (f, (g, tt)))))))

@@ -1,17 +1,21 @@
-//! Who says when a node turns.
+//! Who says when a node turns, and how fast all turn.
 
-use rp_base::NodeId;
+use rp_base::{NodeId, TaskId};
 
-/// Who says when a node turns, and hears of its turns. The turns of a node are counted from 1.
+/// Who says when a node turns, and hears of its turns. The turns of a node and of a task are counted
+/// from 1.
 pub trait Gate {
     /// Whether the node is to make this turn; else the turn is spent.
     fn before(&self, node: NodeId, turn: u64) -> bool;
 
     /// The node made this turn, in which it sent so many packets; none where the turn was refused.
     fn after(&self, node: NodeId, turn: u64, sent: u32);
+
+    /// The task makes this turn once the gate returns.
+    fn before_task(&self, task: TaskId, turn: u64);
 }
 
-/// Lets each node make each of its turns.
+/// Lets each node make each of its turns, and holds nobody up.
 #[derive(Clone, Copy, Debug)]
 pub struct Open;
 
@@ -21,4 +25,6 @@ impl Gate for Open {
     }
 
     fn after(&self, _node: NodeId, _turn: u64, _sent: u32) {}
+
+    fn before_task(&self, _task: TaskId, _turn: u64) {}
 }

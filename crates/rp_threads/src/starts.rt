@@ -91,11 +91,12 @@ where
 }
 
 /// Starts a task's loop in a thread. Refused where no thread can be made; the seat is dropped then.
-pub(crate) fn start_task<'s, E, M: Machine + Send + 's>(
+pub(crate) fn start_task<'s, E, M: Machine + Send + 's, G: Gate + Sync>(
     scope: &Scope<'s, E>,
     start: TaskStart<M>,
     alloc: Global,
     nodes: u8,
+    gate: &'s G,
     turns: u64,
 ) -> Result<PromisedHandle<TaskEnd<M>, TaskOwes<M>>, AllocError>
 where
@@ -120,7 +121,7 @@ where
             requires line { line.held ≡ [] }
             requires fresh { seat.part ≡ fresh_part (OfTask fresh_task) }
             ensures { IsTaskLooped seat calls.items turns result }
-        { task_loop(seat, calls.as_slice(), line, alloc, nodes, turns) },
+        { task_loop(seat, calls.as_slice(), line, alloc, nodes, gate, turns) },
     )?;
     Ok(handle)
 }

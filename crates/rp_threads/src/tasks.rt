@@ -8,6 +8,7 @@ ghost use Rattle.rp_threads.specs.Loops.{IsSameSeat};
 ghost use Rattle.rp_threads.specs.Tasks.{HasMade, AreSentOnce, called};
 ghost use Rattle.rp_threads.specs.declared.tasks.TaskCall.{TaskCall};
 
+use crate::gate::Gate;
 use crate::rotation::node_in_turn;
 use rp_base::{Fault, NodeId, Operation};
 use rp_boxes::TaskSeat;
@@ -16,7 +17,6 @@ use rp_machine::Machine;
 use rp_replica::Sent;
 use rp_tasks::{FaultLine, gives_what_it_took};
 use std::alloc::Global;
-use std::thread;
 
 /// In every turn of so many a task asks another node for the call that it waits for.
 const PATIENCE: u64 = 16;
@@ -167,8 +167,7 @@ fn ask<M: Machine>(
     Ok(())
 }
 
-/// A turn of a task: it lets other threads run, fetches from a node through its line, takes what is
-/// given on, and then asks.
+/// A turn of a task: it fetches from a node through its line, takes what is given on, and then asks.
 fn turn_once<M: Machine>(
     seat: &mut TaskSeat<M>,
     line: &mut FaultLine,
@@ -186,7 +185,6 @@ fn turn_once<M: Machine>(
     ensures made { OnOk result (HasMade calls.now seat.new so_far.new.made so_far.new.waits) }
     ensures first { OnOk result (0 < length calls.now → 0 < so_far.new.made) }
 {
-    thread::yield_now();
     bring(seat, line, alloc, node_in_turn(nodes, turn))?;
     if hear(seat, line, alloc)? {
         so_far.waits = false;
@@ -197,13 +195,15 @@ fn turn_once<M: Machine>(
 /// So many turns of a task. In each it fetches from one of the nodes 1 to `nodes`, in rotation,
 /// through its line, and takes the reply that the line may give on. It makes its calls in order, the
 /// first in the first turn and each other once the one before has its reply; while it waits it asks
-/// the next node again in every 16th turn. A fault ends the loop. It waits for nobody.
-pub fn task_loop<M: Machine>(
+/// the next node again in every 16th turn. A fault ends the loop. It waits for nobody, unless the
+/// gate does.
+pub fn task_loop<M: Machine, G: Gate>(
     seat: TaskSeat<M>,
     calls: &[TaskCall],
     line: FaultLine,
     alloc: Global,
     nodes: u8,
+    gate: &G,
     turns: u64,
 ) -> TaskEnd<M>
     requires nodes { (1 ≤ nodes) × (nodes ≤ 7) }
@@ -221,6 +221,7 @@ pub fn task_loop<M: Machine>(
         waits: false,
     };
     for done in 0..turns {
+        gate.before_task(seat.number(), done + 1);
         if let Err(fault) = turn_once(
             &mut seat,
             &mut line,

@@ -42,11 +42,12 @@ where
 }
 
 /// Starts the tasks, each in a thread.
-fn start_tasks<'s, E, M: Machine + Send + 's>(
+fn start_tasks<'s, E, M: Machine + Send + 's, G: Gate + Sync>(
     scope: &Scope<'s, E>,
     alloc: Global,
     starts: Vec<TaskStart<M>>,
     nodes: u8,
+    gate: &'s G,
     turns: u64,
 ) -> Result<Vec<PromisedHandle<TaskEnd<M>, TaskOwes<M>>>, AllocError>
 where
@@ -60,7 +61,7 @@ where
 {
     let mut handles = Vec::new(alloc);
     for start in starts {
-        handles.push(start_task(scope, start, alloc, nodes, turns)?)?;
+        handles.push(start_task(scope, start, alloc, nodes, gate, turns)?)?;
     }
     Ok(handles)
 }
@@ -113,7 +114,7 @@ where
 {
     let count = nodes.len() as u8;
     let nodes = start_nodes(scope, alloc, nodes, count, gate, turns)?;
-    let tasks = start_tasks(scope, alloc, tasks, count, turns)?;
+    let tasks = start_tasks(scope, alloc, tasks, count, gate, turns)?;
     let nodes = join_nodes(rt, nodes)?;
     let tasks = join_tasks(rt, tasks)?;
     Ok((nodes, tasks))
@@ -121,8 +122,8 @@ where
 
 /// Runs each node and each task in a thread of its own, so many turns each, and answers once all of
 /// them have ended, with their ends in the order of the starts. The nodes are taken to be those of
-/// the numbers 1 to so many. A node turns as `node_loop` says, by the gate, and a task as `task_loop`
-/// does. `AllocError` where no thread can be made for one of them, or where memory is wanting for the
+/// the numbers 1 to so many. A node turns as `node_loop` says and a task as `task_loop` does, both by
+/// the gate. `AllocError` where no thread can be made for one of them, or where memory is wanting for the
 /// list of them: the threads that were started still run to their end, and no seat comes back.
 pub fn run_threads<R: Threads + Wait, M: Machine + Send, D: Device + Send, G: Gate + Sync>(
     rt: &R,

@@ -8,7 +8,7 @@ ghost use Rattle.rp_base.specs.declared.fault.Fault.{Fault};
 ghost use Rattle.rp_base.specs.declared.reply.Answer.{Answer};
 ghost use Rattle.rp_codec.specs.Message.{Message};
 ghost use Rattle.rp_machine.specs.Calls.{CallName, calls_of};
-ghost use Rattle.rp_machine.specs.Places.{IsAnswerOf, IsPlace};
+ghost use Rattle.rp_machine.specs.Places.{IsAnswerOf, IsPlace, IsOnlyPlace};
 ghost use Rattle.rp_machine.specs.Replay.{kept_of};
 ghost use Rattle.rp_model.specs.Answers.{Steps};
 ghost use Rattle.rp_model.specs.Effect.{Setting, Done, NodeInput, goes_on_as, untorn_part};
@@ -26,7 +26,7 @@ ghost use Rattle.rp_agreement.specs.Sound.{IsMember};
 ghost use Rattle.rp_agreement.specs.Answered.{named, setting_for, Stands, AreItsCalls, IsKept, IsKeptWorld};
 
 use crate::opening::the_opening_is_sound;
-use rp_machine::{Machine, a_call_has_one_answer};
+use rp_machine::{Machine, a_call_has_one_answer, an_answered_call_has_one_place};
 
 /// What an input comes to at a node keeps the invariant with what tasks are told; so do a stop
 /// within that step, however many bytes of its record are kept, a stop, a restart, and torn bytes
@@ -117,6 +117,20 @@ pub fn answers_are_one<M: Machine>()
         → one ≡ other }
 {
     a_call_has_one_answer::<M>();
+}
+
+/// At a program of a machine a call to which the order gives an answer has a place in it, and that
+/// alone.
+pub fn answered_calls_have_one_place<M: Machine>()
+    ensures { (config : Config) (program : M.Program) (node : ℕ → NodePart)
+        (task : ℕ → TaskPart) (sent : List Message)
+        → IsKept (setting_for M.next M.answers M.begin config program) node task sent
+        → let order = order_of config.nodes sent in
+        (call : CallName) (answer : Answer)
+        → IsAnswerOf M.next M.answers (M.begin program) order call answer
+        → (position : ℕ) × IsOnlyPlace M.next M.answers (M.begin program) order call position }
+{
+    an_answered_call_has_one_place::<M>();
 }
 
 /// At a program of a machine the first standing of a call in the order is its place, where it

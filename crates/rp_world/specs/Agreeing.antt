@@ -4,7 +4,7 @@ use Rattle.rp_base.specs.Records.{applied_of}
 use Rattle.rp_base.specs.declared.action.Action.{Action}
 use Rattle.rp_base.specs.declared.reply.Answer.{Answer}
 use Rattle.rp_machine.specs.Calls.{CallName}
-use Rattle.rp_machine.specs.Places.{IsPlace, IsOnlyPlace, IsAnswerOf}
+use Rattle.rp_machine.specs.Places.{IsPlace, HasReply}
 use Rattle.rp_machine.specs.Replay.{replay_of, replay_state, kept_of}
 use Rattle.rp_model.specs.Facts.{IsOrder}
 use Rattle.rp_model.specs.World.{World, part_at}
@@ -32,13 +32,6 @@ pub record Agree {S : Type 0} (next : S → Action → S) (answers : S → Actio
       → image (replay_state next answers begin (applied_of one.records)) ≡ image (replay_state next answers begin (applied_of other.records)))
 
 module _ {S : Type 0} (next : S → Action → S) (answers : S → Action → List Answer) (begin : S) where
-  -- A call has its reply in an order of actions: it takes effect at one place, and there alone, and the reply
-  -- is the answer that the order gives to it.
-  pub record HasReply (order : List Action) (call : CallName) (answer : Answer) : Type 0 where
-    pub place : ℕ
-    pub takes_effect : IsOnlyPlace next answers begin order call place
-    pub is_answer : IsAnswerOf next answers begin order call answer
-
   -- There is one order in which all happens: what each node has applied begins it; the calls of each task that
   -- count in it are those that the task made, in order, with their objects, operations and arguments, all of
   -- them or all but the one that it waits for; the reply that the task got to its nth call is the one that the
@@ -49,5 +42,5 @@ module _ {S : Type 0} (next : S → Action → S) (answers : S → Action → Li
     pub applied : (x : ℕ) (part : NodePart) → part_at w.nodes x ≡ Some part → Begins (applied_of part.records) order
     pub calls : (t : ℕ) (part : TaskPart) → part_at w.tasks t ≡ Some part → AreItsCalls w.sent t part (kept_of next answers begin order)
     pub replies : (t k : ℕ) (part : TaskPart) (answer : Answer) → part_at w.tasks t ≡ Some part → slice_get part.replies k ≡ Some answer
-        → HasReply order (named t (suc k)) answer
+        → HasReply next answers begin order (named t (suc k)) answer
     pub once : (call : CallName) (one other : ℕ) → IsPlace next answers begin order call one → IsPlace next answers begin order call other → one ≡ other

@@ -45,8 +45,8 @@ pub use ranges::{
     events_keep_ranges, few_packets_are_sent, packets_are_right, records_stay_in_the_log,
 };
 pub use replies::{
-    answered_calls_have_one_place, answers_are_one, calls_count_in_turn,
-    calls_count_where_they_first_stand, events_keep_replies, node_events_keep_replies,
-    replies_tell_the_order, task_events_keep_replies,
+    answers_are_one, calls_count_in_turn, calls_count_where_they_first_stand, events_keep_replies,
+    node_events_keep_replies, replies_answer_calls_that_count, replies_tell_the_order,
+    task_events_keep_replies,
 };
 pub use sends::{nodes_send_right_packets, tasks_send_right_packets};

@@ -8,7 +8,7 @@ ghost use Rattle.rp_base.specs.declared.fault.Fault.{Fault};
 ghost use Rattle.rp_base.specs.declared.reply.Answer.{Answer};
 ghost use Rattle.rp_codec.specs.Message.{Message};
 ghost use Rattle.rp_machine.specs.Calls.{CallName, calls_of};
-ghost use Rattle.rp_machine.specs.Places.{IsAnswerOf, IsPlace, IsOnlyPlace};
+ghost use Rattle.rp_machine.specs.Places.{IsAnswerOf, IsPlace, HasReply};
 ghost use Rattle.rp_machine.specs.Replay.{kept_of};
 ghost use Rattle.rp_model.specs.Answers.{Steps};
 ghost use Rattle.rp_model.specs.Effect.{Setting, Done, NodeInput, goes_on_as, untorn_part};
@@ -119,17 +119,17 @@ pub fn answers_are_one<M: Machine>()
     a_call_has_one_answer::<M>();
 }
 
-/// At a program of a machine a call to which the order gives an answer has a place in it, and that
-/// alone.
-pub fn answered_calls_have_one_place<M: Machine>()
+/// At a program of a machine each reply that a task took is the answer that the order gives to the
+/// task's call, which takes effect at one place in it, and there alone.
+pub fn replies_answer_calls_that_count<M: Machine>()
     ensures { (config : Config) (program : M.Program) (node : ℕ → NodePart)
         (task : ℕ → TaskPart) (sent : List Message)
         → IsKept (setting_for M.next M.answers M.begin config program) node task sent
         → let order = order_of config.nodes sent in
-        (call : CallName) (answer : Answer)
-        → IsAnswerOf M.next M.answers (M.begin program) order call answer
-        → (position : ℕ) × IsOnlyPlace M.next M.answers (M.begin program) order call position }
+        (t k : ℕ) (answer : Answer) → slice_get (task t).replies k ≡ Some answer
+        → HasReply M.next M.answers (M.begin program) order (named t (suc k)) answer }
 {
+    replies_tell_the_order::<M>();
     an_answered_call_has_one_place::<M>();
 }
 

@@ -8,7 +8,7 @@ use Rattle.rp_base.specs.declared.fault.Fault.{Fault}
 use Rattle.rp_base.specs.declared.reply.Answer.{Answer}
 use Rattle.rp_codec.specs.Message.{Message}
 use Rattle.rp_machine.specs.Calls.{CallName}
-use Rattle.rp_machine.specs.Places.{IsPlace, IsOnlyPlace, IsAnswerOf, HasReply}
+use Rattle.rp_machine.specs.Places.{IsPlace, HasReply}
 use Rattle.rp_machine.specs.Replay.{replay_of, kept_of}
 use Rattle.rp_model.specs.Answers.{untorn, IsLeft, FailsBy, Steps}
 use Rattle.rp_model.specs.declared.effect.Effect.{Effect}
@@ -113,9 +113,7 @@ module _ {S : Type 0} (s : Setting S)
     (exists : (n : ℕ) (sent : List Message) → IsOrder n sent (order_of n sent))
     (begins : (n : ℕ) (node : ℕ → NodePart) (sent : List Message) → IsSound n node sent → (order : List Action) → IsOrder n sent order → (x : ℕ) → Begins (applied_of (node x).records) order)
     (tells : (node : ℕ → NodePart) (task : ℕ → TaskPart) (sent : List Message) → IsKept s node task sent → (t k : ℕ) (answer : Answer) → slice_get (task t).replies k ≡ Some answer
-    → IsAnswerOf s.next s.answers s.begin (order_of s.config.nodes sent) (named t (suc k)) answer)
-    (placed : (node : ℕ → NodePart) (task : ℕ → TaskPart) (sent : List Message) → IsKept s node task sent → (call : CallName) (answer : Answer) → IsAnswerOf s.next s.answers s.begin (order_of s.config.nodes sent) call answer
-    → (position : ℕ) × IsOnlyPlace s.next s.answers s.begin (order_of s.config.nodes sent) call position)
+    → HasReply s.next s.answers s.begin (order_of s.config.nodes sent) (named t (suc k)) answer)
     (counted : (node : ℕ → NodePart) (task : ℕ → TaskPart) (sent : List Message) → IsKept s node task sent → (t : ℕ) → AreItsCalls sent t (task t) (kept_of s.next s.answers s.begin (order_of s.config.nodes sent)))
     (once : (actions : List Action) (call : CallName) (one other : ℕ) → IsPlace s.next s.answers s.begin actions call one → IsPlace s.next s.answers s.begin actions call other → one ≡ other) where
   seated : (w : World) (t : ℕ) (part : TaskPart) → part_at w.tasks t ≡ Some part → task_in w.tasks t ≡ part
@@ -135,8 +133,6 @@ module _ {S : Type 0} (s : Setting S)
             subst (λ (a : TaskPart). AreItsCalls w.sent t a (kept_of s.next s.answers s.begin order)) (seated w t part p)
             (counted (node_in w.nodes) (task_in w.tasks) w.sent kept.kept t);
         replies = λ t k part answer p is.
-            let told = tells (node_in w.nodes) (task_in w.tasks) w.sent kept.kept t k answer (ap (λ (a : TaskPart). slice_get a.replies k) (seated w t part p) ∙ is) in
-            let at = placed (node_in w.nodes) (task_in w.tasks) w.sent kept.kept (named t (suc k)) answer told in
-            record { place = at.0; takes_effect = at.1; is_answer = told };
+            tells (node_in w.nodes) (task_in w.tasks) w.sent kept.kept t k answer (ap (λ (a : TaskPart). slice_get a.replies k) (seated w t part p) ∙ is);
         once = once order;
       }

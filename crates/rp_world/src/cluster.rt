@@ -16,9 +16,9 @@ ghost use Rattle.rp_world.specs.Steps.{IsStep, IsStored, IsToldOf, IsToldUnlessM
 use crate::effect::Refused;
 use crate::world::World;
 use rp_agreement::{
-    answered_calls_have_one_place, applied_lists_are_alike, applied_lists_begin_the_order,
-    calls_count_in_turn, events_keep_ranges, events_keep_replies, replies_tell_the_order,
-    states_are_alike, the_order_exists,
+    applied_lists_are_alike, applied_lists_begin_the_order, calls_count_in_turn,
+    events_keep_ranges, events_keep_replies, replies_answer_calls_that_count,
+    replies_tell_the_order, states_are_alike, the_order_exists,
 };
 use rp_base::{Answer, Config, Fault, NodeId, TaskId};
 use rp_machine::{Machine, a_call_has_one_place};
@@ -126,9 +126,8 @@ impl<M: Machine, D: CutDevice> Cluster<M, D> {
         states_are_alike::<M>();
         the_order_exists();
         applied_lists_begin_the_order();
-        replies_tell_the_order::<M>();
         calls_count_in_turn::<M>();
-        answered_calls_have_one_place::<M>();
+        replies_answer_calls_that_count::<M>();
         a_call_has_one_place::<M>();
         ran
     }

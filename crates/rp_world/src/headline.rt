@@ -9,8 +9,8 @@ ghost use Rattle.rp_agreement.specs.History.{IsHistory, AreMoments};
 ghost use Rattle.rp_world.specs.Agreeing.{Agree, IsOrdered};
 
 use rp_agreement::{
-    answered_calls_have_one_place, applied_lists_begin_the_order, calls_count_in_turn,
-    histories_agree, replies_tell_the_order, the_order_exists,
+    applied_lists_begin_the_order, calls_count_in_turn, histories_agree,
+    replies_answer_calls_that_count, replies_tell_the_order, the_order_exists,
 };
 use rp_machine::{Machine, a_call_has_one_place};
 
@@ -32,6 +32,6 @@ pub fn histories_are_ordered<M: Machine>()
     the_order_exists();
     applied_lists_begin_the_order();
     calls_count_in_turn::<M>();
-    answered_calls_have_one_place::<M>();
+    replies_answer_calls_that_count::<M>();
     a_call_has_one_place::<M>();
 }

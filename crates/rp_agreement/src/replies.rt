@@ -8,7 +8,7 @@ ghost use Rattle.rp_base.specs.declared.fault.Fault.{Fault};
 ghost use Rattle.rp_base.specs.declared.reply.Answer.{Answer};
 ghost use Rattle.rp_codec.specs.Message.{Message};
 ghost use Rattle.rp_machine.specs.Calls.{CallName, calls_of};
-ghost use Rattle.rp_machine.specs.Places.{IsAnswerOf, IsPlace};
+ghost use Rattle.rp_machine.specs.Places.{IsAnswerOf, IsPlace, HasReply};
 ghost use Rattle.rp_machine.specs.Replay.{kept_of};
 ghost use Rattle.rp_model.specs.Answers.{Steps};
 ghost use Rattle.rp_model.specs.Effect.{Setting, Done, NodeInput, goes_on_as, untorn_part};
@@ -26,7 +26,7 @@ ghost use Rattle.rp_agreement.specs.Sound.{IsMember};
 ghost use Rattle.rp_agreement.specs.Answered.{named, setting_for, Stands, AreItsCalls, IsKept, IsKeptWorld};
 
 use crate::opening::the_opening_is_sound;
-use rp_machine::{Machine, a_call_has_one_answer};
+use rp_machine::{Machine, a_call_has_one_answer, an_answered_call_has_one_place};
 
 /// What an input comes to at a node keeps the invariant with what tasks are told; so do a stop
 /// within that step, however many bytes of its record are kept, a stop, a restart, and torn bytes
@@ -117,6 +117,20 @@ pub fn answers_are_one<M: Machine>()
         → one ≡ other }
 {
     a_call_has_one_answer::<M>();
+}
+
+/// At a program of a machine each reply that a task took is the answer that the order gives to the
+/// task's call, which takes effect at one place in it, and there alone.
+pub fn replies_answer_calls_that_count<M: Machine>()
+    ensures { (config : Config) (program : M.Program) (node : ℕ → NodePart)
+        (task : ℕ → TaskPart) (sent : List Message)
+        → IsKept (setting_for M.next M.answers M.begin config program) node task sent
+        → let order = order_of config.nodes sent in
+        (t k : ℕ) (answer : Answer) → slice_get (task t).replies k ≡ Some answer
+        → HasReply M.next M.answers (M.begin program) order (named t (suc k)) answer }
+{
+    replies_tell_the_order::<M>();
+    an_answered_call_has_one_place::<M>();
 }
 
 /// At a program of a machine the first standing of a call in the order is its place, where it

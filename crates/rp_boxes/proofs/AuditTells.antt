@@ -9,7 +9,7 @@ use Rattle.rp_model.specs.Effect.{Setting}
 use Rattle.rp_model.specs.Facts.{IsOrder}
 use Rattle.rp_model.specs.Parts.{NodePart, TaskPart}
 use Rattle.rp_base.specs.declared.reply.Answer.{Answer}
-use Rattle.rp_machine.specs.Places.{IsAnswerOf}
+use Rattle.rp_machine.specs.Places.{HasReply}
 use Rattle.rp_agreement.specs.Answered.{named}
 use Rattle.rp_agreement.specs.Computed.{order_of}
 use Rattle.rp_agreement.specs.Order.{Begins}
@@ -56,8 +56,8 @@ module _ {S : Type 0} (s : Setting S) (view : View) (parts : ℕ → Part) (worl
 
   -- each reply of a task is the order's answer to its call
   pub replies_answer : RepliesTell s → (number : ℕ) (part : Part) → Has (7 + number, part) view → (k : ℕ) (answer : Answer) → slice_get (task_of part.role).replies k ≡ Some answer
-      → IsAnswerOf s.next s.answers s.begin order (named number (suc k)) answer
+      → HasReply s.next s.answers s.begin order (named number (suc k)) answer
   replies_answer tell number part here =
       let task : task_among parts number ≡ task_of part.role = ap (λ (p : Part). task_of p.role) (world.knows (7 + number) part here).0 in
-      subst (λ (t : TaskPart). (k : ℕ) (answer : Answer) → slice_get t.replies k ≡ Some answer → IsAnswerOf s.next s.answers s.begin order (named number (suc k)) answer) task
+      subst (λ (t : TaskPart). (k : ℕ) (answer : Answer) → slice_get t.replies k ≡ Some answer → HasReply s.next s.answers s.begin order (named number (suc k)) answer) task
       (tell (node_among parts) (task_among parts) (all_sent parts 16) world.good.kept number)

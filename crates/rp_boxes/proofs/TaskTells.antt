@@ -4,7 +4,7 @@ use Rattle.rp_base.specs.Sets.{Has}
 use Rattle.rp_base.specs.declared.action.Action.{Action}
 use Rattle.rp_base.specs.declared.reply.Answer.{Answer}
 use Rattle.rp_codec.specs.Message.{Message}
-use Rattle.rp_machine.specs.Places.{IsAnswerOf}
+use Rattle.rp_machine.specs.Places.{HasReply}
 use Rattle.rp_machine.specs.Replay.{kept_of}
 use Rattle.rp_model.specs.Effect.{Setting}
 use Rattle.rp_model.specs.Parts.{NodePart, TaskPart}
@@ -21,7 +21,7 @@ use Rattle.rp_boxes.proofs.Worlds.{sent_by, is_sent}
 -- the laws of replies and of calls, at a setting
 abbrev pub RepliesTell : {S : Type 0} → Setting S → Type 0
 RepliesTell s = (node : ℕ → NodePart) (task : ℕ → TaskPart) (sent : List Message) → IsKept s node task sent
-    → (t k : ℕ) (answer : Answer) → slice_get (task t).replies k ≡ Some answer → IsAnswerOf s.next s.answers s.begin (order_of s.config.nodes sent) (named t (suc k)) answer
+    → (t k : ℕ) (answer : Answer) → slice_get (task t).replies k ≡ Some answer → HasReply s.next s.answers s.begin (order_of s.config.nodes sent) (named t (suc k)) answer
 
 abbrev pub CallsCount : {S : Type 0} → Setting S → Type 0
 CallsCount s = (node : ℕ → NodePart) (task : ℕ → TaskPart) (sent : List Message) → IsKept s node task sent
@@ -59,17 +59,24 @@ module _ {S : Type 0} (s : Setting S) (view : View) (parts : ℕ → Part) (worl
     all_but_last = are.all_but_last;
   }
 
+  -- the calls of the task that count in the order of what was sent are its own
+  pub calls_told : CallsCount s → AreItsCalls part.sent number (task_of part.role) (kept_of s.next s.answers s.begin (order_of s.config.nodes (all_sent parts 16)))
+  calls_told calls =
+      let task : task_among parts number ≡ task_of part.role = ap (λ (p : Part). task_of p.role) was in
+      let order = order_of s.config.nodes (all_sent parts 16) in
+      own_calls (task_of part.role) (kept_of s.next s.answers s.begin order)
+      (subst (λ (t : TaskPart). AreItsCalls (all_sent parts 16) number t (kept_of s.next s.answers s.begin order)) task
+      (calls (node_among parts) (task_among parts) (all_sent parts 16) world.good.kept number))
+
   pub world_tells : RepliesTell s → CallsCount s → IsTold s.next s.answers s.begin number part
   world_tells replies calls =
       let task : task_among parts number ≡ task_of part.role = ap (λ (p : Part). task_of p.role) was in
       let order = order_of s.config.nodes (all_sent parts 16) in
       record {
         order = order;
-        replies = subst (λ (t : TaskPart). (k : ℕ) (answer : Answer) → slice_get t.replies k ≡ Some answer → IsAnswerOf s.next s.answers s.begin order (named number (suc k)) answer) task
+        replies = subst (λ (t : TaskPart). (k : ℕ) (answer : Answer) → slice_get t.replies k ≡ Some answer → HasReply s.next s.answers s.begin order (named number (suc k)) answer) task
             (replies (node_among parts) (task_among parts) (all_sent parts 16) world.good.kept number);
-        calls = own_calls (task_of part.role) (kept_of s.next s.answers s.begin order)
-            (subst (λ (t : TaskPart). AreItsCalls (all_sent parts 16) number t (kept_of s.next s.answers s.begin order)) task
-            (calls (node_among parts) (task_among parts) (all_sent parts 16) world.good.kept number));
+        calls = calls_told calls;
       }
 
 -- what a seat knows that knows one actor

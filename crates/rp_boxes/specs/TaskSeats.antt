@@ -9,7 +9,7 @@ use Rattle.rp_base.specs.declared.reply.Answer.{Answer}
 use Rattle.rp_base.specs.declared.reply.Reply.{Reply}
 use Rattle.rp_codec.specs.Message.{Message}
 use Rattle.rp_codec.specs.Text.{text_of}
-use Rattle.rp_machine.specs.Places.{IsAnswerOf}
+use Rattle.rp_machine.specs.Places.{HasReply}
 use Rattle.rp_machine.specs.Replay.{kept_of}
 use Rattle.rp_model.specs.Effect.{Done, goes_on_as}
 use Rattle.rp_model.specs.Parts.{TaskPart}
@@ -80,10 +80,10 @@ pub record IsReplyTurn {P : Type 0} (old : Chair P) (bytes : List ℕ) (new : Ch
   pub after : new ≡ record old { part = part_after old.part (OfTask done.part) done.sends }
   pub told : taken ≡ done.taken
 
--- There is an order of actions in which each reply of the task answers its call; and its calls that count there are
+-- There is an order of actions in which each reply of the task answers its call, which takes effect at one place; and its calls that count there are
 -- those that it made, in order: all of them, or all but the one that it waits for.
 pub record IsTold {S : Type 0} (next : S → Action → S) (answers : S → Action → List Answer) (begin : S) (number : ℕ) (part : Part) : Type 0 where
   pub order : List Action
   pub replies : (k : ℕ) (answer : Answer) → slice_get (task_of part.role).replies k ≡ Some answer
-      → IsAnswerOf next answers begin order (named number (suc k)) answer
+      → HasReply next answers begin order (named number (suc k)) answer
   pub calls : AreItsCalls part.sent number (task_of part.role) (kept_of next answers begin order)

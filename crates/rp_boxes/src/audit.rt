@@ -11,7 +11,9 @@ ghost use Rattle.rp_boxes.specs.Seats.{IsFetched};
 
 use crate::audit_seat::AuditSeat;
 use crate::task_seat::TaskSeat;
-use rp_agreement::{replies_tell_the_order, reports_tell_the_order, the_order_exists};
+use rp_agreement::{
+    calls_count_in_turn, replies_answer_calls_that_count, reports_tell_the_order, the_order_exists,
+};
 use rp_base::{Action, Fault, NodeId, Position};
 use rp_codec::{Body, Party, decode};
 use rp_machine::Machine;
@@ -177,7 +179,8 @@ impl<M: Machine> Audit<M> {
     {
         the_order_exists();
         reports_tell_the_order();
-        replies_tell_the_order::<M>();
+        replies_answer_calls_that_count::<M>();
+        calls_count_in_turn::<M>();
         let Audit { seat, known } = self;
         let (seat, task) = seat.meet(task);
         (Audit { seat, known }, task)

@@ -20,7 +20,9 @@ use crate::boxes::{empty, fill};
 use crate::input::node_keeps_range;
 use crate::looking::look;
 use crate::task_events::{note_asking, note_telling};
-use rp_agreement::{calls_count_in_turn, replies_tell_the_order, tasks_send_right_packets};
+use rp_agreement::{
+    calls_count_in_turn, replies_answer_calls_that_count, tasks_send_right_packets,
+};
 use rp_base::{Action, Answer, Config, Fault, NodeId, Operation, Reply, TaskId};
 use rp_codec::{Body, Party, decode, encode};
 use rp_machine::Machine;
@@ -131,7 +133,7 @@ impl<M: Machine> TaskSeat<M> {
             self.new.number self.new.part) }
         ensures err { IfErr result (λ fault. (fault ≡ OutOfMemory) × (self.new ≡ self.old)) }
     {
-        replies_tell_the_order::<M>();
+        replies_answer_calls_that_count::<M>();
         calls_count_in_turn::<M>();
         let told = read_reply(alloc, packet)?;
         let taken = take(&mut self.task, told)?;

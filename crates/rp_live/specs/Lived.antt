@@ -2,7 +2,7 @@
 use Rattle.std.specs.Prelude.{◌≡◌, ◌↔◌, ℕ, suc, true, Some, IfSome, List, length, flat_map, slice_get}
 use Rattle.rp_base.specs.declared.action.Action.{Action}
 use Rattle.rp_base.specs.declared.reply.Answer.{Answer}
-use Rattle.rp_machine.specs.Places.{IsAnswerOf}
+use Rattle.rp_machine.specs.Places.{HasReply}
 use Rattle.rp_agreement.specs.Answered.{named}
 use Rattle.rp_agreement.specs.Order.{Begins}
 use Rattle.rp_boxes.specs.Audits.{known_of}
@@ -15,11 +15,11 @@ KnowsAll known applied = (place : ℕ) → IfSome (slice_get applied place) (λ 
 
 module _ {S : Type 0} (next : S → Action → S) (answers : S → Action → List Answer) (begin : S) (known : List (List Action)) where
   -- What is known of each node begins one list of actions, and in it each of these replies, in order, answers the call
-  -- of the task from 1 on.
+  -- of the task from 1 on, which takes effect at one place.
   pub record AreAnswers (task : ℕ) (replies : List Answer) : Type 0 where
     pub order : List Action
     pub begins : (node : ℕ) → Begins (known_of known node) order
-    pub answered : (k : ℕ) (answer : Answer) → slice_get replies k ≡ Some answer → IsAnswerOf next answers begin order (named task (suc k)) answer
+    pub answered : (k : ℕ) (answer : Answer) → slice_get replies k ≡ Some answer → HasReply next answers begin order (named task (suc k)) answer
 
   -- These are the replies of so many tasks, from 1 on, one task's behind the other's.
   pub record AreReplies (tasks : ℕ) (replies : List Answer) : Type 0 where

@@ -6,11 +6,11 @@ use std::alloc::{AllocError, Global};
 use std::sync::atomic::{AtomicU64, Ordering};
 use std::thread;
 
-/// A thread lets others run in every turn of so many.
-const SHARE: u64 = 4;
+/// In every turn of so many a thread looks how far the others are.
+const PERIOD: u64 = 8;
 
 /// How many turns a thread is ahead of the slowest at most.
-const MOST_AHEAD: u64 = 64;
+const MOST_AHEAD: u64 = 16;
 
 /// How often a thread that is ahead lets others run before it takes it that one of them has ended.
 const MOST_WAITS: u64 = 1_000_000;
@@ -23,9 +23,9 @@ const TASKS: usize = 8;
 
 /// The gate of a run. A node leads by its patience alone: the turns in which its loop would have it
 /// lead at the least position that is free for it are spent. The threads of all nodes and tasks keep
-/// pace, so that none is through with its turns while another needs it: each lets others run in every
-/// fourth turn, and then until it is at most 64 turns ahead of the slowest. Once one was waited for
-/// too long, nobody waits any more.
+/// pace, so that none is through with its turns while another needs it: in every eighth turn each
+/// looks at the others, and lets them run until it is at most 16 turns ahead of the slowest. Once one
+/// was waited for too long, nobody waits any more.
 #[derive(Drop)]
 pub(crate) struct Pace {
     /// How many turns the nodes and then the tasks are known to have made.
@@ -50,18 +50,20 @@ impl Pace {
 
     /// Whether a thread in this turn is too far ahead of the slowest.
     fn is_ahead(&self, turn: u64) -> bool {
-        self.turns.iter().any(|word| word.load(Ordering::SeqCst).saturating_add(MOST_AHEAD) < turn)
+        let least = turn.saturating_sub(MOST_AHEAD);
+        self.turns
+            .iter()
+            .any(|word| word.load(Ordering::SeqCst) < least)
     }
 
     /// The thread of this place is to make this turn.
     fn keep(&self, place: usize, turn: u64) {
-        if turn % SHARE != 0 {
+        if turn % PERIOD != 0 {
             return;
         }
         if let Some(word) = self.turns.get(place) {
             word.store(turn, Ordering::SeqCst);
         }
-        thread::yield_now();
         if self.free.load(Ordering::SeqCst) != 0 {
             return;
         }

@@ -1,13 +1,14 @@
 -- A call counts at one place, and is answered once.
-use Rattle.std.proofs.Common.{◌≡◌, ℕ, ◌<◌, true, List, [], ◌∷◌, ◌++◌, length, map, if◌then◌else◌, refl, sym, ap, subst, ◌∙◌, inl, inr, arith}
+use Rattle.std.proofs.Common.{◌≡◌, ℕ, suc, ◌<◌, Bool, true, false, ◌⊎◌, List, [], ◌∷◌, ◌++◌, length, map, if◌then◌else◌, refl, sym, ap, subst, ◌∙◌, inl, inr, arith, append_assoc, append-nil}
 use Rattle.std.proofs.lemmas.Bool.{cases_lt}
 use Rattle.rp_base.specs.Sets.{Has, IsSet}
 use Rattle.rp_base.specs.declared.action.Action.{Action}
+use Rattle.rp_base.specs.declared.action.Action.TheVariants.{Noop, Call, Interrupt, Tick}
 use Rattle.rp_base.specs.declared.reply.Answer.{Answer}
 use Rattle.rp_machine.specs.Calls.{CallName, calls_of, calls_made}
-use Rattle.rp_machine.specs.Replay.{counts, Replayed, unmoved, replay_from, replay_of}
-use Rattle.rp_machine.specs.Places.{IsPlace}
-use Rattle.rp_machine.proofs.Calling.{has_left, has_right, calls_made-append, is_new}
+use Rattle.rp_machine.specs.Replay.{counts, Replayed, unmoved, replay_step, replay_from, replay_of}
+use Rattle.rp_machine.specs.Places.{counts_behind, IsPlace}
+use Rattle.rp_machine.proofs.Calling.{has_left, has_right, has_either, calls_made-append, is_new}
 use Rattle.rp_machine.proofs.Replaying.{replay_from-append, goes_on_from}
 
 -- ---- one place
@@ -60,10 +61,64 @@ module _ {S : Type 0} (next : S → Action → S) (answers : S → Action → Li
         ]
       ]
 
+-- ---- an answered call has a place
+
+-- an action's call is its only one
+own_call : (action : Action) (call : CallName) → Has call (calls_of action) → calls_of action ≡ call ∷ []
+own_call Noop call h = absurd h
+own_call (Call task number object operation arg) call h = elim h [ inl same ↦ ap (λ (own : CallName). own ∷ []) (sym same) | inr none ↦ absurd none ]
+own_call (Interrupt source occurrence) call h = absurd h
+own_call (Tick now) call h = absurd h
+
+module _ {S : Type 0} (next : S → Action → S) (answers : S → Action → List Answer) (begin : S) where
+  -- the calls that counted behind these actions
+  abbrev pub counted_calls : List Action → List CallName
+  counted_calls actions = calls_made (replay_of next answers begin actions).kept
+
+  -- the action is this call, and it counts behind these
+  abbrev CountsAs : List Action → Action → CallName → Type 0
+  CountsAs before action call = (calls_of action ≡ call ∷ []) × (counts_behind next answers begin before action ≡ true)
+
+  -- a call that counted with one action more counted before, or is that action
+  was_or_last : (before : List Action) (action : Action) (call : CallName) → Has call (counted_calls (before ++ action ∷ [])) → Has call (counted_calls before) ⊎ CountsAs before action call
+  was_or_last before action call h =
+      let r = replay_of next answers begin before in
+      let stepped = subst (λ (all : Replayed S). Has call (calls_made all.kept)) (replay_from-append next answers (unmoved begin) before (action ∷ [])) h in
+      by (counts_behind next answers begin before action) refl stepped
+    where
+      by : (b : Bool) → counts_behind next answers begin before action ≡ b → Has call (calls_made (replay_step next answers (replay_of next answers begin before) action).kept)
+          → Has call (counted_calls before) ⊎ CountsAs before action call
+      by true taken stepped =
+          let r = replay_of next answers begin before in
+          let now = subst (λ (b : Bool). Has call (calls_made (if b then record { state = next r.state action; kept = r.kept ++ action ∷ []; given = r.given ++ answers r.state action } else r).kept)) taken stepped in
+          elim (has_either call (calls_made r.kept) (calls_made (action ∷ [])) (subst (λ (calls : List CallName). Has call calls) (calls_made-append r.kept (action ∷ [])) now)) [
+            | inl old ↦ inl old
+            | inr last ↦ inr (own_call action call (subst (λ (calls : List CallName). Has call calls) (append-nil (calls_of action)) last), taken)
+          ]
+      by false missed stepped =
+          let r = replay_of next answers begin before in
+          inl (subst (λ (b : Bool). Has call (calls_made (if b then record { state = next r.state action; kept = r.kept ++ action ∷ []; given = r.given ++ answers r.state action } else r).kept)) missed stepped)
+
+  -- a call that counted counted in the first actions, or has a place among the others
+  placed_behind : (before rest : List Action) (call : CallName) → Has call (counted_calls (before ++ rest)) → Has call (counted_calls before) ⊎ ((position : ℕ) × IsPlace next answers begin (before ++ rest) call position)
+  placed_behind before [] call h = inl (subst (λ (actions : List Action). Has call (counted_calls actions)) (append-nil before) h)
+  placed_behind before (action ∷ rest) call h =
+      let same : (before ++ action ∷ []) ++ rest ≡ before ++ action ∷ rest = append_assoc before (action ∷ []) rest in
+      elim (placed_behind (before ++ action ∷ []) rest call (subst (λ (actions : List Action). Has call (counted_calls actions)) (sym same) h)) [
+        | inl upto ↦ elim (was_or_last before action call upto) [
+          | inl old ↦ inl old
+          | inr last ↦ inr (suc (length before), record { before = before; action = action; behind = rest; stands = refl; here = refl; is_call = last.0; takes_effect = last.1 })
+        ]
+        | inr place ↦ inr (subst (λ (actions : List Action). (position : ℕ) × IsPlace next answers begin actions call position) same place)
+      ]
+
+  pub has_place : (actions : List Action) (call : CallName) → Has call (counted_calls actions) → (position : ℕ) × IsPlace next answers begin actions call position
+  has_place actions call h = elim (placed_behind [] actions call h) [ inl none ↦ absurd none | inr place ↦ place ]
+
 -- ---- one answer
 
 -- a member stands among the images
-has_map : {A B : Type 0} (f : A → B) (x : A) (xs : List A) → Has x xs → Has (f x) (map f xs)
+pub has_map : {A B : Type 0} (f : A → B) (x : A) (xs : List A) → Has x xs → Has (f x) (map f xs)
 has_map f x [] h = absurd h
 has_map f x (y ∷ xs) h = elim h [ inl same ↦ inl (ap f same) | inr rest ↦ inr (has_map f x xs rest) ]
 

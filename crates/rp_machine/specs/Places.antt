@@ -21,6 +21,18 @@ module _ {S : Type 0} (next : S → Action → S) (answers : S → Action → Li
     pub is_call : calls_of action ≡ call ∷ []
     pub takes_effect : counts_behind before action ≡ true
 
+  -- the one place of a call in a list of actions
+  pub record IsOnlyPlace (actions : List Action) (call : CallName) (position : ℕ) : Type 0 where
+    pub is_place : IsPlace actions call position
+    pub only : (other : ℕ) → IsPlace actions call other → other ≡ position
+
   -- the answer of a call in a list of actions: the one that its replay gives
   abbrev pub IsAnswerOf : List Action → CallName → Answer → Type 0
   IsAnswerOf actions call answer = (call_of answer ≡ call) × Has answer (replay_answers next answers begin actions)
+
+  -- A call has its reply in a list of actions: it takes effect at one place, and there alone, and the reply is the
+  -- answer that the list gives to it.
+  pub record HasReply (actions : List Action) (call : CallName) (answer : Answer) : Type 0 where
+    pub place : ℕ
+    pub takes_effect : IsOnlyPlace actions call place
+    pub is_answer : IsAnswerOf actions call answer

@@ -6,7 +6,7 @@ ghost use Rattle.rp_base.specs.Sets.{Has};
 ghost use Rattle.rp_base.specs.declared.action.Action.{Action};
 ghost use Rattle.rp_base.specs.declared.reply.Answer.{Answer};
 ghost use Rattle.rp_machine.specs.Calls.{CallName};
-ghost use Rattle.rp_machine.specs.Places.{IsPlace, IsAnswerOf};
+ghost use Rattle.rp_machine.specs.Places.{IsPlace, IsOnlyPlace, IsAnswerOf};
 
 use crate::machine::Machine;
 
@@ -16,6 +16,15 @@ pub fn a_call_has_one_place<M: Machine>()
         → IsPlace M.next M.answers begin actions call one
         → IsPlace M.next M.answers begin actions call other
         → one ≡ other }
+{}
+
+/// A call that is answered in a list of right actions has a place there, and that alone.
+pub fn an_answered_call_has_one_place<M: Machine>()
+    ensures { (program : M.Program) (actions : List Action) (call : CallName) (answer : Answer)
+        → ((action : Action) → Has action actions → IsRight action)
+        → IsAnswerOf M.next M.answers (M.begin program) actions call answer
+        → (position : ℕ)
+        × IsOnlyPlace M.next M.answers (M.begin program) actions call position }
 {}
 
 /// A call has one answer in a list of right actions at most.

@@ -8,8 +8,8 @@ use Rattle.rp_base.specs.declared.fault.Fault.{Fault}
 use Rattle.rp_base.specs.declared.reply.Answer.{Answer}
 use Rattle.rp_codec.specs.Message.{Message}
 use Rattle.rp_machine.specs.Calls.{CallName}
-use Rattle.rp_machine.specs.Places.{IsPlace, IsAnswerOf}
-use Rattle.rp_machine.specs.Replay.{replay_of}
+use Rattle.rp_machine.specs.Places.{IsPlace, HasReply}
+use Rattle.rp_machine.specs.Replay.{replay_of, kept_of}
 use Rattle.rp_model.specs.Answers.{untorn, IsLeft, FailsBy, Steps}
 use Rattle.rp_model.specs.declared.effect.Effect.{Effect}
 use Rattle.rp_model.specs.Effect.{Setting}
@@ -21,7 +21,7 @@ use Rattle.rp_model.specs.World.{World, Happening, part_at, event_effect}
 use Rattle.rp_agreement.specs.Sound.{IsSound}
 use Rattle.rp_agreement.specs.Order.{AllSent, Begins, AreAlike}
 use Rattle.rp_agreement.specs.Computed.{order_of}
-use Rattle.rp_agreement.specs.Answered.{named, task_in, IsKept, IsKeptWorld}
+use Rattle.rp_agreement.specs.Answered.{named, task_in, AreItsCalls, IsKept, IsKeptWorld}
 use Rattle.rp_agreement.specs.Worlds.{node_in}
 use Rattle.rp_world.specs.Agreeing.{EachTwo, AreLevel, Agree, IsOrdered}
 
@@ -113,8 +113,12 @@ module _ {S : Type 0} (s : Setting S)
     (exists : (n : ℕ) (sent : List Message) → IsOrder n sent (order_of n sent))
     (begins : (n : ℕ) (node : ℕ → NodePart) (sent : List Message) → IsSound n node sent → (order : List Action) → IsOrder n sent order → (x : ℕ) → Begins (applied_of (node x).records) order)
     (tells : (node : ℕ → NodePart) (task : ℕ → TaskPart) (sent : List Message) → IsKept s node task sent → (t k : ℕ) (answer : Answer) → slice_get (task t).replies k ≡ Some answer
-    → IsAnswerOf s.next s.answers s.begin (order_of s.config.nodes sent) (named t (suc k)) answer)
+    → HasReply s.next s.answers s.begin (order_of s.config.nodes sent) (named t (suc k)) answer)
+    (counted : (node : ℕ → NodePart) (task : ℕ → TaskPart) (sent : List Message) → IsKept s node task sent → (t : ℕ) → AreItsCalls sent t (task t) (kept_of s.next s.answers s.begin (order_of s.config.nodes sent)))
     (once : (actions : List Action) (call : CallName) (one other : ℕ) → IsPlace s.next s.answers s.begin actions call one → IsPlace s.next s.answers s.begin actions call other → one ≡ other) where
+  seated : (w : World) (t : ℕ) (part : TaskPart) → part_at w.tasks t ≡ Some part → task_in w.tasks t ≡ part
+  seated w t part p = ap (λ (o : Option TaskPart). unwrap_or o fresh_task) p
+
   pub ordered : (w : World) → IsKeptWorld s w → IsOrdered s.next s.answers s.begin s.config.nodes w
   ordered w kept =
       let nodes = s.config.nodes in
@@ -125,8 +129,10 @@ module _ {S : Type 0} (s : Setting S)
         applied = λ x part p.
             subst (λ (a : NodePart). Begins (applied_of a.records) order) (ap (λ (o : Option NodePart). unwrap_or o fresh_node) p)
             (begins nodes (node_in w.nodes) w.sent kept.kept.sound order (exists nodes w.sent) x);
+        calls = λ t part p.
+            subst (λ (a : TaskPart). AreItsCalls w.sent t a (kept_of s.next s.answers s.begin order)) (seated w t part p)
+            (counted (node_in w.nodes) (task_in w.tasks) w.sent kept.kept t);
         replies = λ t k part answer p is.
-            let here : task_in w.tasks t ≡ part = ap (λ (o : Option TaskPart). unwrap_or o fresh_task) p in
-            tells (node_in w.nodes) (task_in w.tasks) w.sent kept.kept t k answer (ap (λ (a : TaskPart). slice_get a.replies k) here ∙ is);
+            tells (node_in w.nodes) (task_in w.tasks) w.sent kept.kept t k answer (ap (λ (a : TaskPart). slice_get a.replies k) (seated w t part p) ∙ is);
         once = once order;
       }

@@ -4,12 +4,13 @@ use Rattle.rp_base.specs.Records.{applied_of}
 use Rattle.rp_base.specs.declared.action.Action.{Action}
 use Rattle.rp_base.specs.declared.reply.Answer.{Answer}
 use Rattle.rp_machine.specs.Calls.{CallName}
-use Rattle.rp_machine.specs.Places.{IsPlace, IsAnswerOf}
-use Rattle.rp_machine.specs.Replay.{replay_of, replay_state}
+use Rattle.rp_machine.specs.Places.{IsPlace, HasReply}
+use Rattle.rp_machine.specs.Replay.{replay_of, replay_state, kept_of}
 use Rattle.rp_model.specs.Facts.{IsOrder}
 use Rattle.rp_model.specs.World.{World, part_at}
 use Rattle.rp_model.specs.Parts.{NodePart}
 use Rattle.rp_model.specs.Parts.{TaskPart}
+use Rattle.rp_agreement.specs.Answered.{named, AreItsCalls}
 use Rattle.rp_agreement.specs.Order.{Begins, AreAlike}
 
 -- a node now and one later
@@ -31,13 +32,15 @@ pub record Agree {S : Type 0} (next : S → Action → S) (answers : S → Actio
       → image (replay_state next answers begin (applied_of one.records)) ≡ image (replay_state next answers begin (applied_of other.records)))
 
 module _ {S : Type 0} (next : S → Action → S) (answers : S → Action → List Answer) (begin : S) where
-  -- There is one order in which all happens: what each node has applied begins it, each reply that a task
-  -- got is the answer that it gives to the task's call of that number, and a call takes effect at one
-  -- place of it at most.
+  -- There is one order in which all happens: what each node has applied begins it; the calls of each task that
+  -- count in it are those that the task made, in order, with their objects, operations and arguments, all of
+  -- them or all but the one that it waits for; the reply that the task got to its nth call is the one that the
+  -- order gives, at the call's place; and no call takes effect at two places.
   pub record IsOrdered (nodes : ℕ) (w : World) : Type 0 where
     pub order : List Action
     pub decided : IsOrder nodes w.sent order
     pub applied : (x : ℕ) (part : NodePart) → part_at w.nodes x ≡ Some part → Begins (applied_of part.records) order
+    pub calls : (t : ℕ) (part : TaskPart) → part_at w.tasks t ≡ Some part → AreItsCalls w.sent t part (kept_of next answers begin order)
     pub replies : (t k : ℕ) (part : TaskPart) (answer : Answer) → part_at w.tasks t ≡ Some part → slice_get part.replies k ≡ Some answer
-        → IsAnswerOf next answers begin order (record { task = t; number = suc k }) answer
+        → HasReply next answers begin order (named t (suc k)) answer
     pub once : (call : CallName) (one other : ℕ) → IsPlace next answers begin order call one → IsPlace next answers begin order call other → one ≡ other

@@ -16,8 +16,9 @@ ghost use Rattle.rp_world.specs.Steps.{IsStep, IsStored, IsToldOf, IsToldUnlessM
 use crate::effect::Refused;
 use crate::world::World;
 use rp_agreement::{
-    applied_lists_are_alike, applied_lists_begin_the_order, events_keep_ranges,
-    events_keep_replies, replies_tell_the_order, states_are_alike, the_order_exists,
+    applied_lists_are_alike, applied_lists_begin_the_order, calls_count_in_turn,
+    events_keep_ranges, events_keep_replies, replies_answer_calls_that_count,
+    replies_tell_the_order, states_are_alike, the_order_exists,
 };
 use rp_base::{Answer, Config, Fault, NodeId, TaskId};
 use rp_machine::{Machine, a_call_has_one_place};
@@ -108,8 +109,9 @@ impl<M: Machine, D: CutDevice> Cluster<M, D> {
     }
 
     /// The steps of these events one after another, up to the first that is refused. Whatever they
-    /// are, nodes agree, before the run and behind it, and what they have applied begins one order, in
-    /// which each reply that a task got is the answer to its call, and no call takes effect twice.
+    /// are, nodes agree, before the run and behind it, and what they have applied begins one order: the
+    /// calls of a task that count in it are those that the task made, in order, each reply that a task
+    /// got is the answer to its call, and each such call takes effect at one place, no other at two.
     pub fn run(&mut self, alloc: Global, events: &[Event]) -> Result<(), Refused>
         ensures run { IsRun M.next M.answers M.begin self.old events.now self.new result }
         ensures agree { Agree M.next M.answers M.image (M.begin self.old.program)
@@ -124,7 +126,8 @@ impl<M: Machine, D: CutDevice> Cluster<M, D> {
         states_are_alike::<M>();
         the_order_exists();
         applied_lists_begin_the_order();
-        replies_tell_the_order::<M>();
+        calls_count_in_turn::<M>();
+        replies_answer_calls_that_count::<M>();
         a_call_has_one_place::<M>();
         ran
     }

@@ -9,14 +9,16 @@ ghost use Rattle.rp_agreement.specs.History.{IsHistory, AreMoments};
 ghost use Rattle.rp_world.specs.Agreeing.{Agree, IsOrdered};
 
 use rp_agreement::{
-    applied_lists_begin_the_order, histories_agree, replies_tell_the_order, the_order_exists,
+    applied_lists_begin_the_order, calls_count_in_turn, histories_agree,
+    replies_answer_calls_that_count, replies_tell_the_order, the_order_exists,
 };
 use rp_machine::{Machine, a_call_has_one_place};
 
 /// Nodes of one configuration that run one program of a machine agree at any two moments of any
 /// history, whatever stops, is cut short, starts again, is lost or comes twice. At each moment there
-/// is one order of all that is decided: what each node has applied begins it, each reply that a task
-/// got is the answer that it gives to the task's call, and each call takes effect at one place of it.
+/// is one order of all that is decided: what each node has applied begins it, the calls of a task that
+/// count in it are those that the task made, in order, and each reply that a task got is the answer
+/// that it gives to the task's call, which takes effect at one place of it.
 pub fn histories_are_ordered<M: Machine>()
     ensures agree { (config : Config) (program : M.Program) (now later : World)
         → AreMoments (setting_for M.next M.answers M.begin config program) now later
@@ -29,5 +31,7 @@ pub fn histories_are_ordered<M: Machine>()
     replies_tell_the_order::<M>();
     the_order_exists();
     applied_lists_begin_the_order();
+    calls_count_in_turn::<M>();
+    replies_answer_calls_that_count::<M>();
     a_call_has_one_place::<M>();
 }

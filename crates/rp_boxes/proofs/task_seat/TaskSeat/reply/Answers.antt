@@ -56,7 +56,7 @@ look-requires-clause-follows g c =
     let s = setting_for m.next m.answers m.begin key.config key.program.value in
     λ parts world n here.
     world_tells s view parts world n (part_in view) (knows_itself (7 + c.self.inside.number) n turned.part view (ap (λ (me : Sight). me.0) turned.is) here)
-    (c.replies_tell_the_order.ensures.replies s) (c.calls_count_in_turn.ensures key.config key.program.value)
+    (c.replies_answer_calls_that_count.ensures key.config key.program.value) (c.calls_count_in_turn.ensures key.config key.program.value)
 
 pub returns-clause-ok : goal.returns-clause-ok
 returns-clause-ok g c =

@@ -24,5 +24,6 @@ returns-clause-ordered g c =
     let new = c.run_all-ran.new.self in
     let s = setting_of m.next m.answers m.begin old in
     let same = same_setting m.next m.answers m.begin old new c.run_all-ran.ensures.run.setup in
-    ordered s c.the_order_exists.ensures c.applied_lists_begin_the_order.ensures (c.replies_tell_the_order.ensures.replies s) (c.a_call_has_one_place.ensures (m.begin old.program)) new.world
+    ordered s c.the_order_exists.ensures c.applied_lists_begin_the_order.ensures (c.replies_answer_calls_that_count.ensures old.config old.program) (c.calls_count_in_turn.ensures old.config old.program)
+    (c.a_call_has_one_place.ensures (m.begin old.program)) new.world
     (subst (λ (t : Setting g.row.M.Denot). IsKeptWorld t new.world) same c.is_kept-2.ensures.kept)

@@ -5,7 +5,7 @@ ghost use Rattle.rp_boxes.specs.Parts.{fresh_part, OfTask};
 ghost use Rattle.rp_model.specs.Parts.{fresh_task};
 
 use crate::setup::{CONFIG, devices};
-use rp_base::{Fault, NodeId, Operation, Position};
+use rp_base::{Fault, NodeId, Operation, Position, TaskId};
 use rp_boxes::{Added, AllSeats, Audit, NodeSeat, TaskSeat, seats};
 use rp_codec::{Body, Party, decode, packet_len};
 use rp_machine::{Machine, Tally, TallyProgram};
@@ -78,6 +78,8 @@ impl Gate for InStep {
             _ => {}
         }
     }
+
+    fn before_task(&self, _task: TaskId, _turn: u64) {}
 }
 
 /// A node that is to start, whose line draws its words from this seed.

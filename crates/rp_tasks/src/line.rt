@@ -109,8 +109,8 @@ impl FaultLine {
         ensures only { IsOkUnless result Fault.OutOfMemory }
     {
         let copy = self.copy_of(alloc, &packet)?;
-        let word = self.next_word();
-        self.spare = self.hold(alloc, word, packet, copy);
+        let next = self.next_word();
+        self.spare = self.hold(alloc, next, packet, copy);
         Ok(())
     }
 

@@ -185,6 +185,7 @@ impl<M: Machine> Unseated<M> {
                     replica: opening.replica,
                     place,
                     board,
+                    spare: Vec::new(alloc),
                 })
             }
             Err((fault, _)) => Err(fault),

@@ -22,6 +22,7 @@ use rp_replica::{Input, Replica, Sent, texts_are_packets};
 use rp_store::Device;
 use std::alloc::Global;
 use std::marker::{Brand, Model};
+use std::mem;
 use std::sync::Arc;
 
 /// The seat of a node: the node itself, and its place at the table that all seats share. It crosses
@@ -32,6 +33,8 @@ pub struct NodeSeat<M: Machine, D: Device> {
     pub(crate) replica: Replica<M, D>,
     pub(crate) place: Place,
     pub(crate) board: Arc<Board<M>, Global>,
+    /// Room for the packets of the next step.
+    pub(crate) spare: Vec<u8>,
 }
 
 impl<M: Machine, D: Device> Model for NodeSeat<M, D> {
@@ -72,7 +75,8 @@ impl<M: Machine, D: Device> NodeSeat<M, D> {
         if self.replica.has_failed() {
             return Err(Fault::Failed);
         }
-        match self.replica.turn(alloc, input) {
+        let buffer = mem::replace(&mut self.spare, Vec::new(alloc));
+        match self.replica.turn_into(alloc, buffer, input) {
             Ok(sent) => {
                 note_turn::<M, D, Brand>(
                     &self.board.shared,
@@ -98,6 +102,14 @@ impl<M: Machine, D: Device> NodeSeat<M, D> {
                 Err(fault)
             }
         }
+    }
+
+    /// Lends the seat a buffer for the packets of its next step, so that this step need not take
+    /// memory for them. What the buffer holds is let go.
+    pub fn lend(&mut self, buffer: Vec<u8>)
+        ensures { self.new ≡ self.old }
+    {
+        self.spare = buffer;
     }
 
     /// Puts a packet that a step of this seat sent, as its text, into the box to its receiver. It is

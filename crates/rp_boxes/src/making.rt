@@ -187,6 +187,7 @@ impl<M: Machine> Unseated<M> {
                     place,
                     board,
                     spare: Vec::new(alloc),
+                    lost: 0,
                 })
             }
             Err((fault, _)) => Err(fault),
@@ -233,6 +234,7 @@ impl<M: Machine> Unseated<M> {
             task: Task::new(alloc, task),
             place,
             board,
+            lost: 0,
         })
     }
 

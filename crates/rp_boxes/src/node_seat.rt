@@ -36,6 +36,8 @@ pub struct NodeSeat<M: Machine, D: Device> {
     pub(crate) board: Arc<Board<M>, Global>,
     /// Room for the packets of the next step.
     pub(crate) spare: Vec<u8>,
+    /// How many packets found their box full.
+    pub(crate) lost: u64,
 }
 
 impl<M: Machine, D: Device> Model for NodeSeat<M, D> {
@@ -123,7 +125,16 @@ impl<M: Machine, D: Device> NodeSeat<M, D> {
     {
         let to = receiver(packet.as_slice());
         let node = usize::from(self.node.get());
-        fill(&self.board.shared, &mut self.place, node, to, packet)
+        let put = fill(&self.board.shared, &mut self.place, node, to, packet);
+        if put.is_err() {
+            self.lost = self.lost.saturating_add(1);
+        }
+        put
+    }
+
+    /// How many packets `put` has given back.
+    pub fn lost(&self) -> u64 {
+        self.lost
     }
 
     /// The packet in the box from that party to this seat, as its text, or `None` where the box is

@@ -44,6 +44,8 @@ pub struct TaskSeat<M: Machine> {
     pub(crate) task: Task,
     pub(crate) place: Place,
     pub(crate) board: Arc<Board<M>, Global>,
+    /// How many packets found their box full.
+    pub(crate) lost: u64,
 }
 
 impl<M: Machine> Model for TaskSeat<M> {
@@ -167,7 +169,16 @@ impl<M: Machine> TaskSeat<M> {
     {
         let to = receiver(packet.as_slice());
         let actor = actor_of(Party::Task(self.number));
-        fill(&self.board.shared, &mut self.place, actor, to, packet)
+        let put = fill(&self.board.shared, &mut self.place, actor, to, packet);
+        if put.is_err() {
+            self.lost = self.lost.saturating_add(1);
+        }
+        put
+    }
+
+    /// How many packets `put` has given back.
+    pub fn lost(&self) -> u64 {
+        self.lost
     }
 
     /// The packet in the box from that party to this seat, as its text, or `None` where the box is

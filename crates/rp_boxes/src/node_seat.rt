@@ -21,7 +21,7 @@ use rp_base::{Fault, NodeId, Position};
 use rp_codec::Party;
 use rp_machine::Machine;
 use rp_replica::{Input, Replica, Sent, texts_are_packets};
-use rp_store::Device;
+use rp_store::{Device, InfallibleDevice};
 use std::alloc::Global;
 use std::marker::{Brand, Model};
 use std::sync::Arc;
@@ -179,5 +179,15 @@ impl<M: Machine, D: Device> NodeSeat<M, D> {
             ⊎ IsNoTurn M.next M.answers M.begin self.old (Report first) self.new fault) }
     {
         self.turn(alloc, &Input::Report(first))
+    }
+}
+
+impl<M: Machine, D: InfallibleDevice> NodeSeat<M, D> {
+    /// No call of the device has failed, where such a device never fails. It does nothing: what it
+    /// promises is for contracts.
+    pub fn never_failed(&self)
+        ensures { self.now.failures ≡ 0 }
+    {
+        self.replica.never_failed();
     }
 }

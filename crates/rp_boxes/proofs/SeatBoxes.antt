@@ -1,6 +1,6 @@
 -- What a step at a box is for a seat.
-use Rattle.std.proofs.Common.{◌≡◌, ℕ, Option, Some, None, Vec, List, [], ◌∷◌, inl, inr, refl, sym, ap, subst, ◌∙◌, arith}
-use Rattle.std.specs.Prelude.{IfSome, IfNone}
+use Rattle.std.proofs.Common.{◌≡◌, ◌≢◌, ℕ, Option, Some, None, Result, Ok, Err, Vec, List, [], ◌∷◌, inl, inr, refl, sym, ap, subst, ◌∙◌, arith}
+use Rattle.std.specs.Prelude.{IfSome, IfNone, IfErr, OnOk}
 use Rattle.std.specs.declared.alloc.Global.{Global}
 use Rattle.atomic_table.specs.Seated.{TableId}
 use Rattle.rp_base.specs.Sets.{Has}
@@ -12,10 +12,12 @@ use Rattle.rp_codec.specs.Message.{Message, IsPacket, IsParty}
 use Rattle.rp_codec.specs.Text.{text_of}
 use Rattle.rp_codec.specs.declared.packet.Party.{Party}
 use Rattle.rp_codec.specs.declared.packet.Party.TheVariants.{Node, Task, Audit}
+use Rattle.rp_model.specs.Effect.{Setting}
 use Rattle.rp_agreement.specs.Answered.{setting_for}
 use Rattle.rp_replica.specs.Held.{Held}
 use Rattle.rp_boxes.specs.Looks.{IsWorldOf, WasSent}
-use Rattle.rp_boxes.specs.Parts.{Part, actor_of, part_in, with_got}
+use Rattle.rp_boxes.specs.Moments.{WasFull, WasInUse, WasNotFull, WasPut, WasWord}
+use Rattle.rp_boxes.specs.Parts.{Part, View, actor_of, box_of, part_in, with_got}
 use Rattle.rp_boxes.specs.Plays.{Sight, alone}
 use Rattle.rp_boxes.specs.Rule.{IsCarried, HasOwnPackets}
 use Rattle.rp_boxes.specs.Seats.{Chair, IsAtTable, IsNodePlace, IsSentText, IsFetched}
@@ -152,3 +154,37 @@ module _ {P : Type 0} (config : Config) (program : P) (number failures k : ℕ) 
         → IfSome found (λ text. WasSent next answers begin from to text.items (chair mine' (part_in me'.0)))
     sent_chair None found seen = tt
     sent_chair (Some text) found seen = was_sent text found seen
+
+  -- the boxes that it stepped on
+  module _ {S : Type 0} (next : S → Action → S) (answers : S → Action → List Answer) (begin : P → S) (sees : me' ≡ alone k (part_in me'.0)) where
+    abbrev pub s : Setting S
+    s = setting_for next answers begin config program
+
+    -- what it sees is what the party of its seat knows
+    seen_by : (party : Party) → actor_of party ≡ k → me'.0 ≡ (actor_of party, part_in me'.0) ∷ []
+    seen_by party own = ap (λ (z : Sight). z.0) sees ∙ ap (λ (j : ℕ). (j, part_in me'.0) ∷ []) (sym own)
+
+    module _ (from : Party) (own : actor_of from ≡ k) (bytes : List ℕ) (m : Message) (text : bytes ≡ text_of m) (to : ℕ) (named : to ≡ actor_of m.to) where
+      this_box : box_of k to ≡ box_of (actor_of from) (actor_of m.to)
+      this_box = λ i. box_of (sym own i) (named i)
+
+      pub put_chair : {A E : Type 0} (r : Result A E) → OnOk r (WasFull s me'.0 (box_of k to) bytes) → OnOk r (WasPut next answers begin from bytes (chair mine' (part_in me'.0)))
+      put_chair (Ok value) full = record { packet = m; text = text; box = subst (λ (z : View × ℕ). WasFull s z.0 z.1 bytes) (λ i. (seen_by from own i, this_box i)) full }
+      put_chair (Err error) full = tt
+
+      pub used_chair : {A E : Type 0} (r : Result A E) → IfErr r (λ back. WasWord s me'.0 (box_of k to) (λ word. word ≢ 0)) → IfErr r (λ back. WasInUse next answers begin from bytes (chair mine' (part_in me'.0)))
+      used_chair (Ok value) used = tt
+      used_chair (Err error) used = record { packet = m; text = text; box = subst (λ (z : View × ℕ). WasWord s z.0 z.1 (λ word. word ≢ 0)) (λ i. (seen_by from own i, this_box i)) used }
+
+  -- the box that was not full
+  module _ {S : Type 0} (next : S → Action → S) (answers : S → Action → List Answer) (begin : P → S) (at : me ≡ alone k (part_in me.0)) (from to : Party) (own : actor_of to ≡ k) where
+    -- in this use the word of the box to the seat was another
+    abbrev pub Misses : Type 0
+    Misses = WasWord (setting_for next answers begin config program) me'.0 (box_of (actor_of from) k) (λ word. word ≢ 2)
+
+    pub missed_chair : (found : Option (Vec ℕ Global)) → IfNone found (me' ≡ me) → IfNone found Misses → IfNone found (WasNotFull next answers begin from to (chair mine' (part_in me'.0)))
+    missed_chair None stays missed =
+        let sees : me' ≡ alone k (part_in me'.0) = subst (λ (z : Sight). z ≡ alone k (part_in z.0)) (sym stays) at in
+        subst (λ (z : View × ℕ). WasWord (setting_for next answers begin config program) z.0 z.1 (λ word. word ≢ 2))
+        (λ i. (seen_by next answers begin sees to own i, box_of (actor_of from) (sym own i))) missed
+    missed_chair (Some text) stays missed = tt

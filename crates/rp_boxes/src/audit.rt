@@ -7,6 +7,7 @@ ghost use Rattle.rp_codec.specs.Message.{IsPacket};
 ghost use Rattle.rp_codec.specs.declared.packet.Party.TheVariants as parties;
 ghost use Rattle.rp_boxes.specs.Audits.{AreTold, IsAdded, IsGotReport, IsJoined, known_of, report, with_reported};
 ghost use Rattle.rp_boxes.specs.Looks.{WasSent};
+ghost use Rattle.rp_boxes.specs.Moments.{WasNotFull};
 ghost use Rattle.rp_boxes.specs.Meeting.{AreOfOneOrder, IsMet};
 ghost use Rattle.rp_boxes.specs.Seats.{IsFetched};
 
@@ -97,6 +98,8 @@ impl<M: Machine> Audit<M> {
         ensures sent { IfSome result (λ text. WasSent M.next M.answers M.begin from parties.Audit
             text.items self.new.seat) }
         ensures none { IfNone result (self.new.seat ≡ self.old.seat) }
+        ensures missed { IfNone result (WasNotFull M.next M.answers M.begin from parties.Audit
+            self.new.seat) }
         ensures report { IfSome result (λ text. IsGotReport self.new.seat.part text.items) }
         ensures got { (text : List ℕ) → IsGotReport self.old.seat.part text
             → IsGotReport self.new.seat.part text }

@@ -3,6 +3,7 @@
 ghost use Rattle.std.specs.Prelude.{◌≡◌, IfSome, IfNone};
 ghost use Rattle.rp_codec.specs.declared.packet.Party.TheVariants.{Audit};
 ghost use Rattle.rp_boxes.specs.Looks.{WasSent};
+ghost use Rattle.rp_boxes.specs.Moments.{WasNotFull};
 ghost use Rattle.rp_boxes.specs.Rule.{HasOwnPackets};
 ghost use Rattle.rp_boxes.specs.Seats.{IsFetched};
 
@@ -55,6 +56,7 @@ impl<M: Machine> AuditSeat<M> {
         ensures sent { IfSome result (λ text. WasSent M.next M.answers M.begin from Audit
             text.items self.new) }
         ensures none { IfNone result (self.new ≡ self.old) }
+        ensures missed { IfNone result (WasNotFull M.next M.answers M.begin from Audit self.new) }
     {
         empty(&self.board.shared, &mut self.place, actor_of(from), AUDIT)
     }

@@ -1,6 +1,6 @@
 //! The seat of a node.
 
-ghost use Rattle.std.specs.Prelude.{◌≡◌, ◌⊎◌, nat_lt, length, false, IfOk, IfErr, IfSome, IfNone, IsOkUnless};
+ghost use Rattle.std.specs.Prelude.{◌≡◌, ◌⊎◌, nat_lt, length, false, IfOk, IfErr, IfSome, IfNone, OnOk, IsOkUnless};
 ghost use Rattle.rp_base.specs.Sets.{Has};
 ghost use Rattle.rp_base.specs.declared.fault.Fault.TheVariants as faults;
 ghost use Rattle.rp_codec.specs.Message.{Message, IsPacket};
@@ -9,6 +9,7 @@ ghost use Rattle.rp_model.specs.Parts.{Running};
 ghost use Rattle.rp_replica.specs.Inputs.{IsRightInput};
 ghost use Rattle.rp_replica.specs.declared.input.Input.TheVariants.{Report};
 ghost use Rattle.rp_boxes.specs.Looks.{WasSent};
+ghost use Rattle.rp_boxes.specs.Moments.{WasInUse, WasNotFull, WasPut};
 ghost use Rattle.rp_boxes.specs.Seats.{IsGot, IsTurn, IsCutTurn, IsNoTurn, IsSentText, IsFetched, HasApplied, IsRunning, IsStopped, IsReport};
 
 use crate::actors::{actor_of, receiver};
@@ -20,7 +21,7 @@ use rp_base::{Fault, NodeId, Position};
 use rp_codec::Party;
 use rp_machine::Machine;
 use rp_replica::{Input, Replica, Sent, texts_are_packets};
-use rp_store::Device;
+use rp_store::{Device, InfallibleDevice};
 use std::alloc::Global;
 use std::marker::{Brand, Model};
 use std::mem;
@@ -121,7 +122,11 @@ impl<M: Machine, D: Device> NodeSeat<M, D> {
     pub fn put(&mut self, packet: Vec<u8>) -> Result<(), Vec<u8>>
         requires sent { IsSentText self.old.part packet.items }
         ensures unchanged { self.new ≡ self.old }
+        ensures put { OnOk result (WasPut M.next M.answers M.begin (Node self.new.number)
+            packet.items self.new) }
         ensures back { IfErr result (λ back. back ≡ packet) }
+        ensures used { IfErr result (λ back. WasInUse M.next M.answers M.begin
+            (Node self.new.number) packet.items self.new) }
     {
         let to = receiver(packet.as_slice());
         let node = usize::from(self.node.get());
@@ -145,6 +150,8 @@ impl<M: Machine, D: Device> NodeSeat<M, D> {
         ensures sent { IfSome result (λ text. WasSent M.next M.answers M.begin from
             (Node self.new.number) text.items self.new) }
         ensures none { IfNone result (self.new ≡ self.old) }
+        ensures missed { IfNone result (WasNotFull M.next M.answers M.begin from
+            (Node self.new.number) self.new) }
     {
         let node = usize::from(self.node.get());
         empty(&self.board.shared, &mut self.place, actor_of(from), node)
@@ -195,5 +202,15 @@ impl<M: Machine, D: Device> NodeSeat<M, D> {
             ⊎ IsNoTurn M.next M.answers M.begin self.old (Report first) self.new fault) }
     {
         self.turn(alloc, &Input::Report(first))
+    }
+}
+
+impl<M: Machine, D: InfallibleDevice> NodeSeat<M, D> {
+    /// No call of the device has failed, where such a device never fails. It does nothing: what it
+    /// promises is for contracts.
+    pub fn never_failed(&self)
+        ensures { self.now.failures ≡ 0 }
+    {
+        self.replica.never_failed();
     }
 }

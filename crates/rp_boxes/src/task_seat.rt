@@ -1,6 +1,6 @@
 //! The seat of a task.
 
-ghost use Rattle.std.specs.Prelude.{◌≡◌, IfOk, IfErr, IfSome, IfNone, OnErr};
+ghost use Rattle.std.specs.Prelude.{◌≡◌, IfOk, IfErr, IfSome, IfNone, OnOk, OnErr};
 ghost use Rattle.rp_base.specs.Action.{IsRight};
 ghost use Rattle.rp_base.specs.Sets.{Has};
 ghost use Rattle.rp_base.specs.declared.fault.Fault.TheVariants.{OutOfMemory};
@@ -10,6 +10,7 @@ ghost use Rattle.rp_codec.specs.declared.packet.Party.TheVariants as parties;
 ghost use Rattle.rp_model.specs.Tasks.{Submit, Again};
 ghost use Rattle.rp_world.specs.Going.{reply_told};
 ghost use Rattle.rp_boxes.specs.Looks.{WasSent};
+ghost use Rattle.rp_boxes.specs.Moments.{WasInUse, WasNotFull, WasPut};
 ghost use Rattle.rp_boxes.specs.Parts.{task_of};
 ghost use Rattle.rp_boxes.specs.Seats.{IsSentText, IsFetched};
 ghost use Rattle.rp_boxes.specs.TaskSeats.{IsTaskTurn, IsNoTaskTurn, IsReplyTurn, IsTold};
@@ -165,7 +166,11 @@ impl<M: Machine> TaskSeat<M> {
     pub fn put(&mut self, packet: Vec<u8>) -> Result<(), Vec<u8>>
         requires sent { IsSentText self.old.part packet.items }
         ensures unchanged { self.new ≡ self.old }
+        ensures put { OnOk result (WasPut M.next M.answers M.begin (parties.Task self.new.number)
+            packet.items self.new) }
         ensures back { IfErr result (λ back. back ≡ packet) }
+        ensures used { IfErr result (λ back. WasInUse M.next M.answers M.begin
+            (parties.Task self.new.number) packet.items self.new) }
     {
         let to = receiver(packet.as_slice());
         let actor = actor_of(Party::Task(self.number));
@@ -189,6 +194,8 @@ impl<M: Machine> TaskSeat<M> {
         ensures sent { IfSome result (λ text. WasSent M.next M.answers M.begin from
             (parties.Task self.new.number) text.items self.new) }
         ensures none { IfNone result (self.new ≡ self.old) }
+        ensures missed { IfNone result (WasNotFull M.next M.answers M.begin from
+            (parties.Task self.new.number) self.new) }
     {
         let actor = actor_of(Party::Task(self.number));
         empty(&self.board.shared, &mut self.place, actor_of(from), actor)

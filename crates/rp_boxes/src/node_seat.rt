@@ -37,7 +37,7 @@ pub struct NodeSeat<M: Machine, D: Device> {
     pub(crate) board: Arc<Board<M>, Global>,
     /// Room for the packets of the next step.
     pub(crate) spare: Vec<u8>,
-    /// How many packets found their box full.
+    /// How many packets were given back and let go.
     pub(crate) lost: u64,
 }
 
@@ -130,14 +130,17 @@ impl<M: Machine, D: Device> NodeSeat<M, D> {
     {
         let to = receiver(packet.as_slice());
         let node = usize::from(self.node.get());
-        let put = fill(&self.board.shared, &mut self.place, node, to, packet);
-        if put.is_err() {
-            self.lost = self.lost.saturating_add(1);
-        }
-        put
+        fill(&self.board.shared, &mut self.place, node, to, packet)
     }
 
-    /// How many packets `put` has given back.
+    /// Counts a packet that was given back and is let go.
+    pub fn lose(&mut self)
+        ensures { self.new ≡ self.old }
+    {
+        self.lost = self.lost.saturating_add(1);
+    }
+
+    /// How many packets were let go so.
     pub fn lost(&self) -> u64 {
         self.lost
     }

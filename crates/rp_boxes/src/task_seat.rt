@@ -45,7 +45,7 @@ pub struct TaskSeat<M: Machine> {
     pub(crate) task: Task,
     pub(crate) place: Place,
     pub(crate) board: Arc<Board<M>, Global>,
-    /// How many packets found their box full.
+    /// How many packets were given back and let go.
     pub(crate) lost: u64,
 }
 
@@ -174,14 +174,17 @@ impl<M: Machine> TaskSeat<M> {
     {
         let to = receiver(packet.as_slice());
         let actor = actor_of(Party::Task(self.number));
-        let put = fill(&self.board.shared, &mut self.place, actor, to, packet);
-        if put.is_err() {
-            self.lost = self.lost.saturating_add(1);
-        }
-        put
+        fill(&self.board.shared, &mut self.place, actor, to, packet)
     }
 
-    /// How many packets `put` has given back.
+    /// Counts a packet that was given back and is let go.
+    pub fn lose(&mut self)
+        ensures { self.new ≡ self.old }
+    {
+        self.lost = self.lost.saturating_add(1);
+    }
+
+    /// How many packets were let go so.
     pub fn lost(&self) -> u64 {
         self.lost
     }

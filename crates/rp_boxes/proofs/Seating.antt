@@ -2,16 +2,14 @@
 use Rattle.std.proofs.Common.{◌≡◌, ℕ, zero, suc, ◌+◌, ◌<◌, ◌≤◌, List, [], ◌∷◌, ◌++◌, length, drop, slice_index, refl, sym, ap, subst, ◌∙◌, arith, length-append}
 use Rattle.atomic_table.specs.Seated.{TableId}
 use Rattle.rp_base.specs.declared.config.Config.{Config}
-use Rattle.rp_base.specs.Number.{IsTask}
-use Rattle.rp_model.specs.Parts.{fresh_node, fresh_task}
+use Rattle.rp_model.specs.Parts.{fresh_node}
 use Rattle.rp_replica.specs.Held.{Held}
-use Rattle.rp_world.specs.Callers.{Caller}
 use Rattle.rp_world.specs.Nodes.{member_of, RunsAs}
 use Rattle.rp_world.proofs.Standing.{stands}
-use Rattle.rp_boxes.specs.Parts.{Part, View, OfNode, OfTask, first_role, first_part, first_from, part_in}
+use Rattle.rp_boxes.specs.Parts.{Part, View, OfNode, first_role, first_part, first_from, part_in}
 use Rattle.rp_boxes.specs.Plays.{Sight, IsSized, alone}
-use Rattle.rp_boxes.specs.Seats.{Chair, IsAtTable, IsNodePlace, IsTaskPlace}
-use Rattle.rp_boxes.specs.Making.{AreFirstSeats, AreSeats, IsRest, IsFirstPlace, Unseated, after_seats, first_in, others_in, first_seat}
+use Rattle.rp_boxes.specs.Seats.{Chair, IsAtTable, IsNodePlace}
+use Rattle.rp_boxes.specs.Making.{AreFirstSeats, AreSeats, IsRest, Unseated, after_seats, others_in, first_seat}
 
 -- ---- the rest of the actors
 

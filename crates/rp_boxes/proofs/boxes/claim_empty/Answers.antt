@@ -1,5 +1,5 @@
 -- The box is claimed where it is empty.
-use Rattle.std.proofs.Common.{◌≡◌, ◌≢◌, ◌<◌, eqb, sym, subst, ◌∙◌, arith}
+use Rattle.std.proofs.Common.{◌≢◌, ◌<◌, eqb, sym, subst, arith}
 use prog.Atomic.{either}
 use Rattle.atomic_table.specs.Table.{Allows}
 use Rattle.rp_agreement.specs.Answered.{setting_for}

@@ -1,5 +1,5 @@
 -- The box is claimed where it is full.
-use Rattle.std.proofs.Common.{◌≡◌, ◌≢◌, ◌<◌, eqb, sym, subst, ◌∙◌, arith}
+use Rattle.std.proofs.Common.{◌≡◌, ◌≢◌, ◌<◌, eqb, sym, subst, arith}
 use Rattle.std.proofs.lemmas.Bool.{eqb-true}
 use prog.Atomic.{either}
 use Rattle.atomic_table.specs.Table.{Allows}

@@ -1,9 +1,9 @@
 -- The box is written and published.
-use Rattle.std.proofs.Common.{◌≡◌, ◌<◌, ◌≤◌, Some, None, [], ◌∷◌, sym, ap, subst, ◌∙◌, arith}
+use Rattle.std.proofs.Common.{◌<◌, ◌≤◌, Some, None, sym, subst, ◌∙◌, arith}
 use Rattle.atomic_table.specs.Table.{Allows}
 use Rattle.rp_agreement.specs.Answered.{setting_for}
 use Rattle.rp_boxes.specs.Parts.{part_in, box_of}
-use Rattle.rp_boxes.specs.Plays.{Sight, Published, holding}
+use Rattle.rp_boxes.specs.Plays.{Sight, Published}
 use Rattle.rp_boxes.specs.Rule.{Ruled}
 use Rattle.rp_boxes.proofs.Filling.{publish_allows}
 use Rattle.rp_boxes.proofs.Sights.{sees_written}

@@ -1,13 +1,12 @@
 -- The box is claimed, its packet taken out, and it is cleared.
-use Rattle.std.proofs.Common.{◌<◌, ◌≤◌, eqb, Some, None, refl, sym, subst, ◌∙◌, arith}
-use prog.Atomic.{either}
+use Rattle.std.proofs.Common.{◌<◌, ◌≤◌, Some, None, refl, sym, subst, ◌∙◌, arith}
 use Rattle.atomic_table.specs.Table.{Allows}
 use Rattle.rp_agreement.specs.Answered.{setting_for}
 use Rattle.rp_boxes.specs.Parts.{part_in, box_of, emptying}
-use Rattle.rp_boxes.specs.Plays.{Sight, Took, Cleared}
+use Rattle.rp_boxes.specs.Plays.{Sight, Cleared}
 use Rattle.rp_boxes.specs.Rule.{Ruled}
-use Rattle.rp_boxes.proofs.Emptying.{take_allows, clear_allows}
-use Rattle.rp_boxes.proofs.Sights.{sees_taken, sees_written, out_with}
+use Rattle.rp_boxes.proofs.Emptying.{clear_allows}
+use Rattle.rp_boxes.proofs.Sights.{sees_written, out_with}
 use Rattle.rp_boxes.proofs.boxes.empty.Goals as goal
 
 pub claim_full-requires-clause-follows : goal.claim_full-requires-clause-follows

@@ -1,9 +1,5 @@
 -- The box is claimed, and the packet put there.
-use Rattle.std.proofs.Common.{◌≡◌, ◌≢◌, Some, refl, sym, ap, subst, ◌∙◌}
-use Rattle.rp_agreement.specs.Answered.{setting_for}
-use Rattle.rp_boxes.specs.Moments.{WasFull, WasWord}
-use Rattle.rp_boxes.specs.Parts.{Part, box_of, part_in}
-use Rattle.rp_boxes.specs.Plays.{Sight}
+use Rattle.std.proofs.Common.{refl}
 use Rattle.rp_boxes.proofs.boxes.fill.Goals as goal
 
 pub claim_empty-requires-clause-follows : goal.claim_empty-requires-clause-follows

@@ -1,5 +1,5 @@
 -- The audit gets the packet that was in the box, or stays as it is.
-use Rattle.std.proofs.Common.{◌≡◌, ◌≢◌, ℕ, refl, subst, ◌∙◌}
+use Rattle.std.proofs.Common.{◌≢◌, ℕ, refl, subst, ◌∙◌}
 use Rattle.std.specs.Prelude.{IfSome, IfNone}
 use Rattle.std.specs.Arc.{arc_value}
 use Rattle.rp_codec.specs.declared.packet.Party.TheVariants.{Audit}

@@ -38,7 +38,7 @@ module _ {S P : Type 0} (next : S → Action → S) (answers : S → Action → 
   setting_of c = record { config = c.config; next = next; answers = answers; begin = start c.program }
 
   -- A step of a cluster: its world goes by the event; the counts of failures stay, but that of the event's node
--- where a device failed; and all else stays.
+  -- where a device failed; and all else stays.
   pub record IsStep (old : Setup P) (event : Event) (new : Setup P) (answer : Result Effect Fault) : Type 0 where
     pub world : Steps (setting_of old) old.world (event_of event) new.world answer
     pub setup : IsSameSetup old new

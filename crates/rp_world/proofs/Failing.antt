@@ -1,9 +1,9 @@
 -- How often the device of a node failed, after a step of it.
-use Rattle.std.proofs.Common.{◌≡◌, ◌≢◌, ℕ, zero, suc, ◌<◌, Option, Some, None, Result, Ok, Err, List, [], ◌∷◌, ◌++◌, map, option_map, slice_get, slice_set, inl, inr, refl, sym, ap, subst, ◌∙◌, arith}
+use Rattle.std.proofs.Common.{◌≡◌, ◌≢◌, ℕ, suc, ◌<◌, Option, Some, None, Result, Ok, Err, List, map, option_map, slice_get, slice_set, inl, inr, refl, sym, ap, subst, ◌∙◌, arith}
 use Rattle.std.specs.Prelude.{IfOk, IfErr, IsSome}
 use Rattle.rp_base.specs.declared.action.Action.{Action}
 use Rattle.rp_base.specs.declared.fault.Fault.{Fault}
-use Rattle.rp_base.specs.declared.fault.Fault.TheVariants.{OutOfMemory, Device, Failed, BadPacket}
+use Rattle.rp_base.specs.declared.fault.Fault.TheVariants.{OutOfMemory, Device, Failed}
 use Rattle.rp_base.specs.declared.fault.PacketReason.{PacketReason}
 use Rattle.rp_base.specs.declared.record.Rec.{Rec}
 use Rattle.rp_base.specs.declared.reply.Answer.{Answer}
@@ -21,11 +21,11 @@ use Rattle.rp_replica.specs.declared.cut.NotCut.TheVariants.{Failed as DeviceFai
 use Rattle.rp_replica.specs.declared.input.Input.{Input}
 use Rattle.rp_replica.specs.declared.input.Input.TheVariants.{Receive, Lead, Interrupt, Tick, Report}
 use Rattle.rp_replica.specs.declared.sent.Sent.{Sent}
-use Rattle.rp_replica.specs.Cutting.{Cuts, CutsIf, IsNotCut, IsNotCutIf, cut_disk}
+use Rattle.rp_replica.specs.Cutting.{CutsIf, IsNotCutIf, cut_disk}
 use Rattle.rp_replica.specs.Held.{Held, setting_of, with_text}
-use Rattle.rp_replica.specs.Inputs.{packet_given, given_by, effect_if_given, input_effect}
-use Rattle.rp_replica.specs.Opening.{Opens, IsRefusedOpening}
-use Rattle.rp_replica.specs.Turning.{Turns, TurnsIf, Stops, StopsIf, IsRefused, effect_of}
+use Rattle.rp_replica.specs.Inputs.{packet_given, effect_if_given, input_effect}
+use Rattle.rp_replica.specs.Opening.{IsRefusedOpening}
+use Rattle.rp_replica.specs.Turning.{TurnsIf, Stops, StopsIf, IsRefused}
 use Rattle.rp_world.specs.Failures.{RisesAt}
 use Rattle.rp_world.specs.Going.{Counts}
 use Rattle.rp_world.specs.Nodes.{Member, StandsFor, NotTaken, failures_in, IsCounted, setting_at, node_step}

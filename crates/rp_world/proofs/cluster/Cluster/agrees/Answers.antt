@@ -1,8 +1,7 @@
 -- What the invariant gives of the cluster's world.
-use Rattle.std.proofs.Common.{sym, ap, subst}
-use Rattle.std.specs.Prelude.{Option, Some, unwrap_or}
+use Rattle.std.proofs.Common.{ap, subst}
+use Rattle.std.specs.Prelude.{Option, unwrap_or}
 use Rattle.rp_base.specs.Records.{applied_of}
-use Rattle.rp_base.specs.declared.record.Rec.TheVariants.{Promised, Voted, Learned}
 use Rattle.rp_codec.specs.declared.packet.Body.TheVariants.{Accepted, Decided}
 use Rattle.rp_codec.specs.declared.packet.Party.TheVariants.{Node}
 use Rattle.rp_model.specs.Parts.{NodePart, fresh_node}

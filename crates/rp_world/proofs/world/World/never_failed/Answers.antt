@@ -1,5 +1,5 @@
 -- The counts of all nodes are 0.
-use Rattle.std.proofs.Common.{All, ℕ, ◌≡◌, slice_get, ap, subst}
+use Rattle.std.proofs.Common.{All, ℕ, ◌≡◌, slice_get, subst}
 use Rattle.std.specs.Prelude.{IfSome}
 use Rattle.rp_world.specs.Nodes.{failures_in}
 use Rattle.rp_world.proofs.Fresh.{all_zero}

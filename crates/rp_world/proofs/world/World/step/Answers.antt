@@ -3,7 +3,7 @@ use Rattle.std.proofs.Common.{None, Some, sym, subst}
 use Rattle.std.specs.Prelude.{IsSome, ℤ}
 use Rattle.std.specs.Int.{w64}
 use Rattle.std.proofs.lemmas.Int.{to_z-of_z}
-use Rattle.rp_model.specs.Events.{Submit, Again, Makes, Cut, Stop, IsEvent, event_of, step_of}
+use Rattle.rp_model.specs.Events.{Submit, Again, Stop, IsEvent, event_of, step_of}
 use Rattle.rp_model.specs.World.{event_effect, stepping, step_writes}
 use Rattle.rp_model.proofs.Devices.{event_is}
 use Rattle.rp_world.specs.Going.{Answers, no_cut}

@@ -11,3 +11,4 @@ pub mod TaskSeats
 pub mod Looks
 pub mod Meeting
 pub mod Moments
+pub mod Together

@@ -3,10 +3,11 @@ use Rattle.std.proofs.Common.{◌≡◌, ◌⊎◌, ℕ, Option, Some, None, Res
 use Rattle.std.specs.Prelude.{IsSome}
 use Rattle.rp_base.specs.declared.action.Action.{Action}
 use Rattle.rp_base.specs.declared.fault.Fault.{Fault}
+use Rattle.rp_base.specs.declared.fault.Fault.TheVariants.{OutOfMemory}
 use Rattle.rp_base.specs.declared.reply.Answer.{Answer}
 use Rattle.rp_boxes.specs.Making.{IsWanting}
 use Rattle.rp_boxes.specs.Parts.{Part, Role, OfNode}
-use Rattle.rp_boxes.specs.Seats.{Chair, IsGot, IsTurn, IsCutTurn, IsNoTurn, setting_at}
+use Rattle.rp_boxes.specs.Seats.{Chair, IsGot, IsReason, IsTurn, IsCutTurn, IsNoTurn, setting_at}
 use Rattle.rp_model.specs.Effect.{Setting, Done, NodeInput, Receive, Lead, Interrupt, Tick, Report, turned, turned_if, effect_while, running_effect}
 use Rattle.rp_model.specs.Parts.{NodePart, Running, Turn}
 use Rattle.rp_replica.specs.Inputs.{IsRightInput, given_by}
@@ -35,22 +36,19 @@ module _ {S : Type 0} (s : Setting S) (me : ℕ) (node : NodePart) where
   while_runs input None done is = absurd (cc)
   while_runs input (Some running) done is = turned_runs node (running_effect s me node.records running input) done is
 
-  not_refused : (input : NodeInput) (running : Option Running) (fault : Fault) → IsTaken input → IsSome running → effect_while s me node input running ≡ Err fault → ⊥
-  not_refused input None fault taken runs is = absurd (cc)
-  not_refused (Receive message) (Some running) fault taken runs is = taken
-  not_refused (Lead choice) (Some running) fault taken runs is = taken
-  not_refused (Interrupt source occurrence) (Some running) fault taken runs is = absurd (cc)
-  not_refused (Tick now) (Some running) fault taken runs is = absurd (cc)
-  not_refused (Report first) (Some running) fault taken runs is = absurd (cc)
+  only_memory : (input : NodeInput) (running : Option Running) (fault : Fault) → IsTaken input → IsSome running → IsReason running (effect_while s me node input running) fault
+      → fault ≡ OutOfMemory
+  only_memory input None fault taken runs why = absurd (cc)
+  only_memory (Receive message) (Some running) fault taken runs why = absurd taken
+  only_memory (Lead choice) (Some running) fault taken runs why = absurd taken
+  only_memory (Interrupt source occurrence) (Some running) fault taken runs why = why
+  only_memory (Tick now) (Some running) fault taken runs why = why
+  only_memory (Report first) (Some running) fault taken runs why = why
 
 -- ---- its seat
 
 pub same_node : (role : Role) (a b : NodePart) → role ≡ OfNode a → role ≡ OfNode b → a ≡ b
 same_node role a b is_a is_b = let e : OfNode a ≡ OfNode b = sym is_a ∙ is_b in cc
-
-stopped : (running : Option Running) → running ≡ None → IsSome running → ⊥
-stopped None is some = absurd (cc)
-stopped (Some running) is some = absurd (cc)
 
 module _ {S P : Type 0} (next : S → Action → S) (answers : S → Action → List Answer) (begin : P → S) (old new : Chair P) where
   pub turn_runs : (input : Input) (sent : Sent) → IsTurn next answers begin old input new sent → Runs new.part
@@ -67,13 +65,7 @@ module _ {S P : Type 0} (next : S → Action → S) (answers : S → Action → 
   stops_wanting input fault taken runs (inr none) =
       let same : runs.0 ≡ none.node = same_node old.part.role runs.0 none.node runs.1 none.was in
       let some : IsSome none.node.running = subst (λ (n : NodePart). IsSome n.running) same runs.2 in
-      elim none.why [
-        | inl failed ↦ absurd (stopped none.node.running failed.1 some)
-        | inr other ↦ elim other [
-          | inl out ↦ inl out.0
-          | inr refused ↦ absurd (not_refused (setting_at next answers begin old) old.number none.node none.given none.node.running fault (taken none.given none.gives) some refused)
-        ]
-      ]
+      inl (only_memory (setting_at next answers begin old) old.number none.node none.given none.node.running fault (taken none.given none.gives) some none.why)
 
   pub report_wanting : (first : ℕ) (fault : Fault) → Runs old.part
       → IsCutTurn next answers begin old (inputs.Report first) new fault ⊎ IsNoTurn next answers begin old (inputs.Report first) new fault → IsWanting fault

@@ -3,7 +3,7 @@ use Rattle.std.proofs.Common.{◌≡◌, ℕ, zero, suc, ◌+◌, ◌<◌, ◌�
 use Rattle.std.proofs.lemmas.Grind.{common_steps}
 use Rattle.std.proofs.lemmas.List.{append_assoc, map-append}
 use Rattle.std.specs.List.{AllZip}
-use Rattle.std.specs.Prelude.{All, IfSome}
+use Rattle.std.specs.Prelude.{All, IfSome, slice_index}
 use Rattle.atomic_table.specs.Seated.{TableId}
 use Rattle.rp_base.specs.declared.config.Config.{Config}
 use Rattle.rp_model.specs.Parts.{fresh_node, fresh_task}
@@ -56,20 +56,20 @@ module _ {P : Type 0} where
       seats_from (suc number) seats (λ place. subst (λ (k : ℕ). IfSome (slice_get seats place) (IsSeatOf table program k)) (let e : number + suc place ≡ suc number + place = omega arith in e) (each (suc place))),
     )
 
-    pub first_seats : (config : Config) (actor : ℕ) (seats : List (Chair P)) → AreFirstSeats table config program actor seats → AreSeatsOf table program 1 seats
-    first_seats config actor seats are =
-        seats_from 1 seats (λ place. some_then (λ (seat : Chair P). seat ≡ first_seat table config program (suc place) (actor + place)) (IsSeatOf table program (1 + place)) (λ seat is. record {
+    pub first_seats : (config : Config) (actor : ℕ) (failures : List ℕ) (seats : List (Chair P)) → AreFirstSeats table config program actor failures seats → AreSeatsOf table program 1 seats
+    first_seats config actor failures seats are =
+        seats_from 1 seats (λ place. some_then (λ (seat : Chair P). seat ≡ first_seat table config program (suc place) (actor + place) (slice_index failures place)) (IsSeatOf table program (1 + place)) (λ seat is. record {
           table_is = ap (λ (c : Chair P). c.table) is;
           program_is = ap (λ (c : Chair P). c.program) is;
           number_is = ap (λ (c : Chair P). c.number) is ∙ let e : suc place ≡ 1 + place = omega arith in e;
         }) (slice_get seats place) (are place))
 
 -- nodes run at first
-pub nodes_run : {P : Type 0} (table : TableId) (config : Config) (program : P) (seats : List (Chair P)) → length seats ≤ 7 → AreFirstSeats table config program 1 seats
+pub nodes_run : {P : Type 0} (table : TableId) (config : Config) (program : P) (failures : List ℕ) (seats : List (Chair P)) → length seats ≤ 7 → AreFirstSeats table config program 1 failures seats
     → All (λ seat. Runs seat.part) seats
-nodes_run {P} table config program seats few are =
+nodes_run {P} table config program failures seats few are =
     all_within (λ (seat : Chair P). Runs seat.part) seats (λ place within.
-    some_then (λ (seat : Chair P). seat ≡ first_seat table config program (suc place) (1 + place)) (λ (seat : Chair P). Runs seat.part) (λ seat is. (
+    some_then (λ (seat : Chair P). seat ≡ first_seat table config program (suc place) (1 + place) (slice_index failures place)) (λ (seat : Chair P). Runs seat.part) (λ seat is. (
       fresh_node,
       ap (λ (c : Chair P). c.part.role) is ∙ node_role (1 + place) (omega arith) (omega (arith, within, few)),
       refl,
@@ -83,11 +83,11 @@ task_role place =
     ap (λ (b : Bool). if b then OfAudit else if nat_lt (8 + place) 8 then OfNode fresh_node else OfTask fresh_task) some
     ∙ ap (λ (b : Bool). if b then OfNode fresh_node else OfTask fresh_task) above
 
-pub tasks_fresh : {P : Type 0} (table : TableId) (config : Config) (program : P) (seats : List (Chair P)) → AreFirstSeats table config program 8 seats
+pub tasks_fresh : {P : Type 0} (table : TableId) (config : Config) (program : P) (seats : List (Chair P)) → AreFirstSeats table config program 8 [] seats
     → All (λ seat. seat.part ≡ fresh_part (OfTask fresh_task)) seats
 tasks_fresh {P} table config program seats are =
     all_places (λ (seat : Chair P). seat.part ≡ fresh_part (OfTask fresh_task)) seats (λ place.
-    some_then (λ (seat : Chair P). seat ≡ first_seat table config program (suc place) (8 + place)) (λ (seat : Chair P). seat.part ≡ fresh_part (OfTask fresh_task))
+    some_then (λ (seat : Chair P). seat ≡ first_seat table config program (suc place) (8 + place) (slice_index [] place)) (λ (seat : Chair P). seat.part ≡ fresh_part (OfTask fresh_task))
     (λ seat is. ap (λ (c : Chair P). c.part) is ∙ ap fresh_part (task_role place)) (slice_get seats place) (are place))
 
 -- ---- what ran

@@ -1,6 +1,6 @@
 //! Seats are made, and those of nodes and tasks are made ready to run.
 
-ghost use Rattle.std.specs.Prelude.{◌≡◌, ◌≤◌, ℕ, suc, map, filter_map, length, slice_get, All, IfOk, IfErr, IfSome, IsOkUnless};
+ghost use Rattle.std.specs.Prelude.{◌≡◌, ◌≤◌, ℕ, List, suc, map, filter_map, length, slice_get, All, IfOk, IfErr, IfSome, IsOkUnless};
 ghost use Rattle.rp_base.specs.Config.{IsRightConfig};
 ghost use Rattle.rp_boxes.specs.Making.{AreSeats, IsWanting};
 ghost use Rattle.rp_codec.specs.declared.packet.Party.TheVariants as parties;
@@ -39,7 +39,7 @@ pub(crate) fn seats_in_memory<M: Machine>(
     program: &M::Program,
 ) -> Result<AllSeats<M, MemDevice>, Fault>
     requires { IsRightConfig config }
-    ensures seats { IfOk result (λ all. AreSeats config program.now
+    ensures seats { IfOk result (λ all. (failures : List ℕ) × AreSeats config program.now failures
         all.nodes.items all.tasks.items all.audit) }
     ensures only { IfErr result IsWanting }
 {

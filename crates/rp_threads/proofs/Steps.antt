@@ -22,13 +22,16 @@ use Rattle.rp_threads.specs.declared.turns.Turned.{Turned}
 
 -- ---- the same seat
 
-pub same_part : {P : Type 0} (old new : Chair P) (part : Part) → new ≡ record old { part = part } → IsSameSeat old new
-same_part {P} old new part is = record {
+pub same_but : {P : Type 0} (old new : Chair P) (failures : ℕ) (part : Part) → new ≡ record old { failures = failures; part = part } → IsSameSeat old new
+same_but {P} old new failures part is = record {
   table = ap (λ (c : Chair P). c.table) is;
   config = ap (λ (c : Chair P). c.config) is;
   program = ap (λ (c : Chair P). c.program) is;
   number = ap (λ (c : Chair P). c.number) is;
 }
+
+pub same_part : {P : Type 0} (old new : Chair P) (part : Part) → new ≡ record old { part = part } → IsSameSeat old new
+same_part old new part is = same_but old new old.failures part is
 
 pub same_seat : {P : Type 0} (old new : Chair P) → new ≡ old → IsSameSeat old new
 same_seat {P} old new is = same_part old new old.part is
@@ -71,7 +74,7 @@ module _ {S P : Type 0} (next : S → Action → S) (answers : S → Action → 
   stop_got Is old new fault s = elim s.why [ inl cut ↦ ap (λ (c : Chair P). c.part.got) cut.after | inr none ↦ ap (λ (c : Chair P). c.part.got) none.unchanged ]
 
   pub stop_same : (Is : Input → Type 0) (old new : Chair P) (fault : Fault) → IsStopBy next answers begin Is old new fault → IsSameSeat old new
-  stop_same Is old new fault s = elim s.why [ inl cut ↦ same_part old new _ cut.after | inr none ↦ same_seat old new none.unchanged ]
+  stop_same Is old new fault s = elim s.why [ inl cut ↦ same_but old new new.failures _ cut.after | inr none ↦ same_seat old new none.unchanged ]
 
   -- a refusal that is not the device's leaves the seat as it is
   pub stop_stays : (Is : Input → Type 0) (old new : Chair P) (fault : Fault) → (fault ≡ Device → ⊥) → IsStopBy next answers begin Is old new fault → new ≡ old

@@ -1,6 +1,9 @@
 //! The packets of a step go into their boxes.
 
-ghost use Rattle.std.specs.Prelude.{◌≡◌};
+ghost use Rattle.std.specs.Prelude.{◌≡◌, true};
+ghost use Rattle.rp_base.specs.Sets.{Has};
+ghost use Rattle.rp_codec.specs.Message.{Message, IsPacket};
+ghost use Rattle.rp_boxes.specs.Parts.{Part};
 ghost use Rattle.rp_boxes.specs.Seats.{IsSentText};
 ghost use Rattle.rp_threads.specs.Turns.{AreSentTexts};
 
@@ -21,6 +24,17 @@ fn put_one<M: Machine, D: Device>(seat: &mut NodeSeat<M, D>, alloc: Global, text
     }
 }
 
+/// Whether the bytes are the text of one packet, where they are texts of packets.
+fn is_one_text(texts: &[u8]) -> bool
+    ensures { result ≡ true → (part : Part) → ((m : Message) → Has m part.sent → IsPacket m)
+        → AreSentTexts part texts.now → IsSentText part texts.now }
+{
+    match packet_len(texts) {
+        Some(len) => len == texts.len(),
+        None => false,
+    }
+}
+
 /// Puts packets that the node sent, one by one, as `put_one` does. One packet alone goes into its box
 /// as it is, and is not copied.
 pub(crate) fn put_all<M: Machine, D: Device>(
@@ -33,7 +47,7 @@ pub(crate) fn put_all<M: Machine, D: Device>(
     ensures { seat.new ≡ seat.old }
 {
     seat.sends_packets();
-    if packet_len(texts.as_slice()) == Some(texts.len()) {
+    if is_one_text(texts.as_slice()) {
         let _lost = seat.put(texts);
     } else {
         put_each(seat, alloc, texts.as_slice(), count);

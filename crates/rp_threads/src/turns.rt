@@ -11,7 +11,7 @@ use rp_base::Fault;
 use rp_boxes::NodeSeat;
 use rp_codec::Party;
 use rp_machine::Machine;
-use rp_replica::{Input, Sent};
+use rp_replica::Input;
 use rp_store::Device;
 use rp_tasks::{FaultLine, gives_what_it_took};
 use std::alloc::Global;
@@ -70,8 +70,9 @@ pub fn node_step<M: Machine, D: Device>(
     ensures err { IfErr result (λ fault. IsStopBy M.next M.answers M.begin
         (λ given. given ≡ input.now) seat.old seat.new fault) }
 {
-    let Sent { bytes, packets, .. } = seat.turn(alloc, input)?;
-    put_all(seat, alloc, bytes, packets);
+    let sent = seat.turn(alloc, input)?;
+    let packets = sent.packets;
+    put_all(seat, alloc, sent.bytes, packets);
     Ok(packets)
 }
 

@@ -8,7 +8,7 @@ use Rattle.rp_threads.proofs.turns.node_step.Goals as goal
 pub put_all-requires : goal.put_all-requires
 put_all-requires g c =
     let m = g.M.Machine in
-    sent_texts m.next m.answers m.begin c.args.seat.now c.turn.new.self c.args.input.now c.in_ok-sent.sent c.as_slice.result.now c.in_ok-sent.ensures.ok c.as_slice.ensures.value
+    sent_texts m.next m.answers m.begin c.args.seat.now c.turn.new.self c.args.input.now c.in_ok-sent.sent c.in_ok-sent.sent.bytes.items c.in_ok-sent.ensures.ok refl
 
 pub returns-clause-ok : goal.returns-clause-ok
 returns-clause-ok g c =

@@ -1,6 +1,8 @@
 -- What the line gives on is the text of a packet that the seat got.
 use Rattle.std.proofs.Common.{refl, sym, subst}
-use Rattle.rp_threads.specs.Lines.{IsTextAmong, given_on}
+use Rattle.rp_boxes.specs.Seats.{Chair}
+use Rattle.rp_threads.specs.Lines.{HoldsTextsOf, IsTextAmong, given_on}
+use Rattle.rp_threads.specs.Turns.{Works}
 use Rattle.rp_threads.proofs.Texts.{is_after, after_holds, given_holds}
 use Rattle.rp_threads.proofs.Steps.{received}
 use Rattle.rp_threads.proofs.turns.work.Goals as goal
@@ -27,13 +29,15 @@ pub returns-in_ok-sent-in-Some-clause-held : goal.returns-in_ok-sent-in-Some-cla
 returns-in_ok-sent-in-Some-clause-held g c =
     let line = c.args.line.now in
     let is = is_after line c.release.new.self line.held refl c.release.ensures.after c.release.ensures.empty in
-    after_holds c.args.seat.now.part.got c.node_step.new.seat.part.got line c.release.new.self c.gives_what_it_took.ensures.released c.requires.held is c.node_step.ensures.got
+    subst (λ (chair : Chair g.row.M-Program.Denot). HoldsTextsOf chair.part.got c.release.new.self) (sym c.lend.ensures)
+    (after_holds c.args.seat.now.part.got c.node_step.new.seat.part.got line c.release.new.self c.gives_what_it_took.ensures.released c.requires.held is c.node_step.ensures.got)
 
 pub returns-in_ok-sent-in-Some-clause-ok : goal.returns-in_ok-sent-in-Some-clause-ok
 returns-in_ok-sent-in-Some-clause-ok g c =
     let m = g.M.Machine in
-    received m.next m.answers m.begin (given_on c.args.line.now) c.in-Some.packet.items c.args.lead _ c.args.seat.now c.node_step.new.seat c.in_ok-sent-in-Some.sent
-    (sym c.in-Some.ensures.packet) c.as_slice.ensures.value c.in_ok-sent-in-Some.ensures.ok
+    subst (λ (chair : Chair g.row.M-Program.Denot). Works m.next m.answers m.begin (given_on c.args.line.now) c.args.lead c.args.seat.now chair c.in_ok-sent-in-Some.sent) (sym c.lend.ensures)
+    (received m.next m.answers m.begin (given_on c.args.line.now) c.in-Some.packet.items c.args.lead _ c.args.seat.now c.node_step.new.seat c.in_ok-sent-in-Some.sent
+    (sym c.in-Some.ensures.packet) c.as_slice.ensures.value c.in_ok-sent-in-Some.ensures.ok)
 
 pub returns-in_ok-sent-in-None-clause-held : goal.returns-in_ok-sent-in-None-clause-held
 returns-in_ok-sent-in-None-clause-held g c =

@@ -73,9 +73,9 @@ get_more [] x a (suc k) e = absurd (cc)
 get_more (y ∷ ys) x a zero e = inl e
 get_more (y ∷ ys) x a (suc k) e = elim (get_more ys x a k e) [ inl before ↦ inl before | inr last ↦ inr (ap suc last.0, last.1) ]
 
-pub all_named_more : {Y S : Type 0} (objects : List ObjectDeclaration) (names : List (IndexMap (String Y) OperationName S)) (object : ObjectDeclaration) (own : IndexMap (String Y) OperationName S)
+all_named_after : {Y S : Type 0} (objects : List ObjectDeclaration) (names : List (IndexMap (String Y) OperationName S)) (object : ObjectDeclaration) (own : IndexMap (String Y) OperationName S)
     → length objects ≡ length names → AreAllNamed objects names → AreNamed (operations_of object) own → AreAllNamed (objects ++ object ∷ []) (names ++ own ∷ [])
-all_named_more {Y} {S} objects names object own even all new k o n at_object at_names =
+all_named_after {Y} {S} objects names object own even all new k o n at_object at_names =
     elim (get_more objects object o k at_object) [
       | inl before ↦ elim (get_more names own n k at_names) [
         | inl also ↦ all k o n before also
@@ -86,6 +86,12 @@ all_named_more {Y} {S} objects names object own even all new k o n at_object at_
         | inr also ↦ subst (λ (p : ObjectDeclaration × IndexMap (String Y) OperationName S). AreNamed (operations_of p.0) p.1) (λ i. (sym last.1 i, sym also.1 i)) new
       ]
     ]
+
+pub all_named_more : {Y S : Type 0} (objects more : List ObjectDeclaration) (names also : List (IndexMap (String Y) OperationName S)) (object : ObjectDeclaration) (own : IndexMap (String Y) OperationName S)
+    → length objects ≡ length names → AreAllNamed objects names → AreNamed (operations_of object) own → more ≡ objects ++ object ∷ [] → also ≡ names ++ own ∷ [] → AreAllNamed more also
+all_named_more {Y} {S} objects more names also object own even all new objects_are names_are =
+    subst (λ (l : List ObjectDeclaration). AreAllNamed l also) (sym objects_are)
+    (subst (λ (l : List (IndexMap (String Y) OperationName S)). AreAllNamed (objects ++ object ∷ []) l) (sym names_are) (all_named_after objects names object own even all new))
 
 -- names of objects that have one operation alone, as those of a tally
 abbrev pub AreTallyNames : {Y S : Type 0} → List (IndexMap (String Y) OperationName S) → Type 0

@@ -30,8 +30,7 @@ pub fn read_call(words: &mut Words<'_>, declared: &Declared) -> Result<Event, De
         .get_index_of(name)
         .ok_or(DeckReason::UnknownName)?;
     let names = declared
-        .operations
-        .get(place)
+        .operations_at(place)
         .ok_or(DeckReason::UnknownName)?;
     let operation = names.get(operation).ok_or(DeckReason::UnknownName)?;
     let arg = match words.next() {

@@ -15,10 +15,8 @@ returns-clause-right c =
     let place = c.in_ok-place.place in
     let own = c.in_ok-names.names.now in
     let name = c.in_ok-operation.operation.now in
-    let here : slice_get declared.operations.items place ≡ Some own = grind (arith, common_steps, c.get.ensures.lookup, c.in_ok-names.ensures.value, c.in_ok-names.ensures.ok_part) in
-    let among : IsAmong (values own) name = grind (arith, common_steps, c.get-2.ensures.member, c.in_ok-operation.ensures.value, c.in_ok-operation.ensures.ok_part) in
-    let shown = (c.get.ensures.lookup, c.deref.ensures.value, c.in_ok-names.ensures.value, c.in_ok-names.was, c.get-2.ensures.member, c.in_ok-operation.ensures.value) in
-    let why : here ≡ here = ? in
+    let here : slice_get declared.operations.items place ≡ Some own = search rules in
+    let among : IsAmong (values own) name = search rules in
     let next : suc place ≡ place + 1 = omega arith in
     (search rules, subst (λ operation. IsOffered declared.program (place + 1) operation) (sym c.operation.ensures.value)
     (subst (λ (n : ℕ). IsOffered declared.program n (operation_of name)) next

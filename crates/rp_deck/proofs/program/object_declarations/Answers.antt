@@ -1,7 +1,6 @@
 -- One object more.
-use Rattle.std.proofs.Common.{◌≡◌, length, arith, sym, subst}
+use Rattle.std.proofs.Common.{◌≡◌, length, arith}
 use Rattle.std.proofs.lemmas.Grind.{common_steps}
-use Rattle.rp_deck.specs.Named.{AreAllNamed}
 use Rattle.rp_deck.proofs.Naming.{all_named_more}
 use Rattle.rp_deck.proofs.program.object_declarations.Goals as goal
 
@@ -13,6 +12,6 @@ loop-draft-preserved c =
     record {
       objects = grind (arith, common_steps);
       operations = grind (arith, common_steps);
-      named = subst (λ p. AreAllNamed p.0 p.1) (λ i. (sym c.in_ok-push.ensures.items i, sym c.in_ok-push-2.ensures.items i))
-          (all_named_more objects names c.in_ok-object.object c.in_ok-object.names even c.loop-draft.invariant.named c.in_ok-object.ensures);
+      named = all_named_more objects _ names _ c.in_ok-object.object c.in_ok-object.names even c.loop-draft.invariant.named c.in_ok-object.ensures
+          c.in_ok-push.ensures.items c.in_ok-push-2.ensures.items;
     }

@@ -17,7 +17,9 @@ returns-clause-right c =
     let name = c.in_ok-operation.operation.now in
     let here : slice_get declared.operations.items place ≡ Some own = search rules in
     let among : IsAmong (values own) name = search rules in
-    let next : suc place ≡ place + 1 = omega arith in
-    (search rules, subst (λ operation. IsOffered declared.program (place + 1) operation) (sym c.operation.ensures.value)
-    (subst (λ (n : ℕ). IsOffered declared.program n (operation_of name)) next
-    (offered declared.program declared.operations.items place own name c.requires.named (c.requires.program ∙ sym c.requires.operations) here among)))
+    let next : suc place ≡ place + 1 = omega arith in (
+      search rules,
+      subst (λ operation. IsOffered declared.program (place + 1) operation) (sym c.operation.ensures.value)
+          (subst (λ (n : ℕ). IsOffered declared.program n (operation_of name)) next
+          (offered declared.program declared.operations.items place own name c.requires.named (c.requires.program ∙ sym c.requires.operations) here among)),
+    )

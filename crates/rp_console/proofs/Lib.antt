@@ -7,6 +7,10 @@ mod Tracing
 mod Refusing
 mod LeastUnsettled
 mod Histories
+mod ItemTexts
+mod Acting
+mod Recounting
+mod Printing
 mod Saying
 mod Stepping
 mod Crossings

@@ -19,26 +19,34 @@ use Rattle.rp_model.specs.Events.{event_of}
 use Rattle.rp_model.specs.Growing.{Grows}
 use Rattle.rp_model.specs.World.{World, Happening, event_effect}
 use Rattle.rp_model.specs.Answers.{IsDone, IsRefused}
-use Rattle.rp_console.specs.Output.{RunSetting, Play, Said, nothing_said, line_said, and_then, is_among, from_to, least_unsettled, settled_by, lost, traced_text, effect_text, effect_of, effect_said, event_said, drain_from, drained, command_said, script_said}
+use Rattle.rp_console.specs.Output.{RunSetting, Play, Said, text_of, nothing_said, line_said, and_then, is_among, from_to, least_unsettled, settled_by, lost, traced_text, effect_text, effect_of, effect_said, event_said, drain_from, drained, command_said, script_said, nodes_text}
+use Rattle.rp_console.specs.Items.{Item, Other, items_text}
 use Rattle.rp_console.specs.Printed.{refused_line_of, limit_line_of}
 use Rattle.rp_console.specs.Runs.{Follows, Says}
 use Rattle.rp_console.specs.Settled.{is_settled}
 use Rattle.rp_console.specs.Status.{with_line_feed}
 use Rattle.rp_console.specs.Stream.{Begins, Writes}
+use Rattle.rp_deck.specs.declared.deck.Command.TheVariants.{Show}
 use Rattle.rp_deck.specs.declared.deck.Line.{Line}
 use Rattle.rp_console.specs.declared.settled.Settled.{Settled}
+use Rattle.rp_console.proofs.ItemTexts.{items_text-append, item_text-one, happening_prints, nodes_print}
 use Rattle.rp_console.proofs.Writing.{begins_longer, begins_behind}
 
 -- what is said, by what is written
 pub says_by : (world : World) (settled : Settled) (old new : Option (List ℕ)) (said : Said) (answer : Result Unit Fault)
-    → Follows world settled said.play → Writes old new said.text answer → Says world settled old new said answer
+    → Follows world settled said.play → Writes old new (text_of said) answer → Says world settled old new said answer
 says_by world settled old new said (Ok done) follows written = (follows, written)
 says_by world settled old new said (Err fault) follows written = written
 
 pub says_failed : (world : World) (settled : Settled) (old new : Option (List ℕ)) (said : Said) (answer : Result Unit Fault)
-    → IsErr answer → Begins old new said.text → Says world settled old new said answer
+    → IsErr answer → Begins old new (text_of said) → Says world settled old new said answer
 says_failed world settled old new said (Ok done) failed begun = absurd (cc)
 says_failed world settled old new said (Err fault) failed begun = begun
+
+-- a line that was written
+pub line_written : (play : Play) (old new : Option (List ℕ)) (line : List ℕ) (answer : Result Unit Fault)
+    → Writes old new (with_line_feed line) answer → Writes old new (text_of (line_said play line)) answer
+line_written play old new line answer told = subst (λ (t : List ℕ). Writes old new t answer) (sym (item_text-one (Other (with_line_feed line)))) told
 
 -- ---- so far, and what is left
 
@@ -46,7 +54,7 @@ says_failed world settled old new said (Err fault) failed begun = begun
 pub record Underway (world : World) (settled : Settled) (old new : Option (List ℕ)) (whole : Said) (rest : Play → Said) : Type 0 where
   pub said : Said
   pub follows : Follows world settled said.play
-  pub written : Appends old new said.text
+  pub written : Appends old new (text_of said)
   pub parts : whole ≡ and_then said rest
 
 -- nothing is said yet
@@ -62,39 +70,51 @@ sets_out world settled old play rest follows = record {
 module _ (world later : World) (settled after : Settled) (old middle new : Option (List ℕ)) (whole : Said) (rest : Play → Said)
     (so_far : Underway world settled old middle whole rest) where
   behind : (here : Said) (further : Play → Said) → rest so_far.said.play ≡ and_then here further
-      → whole ≡ record { text = (so_far.said.text ++ here.text) ++ (further here.play).text; play = (further here.play).play }
+      → whole ≡ record { items = (so_far.said.items ++ here.items) ++ (further here.play).items; play = (further here.play).play }
   behind here further next =
       so_far.parts
-      ∙ ap (λ (s : Said). record { text = so_far.said.text ++ s.text; play = s.play }) next
-      ∙ ap (λ (t : List ℕ). record { text = t; play = (further here.play).play }) (sym (append_assoc so_far.said.text here.text (further here.play).text))
+      ∙ ap (λ (s : Said). record { items = so_far.said.items ++ s.items; play = s.play }) next
+      ∙ ap (λ (l : List Item). record { items = l; play = (further here.play).play }) (sym (append_assoc so_far.said.items here.items (further here.play).items))
+
+  -- one thing more is written behind what was
+  written_too : (here : Said) → Appends middle new (text_of here) → Appends old new (items_text (so_far.said.items ++ here.items))
+  written_too here written =
+      subst (λ (t : List ℕ). Appends old new t) (sym (items_text-append so_far.said.items here.items))
+      (Appends-trans old middle new (text_of so_far.said) (text_of here) so_far.written written)
+
+  begun_too : (here : Said) → Begins middle new (text_of here) → Begins old new (items_text (so_far.said.items ++ here.items))
+  begun_too here begun =
+      subst (λ (t : List ℕ). Begins old new t) (sym (items_text-append so_far.said.items here.items))
+      (begins_behind old middle new (text_of so_far.said) (text_of here) so_far.written begun)
 
   -- one thing more
-  pub goes_on : (here : Said) (further : Play → Said) → rest so_far.said.play ≡ and_then here further → Follows later after here.play → Appends middle new here.text
+  pub goes_on : (here : Said) (further : Play → Said) → rest so_far.said.play ≡ and_then here further → Follows later after here.play → Appends middle new (text_of here)
       → Underway later after old new whole further
   goes_on here further next follows written = record {
-    said = record { text = so_far.said.text ++ here.text; play = here.play };
+    said = record { items = so_far.said.items ++ here.items; play = here.play };
     follows = follows;
-    written = Appends-trans old middle new so_far.said.text here.text so_far.written written;
+    written = written_too here written;
     parts = behind here further next;
   }
 
   -- one thing more, which failed
-  pub fails : (here : Said) (further : Play → Said) → rest so_far.said.play ≡ and_then here further → Begins middle new here.text → Begins old new whole.text
+  pub fails : (here : Said) (further : Play → Said) → rest so_far.said.play ≡ and_then here further → Begins middle new (text_of here) → Begins old new (text_of whole)
   fails here further next begun =
-      subst (λ (s : Said). Begins old new s.text) (sym (behind here further next))
-      (begins_longer old new (so_far.said.text ++ here.text) (further here.play).text (begins_behind old middle new so_far.said.text here.text so_far.written begun))
+      subst (λ (s : Said). Begins old new (text_of s)) (sym (behind here further next))
+      (subst (λ (t : List ℕ). Begins old new t) (sym (items_text-append (so_far.said.items ++ here.items) (further here.play).items))
+      (begins_longer old new (items_text (so_far.said.items ++ here.items)) (text_of (further here.play)) (begun_too here begun)))
 
   -- the last thing
   pub ends_by : (here : Said) (answer : Result Unit Fault) → rest so_far.said.play ≡ here → Says later after middle new here answer → Says later after old new whole answer
   ends_by here answer last came =
-      let all : whole ≡ record { text = so_far.said.text ++ here.text; play = here.play } =
-      so_far.parts ∙ ap (λ (s : Said). record { text = so_far.said.text ++ s.text; play = s.play }) last in
+      let all : whole ≡ record { items = so_far.said.items ++ here.items; play = here.play } =
+      so_far.parts ∙ ap (λ (s : Said). record { items = so_far.said.items ++ s.items; play = s.play }) last in
       subst (λ (s : Said). Says later after old new s answer) (sym all) (at answer came)
     where
       at : (answer : Result Unit Fault) → Says later after middle new here answer
-          → Says later after old new (record { text = so_far.said.text ++ here.text; play = here.play }) answer
-      at (Ok done) came = (came.0, Appends-trans old middle new so_far.said.text here.text so_far.written came.1)
-      at (Err fault) came = begins_behind old middle new so_far.said.text here.text so_far.written came
+          → Says later after old new (record { items = so_far.said.items ++ here.items; play = here.play }) answer
+      at (Ok done) came = (came.0, written_too here came.1)
+      at (Err fault) came = begun_too here came
 
 -- nothing more
 pub ends : (world : World) (settled : Settled) (old new : Option (List ℕ)) (whole : Said) (rest : Play → Said) (so_far : Underway world settled old new whole rest) (done : Unit)
@@ -141,12 +161,14 @@ module _ {S : Type 0} (s : RunSetting S) (line : ℕ) (play : Play) (event : Eve
       let happening = done.happening in
       let said : Said = effect_said s line play event (Ok happening) in
       let is : event_said s line play event ≡ said = at_play ∙ ap (λ (r : Result Happening Fault). effect_said s line play event r) done.came in
+      let prints = λ (w : World). happening_prints s w event happening (traced_text s.traced s.names (length w.sent + 1) happening.sends) in
       let grown : later.sent ≡ world.sent ++ happening.sends = ap (λ (w : World). w.sent) done.world ∙ grows.sent in
-      let text : traced_text s.traced s.names effect.first (drop (effect.first - 1) later.sent) ++ effect_text s.names later.sent event effect.opened effect.dropped effect.taken ≡ said.text =
+      let text : traced_text s.traced s.names effect.first (drop (effect.first - 1) later.sent) ++ effect_text s.names later.sent event effect.opened effect.dropped effect.taken ≡ text_of said =
       told_same s.traced s.names event world.sent later.sent happening.sends effect.first effect.opened happening.opened effect.dropped happening.dropped effect.taken happening.taken
       done.tells.first grown done.tells.opened done.tells.dropped done.tells.taken
       ∙ ap (λ (l : List Message). traced_text s.traced s.names (length world.sent + 1) happening.sends ++ effect_text s.names l event happening.opened happening.dropped happening.taken) (ap (λ (w : World). w.sent) done.world)
-      ∙ ap (λ (w : World). traced_text s.traced s.names (length w.sent + 1) happening.sends ++ effect_text s.names happening.world.sent event happening.opened happening.dropped happening.taken) follows.world_is in
+      ∙ ap (λ (w : World). traced_text s.traced s.names (length w.sent + 1) happening.sends ++ effect_text s.names happening.world.sent event happening.opened happening.dropped happening.taken) follows.world_is
+      ∙ sym (prints play.world) in
       subst (λ (x : Said). Says later after old new x answer) (sym is)
       (says_by later after old new said answer
       (record {
@@ -165,7 +187,8 @@ module _ {S : Type 0} (s : RunSetting S) (line : ℕ) (play : Play) (event : Eve
       let said : Said = line_said play (refused_line_of line fault) in
       let is : event_said s line play event ≡ said = at_play ∙ ap (λ (r : Result Happening Fault). effect_said s line play event r) refused.refusal in
       subst (λ (x : Said). Says left settled old new x answer) (sym is)
-      (says_by left settled old new said answer (record { world_is = refused.unchanged ∙ follows.world_is; settled_are = follows.settled_are }) told)
+      (says_by left settled old new said answer (record { world_is = refused.unchanged ∙ follows.world_is; settled_are = follows.settled_are })
+      (line_written play old new (refused_line_of line fault) answer told))
 
 -- ---- messages that are lost
 
@@ -182,7 +205,7 @@ module _ (line first last : ℕ) (play : Play) (world : World) (settled : Settle
       → ((m : ℕ) → is_settled after m ≡ (is_among (from_to first last) m || is_settled settled m))
       → Says world after old old (lost line play first last) (Ok tt)
   was_lost after old answer low high settles =
-      let here : Said = record { text = []; play = record { world = play.world; settled = from_to first last ++ play.settled } } in
+      let here : Said = record { items = []; play = record { world = play.world; settled = from_to first last ++ play.settled } } in
       let is : lost line play first last ≡ here =
       lost_by (nat_le first (length play.world.sent)) (nat_le last (length play.world.sent)) here (line_said play (refused_line_of line NoSuchMessage))
       (le-leb first (length play.world.sent) (omega (arith, low, sent_is))) (le-leb last (length play.world.sent) (omega (arith, high, sent_is))) in
@@ -208,9 +231,9 @@ module _ (line first last : ℕ) (play : Play) (world : World) (settled : Settle
   was_not_lost old new answer above told =
       let at_play : (length play.world.sent < first) ⊎ (length play.world.sent < last) = subst (λ (n : ℕ). (n < first) ⊎ (n < last)) sent_is above in
       let said : Said = line_said play (refused_line_of line NoSuchMessage) in
-      let there : Said = record { text = []; play = record { world = play.world; settled = from_to first last ++ play.settled } } in
+      let there : Said = record { items = []; play = record { world = play.world; settled = from_to first last ++ play.settled } } in
       subst (λ (x : Said). Says world settled old new x answer) (sym (none_lost (nat_le first (length play.world.sent)) (nat_le last (length play.world.sent)) there refl refl at_play))
-      (says_by world settled old new said answer follows told)
+      (says_by world settled old new said answer follows (line_written play old new (refused_line_of line NoSuchMessage) answer told))
 
 -- ---- the definitions, one step on
 
@@ -258,3 +281,13 @@ module _ {S : Type 0} (s : RunSetting S) (line : ℕ) (play : Play) where
       ap (λ (o : Option ℕ). drain_from s line play o (most - done)) left
       ∙ ap (λ (n : ℕ). drain_from s line play (Some message) n) one
       ∙ drain_goes message (most - (done + 1))
+
+-- ---- nodes that are shown
+
+pub says_shown : {S : Type 0} (s : RunSetting S) (most line : ℕ) (play : Play) (world : World) (settled : Settled) (old new : Option (List ℕ)) (nodes : ℕ) (answer : Result Unit Fault)
+    → s.setting.config.nodes ≡ nodes → Follows world settled play → Writes old new (nodes_text s world nodes) answer
+    → Says world settled old new (command_said s most line play Show) answer
+says_shown s most line play world settled old new nodes answer same follows told =
+    says_by world settled old new (command_said s most line play Show) answer follows
+    (subst (λ (t : List ℕ). Writes old new t answer)
+    (ap (nodes_text s world) (sym same) ∙ ap (λ (w : World). nodes_text s w s.setting.config.nodes) follows.world_is ∙ sym (nodes_print s play.world s.setting.config.nodes)) told)

@@ -1,6 +1,7 @@
 pub mod Agreeing
 pub mod CommandLine
 pub mod Faults
+pub mod Items
 pub mod LiveOutput
 pub mod LiveRun
 pub mod Output

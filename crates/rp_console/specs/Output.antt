@@ -27,7 +27,8 @@ use Rattle.rp_model.specs.Parts.{NodePart, Running}
 use Rattle.rp_model.specs.Effect.{Setting}
 use Rattle.rp_model.specs.Events.{event_of}
 use Rattle.rp_model.specs.World.{World, Happening, opening_world, event_effect, part_at}
-use Rattle.rp_console.specs.Printed.{reply_line_of, refused_line_of, opened_line_of, running_line_of, full_line_of, applied_line_of, stopped_line_of, limit_line_of}
+use Rattle.rp_console.specs.Items.{Item, Called, Replied, Shown, Other, item_text, items_text}
+use Rattle.rp_console.specs.Printed.{refused_line_of, opened_line_of, running_line_of, full_line_of, stopped_line_of, limit_line_of}
 use Rattle.rp_console.specs.Status.{with_line_feed}
 use Rattle.rp_console.specs.Trace.{task_name, message_line_of}
 use Rattle.rp_deck.specs.declared.deck.Command.{Command}
@@ -50,22 +51,26 @@ pub record Play : Type 0 where
   pub world : World
   pub settled : List ℕ
 
--- what something comes to: the text that it prints, and the play after it
+-- what something results in: its items in order, and the play after it
 pub record Said : Type 0 where
-  pub text : List ℕ
+  pub items : List Item
   pub play : Play
+
+-- what it prints
+abbrev pub text_of : Said → List ℕ
+text_of said = items_text said.items
 
 -- nothing is printed, and the play stays
 abbrev pub nothing_said : Play → Said
-nothing_said play = record { text = []; play = play }
+nothing_said play = record { items = []; play = play }
 
 -- a line is printed, and the play stays
 abbrev pub line_said : Play → List ℕ → Said
-line_said play line = record { text = with_line_feed line; play = play }
+line_said play line = record { items = Other (with_line_feed line) ∷ []; play = play }
 
 -- one thing, and then what comes of the play after it
 abbrev pub and_then : Said → (Play → Said) → Said
-and_then here further = record { text = here.text ++ (further here.play).text; play = (further here.play).play }
+and_then here further = record { items = here.items ++ (further here.play).items; play = (further here.play).play }
 
 -- the names of a table of tasks, in declared order
 abbrev pub names_of : {Y X S : Type 0} → IndexMap (String Y) X S → List (List ℕ)
@@ -106,7 +111,7 @@ settled_by (Restart node) = []
 abbrev pub lost : ℕ → Play → ℕ → ℕ → Said
 lost line play first last =
     if nat_le first (length play.world.sent) && nat_le last (length play.world.sent)
-    then record { text = []; play = record { world = play.world; settled = from_to first last ++ play.settled } }
+    then record { items = []; play = record { world = play.world; settled = from_to first last ++ play.settled } }
     else line_said play (refused_line_of line NoSuchMessage)
 
 -- ---- what is told of an event that happened
@@ -174,12 +179,34 @@ dropped_text place No = []
 dropped_text place Full = full_text place
 dropped_text place Foreign = []
 
--- the line of the reply that a task takes, if one took any
+-- the call that an event makes
+abbrev pub called_by : Event → List Item
+called_by (Submit task node object operation arg) =
+    Called task (record { object = object; operation = operation; arg = arg }) ∷ []
+called_by (Again task node) = []
+called_by (Node step) = []
+called_by (Cut step kept) = []
+called_by (Stop node) = []
+called_by (Restart node) = []
+
+-- a reply that a task takes, under its name
+abbrev pub reply_item : List (List ℕ) → Answer → Item
+reply_item names answer = Replied (task_name names answer.task) answer
+
+-- the reply that a task takes, if one took any
+abbrev pub taken_items : List (List ℕ) → Option Answer → List Item
+taken_items names None = []
+taken_items names (Some answer) = reply_item names answer ∷ []
+
 abbrev pub taken_text : List (List ℕ) → Option Answer → List ℕ
 taken_text names None = []
-taken_text names (Some answer) = with_line_feed (reply_line_of (task_name names answer.task) answer.number answer.reply)
+taken_text names (Some answer) = item_text (reply_item names answer)
 
--- how a restart went, a pending item that was dropped, and a reply that was taken
+-- how a restart went, and a pending item that was dropped
+abbrev pub changed_text : List Message → Event → Option (ℕ × ℕ) → Dropped → List ℕ
+changed_text sent event opened dropped = opened_text event opened ++ dropped_text (node_of_event sent event) dropped
+
+-- the same, and then the line of a reply that was taken
 abbrev pub effect_text : List (List ℕ) → List Message → Event → Option (ℕ × ℕ) → Dropped → Option Answer → List ℕ
 effect_text names sent event opened dropped taken =
     opened_text event opened ++ (dropped_text (node_of_event sent event) dropped ++ taken_text names taken)
@@ -191,17 +218,18 @@ module _ {S : Type 0} (s : RunSetting S) where
   abbrev pub effect_of : World → Event → Result Happening Fault
   effect_of world event = event_effect s.setting world (event_of event)
 
-  -- what is printed where something happens in a world: its packets first, if they are told
-  abbrev pub happening_text : World → Event → Happening → List ℕ
-  happening_text before event happening =
-      traced_text s.traced s.names (length before.sent + 1) happening.sends
-      ++ effect_text s.names happening.world.sent event happening.opened happening.dropped happening.taken
+  -- Where something happens in a world: the call that is made, what is printed, packets first if they are
+  -- told, and the reply that is taken.
+  abbrev pub happening_items : World → Event → Happening → List Item
+  happening_items before event happening =
+      called_by event ++ Other (traced_text s.traced s.names (length before.sent + 1) happening.sends
+      ++ changed_text happening.world.sent event happening.opened happening.dropped) ∷ taken_items s.names happening.taken
 
   -- What happened is told, and settles its messages. What was refused prints why, and leaves the play as it
   -- is.
   abbrev pub effect_said : ℕ → Play → Event → Result Happening Fault → Said
   effect_said line play event (Ok happening) =
-      record { text = happening_text play.world event happening; play = record { world = happening.world; settled = settled_by event ++ play.settled } }
+      record { items = happening_items play.world event happening; play = record { world = happening.world; settled = settled_by event ++ play.settled } }
   effect_said line play event (Err refusal) = line_said play (refused_line_of line refusal)
 
   -- an event of the line of this number
@@ -221,18 +249,29 @@ module _ {S : Type 0} (s : RunSetting S) where
   drained line most play = drain_from line play (least_unsettled play) most
 
   -- what is shown of a node with these records, stopped or running
-  abbrev pub state_text : ℕ → List Rec → Option Running → List ℕ
-  state_text node records None = with_line_feed (stopped_line_of node)
-  state_text node records (Some running) =
-      with_line_feed (applied_line_of node (min (length (applied_of records)) (2 ^ 16 - 1)))
-      ++ s.image (replay_state s.setting.next s.setting.answers s.setting.begin (applied_of records))
+  abbrev pub state_item : ℕ → List Rec → Option Running → Item
+  state_item node records None = Other (with_line_feed (stopped_line_of node))
+  state_item node records (Some running) =
+      Shown node (min (length (applied_of records)) (2 ^ 16 - 1))
+      (s.image (replay_state s.setting.next s.setting.answers s.setting.begin (applied_of records)))
 
   -- what is shown of a node, if there is one of this number
+  abbrev pub part_items : ℕ → Option NodePart → List Item
+  part_items node None = []
+  part_items node (Some part) = state_item node part.records part.running ∷ []
+
+  -- what is shown of the nodes 1 to n
+  unfoldable pub nodes_items : World → ℕ → List Item
+  nodes_items world count = flat_map (λ node. part_items node (part_at world.nodes node)) (one_to count)
+
+  -- the texts of these
+  abbrev pub state_text : ℕ → List Rec → Option Running → List ℕ
+  state_text node records running = item_text (state_item node records running)
+
   abbrev pub part_text : ℕ → Option NodePart → List ℕ
   part_text node None = []
   part_text node (Some part) = state_text node part.records part.running
 
-  -- what is shown of the nodes 1 to so many
   unfoldable pub nodes_text : World → ℕ → List ℕ
   nodes_text world count = flat_map (λ node. part_text node (part_at world.nodes node)) (one_to count)
 
@@ -241,7 +280,7 @@ module _ {S : Type 0} (s : RunSetting S) where
   command_said most line play (Take event) = event_said line play event
   command_said most line play (Lose first last) = lost line play first last
   command_said most line play Drain = drained line most play
-  command_said most line play Show = record { text = nodes_text play.world s.setting.config.nodes; play = play }
+  command_said most line play Show = record { items = nodes_items play.world s.setting.config.nodes; play = play }
 
   -- the lines of a script in order
   unfoldable pub script_said : ℕ → Play → List Line → Said
@@ -264,7 +303,7 @@ drain_limit = 100000
 
 -- the output of a deck's script at a machine
 abbrev pub output_at : {S : Type 0} → ℕ → Deck → RunSetting S → List ℕ
-output_at most deck s = (run_said s most deck.script.items).text
+output_at most deck s = text_of (run_said s most deck.script.items)
 
 -- a run of a tally of so many sums
 abbrev pub tally_run : Bool → Deck → ℕ → RunSetting (List ℤ)

@@ -7,7 +7,7 @@ use Rattle.rp_base.specs.declared.fault.Fault.{Fault}
 use Rattle.rp_base.specs.declared.reply.Answer.{Answer}
 use Rattle.rp_model.specs.World.{World, opening_world}
 use Rattle.rp_world.specs.Steps.{Setup, setting_of}
-use Rattle.rp_console.specs.Output.{RunSetting, Play, Said, names_of, is_among}
+use Rattle.rp_console.specs.Output.{RunSetting, Play, Said, text_of, names_of, is_among}
 use Rattle.rp_console.specs.Settled.{is_settled}
 use Rattle.rp_console.specs.Stream.{Begins}
 use Rattle.rp_console.specs.declared.options.RunOptions.{RunOptions}
@@ -40,5 +40,5 @@ pub record Follows (world : World) (settled : Settled) (play : Play) : Type 0 wh
 -- The run has come to the play that is said, and what it wrote is the text; or it wrote a beginning of the
 -- text where something failed.
 abbrev pub Says : World → Settled → Option (List ℕ) → Option (List ℕ) → Said → Result Unit Fault → Type 0
-Says world settled old new said (Ok done) = Follows world settled said.play × Appends old new said.text
-Says world settled old new said (Err fault) = Begins old new said.text
+Says world settled old new said (Ok done) = Follows world settled said.play × Appends old new (text_of said)
+Says world settled old new said (Err fault) = Begins old new (text_of said)

@@ -2,7 +2,7 @@
 
 ghost use Rattle.std.specs.Prelude.{◌≡◌, ◌≤◌, [], length, All, IfOk, IfErr, OnOk};
 ghost use Rattle.std.specs.Io.KnownBytes.{Appends};
-ghost use Rattle.rp_console.specs.Agreeing.{DeckAgrees};
+ghost use Rattle.rp_console.specs.Agreeing.{DeckPrints};
 ghost use Rattle.rp_deck.specs.Deck.{IsRightDeck};
 ghost use Rattle.rp_console.specs.Faults.{IsBadDeck, IsRunFault, IsScriptFault};
 ghost use Rattle.rp_console.specs.Output.{output_of};
@@ -44,8 +44,8 @@ pub fn run_script<R: Read, W: Write>(
 }
 
 /// Runs the script of a deck, and writes what it prints. A fault ends the run where it comes, and then a
-/// beginning of that is written: `OutOfMemory`, `Device`, or `Io` where the writer fails. After any two
-/// of the script's lines nodes agree, and what tasks were told is what one order gives.
+/// beginning of that is written: `OutOfMemory`, `Device`, or `Io` where the writer fails. One order of
+/// actions gives all states and replies that are written, and after any two lines nodes agree.
 pub fn run_deck<W: Write>(
     alloc: Global,
     deck: Deck,
@@ -55,7 +55,8 @@ pub fn run_deck<W: Write>(
     requires { IsRightDeck deck }
     ensures output { Writes (W.contents writer.old) (W.contents writer.new)
         (output_of traced deck) result }
-    ensures headline { OnOk result (DeckAgrees traced deck) }
+    ensures headline { OnOk result (DeckPrints traced deck
+        (W.contents writer.old) (W.contents writer.new)) }
     ensures fault { IfErr result IsRunFault }
 {
     let Deck {

@@ -4,7 +4,7 @@ ghost use Rattle.std.specs.Prelude.{◌≡◌, ◌≤◌, ◌<◌, ◌^◌, [], 
 ghost use Rattle.rp_model.specs.World.{part_at};
 ghost use Rattle.rp_world.specs.Steps.{IsSameSetup};
 ghost use Rattle.rp_deck.specs.Script.{FitsIn, IsEventWithin};
-ghost use Rattle.rp_console.specs.Output.{Play, event_said, lost, drained, part_text, nodes_text, command_said, run_said};
+ghost use Rattle.rp_console.specs.Output.{Play, event_said, lost, drained, part_text, nodes_text, command_said, run_said, text_of};
 ghost use Rattle.rp_console.specs.Runs.{run_setting, opening_setup, HasParts, Follows, Says};
 ghost use Rattle.rp_console.specs.Stream.{Writes};
 ghost use Rattle.rp_console.specs.Faults.{IsRunFault};
@@ -39,9 +39,9 @@ pub fn run_lines<M: Machine, D: CutDevice, W: Write>(
     requires empty { All (λ d. (D.disk d).contents ≡ []) devices.items }
     requires lines { All (λ line. FitsIn options.now.config.nodes 8 8 line.command) lines.now }
     ensures output { Writes (W.contents writer.old) (W.contents writer.new)
-        (run_said (run_setting M.next M.answers M.begin M.image
+        (text_of (run_said (run_setting M.next M.answers M.begin M.image
         (opening_setup options.now.config program) options.now)
-        options.now.most lines.now).text result }
+        options.now.most lines.now)) result }
     ensures fault { IfErr result IsRunFault }
 {
     let mut run = Run {

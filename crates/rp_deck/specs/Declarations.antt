@@ -5,7 +5,7 @@ use Rattle.indexmap.specs.IndexMap.{IndexMap, index_map_len, values, IsUnique}
 use Rattle.indexmap.specs.IndexSet.{IndexSet, index_set_len}
 use Rattle.indexmap.specs.IndexSet as sets
 use Rattle.rp_deck.specs.declared.deck.DeckProgram.{DeckProgram}
-use Rattle.rp_deck.specs.Programs.{object_count, DeclaresAll}
+use Rattle.rp_deck.specs.Programs.{object_count, DeclaresAll, AreNamesOf}
 use Rattle.rp_deck.specs.declared.declarations.Declared.{Declared}
 use Rattle.rp_deck.specs.declared.draft.Draft.{Draft}
 
@@ -53,5 +53,6 @@ pub record IsComplete (declared : Declared) : Type 0 where
   pub program : HasObjects (index_set_len declared.objects) declared.program
   pub kept : DeclaresAll (map (λ task. task.priority) (values declared.tasks)) (values declared.interrupts) (values declared.timers) declared.program
   pub operations : length declared.operations.items ≡ index_set_len declared.objects
+  pub named : AreNamesOf declared.program declared.operations.items
   pub interrupts : IsNameTable declared.interrupts
   pub timers : IsNameTable declared.timers

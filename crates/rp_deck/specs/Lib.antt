@@ -5,6 +5,7 @@ pub mod Left
 pub mod LineFaults
 pub mod Lines
 pub mod Live
+pub mod Named
 pub mod Programs
 pub mod Script
 pub mod Words

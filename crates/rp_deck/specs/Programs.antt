@@ -1,10 +1,16 @@
 -- The program of a deck.
-use Rattle.std.specs.Prelude.{ℕ, ◌≡◌, List, length, map}
+use Rattle.std.specs.Prelude.{ℕ, ◌≡◌, true, Some, String, List, All, length, map, slice_get}
 use Rattle.std.specs.Arc.{arc_value}
+use Rattle.indexmap.specs.IndexMap.{IndexMap, values}
+use Rattle.rp_base.specs.declared.action.Operation.{Operation}
+use Rattle.rp_base.specs.declared.action.Operation.TheVariants.{Procedure}
+use Rattle.rp_object.specs.Program.{is_offered}
 use Rattle.rp_object.specs.declared.program.Handler.{Handler}
 use Rattle.rp_object.specs.declared.program.Declarations.{Declarations}
 use Rattle.rp_deck.specs.declared.deck.DeckProgram.{DeckProgram}
 use Rattle.rp_deck.specs.declared.deck.DeckProgram.TheVariants.{Tally, Objects}
+use Rattle.rp_deck.specs.declared.names.OperationName.{OperationName}
+use Rattle.rp_deck.specs.Named.{operation_of, AreAllNamed}
 
 -- how many objects it has
 abbrev pub object_count : DeckProgram → ℕ
@@ -21,3 +27,15 @@ pub record Declares (priorities : List ℕ) (interrupts timers : List Handler) (
 abbrev pub DeclaresAll : List ℕ → List Handler → List Handler → DeckProgram → Type 0
 DeclaresAll priorities interrupts timers (Tally program) = Unit {0}
 DeclaresAll priorities interrupts timers (Objects program) = Declares priorities interrupts timers (arc_value program.declarations)
+
+-- these are the names of the operations of the program's objects, in order; an object of a tally has the
+-- procedure `add` alone
+abbrev pub AreNamesOf : {Y S : Type 0} → DeckProgram → List (IndexMap (String Y) OperationName S) → Type 0
+AreNamesOf {Y} {S} (Tally program) names =
+    (k : ℕ) (own : IndexMap (String Y) OperationName S) → slice_get names k ≡ Some own → All (λ name. operation_of name ≡ Procedure 1) (values own)
+AreNamesOf (Objects program) names = AreAllNamed (arc_value program.declarations).objects.items names
+
+-- the object of this number has what is called: an operation, or the handler of a timing event
+abbrev pub IsOffered : DeckProgram → ℕ → Operation → Type 0
+IsOffered (Tally program) object operation = operation ≡ Procedure 1
+IsOffered (Objects program) object operation = is_offered (arc_value program.declarations) object operation ≡ true

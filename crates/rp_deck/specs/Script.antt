@@ -10,8 +10,10 @@ use Rattle.rp_model.specs.declared.event.Step.{Step}
 use Rattle.rp_model.specs.declared.event.Step.TheVariants.{Deliver, Lead, Interrupt, Tick, Report}
 use Rattle.rp_deck.specs.declared.deck.Command.{Command}
 use Rattle.rp_deck.specs.declared.deck.Command.TheVariants.{Take, Lose, Drain, Show}
+use Rattle.rp_deck.specs.declared.deck.DeckProgram.{DeckProgram}
 use Rattle.rp_deck.specs.declared.deck.Line.{Line}
 use Rattle.rp_deck.specs.declared.declarations.Declared.{Declared}
+use Rattle.rp_deck.specs.Programs.{IsOffered}
 
 -- the number is 1 to the last one
 abbrev pub IsUpTo : ℕ → ℕ → Type 0
@@ -53,15 +55,41 @@ KeepsRanges (Lose first last) = Unit {0}
 KeepsRanges Drain = Unit {0}
 KeepsRanges Show = Unit {0}
 
+-- an interrupt that a step notes is one of the first n
+abbrev pub IsStepDeclared : ℕ → Step → Type 0
+IsStepDeclared interrupts (Deliver message) = Unit {0}
+IsStepDeclared interrupts (Lead node position) = Unit {0}
+IsStepDeclared interrupts (Interrupt node interrupt) = IsUpTo interrupts interrupt.source
+IsStepDeclared interrupts (Tick node now) = Unit {0}
+IsStepDeclared interrupts (Report node first) = Unit {0}
+
+-- an event calls what the program has, and notes one of its n interrupts
+abbrev pub IsEventDeclared : DeckProgram → ℕ → Event → Type 0
+IsEventDeclared program interrupts (Submit task node object operation arg) = IsOffered program object operation
+IsEventDeclared program interrupts (Again task node) = Unit {0}
+IsEventDeclared program interrupts (Node step) = IsStepDeclared interrupts step
+IsEventDeclared program interrupts (Cut step kept) = IsStepDeclared interrupts step
+IsEventDeclared program interrupts (Stop node) = Unit {0}
+IsEventDeclared program interrupts (Restart node) = Unit {0}
+
+-- and so does a command
+abbrev pub IsCommandDeclared : DeckProgram → ℕ → Command → Type 0
+IsCommandDeclared program interrupts (Take event) = IsEventDeclared program interrupts event
+IsCommandDeclared program interrupts (Lose first last) = Unit {0}
+IsCommandDeclared program interrupts Drain = Unit {0}
+IsCommandDeclared program interrupts Show = Unit {0}
+
 -- an event names what is declared
 abbrev pub IsRightEvent : Declared → Event → Type 0
 IsRightEvent declared event =
     IsEventWithin declared.nodes (index_map_len declared.tasks) (index_set_len declared.objects) event
+    × IsEventDeclared declared.program (index_map_len declared.interrupts) event
 
 -- and so does a command
 abbrev pub IsRightCommand : Declared → Command → Type 0
 IsRightCommand declared command =
     FitsIn declared.nodes (index_map_len declared.tasks) (index_set_len declared.objects) command
+    × IsCommandDeclared declared.program (index_map_len declared.interrupts) command
 
 -- and so does a line
 abbrev pub IsRightLine : Declared → Line → Type 0

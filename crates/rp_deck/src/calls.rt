@@ -1,10 +1,13 @@
 //! Reads the lines of a script by which tasks call and interrupts occur.
 
 ghost use Rattle.std.specs.Prelude.{◌≤◌, IfOk};
+ghost use Rattle.indexmap.specs.IndexMap.{index_map_len};
 ghost use Rattle.indexmap.specs.IndexSet.{index_set_len};
+ghost use Rattle.rp_base.specs.declared.action.Operation.TheVariants.{SetTimer};
 ghost use Rattle.rp_deck.specs.Declarations.{IsComplete};
 ghost use Rattle.rp_deck.specs.Live.{IsLiveEvent, IsLiveStep};
-ghost use Rattle.rp_deck.specs.Script.{IsRightEvent, IsStepWithin, IsUpTo};
+ghost use Rattle.rp_deck.specs.Programs.{IsOffered};
+ghost use Rattle.rp_deck.specs.Script.{IsRightEvent, IsStepDeclared, IsStepWithin, IsUpTo};
 
 use crate::declarations::Declared;
 use crate::names::Index;
@@ -27,8 +30,7 @@ pub fn read_call(words: &mut Words<'_>, declared: &Declared) -> Result<Event, De
         .get_index_of(name)
         .ok_or(DeckReason::UnknownName)?;
     let names = declared
-        .operations
-        .get(place)
+        .operations_at(place)
         .ok_or(DeckReason::UnknownName)?;
     let operation = names.get(operation).ok_or(DeckReason::UnknownName)?;
     let arg = match words.next() {
@@ -91,7 +93,10 @@ struct Timer {
 /// Reads the name of a timing event.
 fn read_timer(words: &mut Words<'_>, declared: &Declared) -> Result<Timer, DeckReason>
     requires { IsComplete declared.now }
-    ensures { IfOk result (λ timer. IsUpTo (index_set_len declared.now.objects) timer.object) }
+    ensures within { IfOk result (λ timer.
+        IsUpTo (index_set_len declared.now.objects) timer.object) }
+    ensures offered { IfOk result (λ timer.
+        IsOffered declared.now.program timer.object (SetTimer timer.index.number)) }
 {
     let name = words.take_name()?;
     let place = declared
@@ -114,6 +119,7 @@ fn read_timer(words: &mut Words<'_>, declared: &Declared) -> Result<Timer, DeckR
 pub fn read_interrupt(words: &mut Words<'_>, declared: &Declared) -> Result<Step, DeckReason>
     requires { IsComplete declared.now }
     ensures within { IfOk result (IsStepWithin declared.now.nodes) }
+    ensures declared { IfOk result (IsStepDeclared (index_map_len declared.now.interrupts)) }
     ensures live { IfOk result IsLiveStep }
 {
     let node = read_node(words, declared.nodes)?;

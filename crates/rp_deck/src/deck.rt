@@ -55,12 +55,16 @@ pub enum DeckProgram {
 }
 
 impl DeckProgram {
-    ghost use Rattle.rp_deck.specs.Programs.{object_count};
+    ghost use Rattle.std.specs.Prelude.{◌+◌};
+    ghost use Rattle.rp_base.specs.declared.action.Operation.TheVariants.{SetTimer};
+    ghost use Rattle.rp_deck.specs.Programs.{object_count, IsOffered};
 
     /// The handler of the timing event at this place.
     pub fn timer(&self, place: usize) -> Option<Handler>
-        ensures { IfSome result (λ handler. (1 ≤ handler.object)
+        ensures within { IfSome result (λ handler. (1 ≤ handler.object)
             × (handler.object ≤ object_count self.now)) }
+        ensures offered { IfSome result (λ handler.
+            IsOffered self.now handler.object (SetTimer (place + 1))) }
     {
         match self {
             DeckProgram::Tally(_) => None,

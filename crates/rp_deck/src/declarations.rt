@@ -1,6 +1,6 @@
 //! Reads the declarations of a deck.
 
-ghost use Rattle.std.specs.Prelude.{◌≡◌, IfOk, IfErr};
+ghost use Rattle.std.specs.Prelude.{◌≡◌, Some, IfOk, IfErr, IfSome, slice_get};
 ghost use Rattle.rp_deck.specs.Declarations.{IsNodeCount, IsDraft, IsComplete};
 ghost use Rattle.rp_deck.specs.LineFaults.{IsDeckFault};
 
@@ -29,6 +29,16 @@ pub struct Declared {
     pub operations: Vec<OperationNames>,
     pub interrupts: IndexMap<String, Handler>,
     pub timers: IndexMap<String, Handler>,
+}
+
+impl Declared {
+    /// The names of the operations of the object at this place.
+    pub fn operations_at(&self, place: usize) -> Option<&OperationNames>
+        ensures { IfSome result (λ names.
+            slice_get self.now.operations.items place ≡ Some names.now) }
+    {
+        self.operations.get(place)
+    }
 }
 
 /// Reads the first line that holds words, `nodes N`.

@@ -50,9 +50,12 @@ pub enum OperationName {
 }
 
 impl OperationName {
+    ghost use Rattle.rp_deck.specs.Named.{operation_of};
+
     /// What a call asks for by this name.
     pub fn operation(self) -> Operation
-        ensures { IsRightOperation result }
+        ensures value { result ≡ operation_of self }
+        ensures right { IsRightOperation result }
     {
         match self {
             OperationName::Function(index) => Operation::Function(index.number),

@@ -1,8 +1,10 @@
 //! Reads the lines that belong to an object.
 
-ghost use Rattle.std.specs.Prelude.{◌≤◌, length, IfErr};
+ghost use Rattle.std.specs.Prelude.{◌≡◌, ◌≤◌, ◌+◌, length, IfErr, IfOk};
+ghost use Rattle.rp_object.specs.Program.{operations_of};
 ghost use Rattle.rp_deck.specs.Left.{left};
 ghost use Rattle.rp_deck.specs.LineFaults.{IsDeckFault};
+ghost use Rattle.rp_deck.specs.Named.{AreNamed};
 
 use crate::expressions::{bool_named, is_of_expressions, read_cond, read_expr};
 use crate::line_error::LineError;
@@ -32,6 +34,7 @@ pub struct ObjectDraft {
     component_names: ComponentNames,
     operations: Operations,
     operation_names: OperationNames,
+    ghost named: { AreNamed operations operation_names },
 }
 
 impl ObjectDraft {
@@ -57,7 +60,9 @@ impl ObjectDraft {
     }
 
     /// What the program has of it, and the names of its operations.
-    pub fn finish(self, alloc: Global) -> Result<(ObjectDeclaration, OperationNames), AllocError> {
+    pub fn finish(self, alloc: Global) -> Result<(ObjectDeclaration, OperationNames), AllocError>
+        ensures { IfOk result (λ made. AreNamed (operations_of made.0) made.1) }
+    {
         let mut ints = Vec::new(alloc);
         let mut bools = Vec::new(alloc);
         for (name, component) in self.component_names {
@@ -192,7 +197,10 @@ impl ObjectDraft {
     }
 
     /// The number and the name of a procedure.
-    fn procedure_head<'w>(&self, mut words: Words<'w>) -> Result<(Index, &'w str), DeckReason> {
+    fn procedure_head<'w>(&self, mut words: Words<'w>) -> Result<(Index, &'w str), DeckReason>
+        ensures { IfOk result (λ head. head.0.number
+            ≡ length self.now.operations.procedures.items + 1) }
+    {
         let index = Index::after(self.operations.procedures.len()).ok_or(DeckReason::TooMany)?;
         let name = take_new_name(&mut words, &self.operation_names)?;
         words.end()?;

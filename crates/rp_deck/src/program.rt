@@ -1,10 +1,12 @@
 //! Makes the program of what a deck declares.
 
-ghost use Rattle.std.specs.Prelude.{◌≡◌, ◌≤◌, ℕ, List, length, map, true, false, IfOk, IfSome};
+ghost use Rattle.std.specs.Prelude.{◌≡◌, ◌≤◌, ℕ, List, All, length, map, true, false, IfOk, IfSome};
 ghost use Rattle.indexmap.specs.IndexMap.{values};
 ghost use Rattle.indexmap.specs.IndexSet.{index_set_len};
 ghost use Rattle.rp_object.specs.declared.program.Handler.{Handler};
-ghost use Rattle.rp_deck.specs.Programs.{DeclaresAll};
+ghost use Rattle.rp_base.specs.declared.action.Operation.TheVariants.{Procedure};
+ghost use Rattle.rp_deck.specs.Named.{operation_of, AreAllNamed};
+ghost use Rattle.rp_deck.specs.Programs.{DeclaresAll, AreNamesOf};
 ghost use Rattle.rp_deck.specs.Declarations.{HasObjects, IsFinishable, IsComplete};
 
 use crate::deck::{DeckProgram, Task};
@@ -60,6 +62,7 @@ fn make(alloc: Global, draft: &Draft, drafts: Vec<ObjectDraft>) -> Result<Object
         (values draft.now.timers) made.program) }
     ensures operations { IfOk result (λ made. length made.operations.items
         ≡ index_set_len draft.now.objects) }
+    ensures named { IfOk result (λ made. AreNamesOf made.program made.operations.items) }
 {
     if draft.is_tally {
         return tally(alloc, draft.objects.len() as u8);
@@ -84,6 +87,7 @@ fn tally(alloc: Global, count: u8) -> Result<Objects, LineError>
     ensures declared { IfOk result (λ made. (priorities : List ℕ) (interrupts timers : List Handler)
         → DeclaresAll priorities interrupts timers made.program) }
     ensures operations { IfOk result (λ made. length made.operations.items ≡ count) }
+    ensures named { IfOk result (λ made. AreNamesOf made.program made.operations.items) }
 {
     let mut operations = Vec::new(alloc);
     for _ in 0..count {
@@ -96,7 +100,9 @@ fn tally(alloc: Global, count: u8) -> Result<Objects, LineError>
 }
 
 /// The one operation of an object of a tally, the procedure `add`.
-fn tally_operations(alloc: Global) -> Result<OperationNames, LineError> {
+fn tally_operations(alloc: Global) -> Result<OperationNames, LineError>
+    ensures { IfOk result (λ names. All (λ name. operation_of name ≡ Procedure 1) (values names)) }
+{
     let mut names = IndexMap::new(alloc);
     let index = Index { number: 1 };
     names.insert(
@@ -117,6 +123,8 @@ fn protected_objects(
         declarations.interrupts.items (map (λ event. event.handler) declarations.timers.items)
         made.program) }
     ensures operations { IfOk result (λ made. made.operations ≡ operations) }
+    ensures named { IfOk result (λ made. AreAllNamed declarations.objects.items operations.items
+        → AreNamesOf made.program made.operations.items) }
 {
     let declarations = Arc::new(alloc, declarations)?;
     let program = Program::new(declarations).ok_or(DeckReason::TooMany)?;
@@ -133,6 +141,7 @@ fn object_declarations(
 ) -> Result<(Vec<ObjectDeclaration>, Vec<OperationNames>), AllocError>
     ensures objects { IfOk result (λ made. length made.0.items ≡ length drafts.items) }
     ensures operations { IfOk result (λ made. length made.1.items ≡ length drafts.items) }
+    ensures named { IfOk result (λ made. AreAllNamed made.0.items made.1.items) }
 {
     let mut objects = Vec::new(alloc);
     let mut operations = Vec::new(alloc);

@@ -1,10 +1,13 @@
 //! Reads the script of a deck.
 
 ghost use Rattle.std.specs.Prelude.{ℕ, ◌≤◌, All, IfOk, IfErr, IfSome};
+ghost use Rattle.indexmap.specs.IndexMap.{index_map_len};
+ghost use Rattle.indexmap.specs.IndexSet.{index_set_len};
 ghost use Rattle.rp_deck.specs.Declarations.{IsComplete};
 ghost use Rattle.rp_deck.specs.LineFaults.{IsDeckFault};
 ghost use Rattle.rp_deck.specs.Live.{IsLiveEvent, IsLiveStep, IsTaken};
-ghost use Rattle.rp_deck.specs.Script.{IsRightCommand, IsRightLine, IsRightEvent, IsStepWithin, IsEventWithin, IsMessage, FitsIn};
+ghost use Rattle.rp_deck.specs.Script.{IsRightCommand, IsRightLine, IsRightEvent, IsStepDeclared, IsStepWithin, IsEventDeclared, IsEventWithin, IsCommandDeclared, IsMessage, FitsIn};
+ghost use Rattle.rp_deck.specs.declared.deck.DeckProgram.{DeckProgram};
 
 use crate::calls::{read_arm, read_call, read_disarm, read_interrupt};
 use crate::deck::{Command, Line, Mode};
@@ -90,7 +93,10 @@ fn read_live_event(
     declared: &Declared,
 ) -> Result<Option<Event>, DeckReason>
     requires { IsComplete declared.now }
-    ensures right { IfOk result (λ event. IfSome event (IsRightEvent declared.now)) }
+    ensures within { IfOk result (λ event. IfSome event (IsEventWithin declared.now.nodes
+        (index_map_len declared.now.tasks) (index_set_len declared.now.objects))) }
+    ensures declared { IfOk result (λ event. IfSome event (IsEventDeclared declared.now.program
+        (index_map_len declared.now.interrupts))) }
     ensures live { IfOk result (λ event. IfSome event IsLiveEvent) }
 {
     let event = match first {
@@ -164,8 +170,10 @@ fn read_again(words: &mut Words<'_>, declared: &Declared) -> Result<Event, DeckR
 /// Reads the rest of `cut KEPT lead NODE [POSITION]` or `cut KEPT deliver M`.
 fn read_cut(words: &mut Words<'_>, nodes: u8) -> Result<Event, DeckReason>
     requires { nodes ≤ 7 }
-    ensures { IfOk result (λ event. (tasks objects : ℕ)
+    ensures within { IfOk result (λ event. (tasks objects : ℕ)
         → IsEventWithin nodes tasks objects event) }
+    ensures declared { IfOk result (λ event. (program : DeckProgram) (interrupts : ℕ)
+        → IsEventDeclared program interrupts event) }
 {
     let kept = words.take_number(0, MOST)?;
     let first = words.take()?;
@@ -176,7 +184,8 @@ fn read_cut(words: &mut Words<'_>, nodes: u8) -> Result<Event, DeckReason>
 /// Reads a step that may be cut, `lead NODE [POSITION]` or `deliver M`, behind its first word.
 fn read_step(first: &[u8], words: &mut Words<'_>, nodes: u8) -> Result<Step, DeckReason>
     requires { nodes ≤ 7 }
-    ensures { IfOk result (IsStepWithin nodes) }
+    ensures within { IfOk result (IsStepWithin nodes) }
+    ensures declared { IfOk result (λ step. (interrupts : ℕ) → IsStepDeclared interrupts step) }
 {
     match first {
         b"lead" => read_lead(words, nodes),
@@ -188,7 +197,8 @@ fn read_step(first: &[u8], words: &mut Words<'_>, nodes: u8) -> Result<Step, Dec
 /// Reads the rest of `lead NODE [POSITION]`.
 fn read_lead(words: &mut Words<'_>, nodes: u8) -> Result<Step, DeckReason>
     requires { nodes ≤ 7 }
-    ensures { IfOk result (IsStepWithin nodes) }
+    ensures within { IfOk result (IsStepWithin nodes) }
+    ensures declared { IfOk result (λ step. (interrupts : ℕ) → IsStepDeclared interrupts step) }
 {
     let node = read_node(words, nodes)?;
     let position = match words.next() {
@@ -202,6 +212,7 @@ fn read_lead(words: &mut Words<'_>, nodes: u8) -> Result<Step, DeckReason>
 fn read_tick(words: &mut Words<'_>, nodes: u8) -> Result<Step, DeckReason>
     requires { nodes ≤ 7 }
     ensures within { IfOk result (IsStepWithin nodes) }
+    ensures declared { IfOk result (λ step. (interrupts : ℕ) → IsStepDeclared interrupts step) }
     ensures live { IfOk result IsLiveStep }
 {
     let node = read_node(words, nodes)?;
@@ -211,8 +222,10 @@ fn read_tick(words: &mut Words<'_>, nodes: u8) -> Result<Step, DeckReason>
 
 /// Reads the rest of `lose M [LAST]`.
 fn read_lose(words: &mut Words<'_>) -> Result<Command, DeckReason>
-    ensures { IfOk result (λ command. (nodes tasks objects : ℕ)
+    ensures within { IfOk result (λ command. (nodes tasks objects : ℕ)
         → FitsIn nodes tasks objects command) }
+    ensures declared { IfOk result (λ command. (program : DeckProgram) (interrupts : ℕ)
+        → IsCommandDeclared program interrupts command) }
 {
     let first = words.take_number(1, MOST)?;
     let last = match words.next() {

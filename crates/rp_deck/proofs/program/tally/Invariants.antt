@@ -1,5 +1,6 @@
-use Rattle.std.proofs.Common.{◌≡◌, length}
+use Rattle.std.proofs.Common.{◌≡◌, ℕ, Some, List, length}
+use Rattle.rp_deck.proofs.Naming.{AreTallyNames}
 use Rattle.rp_deck.proofs.program.tally.Given as goal
 
 abbrev pub invariant-loop : goal.invariant-loop
-invariant-loop l = length l.operations.items ≡ l.counter
+invariant-loop l = record { many : length l.operations.items ≡ l.counter; named : AreTallyNames l.operations.items }

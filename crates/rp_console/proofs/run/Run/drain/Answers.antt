@@ -6,7 +6,7 @@ use Rattle.rp_console.specs.Output.{Play, line_said, event_said, drained}
 use Rattle.rp_console.specs.Printed.{limit_line_of}
 use Rattle.rp_console.specs.Runs.{run_setting}
 use Rattle.rp_console.proofs.LeastUnsettled.{none_is_left, least_is_left}
-use Rattle.rp_console.proofs.Saying.{Underway, sets_out, goes_on, fails, ends_by, ends, says_by, says_failed, drained_none, drained_full, drained_more}
+use Rattle.rp_console.proofs.Saying.{Underway, sets_out, goes_on, fails, ends_by, ends, says_by, line_written, says_failed, drained_none, drained_full, drained_more}
 use Rattle.rp_console.proofs.Stepping.{same_setting, same_trans}
 use Rattle.rp_console.proofs.run.Run.drain.Goals as goal
 
@@ -127,4 +127,5 @@ returns-clause-said g c =
     (line_said now (limit_line_of c.args.line)) c.print.result
     (drained_full s c.args.line now most delivered least.result c.loop-delivered-test.false
     (least_is_left run.cluster.world run.settled now so_far.follows least.result least.ensures.least least.ensures.from_one within least.ensures.unsettled))
-    (says_by run.cluster.world run.settled _ _ (line_said now (limit_line_of c.args.line)) c.print.result so_far.follows c.print.ensures.printed)
+    (says_by run.cluster.world run.settled _ _ (line_said now (limit_line_of c.args.line)) c.print.result so_far.follows
+    (line_written now _ _ (limit_line_of c.args.line) c.print.result c.print.ensures.printed))

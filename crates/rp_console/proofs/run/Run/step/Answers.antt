@@ -2,6 +2,7 @@
 use Rattle.std.proofs.Common.{◌≡◌, ◌≤◌, true, arith}
 use Rattle.rp_base.specs.Fault.{code_of}
 use Rattle.rp_model.specs.Events.{event_of}
+use Rattle.rp_console.specs.Output.{event_said}
 use Rattle.rp_console.specs.Runs.{run_setting}
 use Rattle.rp_console.proofs.Saying.{happened, was_refused, says_failed}
 use Rattle.rp_console.proofs.Stepping.{always_ok, parts_stay, parts_left, ends_with, refused_of}
@@ -28,7 +29,10 @@ returns-in_ok-settle_by-in-Ok-clause-said g c =
     done (c.worlds_grow.ensures s.setting old.world (event_of c.args.event.now) done.happening done.came) c.in_ok-settle_by-in-Ok.ensures c.tell_effect.ensures.told
 
 pub returns-in_err-settle_by-in-Ok-clause-said : goal.returns-in_err-settle_by-in-Ok-clause-said
-returns-in_err-settle_by-in-Ok-clause-said g c = λ play follows. says_failed _ _ _ _ _ c.from_residual.result c.from_residual.ensures.0 (begins_nothing _ _)
+returns-in_err-settle_by-in-Ok-clause-said g c =
+    let m = g.M.Machine in
+    let s = run_setting m.next m.answers m.begin m.image c.args.self.now.cluster c.args.options.now in
+    λ play follows. says_failed _ _ _ _ (event_said s c.args.line play c.args.event.now) c.from_residual.result c.from_residual.ensures.0 (begins_nothing _ _)
 
 pub returns-in-Err-clause-parts : goal.returns-in-Err-clause-parts
 returns-in-Err-clause-parts g c =

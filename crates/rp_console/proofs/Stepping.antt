@@ -76,8 +76,8 @@ refused_of s w left event fault (inr (inr device)) numbered = absurd (at (subst 
 pub same_setting : {S P : Type 0} (next : S → Action → S) (answers : S → Action → List Answer) (start : P → S) (image : S → List ℕ) (options : RunOptions) (old new : Setup P)
     → IsSameSetup old new → run_setting next answers start image new options ≡ run_setting next answers start image old options
 same_setting next answers start image options old new same =
-    ap (λ c. run_setting next answers start image (record { config = c; program = new.program; world = new.world }) options) same.config
-    ∙ ap (λ p. run_setting next answers start image (record { config = old.config; program = p; world = new.world }) options) same.program
+    ap (λ c. run_setting next answers start image (record new { config = c }) options) same.config
+    ∙ ap (λ p. run_setting next answers start image (record new { config = old.config; program = p }) options) same.program
 
 pub same_trans : {P : Type 0} (a b c : Setup P) → IsSameSetup a b → IsSameSetup b c → IsSameSetup a c
 same_trans a b c first second = record { config = second.config ∙ first.config; program = second.program ∙ first.program }

@@ -86,7 +86,7 @@ module _ {S : Type 0} (s : RunSetting S) (node : ℕ) where
   -- and goes on with the image
   pub whole_text : (count : ℕ) (text : Vec ℕ Global) (part : Option NodePart) → IsToldOf (Ok count) Counts part → IsToldUnlessMemory (Ok text) Shows part
       → part_text s node part ≡ with_line_feed (applied_line_of node count) ++ text.items
-  whole_text count text part told (inl memory) = absurd (cc)
+  whole_text count text part told (inl memory) = let none = memory.0 in absurd (cc)
   whole_text count text None told (inr shown) = absurd (cc)
   whole_text count text (Some part) told (inr shown) = whole_running count text part.records part.running told shown
 

@@ -56,11 +56,7 @@ fn take_in<M: Machine>(slots: &Slots<M>, all: &mut Place, other: Place)
 }
 
 /// A place takes in those of nodes.
-fn take_nodes<M: Machine, D: Device>(
-    slots: &Slots<M>,
-    all: &mut Place,
-    nodes: Vec<NodeSeat<M, D>>,
-)
+fn take_nodes<M: Machine, D: Device>(slots: &Slots<M>, all: &mut Place, nodes: Vec<NodeSeat<M, D>>)
     requires table { all.old.table_id ≡ slots.now.table_id }
     requires sized { IsSized slots.now.table_id }
     requires nodes { All (λ seat. seat.table ≡ slots.now.table_id) nodes.items }

@@ -1,9 +1,12 @@
 -- The same seats, whatever happened at them since.
-use Rattle.std.proofs.Common.{◌≡◌, ℕ, zero, suc, ◌+◌, ◌<◌, ◌≤◌, Bool, false, nat_eq, nat_lt, if◌then◌else◌, Option, Some, None, List, [], ◌∷◌, ◌++◌, length, map, slice_get, refl, sym, ap, subst, ◌∙◌, arith}
+use Rattle.std.proofs.Common.{◌≡◌, ◌⊎◌, Result, Ok, Err, inl, inr, ℕ, zero, suc, ◌+◌, ◌<◌, ◌≤◌, Bool, false, nat_eq, nat_lt, if◌then◌else◌, Option, Some, None, List, [], ◌∷◌, ◌++◌, length, map, slice_get, refl, sym, ap, subst, ◌∙◌, arith}
 use Rattle.std.proofs.lemmas.Grind.{common_steps}
 use Rattle.std.proofs.lemmas.List.{append_assoc, map-append}
 use Rattle.std.specs.List.{AllZip}
-use Rattle.std.specs.Prelude.{All, IfSome, slice_index}
+use Rattle.std.specs.Prelude.{All, IfSome, IfErr, IsErrOf, slice_index}
+use Rattle.rp_base.specs.declared.fault.Fault.{Fault}
+use Rattle.rp_base.specs.declared.fault.Fault.TheVariants.{BadConfig}
+use Rattle.rp_boxes.specs.Making.{IsWanting}
 use Rattle.atomic_table.specs.Seated.{TableId}
 use Rattle.rp_base.specs.declared.config.Config.{Config}
 use Rattle.rp_model.specs.Parts.{fresh_node, fresh_task}
@@ -129,3 +132,9 @@ pub all_mapped : {A B : Type 0} (Q : B → Type 0) (f : A → B) (xs : List A) �
 all_mapped Q f [] all k d within = absurd (omega (arith, within))
 all_mapped Q f (x ∷ xs) all zero d within = all zero (f d) (omega arith)
 all_mapped Q f (x ∷ xs) all (suc k) d within = all_mapped Q f xs (λ j e less. all (suc j) e (omega (arith, less))) k d (omega (arith, within))
+
+-- a fault that is not BadConfig is for want of memory or of a device
+pub only_wanting : {A : Type 0} (result : Result A Fault) → (IsErrOf result BadConfig → ⊥) → IfErr result (λ fault. (fault ≡ BadConfig) ⊎ IsWanting fault) → IfErr result IsWanting
+only_wanting (Ok value) right only = tt
+only_wanting (Err fault) right (inl bad) = absurd (right bad)
+only_wanting (Err fault) right (inr wanting) = wanting

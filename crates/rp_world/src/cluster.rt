@@ -26,9 +26,9 @@ use crate::effect::Refused;
 use crate::world::World;
 use rp_agreement::{
     applied_lists_are_alike, applied_lists_begin_the_order, calls_count_in_turn, decisions_are_one,
-    decisions_stay, events_keep_ranges, events_keep_replies, offers_are_one,
-    only_made_calls_count, packets_say_so, replies_answer_calls_that_count, replies_tell_the_order,
-    states_are_alike, the_order_exists,
+    decisions_stay, events_keep_ranges, events_keep_replies, offers_are_one, only_made_calls_count,
+    packets_say_so, replies_answer_calls_that_count, replies_tell_the_order, states_are_alike,
+    the_order_exists,
 };
 use rp_base::{Answer, Config, Fault, NodeId, TaskId};
 use rp_machine::{Machine, a_call_has_one_place};

@@ -136,5 +136,5 @@ all_mapped Q f (x ∷ xs) all (suc k) d within = all_mapped Q f xs (λ j e less.
 -- a fault that is not BadConfig is for want of memory or of a device
 pub only_wanting : {A : Type 0} (result : Result A Fault) → (IsErrOf result BadConfig → ⊥) → IfErr result (λ fault. (fault ≡ BadConfig) ⊎ IsWanting fault) → IfErr result IsWanting
 only_wanting (Ok value) right only = tt
-only_wanting (Err fault) right (inl bad) = absurd (right bad)
+only_wanting (Err fault) right (inl bad) = absurd (right (ap Err bad))
 only_wanting (Err fault) right (inr wanting) = wanting

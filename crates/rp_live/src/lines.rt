@@ -21,10 +21,9 @@ fn party_byte(party: Party) -> u8
     }
 }
 
-/// The line of a party: its words are those of the run's seed and the party.
-pub(crate) fn line_for(alloc: Global, seed: u32, party: Party) -> Result<FaultLine, Fault>
-    ensures line { IfOk result (λ line. line ≡ line_of (line_seed seed party)) }
-    ensures only { IsOkUnless result Fault.OutOfMemory }
+/// The seed of a party's line.
+fn seed_for(seed: u32, party: Party) -> [u8; 32]
+    ensures { result ≡ line_seed seed party }
 {
     let mut bytes = [0u8; 32];
     let [first, second, third, fourth] = seed.to_be_bytes();
@@ -33,5 +32,13 @@ pub(crate) fn line_for(alloc: Global, seed: u32, party: Party) -> Result<FaultLi
     bytes[2] = third;
     bytes[3] = fourth;
     bytes[4] = party_byte(party);
-    FaultLine::new(alloc, bytes)
+    bytes
+}
+
+/// The line of a party: its words are those of the run's seed and the party.
+pub(crate) fn line_for(alloc: Global, seed: u32, party: Party) -> Result<FaultLine, Fault>
+    ensures line { IfOk result (λ line. line ≡ line_of (line_seed seed party)) }
+    ensures only { IsOkUnless result Fault.OutOfMemory }
+{
+    FaultLine::new(alloc, seed_for(seed, party))
 }

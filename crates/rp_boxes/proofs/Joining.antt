@@ -1,5 +1,6 @@
--- A seat that knows one actor takes in another such seat.
+-- A seat takes in another one that knows one actor.
 use Rattle.std.proofs.Common.{◌≡◌, ◌≢◌, ℕ, ◌<◌, List, [], ◌∷◌, ◌++◌, map, set, inl, inr, refl, sym, ap, subst, ◌∙◌}
+use Rattle.std.proofs.lemmas.List.{map-append}
 use mathlib.Core.Logic.{dite}
 use mathlib.Core.Option.{some, some-injective}
 use native.Mathlib.Decide.{ℕ_discrete}
@@ -7,6 +8,7 @@ use lib.ListN.{get_elem?}
 use Rattle.atomic_table.specs.Table.{Joins}
 use Rattle.atomic_table.proofs.Lists.{at_set, set_here, set_else}
 use Rattle.rp_base.specs.Sets.{Has, IsSet}
+use Rattle.rp_base.proofs.Members.{has_left, has_right, has_split, mapped_has, set_more}
 use Rattle.rp_model.specs.Effect.{Setting}
 use Rattle.rp_boxes.specs.Making.{first_in, others_in}
 use Rattle.rp_boxes.specs.Parts.{Part, View, actor_in, part_in}
@@ -14,10 +16,10 @@ use Rattle.rp_boxes.specs.Plays.{Sight, alone}
 use Rattle.rp_boxes.specs.Rule.{IsSeating, Ruled}
 use Rattle.rp_boxes.proofs.Worlds.{with_value, value_here, value_else, at_below}
 
-module _ (views : List View) (parts : ℕ → Part) (owner : ℕ → ℕ) (seating : IsSeating views parts owner) (id other j k : ℕ) (p q : Part)
-    (here : get_elem? views id ≡ some ((j, p) ∷ [])) (apart : other ≢ id) (there : get_elem? views other ≡ some ((k, q) ∷ [])) where
+module _ (views : List View) (parts : ℕ → Part) (owner : ℕ → ℕ) (seating : IsSeating views parts owner) (id : ℕ) (mine : View) (other k : ℕ) (q : Part)
+    (here : get_elem? views id ≡ some mine) (apart : other ≢ id) (there : get_elem? views other ≡ some ((k, q) ∷ [])) where
   abbrev both : View
-  both = (j, p) ∷ (k, q) ∷ []
+  both = mine ++ (k, q) ∷ []
 
   abbrev joined : List View
   joined = set views id both
@@ -35,9 +37,6 @@ module _ (views : List View) (parts : ℕ → Part) (owner : ℕ → ℕ) (seati
   stays : (x : ℕ) → owner x ≢ other → owner' x ≡ owner x
   stays x differ = value_else (λ y. y) other id (owner x) differ
 
-  one_known : (owner j ≡ id) × (parts j ≡ p) × (j < 16)
-  one_known = seating.knows id ((j, p) ∷ []) here j p (inl refl)
-
   other_known : (owner k ≡ other) × (parts k ≡ q) × (k < 16)
   other_known = seating.knows other ((k, q) ∷ []) there k q (inl refl)
 
@@ -45,11 +44,10 @@ module _ (views : List View) (parts : ℕ → Part) (owner : ℕ → ℕ) (seati
   IsKnown place i r = (owner' i ≡ place) × (parts i ≡ r) × (i < 16)
 
   knows_both : (i : ℕ) (r : Part) → Has {A = ℕ × Part} (i, r) both → IsKnown id i r
-  knows_both i r h = elim h [
-    | inl first ↦
-        let number : i ≡ j = ap (λ (known : ℕ × Part). known.0) first in
-        let part : r ≡ p = ap (λ (known : ℕ × Part). known.1) first in
-        subst (λ (x : ℕ). IsKnown id x r) (sym number) (stays j (λ e. apart (sym e ∙ one_known.0)) ∙ one_known.0, one_known.1 ∙ sym part, one_known.2)
+  knows_both i r h = elim (has_split {A = ℕ × Part} (i, r) mine ((k, q) ∷ []) h) [
+    | inl own ↦
+        let known = seating.knows id mine here i r own in
+        (stays i (λ e. apart (sym e ∙ known.0)) ∙ known.0, known.1, known.2)
     | inr rest ↦ elim rest [
       | inl second ↦
           let number : i ≡ k = ap (λ (known : ℕ × Part). known.0) second in
@@ -73,23 +71,26 @@ module _ (views : List View) (parts : ℕ → Part) (owner : ℕ → ℕ) (seati
   abbrev AreKeys : View → Type 0
   AreKeys v = IsSet (map (λ known. known.0) v)
 
+  -- the other's actor is none of its own
+  absent : Has k (map (λ known. known.0) mine) → ⊥
+  absent h =
+      let known : (x : ℕ × Part) × Has x mine × (k ≡ x.0) = mapped_has (λ (x : ℕ × Part). x.0) k mine h in
+      let own = seating.knows id mine here known.0.0 known.0.1 known.1 in
+      apart (sym other_known.0 ∙ (ap owner known.2 ∙ own.0))
+
+  both_apart : AreKeys both
+  both_apart =
+      subst (λ (l : List ℕ). IsSet l) (sym (map-append (λ (x : ℕ × Part). x.0) mine ((k, q) ∷ [])))
+      (set_more (map (λ known. known.0) mine) k (seating.apart id mine here) absent)
+
   apart_after : (place : ℕ) (v : View) → get_elem? views' place ≡ some v → AreKeys v
   apart_after place v at = elim (at_set joined other place [] v at) [
     | inl spent ↦ subst AreKeys spent.1 tt
-    | inr kept ↦ elim (at_set views id place both v kept.1) [
-      | inl new ↦ subst AreKeys new.1 (
-        (λ h. elim h [
-          | inl same ↦ apart (sym other_known.0 ∙ (ap owner (sym same) ∙ one_known.0))
-          | inr never ↦ never
-        ]),
-        ((λ never. never), tt),
-      )
-      | inr old ↦ seating.apart place v old.1
-    ]
+    | inr kept ↦ elim (at_set views id place both v kept.1) [ inl new ↦ subst AreKeys new.1 both_apart | inr old ↦ seating.apart place v old.1 ]
   ]
 
   at_id : get_elem? views' id ≡ some both
-  at_id = set_else joined other id [] (λ e. apart (sym e)) ∙ set_here views id both (at_below views id ((j, p) ∷ []) here)
+  at_id = set_else joined other id [] (λ e. apart (sym e)) ∙ set_here views id both (at_below views id mine here)
 
   abbrev IsSeated : ℕ → Type 0
   IsSeated x = (v : View) × (get_elem? views' (owner' x) ≡ some v) × Has (x, parts x) v
@@ -100,26 +101,27 @@ module _ (views : List View) (parts : ℕ → Part) (owner : ℕ → ℕ) (seati
       dite (ℕ_discrete (owner x) other)
       (λ e.
       let same : old.0 ≡ (k, q) ∷ [] = some-injective _ _ (sym old.1 ∙ (ap (get_elem? views) e ∙ there)) in
-      (both, ap (get_elem? views') (moved x e) ∙ at_id, inr (subst (λ (w : View). Has (x, parts x) w) same old.2)))
+      let h : Has {A = ℕ × Part} (x, parts x) ((k, q) ∷ []) = subst (λ (w : View). Has (x, parts x) w) same old.2 in
+      (both, ap (get_elem? views') (moved x e) ∙ at_id, has_right {A = ℕ × Part} (x, parts x) mine ((k, q) ∷ []) h))
       (λ differ. dite (ℕ_discrete (owner x) id)
       (λ e.
-      let same : old.0 ≡ (j, p) ∷ [] = some-injective _ _ (sym old.1 ∙ (ap (get_elem? views) e ∙ here)) in
-      let h : Has {A = ℕ × Part} (x, parts x) ((j, p) ∷ []) = subst (λ (w : View). Has (x, parts x) w) same old.2 in
-      (both, ap (get_elem? views') (stays x differ ∙ e) ∙ at_id, elim h [ inl first ↦ inl first | inr never ↦ absurd never ]))
+      let same : old.0 ≡ mine = some-injective _ _ (sym old.1 ∙ (ap (get_elem? views) e ∙ here)) in
+      let h : Has {A = ℕ × Part} (x, parts x) mine = subst (λ (w : View). Has (x, parts x) w) same old.2 in
+      (both, ap (get_elem? views') (stays x differ ∙ e) ∙ at_id, has_left {A = ℕ × Part} (x, parts x) mine ((k, q) ∷ []) h))
       (λ elsewhere. (old.0, ap (get_elem? views') (stays x differ) ∙ (set_else joined other (owner x) [] differ ∙ (set_else views id (owner x) both elsewhere ∙ old.1)), old.2)))
 
   pub seating_joined : IsSeating views' parts owner'
   seating_joined = record { knows = knows_after; apart = apart_after; seated = seated_after }
 
-pub join_allows : {S : Type 0} (s : Setting S) (id j : ℕ) (p : Part) (other k : ℕ) (q : Part) → Joins (Ruled s) id ((j, p) ∷ []) other ((k, q) ∷ []) ((j, p) ∷ (k, q) ∷ []) []
-join_allows s id j p other k q = λ t r here apart there.
-    let before : get_elem? t.views other ≡ some ((k, q) ∷ []) = sym (set_else t.views id other ((j, p) ∷ (k, q) ∷ []) apart) ∙ there in
+pub join_allows : {S : Type 0} (s : Setting S) (id : ℕ) (mine : View) (other k : ℕ) (q : Part) → Joins (Ruled s) id mine other ((k, q) ∷ []) (mine ++ (k, q) ∷ []) []
+join_allows s id mine other k q = λ t r here apart there.
+    let before : get_elem? t.views other ≡ some ((k, q) ∷ []) = sym (set_else t.views id other (mine ++ (k, q) ∷ []) apart) ∙ there in
     record {
       parts = r.parts;
       owner = λ x. with_value (λ y. y) other id (r.owner x);
       config = r.config;
       long = r.long;
-      seating = seating_joined t.views r.parts r.owner r.seating id other j k p q here apart before;
+      seating = seating_joined t.views r.parts r.owner r.seating id mine other k q here apart before;
       good = r.good;
       counted = r.counted;
       sends = r.sends;

@@ -18,3 +18,4 @@ pub mod TaskTurns
 pub mod TaskTells
 pub mod Joining
 pub mod AuditTells
+pub mod OneWorld

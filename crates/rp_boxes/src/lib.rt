@@ -15,6 +15,7 @@
 //! - `audit_seat`: the seat of the audit
 //! - `audit`: what the audit knows of the nodes
 //! - `meeting`: the audit's seat looks at the table, alone or together with the seat of a task
+//! - `together`: all seats look at the table as one, for the last time
 //! - `making`: the seats are made
 #![tactic(auto)]
 
@@ -33,6 +34,7 @@ mod node_seat;
 mod node_turns;
 mod task_events;
 mod task_seat;
+mod together;
 
 pub use audit::{Added, Audit};
 pub use audit_seat::AuditSeat;

@@ -17,7 +17,7 @@ use rp_machine::Machine;
 use std::marker::Brand;
 
 /// One place knows what both knew.
-struct Both;
+pub(crate) struct Both;
 
 impl Join<Known> for Both {
     ghost use Rattle.std.specs.Prelude.{◌++◌, []};

@@ -9,16 +9,16 @@
 //! - `pace`: in which turns a node turns, and how the threads keep pace
 //! - `ends`: how a thread ended
 //! - `reports`: the audit reads the logs of the nodes
-//! - `meetings`: the audit meets the tasks
+//! - `replies`: the replies of the tasks
 //! - `run`: a whole run
 #![tactic(auto)]
 
 mod calls;
 mod ends;
 mod lines;
-mod meetings;
 mod notes;
 mod pace;
+mod replies;
 mod reports;
 mod run;
 mod starts;

@@ -1,25 +1,41 @@
 //! The audit reads the logs of the nodes.
 
-ghost use Rattle.std.specs.Prelude.{◌≡◌, ℕ, ◌↔◌, ◌+◌, ◌<◌, ◌≤◌, ◌^◌, length, IsTrue, IfSome, IfOk, IfErr, OnOk};
-ghost use Rattle.rp_boxes.specs.Making.{IsWanting};
-ghost use Rattle.rp_boxes.specs.Seats.{HasApplied};
+ghost use Rattle.std.specs.Prelude.{◌≡◌, ℕ, ◌↔◌, ◌+◌, ◌<◌, ◌≤◌, ◌^◌, All, None, length, IsTrue, IfSome, IfOk, OnOk, IsOkUnless};
+ghost use Rattle.std.specs.List.{AllZip};
+ghost use Rattle.rp_boxes.specs.Audits.{known_of};
+ghost use Rattle.rp_boxes.specs.Seats.{HasApplied, IsReport};
 ghost use Rattle.rp_threads.specs.Loops.{IsSameSeat};
 ghost use Rattle.rp_live.specs.Lived.{KnowsAll};
-ghost use Rattle.rp_live.specs.Faults.{IsLiveFault};
-ghost use Rattle.rp_live.specs.Seats.{Runs};
+ghost use Rattle.rp_live.specs.Seats.{HasOnlyReported, HasReportedFrom, IsEndOfRun, IsRead, Runs};
 
-use crate::ends::ended;
+use crate::ends::node_ended;
 use rp_base::{Fault, NodeId, Position};
 use rp_boxes::{Audit, NodeSeat};
 use rp_codec::Party;
 use rp_machine::Machine;
-use rp_store::Device;
+use rp_replica::Sent;
+use rp_store::InfallibleDevice;
 use rp_threads::NodeEnd;
 use std::alloc::Global;
 
+/// The node makes a report of what it has applied, from a position on.
+fn report_from<M: Machine, D: InfallibleDevice>(
+    seat: &mut NodeSeat<M, D>,
+    alloc: Global,
+    first: Position,
+) -> Result<Sent, Fault>
+    requires runs { Runs seat.old.part }
+    ensures ok { IfOk result (λ sent. IsReport first seat.old seat.new sent) }
+    ensures only { IsOkUnless result Fault.OutOfMemory }
+{
+    let report = seat.report(alloc, first);
+    seat.never_failed();
+    report
+}
+
 /// The node reports once, from a position on: the report goes through its box to the audit, which
 /// adds it. It is lost where the box is full.
-fn report_once<M: Machine, D: Device>(
+fn report_once<M: Machine, D: InfallibleDevice>(
     audit: &mut Audit<M>,
     seat: &mut NodeSeat<M, D>,
     alloc: Global,
@@ -27,11 +43,11 @@ fn report_once<M: Machine, D: Device>(
 ) -> Result<(), Fault>
     requires runs { Runs seat.old.part }
     ensures same { OnOk result (IsSameSeat audit.old.seat audit.new.seat) }
-    ensures applied { OnOk result ((count : ℕ) → HasApplied seat.old.part count
-        → HasApplied seat.new.part count) }
-    ensures only { IfErr result IsWanting }
+    ensures only_reported { OnOk result (HasOnlyReported seat.old seat.new) }
+    ensures reported { OnOk result (HasReportedFrom seat.new first) }
+    ensures only { IsOkUnless result Fault.OutOfMemory }
 {
-    let report = seat.report(alloc, first)?;
+    let report = report_from(seat, alloc, first)?;
     let _lost = seat.put(report.bytes);
     if let Some(packet) = audit.fetch(Party::Node(seat.number())) {
         audit.add(alloc, packet.as_slice())?;
@@ -39,29 +55,34 @@ fn report_once<M: Machine, D: Device>(
     Ok(())
 }
 
-/// The position behind so many actions, if the log has it.
-fn position_behind(known: usize) -> Option<Position>
+/// The position after so many actions, if a log can have it.
+fn position_after(known: usize) -> Option<Position>
     requires { known < 2 ^ 32 }
-    ensures { IfSome result (λ position. position ≡ known + 1) }
+    ensures some { IfSome result (λ position. position ≡ known + 1) }
+    ensures none { result ≡ None → 65535 ≤ known }
 {
     Position::new(u16::try_from(known + 1).ok()?)
 }
 
 /// The node reports until the audit knows all that it has applied. How many actions that is.
-fn read_log<M: Machine, D: Device>(
+fn read_log<M: Machine, D: InfallibleDevice>(
     audit: &mut Audit<M>,
     seat: &mut NodeSeat<M, D>,
     alloc: Global,
 ) -> Result<u32, Fault>
+    requires { Runs seat.old.part }
     ensures same { OnOk result (IsSameSeat audit.old.seat audit.new.seat) }
+    ensures reported { OnOk result (HasOnlyReported seat.old seat.new) }
     ensures applied { IfOk result (λ count. HasApplied seat.new.part count) }
-    ensures only { IfErr result IsLiveFault }
+    ensures read { IfOk result (λ count. IsRead seat.new count
+        (known_of audit.new.known seat.new.number)) }
+    ensures only { IsOkUnless result Fault.OutOfMemory }
 {
     let node = seat.number();
     let applied = seat.applied()?;
     let mut known = audit.known(node).len();
     while known < applied as usize {
-        let Some(first) = position_behind(known) else {
+        let Some(first) = position_after(known) else {
             break;
         };
         report_once(audit, seat, alloc, first)?;
@@ -74,35 +95,47 @@ fn read_log<M: Machine, D: Device>(
     Ok(applied)
 }
 
-/// The same of a node whose thread ended.
-fn read_end<M: Machine, D: Device>(
+/// The same of a node whose thread ended. Its seat, and how many actions it has applied.
+fn read_end<M: Machine, D: InfallibleDevice>(
     audit: &mut Audit<M>,
     end: NodeEnd<M, D>,
     alloc: Global,
-) -> Result<u32, Fault>
+) -> Result<(NodeSeat<M, D>, u32), Fault>
+    requires { IsEndOfRun end }
     ensures same { OnOk result (IsSameSeat audit.old.seat audit.new.seat) }
-    ensures only { IfErr result IsLiveFault }
+    ensures reported { IfOk result (λ read. HasOnlyReported end.seat read.0) }
+    ensures applied { IfOk result (λ read. HasApplied read.0.part read.1) }
+    ensures read { IfOk result (λ read. IsRead read.0 read.1
+        (known_of audit.new.known read.0.number)) }
+    ensures only { IsOkUnless result Fault.OutOfMemory }
 {
-    ended(end.fault)?;
-    let mut seat = end.seat;
-    read_log(audit, &mut seat, alloc)
+    let mut seat = node_ended(end)?;
+    let applied = read_log(audit, &mut seat, alloc)?;
+    Ok((seat, applied))
 }
 
-/// The nodes report one after the other. How many actions each has applied.
-pub(crate) fn read_logs<M: Machine, D: Device>(
+/// The nodes report one after the other. Their seats, and how many actions each has applied.
+pub(crate) fn read_logs<M: Machine, D: InfallibleDevice>(
     audit: &mut Audit<M>,
     nodes: Vec<NodeEnd<M, D>>,
     alloc: Global,
-) -> Result<Vec<u32>, Fault>
+) -> Result<(Vec<NodeSeat<M, D>>, Vec<u32>), Fault>
+    requires { All IsEndOfRun nodes.items }
     ensures same { OnOk result (IsSameSeat audit.old.seat audit.new.seat) }
-    ensures size { IfOk result (λ applied. length applied.items ≡ length nodes.items) }
-    ensures only { IfErr result IsLiveFault }
+    ensures reported { IfOk result (λ read. AllZip (λ end seat. HasOnlyReported end.seat seat)
+        nodes.items read.0.items) }
+    ensures applied { IfOk result (λ read. AllZip (λ seat count. HasApplied seat.part count)
+        read.0.items read.1.items) }
+    ensures only { IsOkUnless result Fault.OutOfMemory }
 {
+    let mut seats = Vec::new(alloc);
     let mut applied = Vec::new(alloc);
     for end in nodes {
-        applied.push(read_end(audit, end, alloc)?)?;
+        let (seat, count) = read_end(audit, end, alloc)?;
+        seats.push(seat)?;
+        applied.push(count)?;
     }
-    Ok(applied)
+    Ok((seats, applied))
 }
 
 /// Whether the audit knows as many actions of each node as that has applied.

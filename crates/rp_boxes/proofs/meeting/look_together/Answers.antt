@@ -17,9 +17,8 @@ join_seat-requires g c =
     let one = c.args.one in
     let other = c.args.other in
     let words : 0 < c.args.slots.now.table_id.words = omega (arith, c.requires.sized.0) in
-    let allows = join_allows s one.id (actor_in one.me.0) (part_in one.me.0) other.id (actor_in other.me.0) (part_in other.me.0) in
-    let first = subst (λ (me : Sight). Joins (Ruled s) one.id me.0 other.id ((actor_in other.me.0, part_in other.me.0) ∷ []) (me.0 ++ (actor_in other.me.0, part_in other.me.0) ∷ []) []) (sym c.requires.one) allows in
-    let both = subst (λ (me : Sight). Joins (Ruled s) one.id one.me.0 other.id me.0 (one.me.0 ++ me.0) []) (sym c.requires.other) first in
+    let allows = join_allows s one.id one.me.0 other.id (actor_in other.me.0) (part_in other.me.0) in
+    let both = subst (λ (me : Sight). Joins (Ruled s) one.id one.me.0 other.id me.0 (one.me.0 ++ me.0) []) (sym c.requires.other) allows in
     (c.requires.table.0, c.requires.table.1, ap (λ (me : Sight). me.1) c.requires.other, words, both)
 
 pub look-requires-clause-follows : goal.look-requires-clause-follows

@@ -2,9 +2,7 @@
 use Rattle.std.proofs.Common.{sym, subst}
 use Rattle.rp_codec.specs.declared.packet.Party.TheVariants.{Node, Task}
 use Rattle.rp_boxes.specs.Seats.{IsFetched}
-use Rattle.rp_threads.proofs.Texts.{accepted_holds}
-use Rattle.rp_threads.proofs.Steps.{same_part}
-use Rattle.rp_threads.proofs.TaskSteps.{fetched_made}
+use Rattle.rp_threads.proofs.Texts.{accepted_holds, is_brought}
 use Rattle.rp_threads.proofs.tasks.bring.Goals as goal
 
 pub returns-in-Some-clause-held : goal.returns-in-Some-clause-held
@@ -14,9 +12,8 @@ returns-in-Some-clause-held g c =
     accepted_holds (Node c.args.from) (Task seat.number) c.as_slice.result.now seat c.fetch.new.self c.args.line.now fetched c.requires.held c.accept.new.self c.accept.result
     c.gives_what_it_took.ensures.accepted c.accept.ensures.ok c.accept.ensures.err
 
-pub returns-in-Some-clause-seat : goal.returns-in-Some-clause-seat
-returns-in-Some-clause-seat g c = same_part c.args.seat.now c.fetch.new.self _ c.in-Some.ensures.some.after
-
-pub returns-in-Some-clause-kept : goal.returns-in-Some-clause-kept
-returns-in-Some-clause-kept g c calls made waits h =
-    fetched_made calls c.args.seat.now c.fetch.new.self c.in-Some.ensures.some.packet made waits c.in-Some.ensures.some.after h
+pub returns-in-Some-clause-ok : goal.returns-in-Some-clause-ok
+returns-in-Some-clause-ok g c =
+    let seat = c.args.seat.now in
+    let fetched = subst (λ text. IsFetched (Node c.args.from) (Task seat.number) text seat c.fetch.new.self) (sym c.as_slice.ensures.value) c.in-Some.ensures.some in
+    is_brought (Node c.args.from) (Task seat.number) c.as_slice.result.now seat c.fetch.new.self c.args.line.now c.accept.new.self c.accept.result fetched c.accept.ensures.ok

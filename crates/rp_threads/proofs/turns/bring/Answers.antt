@@ -16,4 +16,4 @@ pub returns-in-Some-clause-ok : goal.returns-in-Some-clause-ok
 returns-in-Some-clause-ok g c =
     let seat = c.args.seat.now in
     let fetched = subst (λ text. IsFetched c.args.from (Node seat.number) text seat c.fetch.new.self) (sym c.as_slice.ensures.value) c.in-Some.ensures.some in
-    is_brought c.args.from c.as_slice.result.now seat c.fetch.new.self c.args.line.now c.accept.new.self c.accept.result fetched c.accept.ensures.ok
+    is_brought c.args.from (Node seat.number) c.as_slice.result.now seat c.fetch.new.self c.args.line.now c.accept.new.self c.accept.result fetched c.accept.ensures.ok

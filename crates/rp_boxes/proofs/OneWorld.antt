@@ -1,0 +1,105 @@
+-- What the last look, of all seats as one, says of the audit, of nodes and of tasks.
+use Rattle.std.proofs.Common.{◌≡◌, ℕ, zero, suc, ◌+◌, ◌<◌, All, Some, List, [], ◌∷◌, ◌++◌, length, map, slice_get, slice_index_or, inl, inr, refl, sym, ap, subst, ◌∙◌, arith, append_assoc, append-nil}
+use Rattle.rp_base.specs.Records.{applied_of}
+use Rattle.rp_base.specs.Sets.{Has}
+use Rattle.rp_base.proofs.Members.{has_left, has_right, has_mapped}
+use Rattle.rp_base.specs.declared.action.Action.{Action}
+use Rattle.rp_base.specs.declared.reply.Answer.{Answer}
+use Rattle.rp_codec.specs.Message.{Message}
+use Rattle.rp_model.specs.Effect.{Setting}
+use Rattle.rp_model.specs.Facts.{IsOrder}
+use Rattle.rp_model.specs.Parts.{NodePart}
+use Rattle.rp_agreement.specs.Computed.{order_of}
+use Rattle.rp_agreement.specs.Order.{Begins}
+use Rattle.rp_agreement.specs.Sound.{IsSound}
+use Rattle.rp_boxes.specs.Audits.{Audited, AreTold, known_of, report}
+use Rattle.rp_boxes.specs.Looks.{IsWorldOf}
+use Rattle.rp_boxes.specs.Parts.{Part, View, node_of}
+use Rattle.rp_boxes.specs.Plays.{Sight, alone}
+use Rattle.rp_boxes.specs.Rule.{node_among, all_sent}
+use Rattle.rp_boxes.specs.Seats.{Chair, setting_at}
+use Rattle.rp_boxes.specs.Together.{AreTogether, HasReported, IsNodeOf, IsTaskOf, of_node, of_task}
+use Rattle.rp_boxes.proofs.AuditTells.{OrderExists, ReportsTell, known_begins, replies_answer}
+use Rattle.rp_boxes.proofs.TaskTells.{RepliesTell, CallsCount, calls_told}
+use Rattle.rp_boxes.proofs.Worlds.{is_sent}
+
+-- ---- places are taken in, one after the other
+
+pub one_taken : {A : Type 0} (f : A → ℕ × Part) (before after whole : View) (x : A) (rest rest' : List A) (place : Sight) → after ≡ before ++ place.0 → place ≡ alone (f x).0 (f x).1
+    → rest ≡ x ∷ rest' → before ++ map f rest ≡ whole → after ++ map f rest' ≡ whole
+one_taken f before after whole x rest rest' place takes is steps knows =
+    ap (λ (v : View). v ++ map f rest') (takes ∙ ap (λ (p : Sight). before ++ p.0) is)
+    ∙ append_assoc before (f x ∷ []) (map f rest')
+    ∙ ap (λ (l : List _). before ++ map f l) (sym steps) ∙ knows
+
+pub all_taken : {A : Type 0} (f : A → ℕ × Part) (me first : Sight) (whole : View) (rest : List A) → length rest ≡ 0 → me.0 ++ map f rest ≡ whole → me.1 ≡ first.1 → me ≡ (whole, first.1)
+all_taken f me first whole [] none knows out = let e : me.0 ≡ whole = sym (append-nil me.0) ∙ knows in λ i. (e i, out i)
+all_taken f me first whole (x ∷ rest) none knows out = absurd (omega (arith, none))
+
+-- what is so of each member is so at each place
+all_members : {A : Type 0} (Q : A → Type 0) (xs : List A) → ((x : A) → Has x xs → Q x) → All Q xs
+all_members Q [] each k d within = absurd (omega (arith, within))
+all_members Q (x ∷ xs) each zero d within = each x (inl refl)
+all_members Q (x ∷ xs) each (suc k) d within = all_members Q xs (λ y has. each y (inr has)) k d (omega (arith, within))
+
+-- ---- the world
+
+-- the law of what nodes have applied
+abbrev pub AppliedBegin : Type 0
+AppliedBegin = (nodes : ℕ) (node : ℕ → NodePart) (sent : List Message) → IsSound nodes node sent → (order : List Action) → IsOrder nodes sent order
+    → (x : ℕ) → Begins (applied_of (node x).records) order
+
+module _ {S P : Type 0} (next : S → Action → S) (answers : S → Action → List Answer) (begin : P → S) (audit : Audited P) (nodes tasks : List (Chair P)) where
+  abbrev s : Setting S
+  s = setting_at next answers begin audit.seat
+
+  abbrev view : View
+  view = ((0, audit.seat.part) ∷ map of_node nodes) ++ map of_task tasks
+
+  module _ (parts : ℕ → Part) (world : IsWorldOf s view parts) (exists : OrderExists) (tell : ReportsTell) where
+    abbrev order : List Action
+    order = order_of s.config.nodes (all_sent parts 16)
+
+    node_here : (seat : Chair P) → Has seat nodes → Has (seat.number, seat.part) view
+    node_here seat has =
+        has_left (seat.number, seat.part) ((0, audit.seat.part) ∷ map of_node nodes) (map of_task tasks) (inr (has_mapped of_node seat nodes has))
+
+    task_here : (seat : Chair P) → Has seat tasks → Has (7 + seat.number, seat.part) view
+    task_here seat has =
+        has_right (7 + seat.number, seat.part) ((0, audit.seat.part) ∷ map of_node nodes) (map of_task tasks) (has_mapped of_task seat tasks has)
+
+    -- what is known of a node is what it has reported
+    has_reported : AreTold audit.seat.part audit.known → (seat : Chair P) → Has seat nodes → (before : ℕ) (action : Action)
+        → slice_get (known_of audit.known seat.number) before ≡ Some action → HasReported seat before action
+    has_reported are seat has before action is =
+        let told = are.told seat.number before action is in
+        let packet = report seat.number told.first told.applied told.actions in
+        let got : Has packet (parts 0).got = subst (λ (p : Part). Has packet p.got) (sym (world.knows 0 audit.seat.part (inl refl)).0) told.got in
+        let by = is_sent parts 16 packet (world.gets 0 (omega arith) packet got).1 in
+        let from : seat.number ≡ by.0 = world.sends by.0 by.1 packet by.2 in
+        let sent : Has packet (parts seat.number).sent = subst (λ (k : ℕ). Has packet (parts k).sent) (sym from) by.2 in
+        let own = (world.knows seat.number seat.part (node_here seat has)).0 in
+        record {
+          first = told.first;
+          applied = told.applied;
+          actions = told.actions;
+          sent = subst (λ (p : Part). Has packet p.sent) own sent;
+          at = told.at;
+          place = told.place;
+          tells = told.tells;
+        }
+
+    pub together : AppliedBegin → RepliesTell s → CallsCount s → AreTold audit.seat.part audit.known → AreTogether next answers begin audit nodes tasks
+    together applied replies calls are = record {
+      order = order;
+      known = known_begins s view parts world exists tell audit.seat.part (inl refl) audit.known are;
+      nodes_are = all_members (IsNodeOf order audit.known) nodes (λ seat has. record {
+        applied = subst (λ (p : Part). Begins (applied_of (node_of p.role).records) order) (world.knows seat.number seat.part (node_here seat has)).0
+            (applied s.config.nodes (node_among parts) (all_sent parts 16) world.good.kept.sound order (exists s.config.nodes (all_sent parts 16)) seat.number);
+        reported = has_reported are seat has;
+      });
+      tasks_are = all_members (IsTaskOf next answers (begin audit.seat.program) order) tasks (λ seat has. record {
+        replies = replies_answer s view parts world replies seat.number seat.part (task_here seat has);
+        calls = calls_told s view parts world seat.number seat.part (task_here seat has) calls;
+      });
+    }

@@ -1,0 +1,24 @@
+-- The place knows the audit alone at first.
+use Rattle.std.proofs.Common.{◌≡◌, ◌∙◌, ◌++◌, ℕ, [], ◌∷◌, All, map, ap, sym, subst}
+use Rattle.std.specs.Arc.{arc_value}
+use Rattle.rp_agreement.specs.Answered.{setting_for}
+use Rattle.rp_boxes.specs.Looks.{IsWorldOf}
+use Rattle.rp_boxes.specs.Parts.{Part}
+use Rattle.rp_boxes.specs.Plays.{Sight}
+use Rattle.rp_boxes.specs.Seats.{Chair, setting_at}
+use Rattle.rp_boxes.specs.Together.{of_node, of_task}
+use Rattle.rp_boxes.proofs.together.AuditSeat.look_with.Goals as goal
+
+pub returns : goal.returns
+returns g c =
+    let m = g.M.Machine in
+    let key = (arc_value c.self.inside.board).shared.key in
+    let s = setting_for m.next m.answers m.begin key.config key.program.value in
+    let me = c.self.inside.place.me in
+    let nodes = map of_node c.args.nodes.items in
+    let tasks = map of_task c.args.tasks.items in
+    let seen = subst (λ board. (parts : ℕ → Part) × IsWorldOf (setting_for m.next m.answers m.begin board.shared.key.config board.shared.key.program.value) ((me.0 ++ nodes) ++ tasks) parts)
+    c.deref.ensures c.look_as_one.ensures in
+    let alone = subst (λ (sight : Sight). (parts : ℕ → Part) × IsWorldOf s ((sight.0 ++ nodes) ++ tasks) parts) c.self.invariant.0.place seen in
+    subst (λ (chair : Chair g.row.M-Program.Denot). (parts : ℕ → Part) × IsWorldOf (setting_at m.next m.answers m.begin chair) (((0, chair.part) ∷ nodes) ++ tasks) parts)
+    c.self.view_is alone

@@ -1,0 +1,145 @@
+//! All seats look at the table as one, for the last time.
+
+ghost use Rattle.std.specs.Prelude.{◌≡◌, ◌+◌, ◌++◌, ◌∷◌, [], ℕ, All, map};
+ghost use Rattle.rp_agreement.specs.Answered.{setting_for};
+ghost use Rattle.rp_boxes.specs.Looks.{IsWorldOf};
+ghost use Rattle.rp_boxes.specs.Parts.{Part, actor_in, part_in};
+ghost use Rattle.rp_boxes.specs.Plays.{IsSized, alone};
+ghost use Rattle.rp_boxes.specs.Seats.{setting_at};
+ghost use Rattle.rp_boxes.specs.Together.{AreTogether, of_node, of_task};
+
+use crate::audit::Audit;
+use crate::audit_seat::AuditSeat;
+use crate::board::{Place, Slots};
+use crate::looking::look;
+use crate::meeting::Both;
+use crate::node_seat::NodeSeat;
+use crate::task_seat::TaskSeat;
+use rp_agreement::{
+    applied_lists_begin_the_order, calls_count_in_turn, replies_answer_calls_that_count,
+    reports_tell_the_order, the_order_exists,
+};
+use rp_machine::Machine;
+use rp_store::Device;
+use std::marker::Brand;
+
+impl<M: Machine, D: Device> NodeSeat<M, D> {
+    /// The place of the seat, which ends.
+    fn into_place(self) -> Place
+        ensures table { result.table_id ≡ self.table }
+        ensures knows { result.me ≡ alone self.number self.part }
+    {
+        self.place
+    }
+}
+
+impl<M: Machine> TaskSeat<M> {
+    /// The place of the seat, which ends.
+    fn into_place(self) -> Place
+        ensures table { result.table_id ≡ self.table }
+        ensures knows { result.me ≡ alone (7 + self.number) self.part }
+    {
+        self.place
+    }
+}
+
+/// A place takes in another one, of one actor.
+fn take_in<M: Machine>(slots: &Slots<M>, all: &mut Place, other: Place)
+    requires table { (all.old.table_id ≡ slots.now.table_id)
+        × (other.table_id ≡ slots.now.table_id) }
+    requires sized { IsSized slots.now.table_id }
+    requires other { other.me ≡ alone (actor_in other.me.0) (part_in other.me.0) }
+    ensures table { all.new.table_id ≡ all.old.table_id }
+    ensures both { all.new.me ≡ (all.old.me.0 ++ other.me.0, all.old.me.1) }
+{
+    slots.join_seat::<Both>(all, other);
+}
+
+/// A place takes in those of nodes.
+fn take_nodes<M: Machine, D: Device>(
+    slots: &Slots<M>,
+    all: &mut Place,
+    nodes: Vec<NodeSeat<M, D>>,
+)
+    requires table { all.old.table_id ≡ slots.now.table_id }
+    requires sized { IsSized slots.now.table_id }
+    requires nodes { All (λ seat. seat.table ≡ slots.now.table_id) nodes.items }
+    ensures table { all.new.table_id ≡ all.old.table_id }
+    ensures all { all.new.me ≡ (all.old.me.0 ++ map of_node nodes.items, all.old.me.1) }
+{
+    for seat in nodes {
+        take_in(slots, all, seat.into_place());
+    }
+}
+
+/// A place takes in those of tasks.
+fn take_tasks<M: Machine>(slots: &Slots<M>, all: &mut Place, tasks: Vec<TaskSeat<M>>)
+    requires table { all.old.table_id ≡ slots.now.table_id }
+    requires sized { IsSized slots.now.table_id }
+    requires tasks { All (λ seat. seat.table ≡ slots.now.table_id) tasks.items }
+    ensures table { all.new.table_id ≡ all.old.table_id }
+    ensures all { all.new.me ≡ (all.old.me.0 ++ map of_task tasks.items, all.old.me.1) }
+{
+    for seat in tasks {
+        take_in(slots, all, seat.into_place());
+    }
+}
+
+/// A place takes in those of nodes and tasks, and looks at the table.
+fn look_as_one<M: Machine, D: Device>(
+    slots: &Slots<M>,
+    place: Place,
+    nodes: Vec<NodeSeat<M, D>>,
+    tasks: Vec<TaskSeat<M>>,
+)
+    requires table { place.table_id ≡ slots.now.table_id }
+    requires sized { IsSized slots.now.table_id }
+    requires nodes { All (λ seat. seat.table ≡ slots.now.table_id) nodes.items }
+    requires tasks { All (λ seat. seat.table ≡ slots.now.table_id) tasks.items }
+    ensures { (parts : ℕ → Part)
+        × IsWorldOf (setting_for M.next M.answers M.begin slots.now.key.config
+        slots.now.key.program.value)
+        ((place.me.0 ++ map of_node nodes.items) ++ map of_task tasks.items) parts }
+{
+    let mut all = place;
+    take_nodes(slots, &mut all, nodes);
+    take_tasks(slots, &mut all, tasks);
+    look::<M, Brand>(slots, &mut all);
+}
+
+impl<M: Machine> AuditSeat<M> {
+    /// Looks at the table together with nodes and tasks of the same table: what all of them know is a
+    /// piece of one world.
+    fn look_with<D: Device>(self, nodes: Vec<NodeSeat<M, D>>, tasks: Vec<TaskSeat<M>>)
+        requires nodes { All (λ seat. seat.table ≡ self.table) nodes.items }
+        requires tasks { All (λ seat. seat.table ≡ self.table) tasks.items }
+        ensures { (parts : ℕ → Part) × IsWorldOf (setting_at M.next M.answers M.begin self)
+            (((0, self.part) ∷ map of_node nodes.items) ++ map of_task tasks.items) parts }
+    {
+        let AuditSeat { place, board } = self;
+        look_as_one(&board.shared, place, nodes, tasks);
+    }
+}
+
+impl<M: Machine> Audit<M> {
+    /// The audit, nodes and tasks of one table look at it together, and their seats end: there is one
+    /// list of actions that what the audit knows of each node begins, that what each of the nodes has
+    /// applied begins, and that answers the calls of all of the tasks; and what the audit knows of one
+    /// of the nodes is what that has reported.
+    pub fn look_together<D: Device>(self, nodes: Vec<NodeSeat<M, D>>, tasks: Vec<TaskSeat<M>>)
+        requires nodes { All (λ seat. seat.table ≡ self.seat.table) nodes.items }
+        requires tasks { All (λ seat. seat.table ≡ self.seat.table) tasks.items }
+        ensures { AreTogether M.next M.answers M.begin self nodes.items tasks.items }
+    {
+        the_order_exists();
+        reports_tell_the_order();
+        applied_lists_begin_the_order();
+        replies_answer_calls_that_count::<M>();
+        calls_count_in_turn::<M>();
+        let Audit {
+            seat,
+            known: _known,
+        } = self;
+        seat.look_with(nodes, tasks);
+    }
+}

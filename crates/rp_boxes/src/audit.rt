@@ -31,8 +31,8 @@ pub enum Added {
 /// The audit: its seat, and for each node the actions that are known of it.
 #[derive(Drop)]
 pub struct Audit<M: Machine> {
-    seat: AuditSeat<M>,
-    known: [Vec<Action>; 7],
+    pub(crate) seat: AuditSeat<M>,
+    pub(crate) known: [Vec<Action>; 7],
 }
 
 impl<M: Machine> Model for Audit<M> {

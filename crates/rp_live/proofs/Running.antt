@@ -1,12 +1,12 @@
--- A node that runs goes on running, and refuses neither notes nor reports.
-use Rattle.std.proofs.Common.{◌≡◌, ◌⊎◌, ℕ, Option, Some, None, Result, Ok, Err, List, inl, inr, refl, sym, ap, subst, ◌∙◌}
-use Rattle.std.specs.Prelude.{IsSome}
+-- A node that runs goes on running; where no call of its device fails, it refuses notes and reports for want of memory alone.
+use Rattle.std.proofs.Common.{◌≡◌, ◌⊎◌, ℕ, ◌<◌, Option, Some, None, Result, Ok, Err, List, inl, inr, refl, sym, ap, subst, ◌∙◌, arith}
+use Rattle.std.specs.Prelude.{IsSome, IfErr, IsOkUnless}
 use Rattle.rp_base.specs.declared.action.Action.{Action}
 use Rattle.rp_base.specs.declared.fault.Fault.{Fault}
+use Rattle.rp_base.specs.declared.fault.Fault.TheVariants.{OutOfMemory}
 use Rattle.rp_base.specs.declared.reply.Answer.{Answer}
-use Rattle.rp_boxes.specs.Making.{IsWanting}
 use Rattle.rp_boxes.specs.Parts.{Part, Role, OfNode}
-use Rattle.rp_boxes.specs.Seats.{Chair, IsGot, IsTurn, IsCutTurn, IsNoTurn, setting_at}
+use Rattle.rp_boxes.specs.Seats.{Chair, IsGot, IsReason, IsTurn, IsCutTurn, IsNoTurn, setting_at}
 use Rattle.rp_model.specs.Effect.{Setting, Done, NodeInput, Receive, Lead, Interrupt, Tick, Report, turned, turned_if, effect_while, running_effect}
 use Rattle.rp_model.specs.Parts.{NodePart, Running, Turn}
 use Rattle.rp_replica.specs.Inputs.{IsRightInput, given_by}
@@ -35,22 +35,19 @@ module _ {S : Type 0} (s : Setting S) (me : ℕ) (node : NodePart) where
   while_runs input None done is = absurd (cc)
   while_runs input (Some running) done is = turned_runs node (running_effect s me node.records running input) done is
 
-  not_refused : (input : NodeInput) (running : Option Running) (fault : Fault) → IsTaken input → IsSome running → effect_while s me node input running ≡ Err fault → ⊥
-  not_refused input None fault taken runs is = absurd (cc)
-  not_refused (Receive message) (Some running) fault taken runs is = taken
-  not_refused (Lead choice) (Some running) fault taken runs is = taken
-  not_refused (Interrupt source occurrence) (Some running) fault taken runs is = absurd (cc)
-  not_refused (Tick now) (Some running) fault taken runs is = absurd (cc)
-  not_refused (Report first) (Some running) fault taken runs is = absurd (cc)
+  only_memory : (input : NodeInput) (running : Option Running) (fault : Fault) → IsTaken input → IsSome running → IsReason running (effect_while s me node input running) fault
+      → fault ≡ OutOfMemory
+  only_memory input None fault taken runs why = absurd (cc)
+  only_memory (Receive message) (Some running) fault taken runs why = absurd taken
+  only_memory (Lead choice) (Some running) fault taken runs why = absurd taken
+  only_memory (Interrupt source occurrence) (Some running) fault taken runs why = why
+  only_memory (Tick now) (Some running) fault taken runs why = why
+  only_memory (Report first) (Some running) fault taken runs why = why
 
 -- ---- its seat
 
 pub same_node : (role : Role) (a b : NodePart) → role ≡ OfNode a → role ≡ OfNode b → a ≡ b
 same_node role a b is_a is_b = let e : OfNode a ≡ OfNode b = sym is_a ∙ is_b in cc
-
-stopped : (running : Option Running) → running ≡ None → IsSome running → ⊥
-stopped None is some = absurd (cc)
-stopped (Some running) is some = absurd (cc)
 
 module _ {S P : Type 0} (next : S → Action → S) (answers : S → Action → List Answer) (begin : P → S) (old new : Chair P) where
   pub turn_runs : (input : Input) (sent : Sent) → IsTurn next answers begin old input new sent → Runs new.part
@@ -60,25 +57,21 @@ module _ {S P : Type 0} (next : S → Action → S) (answers : S → Action → 
     while_runs (setting_at next answers begin old) old.number t.node t.given t.node.running t.done t.comes,
   )
 
-  -- where it runs and takes the input, only memory or the device may be wanting
-  stops_wanting : (input : Input) (fault : Fault) → ((given : NodeInput) → given_by input ≡ Ok given → IsTaken given) → Runs old.part
-      → IsCutTurn next answers begin old input new fault ⊎ IsNoTurn next answers begin old input new fault → IsWanting fault
-  stops_wanting input fault taken runs (inl cut) = inr cut.device
-  stops_wanting input fault taken runs (inr none) =
+  -- where it runs and takes the input, and no call of its device failed, memory ran out
+  stops_memory : (input : Input) (fault : Fault) → ((given : NodeInput) → given_by input ≡ Ok given → IsTaken given) → Runs old.part → new.failures ≡ 0
+      → IsCutTurn next answers begin old input new fault ⊎ IsNoTurn next answers begin old input new fault → fault ≡ OutOfMemory
+  stops_memory input fault taken runs never (inl cut) = let less = cut.failed in absurd (omega (arith, less, never))
+  stops_memory input fault taken runs never (inr none) =
       let same : runs.0 ≡ none.node = same_node old.part.role runs.0 none.node runs.1 none.was in
       let some : IsSome none.node.running = subst (λ (n : NodePart). IsSome n.running) same runs.2 in
-      elim none.why [
-        | inl failed ↦ absurd (stopped none.node.running failed.1 some)
-        | inr other ↦ elim other [
-          | inl out ↦ inl out.0
-          | inr refused ↦ absurd (not_refused (setting_at next answers begin old) old.number none.node none.given none.node.running fault (taken none.given none.gives) some refused)
-        ]
-      ]
+      only_memory (setting_at next answers begin old) old.number none.node none.given none.node.running fault (taken none.given none.gives) some none.why
 
-  pub report_wanting : (first : ℕ) (fault : Fault) → Runs old.part
-      → IsCutTurn next answers begin old (inputs.Report first) new fault ⊎ IsNoTurn next answers begin old (inputs.Report first) new fault → IsWanting fault
-  report_wanting first fault runs why =
-      stops_wanting (inputs.Report first) fault (λ given is. let e : Report first ≡ given = cc in subst IsTaken e tt) runs why
+  pub report_memory : (first : ℕ) → Runs old.part → new.failures ≡ 0 → {A : Type 0} (result : Result A Fault)
+      → IfErr result (λ fault. IsCutTurn next answers begin old (inputs.Report first) new fault ⊎ IsNoTurn next answers begin old (inputs.Report first) new fault)
+      → IsOkUnless result OutOfMemory
+  report_memory first runs never (Ok sent) why = tt
+  report_memory first runs never (Err fault) why =
+      stops_memory (inputs.Report first) fault (λ given is. let e : Report first ≡ given = cc in subst IsTaken e tt) runs never why
 
   -- ---- notes
 
@@ -89,9 +82,13 @@ module _ {S P : Type 0} (next : S → Action → S) (answers : S → Action → 
   note_taken (inputs.Tick now) given note is = let e : Tick now ≡ given = cc in subst IsTaken e tt
   note_taken (inputs.Report first) given note is = absurd note
 
-  pub note_wanting : (input : Input) (fault : Fault) → IsNote input → Runs old.part → IsStopBy next answers begin (λ given. given ≡ input) old new fault → IsWanting fault
-  note_wanting input fault note runs stop =
-      stops_wanting stop.input fault (λ given is. note_taken stop.input given (subst IsNote (sym stop.is) note) is) runs stop.why
+  pub note_memory : (input : Input) (fault : Fault) → IsNote input → Runs old.part → new.failures ≡ 0 → IsStopBy next answers begin (λ given. given ≡ input) old new fault
+      → fault ≡ OutOfMemory
+  note_memory input fault note runs never stop =
+      stops_memory stop.input fault (λ given is. note_taken stop.input given (subst IsNote (sym stop.is) note) is) runs never stop.why
+
+  pub note_turn : (input : Input) (count : ℕ) → IsEventBy next answers begin (λ given. given ≡ input) old new count → (sent : Sent) × IsTurn next answers begin old input new sent
+  note_turn input count event = (event.sent, subst (λ (i : Input). IsTurn next answers begin old i new event.sent) event.is event.turn)
 
   pub note_runs : (input : Input) (count : ℕ) → IsEventBy next answers begin (λ given. given ≡ input) old new count → Runs new.part
   note_runs input count event = turn_runs event.input event.sent event.turn

@@ -118,7 +118,7 @@ one_ready {A} {P} f starts grown start seat rest left seats is same steps so_far
     ap (λ (l : List A). map f l ++ left) is ∙ ap (λ (l : List (Chair P)). l ++ left) (map-append f starts (start ∷ []))
     ∙ append_assoc (map f starts) (f start ∷ []) left ∙ ap (λ (s : Chair P). map f starts ++ s ∷ left) same ∙ ap (λ (l : List (Chair P)). map f starts ++ l) (sym steps) ∙ so_far
 
-mapped : {A B : Type 0} (f : A → B) (xs : List A) → length (map f xs) ≡ length xs
+pub mapped : {A B : Type 0} (f : A → B) (xs : List A) → length (map f xs) ≡ length xs
 mapped f [] = refl
 mapped f (x ∷ xs) = ap suc (mapped f xs)
 

@@ -7,7 +7,7 @@ use Rattle.rp_base.specs.declared.reply.Answer.{Answer}
 use Rattle.rp_codec.specs.declared.packet.Party.TheVariants.{Node, Task}
 use Rattle.rp_machine.specs.Replay.{kept_of}
 use Rattle.rp_model.specs.declared.event.Event.{Event}
-use Rattle.rp_store.specs.Disk.{Disk}
+use Rattle.rp_store.specs.Disk.{Memory}
 use Rattle.rp_boxes.specs.Audits.{Audited, known_of}
 use Rattle.rp_boxes.specs.Making.{AreSeats}
 use Rattle.rp_boxes.specs.Parts.{task_of}
@@ -38,7 +38,7 @@ module _ {S P : Type 0} (next : S → Action → S) (answers : S → Action → 
   -- interrupts and ticks among the events, and then each made its turns over the line of its party, and the tasks the
   -- calls among the events.
   pub record HasRun (config : Config) (program : P) (events : List Event) (seed turns : ℕ)
-      (audit : Chair P) (nodes : List (NodeEnd S Disk P)) (tasks : List (TaskEnd S P)) : Type 0 where
+      (audit : Chair P) (nodes : List (NodeEnd S Memory P)) (tasks : List (TaskEnd S P)) : Type 0 where
     pub first_nodes : List (Chair P)
     pub first_tasks : List (Chair P)
     pub failures : List ℕ
@@ -66,7 +66,7 @@ module _ {S P : Type 0} (next : S → Action → S) (answers : S → Action → 
   -- A whole run. In the one order the counted calls of each task are the calls among the events, in order, that it made.
   pub record IsLived (config : Config) (program : P) (events : List Event) (seed turns : ℕ) (lived : Lived) : Type 0 where
     pub audit : Chair P
-    pub nodes : List (NodeEnd S Disk P)
+    pub nodes : List (NodeEnd S Memory P)
     pub tasks : List (TaskEnd S P)
     pub ran : HasRun config program events seed turns audit nodes tasks
     pub told : IsTold audit nodes tasks lived

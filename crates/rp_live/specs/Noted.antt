@@ -1,5 +1,5 @@
 -- What nodes note before they run (this project's own).
-use Rattle.std.specs.Prelude.{◌≡◌, ℕ, zero, suc, ◌-◌, Option, Some, None, IfSome, List, set, slice_get}
+use Rattle.std.specs.Prelude.{◌≡◌, ℕ, zero, suc, ◌-◌, Option, Some, None, List, set, slice_get}
 use Rattle.rp_base.specs.declared.action.Action.{Action}
 use Rattle.rp_base.specs.declared.reply.Answer.{Answer}
 use Rattle.rp_model.specs.declared.event.Event.{Event}
@@ -47,5 +47,5 @@ module _ {S P : Type 0} (next : S → Action → S) (answers : S → Action → 
   abbrev pub AreNoted : List Event → ℕ → List (Chair P) → List (Chair P) → Type 0
   AreNoted events zero olds news = news ≡ olds
   AreNoted events (suc n) olds news =
-      (between : List (Chair P)) × AreNoted events n olds between
-      × IfSome (slice_get events n) (λ event. IsNoted (noted_by event) between news)
+      (between : List (Chair P)) × (event : Event) × AreNoted events n olds between
+      × (slice_get events n ≡ Some event) × IsNoted (noted_by event) between news

@@ -5,16 +5,21 @@ use Rattle.std.specs.declared.alloc.Global.{Global}
 use Rattle.atomic_table.specs.Seated.{TableId}
 use Rattle.rp_base.specs.Sets.{Has}
 use Rattle.rp_base.specs.declared.config.Config.{Config}
-use Rattle.rp_base.proofs.Members.{has_split}
+use Rattle.rp_base.specs.declared.action.Action.{Action}
+use Rattle.rp_base.specs.declared.reply.Answer.{Answer}
+use Rattle.rp_base.proofs.Members.{has_split, has_right}
 use Rattle.rp_codec.specs.Message.{Message, IsPacket, IsParty}
 use Rattle.rp_codec.specs.Text.{text_of}
 use Rattle.rp_codec.specs.declared.packet.Party.{Party}
 use Rattle.rp_codec.specs.declared.packet.Party.TheVariants.{Node, Task, Audit}
+use Rattle.rp_agreement.specs.Answered.{setting_for}
 use Rattle.rp_replica.specs.Held.{Held}
+use Rattle.rp_boxes.specs.Looks.{IsWorldOf, WasSent}
 use Rattle.rp_boxes.specs.Parts.{Part, actor_of, part_in, with_got}
 use Rattle.rp_boxes.specs.Plays.{Sight, alone}
 use Rattle.rp_boxes.specs.Rule.{IsCarried, HasOwnPackets}
 use Rattle.rp_boxes.specs.Seats.{Chair, IsAtTable, IsNodePlace, IsSentText, IsFetched}
+use Rattle.rp_boxes.proofs.Worlds.{is_sent}
 
 -- ---- parties
 
@@ -90,9 +95,9 @@ node_stays config begin number held part part' same sits = record { member = sit
 
 -- ---- what the seat is to a contract then
 
-module _ {P : Type 0} (config : Config) (program : P) (number k : ℕ) (mine mine' : TableId) (me me' : Sight) (same : mine' ≡ mine) where
+module _ {P : Type 0} (config : Config) (program : P) (number failures k : ℕ) (mine mine' : TableId) (me me' : Sight) (same : mine' ≡ mine) where
   abbrev chair : TableId → Part → Chair P
-  chair table part = record { table = table; config = config; program = program; number = number; part = part }
+  chair table part = record { table = table; config = config; program = program; number = number; failures = failures; part = part }
 
   pub same_chair : me' ≡ me → chair mine' (part_in me'.0) ≡ chair mine (part_in me.0)
   same_chair sees = λ i. chair (same i) (part_in (sees i).0)
@@ -117,3 +122,33 @@ module _ {P : Type 0} (config : Config) (program : P) (number k : ℕ) (mine min
   pub unfetched_chair : (found : Option (Vec ℕ Global)) → IfNone found (me' ≡ me) → IfNone found (chair mine' (part_in me'.0) ≡ chair mine (part_in me.0))
   unfetched_chair None is = same_chair is
   unfetched_chair (Some text) is = tt
+
+  -- what it got was sent by the other party
+  module _ {S : Type 0} (next : S → Action → S) (answers : S → Action → List Answer) (begin : P → S) (from to : Party) (own : actor_of to ≡ k) where
+    -- a world of which the seat's view is a piece
+    abbrev pub Sees : Vec ℕ Global → Type 0
+    Sees text = (parts : ℕ → Part) × IsWorldOf (setting_for next answers begin config program) me'.0 parts
+
+    was_sent : (text : Vec ℕ Global) → Finds (actor_of from) k me me' text → Sees text → WasSent next answers begin from to text.items (chair mine' (part_in me'.0))
+    was_sent text found seen =
+        let m = found.0 in
+        let part = part_in me'.0 in
+        let sees : me' ≡ alone k part = found.2 ∙ ap (alone k) (sym (ap (λ (z : Sight). part_in z.0) found.2)) in
+        let here = subst (λ (z : Sight). IsWorldOf (setting_for next answers begin config program) z.0 seen.0) sees seen.1 in
+        let known = here.knows k part (inl refl) in
+        let got : Has m part.got = subst (λ (z : Sight). Has m (part_in z.0).got) (sym found.2) (has_right m (part_in me.0).got (m ∷ []) (inl refl)) in
+        let all = (here.gets k known.1 m (subst (λ (p : Part). Has m p.got) (sym known.0) got)).1 in
+        let sender = is_sent seen.0 16 m all in
+        let is : sender.0 ≡ actor_of from = sym (here.sends sender.0 sender.1 m sender.2) ∙ found.1.from in
+        record {
+          parts = seen.0;
+          world = subst (λ (j : ℕ). IsWorldOf (setting_for next answers begin config program) ((j, part) ∷ []) seen.0) (sym own) here;
+          packet = m;
+          text = found.1.text;
+          sent = subst (λ (j : ℕ). Has m (seen.0 j).sent) is sender.2;
+        }
+
+    pub sent_chair : (found : Option (Vec ℕ Global)) → IfSome found (Finds (actor_of from) k me me') → IfSome found Sees
+        → IfSome found (λ text. WasSent next answers begin from to text.items (chair mine' (part_in me'.0)))
+    sent_chair None found seen = tt
+    sent_chair (Some text) found seen = was_sent text found seen

@@ -1,15 +1,19 @@
 //! The steps at a box: its sender fills it, its receiver empties it.
 
-ghost use Rattle.std.specs.Prelude.{◌≡◌, ◌<◌, [], IfErr, IfSome, IfNone};
+ghost use Rattle.std.specs.Prelude.{◌≡◌, ◌<◌, ℕ, [], IfErr, IfSome, IfNone};
+ghost use Rattle.rp_agreement.specs.Answered.{setting_for};
 ghost use Rattle.rp_base.specs.Sets.{Has};
 ghost use Rattle.rp_codec.specs.Message.{Message};
-ghost use Rattle.rp_boxes.specs.Parts.{part_in, with_got};
+ghost use Rattle.rp_boxes.specs.Looks.{IsWorldOf};
+ghost use Rattle.rp_boxes.specs.Parts.{Part, part_in, with_got};
 ghost use Rattle.rp_boxes.specs.Plays.{IsSized, alone};
 ghost use Rattle.rp_boxes.specs.Rule.{IsCarried};
 
 use crate::board::{Known, Place, Slots};
+use crate::looking::look;
 use atomic_table::Play;
 use rp_machine::Machine;
+use std::marker::Brand;
 
 /// The box has nothing.
 const EMPTY: u64 = 0;
@@ -86,7 +90,8 @@ pub(crate) fn fill<M: Machine>(
     Ok(())
 }
 
-/// Takes the packet out of the box from another actor to this one, if it is full.
+/// Takes the packet out of the box from another actor to this one, if it is full, and looks at the
+/// table: there is a world in which that actor has sent it.
 pub(crate) fn empty<M: Machine>(
     slots: &Slots<M>,
     place: &mut Place,
@@ -103,6 +108,9 @@ pub(crate) fn empty<M: Machine>(
     ensures none { IfNone result (place.new.me ≡ place.old.me) }
     ensures some { IfSome result (λ text. (m : Message) × IsCarried from to text.items m
         × (place.new.me ≡ alone to (with_got m (part_in place.old.me.0)))) }
+    ensures world { IfSome result (λ text. (parts : ℕ → Part)
+        × IsWorldOf (setting_for M.next M.answers M.begin slots.now.key.config
+        slots.now.key.program.value) place.new.me.0 parts) }
 {
     let at = 16 * from + to;
     if slots.compare_exchange::<Take>(place, at, FULL, EMPTYING) != FULL {
@@ -110,5 +118,6 @@ pub(crate) fn empty<M: Machine>(
     }
     let packet = slots.exchange(place, at, None);
     slots.store::<Clear>(place, at, EMPTY);
+    look::<M, Brand>(slots, place);
     packet
 }

@@ -8,6 +8,7 @@ ghost use Rattle.rp_codec.specs.declared.packet.Party.TheVariants.{Node};
 ghost use Rattle.rp_model.specs.Parts.{Running};
 ghost use Rattle.rp_replica.specs.Inputs.{IsRightInput};
 ghost use Rattle.rp_replica.specs.declared.input.Input.TheVariants.{Report};
+ghost use Rattle.rp_boxes.specs.Looks.{WasSent};
 ghost use Rattle.rp_boxes.specs.Seats.{IsGot, IsTurn, IsCutTurn, IsNoTurn, IsSentText, IsFetched, HasApplied, IsRunning, IsStopped, IsReport};
 
 use crate::actors::{actor_of, receiver};
@@ -46,6 +47,7 @@ impl<M: Machine, D: Device> Model for NodeSeat<M, D> {
       config = (arc_value s.board).shared.key.config;
       program = (arc_value s.board).shared.key.program.value;
       number = s.node;
+      failures = s.replica.disk.failures;
       part = part_in s.place.me.0;
     } };
 
@@ -113,10 +115,12 @@ impl<M: Machine, D: Device> NodeSeat<M, D> {
     }
 
     /// The packet in the box from that party to this seat, as its text, or `None` where the box is
-    /// not full.
+    /// not full. That party has sent it.
     pub fn fetch(&mut self, from: Party) -> Option<Vec<u8>>
         ensures some { IfSome result (λ text. IsFetched from (Node self.old.number) text.items
             self.old self.new) }
+        ensures sent { IfSome result (λ text. WasSent M.next M.answers M.begin from
+            (Node self.new.number) text.items self.new) }
         ensures none { IfNone result (self.new ≡ self.old) }
     {
         let node = usize::from(self.node.get());

@@ -9,6 +9,7 @@ ghost use Rattle.rp_codec.specs.Text.{text_of};
 ghost use Rattle.rp_codec.specs.declared.packet.Party.TheVariants as parties;
 ghost use Rattle.rp_model.specs.Tasks.{Submit, Again};
 ghost use Rattle.rp_world.specs.Going.{reply_told};
+ghost use Rattle.rp_boxes.specs.Looks.{WasSent};
 ghost use Rattle.rp_boxes.specs.Parts.{task_of};
 ghost use Rattle.rp_boxes.specs.Seats.{IsSentText, IsFetched};
 ghost use Rattle.rp_boxes.specs.TaskSeats.{IsTaskTurn, IsNoTaskTurn, IsReplyTurn, IsTold};
@@ -59,6 +60,7 @@ impl<M: Machine> Model for TaskSeat<M> {
       config = (arc_value s.board).shared.key.config;
       program = (arc_value s.board).shared.key.program.value;
       number = s.number;
+      failures = 0;
       part = part_in s.place.me.0;
     } };
 
@@ -169,10 +171,12 @@ impl<M: Machine> TaskSeat<M> {
     }
 
     /// The packet in the box from that party to this seat, as its text, or `None` where the box is
-    /// not full.
+    /// not full. That party has sent it.
     pub fn fetch(&mut self, from: Party) -> Option<Vec<u8>>
         ensures some { IfSome result (λ text. IsFetched from (parties.Task self.old.number)
             text.items self.old self.new) }
+        ensures sent { IfSome result (λ text. WasSent M.next M.answers M.begin from
+            (parties.Task self.new.number) text.items self.new) }
         ensures none { IfNone result (self.new ≡ self.old) }
     {
         let actor = actor_of(Party::Task(self.number));

@@ -50,3 +50,6 @@ store-requires g c =
           (sym here)
           (clear_allows s table.slots c.exchange-packet.new.seat.id c.args.from c.args.to (emptying b taken.0 p) c.requires.from c.requires.to roomy refl),
     )
+
+pub look-requires-clause-follows : goal.look-requires-clause-follows
+look-requires-clause-follows g c = λ parts world. (parts, world)

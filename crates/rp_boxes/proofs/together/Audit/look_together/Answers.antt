@@ -13,4 +13,4 @@ returns g c =
     let audit : Audited g.row.M-Program.Denot = record { seat = seat; known = lists c.self.inside.known } in
     let seen = c.look_with.ensures in
     together m.next m.answers m.begin audit c.args.nodes.items c.args.tasks.items seen.0 seen.1 c.the_order_exists.ensures c.reports_tell_the_order.ensures
-    c.applied_lists_begin_the_order.ensures (c.replies_answer_calls_that_count.ensures seat.config seat.program) (c.calls_count_in_turn.ensures seat.config seat.program) c.self.invariant
+    c.applied_lists_begin_the_order.ensures (c.replies_answer_calls_that_count.ensures seat.config seat.program) (c.calls_count_in_turn.ensures seat.config seat.program) c.self.invariant.0

@@ -1,4 +1,7 @@
 pub mod Running
 pub mod Seating
+pub mod Noting
+pub mod Zips
 pub mod Reporting
-pub mod Meeting
+pub mod Counting
+pub mod Living

@@ -1,17 +1,15 @@
 -- A report goes from a node to the audit.
-use Rattle.std.proofs.Common.{◌≡◌, ℕ, [], ◌∷◌, inl, refl, sym, ap, subst, ◌∙◌, length}
-use Rattle.std.specs.Prelude.{IsSome}
+use Rattle.std.proofs.Common.{◌≡◌, ℕ, [], ◌∷◌, inl, refl, sym, ap, subst, ◌∙◌}
 use Rattle.rp_base.specs.Records.{applied_of}
 use Rattle.rp_base.specs.Sets.{Has}
 use Rattle.rp_base.proofs.Members.{has_right}
 use Rattle.rp_codec.specs.Message.{Message}
 use Rattle.rp_model.specs.Effect.{report_of}
-use Rattle.rp_model.specs.Parts.{NodePart}
 use Rattle.rp_replica.specs.declared.sent.Sent.{Sent}
-use Rattle.rp_boxes.specs.Parts.{Part}
+use Rattle.rp_boxes.specs.Parts.{Part, node_of}
 use Rattle.rp_boxes.specs.Seats.{Chair, HasApplied, IsReport, IsSentText}
-use Rattle.rp_live.specs.Seats.{Runs}
-use Rattle.rp_live.proofs.Running.{same_node}
+use Rattle.rp_threads.proofs.Steps.{same_part, same_seat, same_on}
+use Rattle.rp_live.specs.Seats.{HasOnlyReported, HasReportedFrom, Runs}
 
 -- ---- the node reports
 
@@ -24,7 +22,23 @@ module _ {P : Type 0} (first : ℕ) (old new : Chair P) (sent : Sent) (r : IsRep
       let packet = report_of old.number first (applied_of r.node.records) in
       (packet, subst (λ (c : Chair P). Has packet c.part.sent) (sym r.after) (has_right packet old.part.sent (packet ∷ []) (inl refl)), r.text)
 
-  pub still_applied : (count : ℕ) → HasApplied old.part count → HasApplied new.part count
-  still_applied count h =
-      let same : h.0 ≡ r.node = same_node old.part.role h.0 r.node h.1 r.was in
-      (r.node, ap (λ (c : Chair P). c.part.role) r.after, subst (λ (n : NodePart). IsSome n.running) same h.2, h.3 ∙ ap (λ (n : NodePart). length (applied_of n.records)) same)
+  pub reported_from : HasReportedFrom new first
+  reported_from =
+      let packet = report_of old.number first (applied_of r.node.records) in
+      subst (λ (c : Chair P). Has (report_of c.number first (applied_of (node_of c.part.role).records)) c.part.sent) (sym r.after)
+      (has_right packet old.part.sent (packet ∷ []) (inl refl))
+
+  pub only_reported : HasOnlyReported old new
+  only_reported = record { same = same_part old new _ r.after; role = ap (λ (c : Chair P). c.part.role) r.after ∙ sym r.was }
+
+-- ---- a node that reported
+
+module _ {P : Type 0} where
+  pub none_reported : (seat : Chair P) → HasOnlyReported seat seat
+  none_reported seat = record { same = same_seat seat seat refl; role = refl }
+
+  pub reported_on : (a b c : Chair P) → HasOnlyReported a b → HasOnlyReported b c → HasOnlyReported a c
+  reported_on a b c ab bc = record { same = same_on a b c ab.same bc.same; role = bc.role ∙ ab.role }
+
+pub role_applied : (old new : Part) (count : ℕ) → new.role ≡ old.role → HasApplied old count → HasApplied new count
+role_applied old new count same h = (h.0, same ∙ h.1, h.2, h.3)

@@ -3,7 +3,7 @@ use Rattle.std.proofs.Common.{◌≡◌, ℕ, zero, suc, ◌+◌, ◌<◌, ◌�
 use Rattle.std.proofs.lemmas.Grind.{common_steps}
 use Rattle.std.proofs.lemmas.List.{append_assoc, map-append}
 use Rattle.std.specs.List.{AllZip}
-use Rattle.std.specs.Prelude.{All, IfSome}
+use Rattle.std.specs.Prelude.{All, IfSome, slice_index}
 use Rattle.atomic_table.specs.Seated.{TableId}
 use Rattle.rp_base.specs.declared.config.Config.{Config}
 use Rattle.rp_model.specs.Parts.{fresh_node, fresh_task}
@@ -11,8 +11,7 @@ use Rattle.rp_boxes.specs.Making.{AreFirstSeats, first_seat}
 use Rattle.rp_boxes.specs.Parts.{OfNode, OfTask, OfAudit, first_role, fresh_part}
 use Rattle.rp_boxes.specs.Seats.{Chair}
 use Rattle.rp_boxes.proofs.Seating.{node_role}
-use Rattle.rp_threads.specs.Loops.{IsSameSeat}
-use Rattle.rp_live.specs.Seats.{IsSeatOf, AreSeatsOf, Runs}
+use Rattle.rp_live.specs.Seats.{Runs}
 
 -- ---- lists
 
@@ -30,46 +29,22 @@ all_within Q [] each k d within = absurd (omega (arith, within))
 all_within Q (x ∷ xs) each zero d within = each zero (omega (arith, within))
 all_within Q (x ∷ xs) each (suc k) d within = all_within Q xs (λ j less. each (suc j) (omega (arith, less))) k d (omega (arith, within))
 
--- ---- the same seats
+-- ---- at first
 
-module _ {P : Type 0} where
-  module _ (table : TableId) (program : P) where
-    still_of : (number : ℕ) (old new : Chair P) → IsSameSeat old new → IsSeatOf table program number old → IsSeatOf table program number new
-    still_of number old new same is = record {
-      table_is = same.table ∙ is.table_is;
-      program_is = same.program ∙ is.program_is;
-      number_is = same.number ∙ is.number_is;
-    }
-
-    pub seats_still : (number : ℕ) (olds news : List (Chair P)) → AllZip IsSameSeat olds news → AreSeatsOf table program number olds → AreSeatsOf table program number news
-    seats_still number [] [] same are = tt
-    seats_still number [] (new ∷ news) same are = absurd same
-    seats_still number (old ∷ olds) [] same are = absurd same
-    seats_still number (old ∷ olds) (new ∷ news) same are = (still_of number old new same.0 are.0, seats_still (suc number) olds news same.1 are.1)
-
-    -- ---- at first
-
-    seats_from : (number : ℕ) (seats : List (Chair P)) → ((place : ℕ) → IfSome (slice_get seats place) (IsSeatOf table program (number + place))) → AreSeatsOf table program number seats
-    seats_from number [] each = tt
-    seats_from number (seat ∷ seats) each = (
-      subst (λ (k : ℕ). IsSeatOf table program k seat) (let e : number + 0 ≡ number = omega arith in e) (each zero),
-      seats_from (suc number) seats (λ place. subst (λ (k : ℕ). IfSome (slice_get seats place) (IsSeatOf table program k)) (let e : number + suc place ≡ suc number + place = omega arith in e) (each (suc place))),
-    )
-
-    pub first_seats : (config : Config) (actor : ℕ) (seats : List (Chair P)) → AreFirstSeats table config program actor seats → AreSeatsOf table program 1 seats
-    first_seats config actor seats are =
-        seats_from 1 seats (λ place. some_then (λ (seat : Chair P). seat ≡ first_seat table config program (suc place) (actor + place)) (IsSeatOf table program (1 + place)) (λ seat is. record {
-          table_is = ap (λ (c : Chair P). c.table) is;
-          program_is = ap (λ (c : Chair P). c.program) is;
-          number_is = ap (λ (c : Chair P). c.number) is ∙ let e : suc place ≡ 1 + place = omega arith in e;
-        }) (slice_get seats place) (are place))
+-- all seats are at the table
+pub first_tables : {P : Type 0} (table : TableId) (config : Config) (program : P) (actor : ℕ) (failures : List ℕ) (seats : List (Chair P))
+    → AreFirstSeats table config program actor failures seats → All (λ seat. seat.table ≡ table) seats
+first_tables {P} table config program actor failures seats are =
+    all_places (λ (seat : Chair P). seat.table ≡ table) seats (λ place.
+    some_then (λ (seat : Chair P). seat ≡ first_seat table config program (suc place) (actor + place) (slice_index failures place)) (λ (seat : Chair P). seat.table ≡ table)
+    (λ seat is. ap (λ (c : Chair P). c.table) is) (slice_get seats place) (are place))
 
 -- nodes run at first
-pub nodes_run : {P : Type 0} (table : TableId) (config : Config) (program : P) (seats : List (Chair P)) → length seats ≤ 7 → AreFirstSeats table config program 1 seats
+pub nodes_run : {P : Type 0} (table : TableId) (config : Config) (program : P) (failures : List ℕ) (seats : List (Chair P)) → length seats ≤ 7 → AreFirstSeats table config program 1 failures seats
     → All (λ seat. Runs seat.part) seats
-nodes_run {P} table config program seats few are =
+nodes_run {P} table config program failures seats few are =
     all_within (λ (seat : Chair P). Runs seat.part) seats (λ place within.
-    some_then (λ (seat : Chair P). seat ≡ first_seat table config program (suc place) (1 + place)) (λ (seat : Chair P). Runs seat.part) (λ seat is. (
+    some_then (λ (seat : Chair P). seat ≡ first_seat table config program (suc place) (1 + place) (slice_index failures place)) (λ (seat : Chair P). Runs seat.part) (λ seat is. (
       fresh_node,
       ap (λ (c : Chair P). c.part.role) is ∙ node_role (1 + place) (omega arith) (omega (arith, within, few)),
       refl,
@@ -83,27 +58,24 @@ task_role place =
     ap (λ (b : Bool). if b then OfAudit else if nat_lt (8 + place) 8 then OfNode fresh_node else OfTask fresh_task) some
     ∙ ap (λ (b : Bool). if b then OfNode fresh_node else OfTask fresh_task) above
 
-pub tasks_fresh : {P : Type 0} (table : TableId) (config : Config) (program : P) (seats : List (Chair P)) → AreFirstSeats table config program 8 seats
+pub tasks_fresh : {P : Type 0} (table : TableId) (config : Config) (program : P) (seats : List (Chair P)) → AreFirstSeats table config program 8 [] seats
     → All (λ seat. seat.part ≡ fresh_part (OfTask fresh_task)) seats
 tasks_fresh {P} table config program seats are =
     all_places (λ (seat : Chair P). seat.part ≡ fresh_part (OfTask fresh_task)) seats (λ place.
-    some_then (λ (seat : Chair P). seat ≡ first_seat table config program (suc place) (8 + place)) (λ (seat : Chair P). seat.part ≡ fresh_part (OfTask fresh_task))
+    some_then (λ (seat : Chair P). seat ≡ first_seat table config program (suc place) (8 + place) (slice_index [] place)) (λ (seat : Chair P). seat.part ≡ fresh_part (OfTask fresh_task))
     (λ seat is. ap (λ (c : Chair P). c.part) is ∙ ap fresh_part (task_role place)) (slice_get seats place) (are place))
 
 -- ---- what ran
-
-pub zip_seats : {A B P : Type 0} (R : A → B → Type 0) (f : A → Chair P) (h : B → Chair P) → ((x : A) (y : B) → R x y → IsSameSeat (f x) (h y))
-    → (xs : List A) (ys : List B) → AllZip R xs ys → AllZip IsSameSeat (map f xs) (map h ys)
-zip_seats R f h same [] [] all = tt
-zip_seats R f h same [] (y ∷ ys) all = absurd all
-zip_seats R f h same (x ∷ xs) [] all = absurd all
-zip_seats R f h same (x ∷ xs) (y ∷ ys) all = (same x y all.0, zip_seats R f h same xs ys all.1)
 
 pub zip_length : {A B : Type 0} (R : A → B → Type 0) (xs : List A) (ys : List B) → AllZip R xs ys → length ys ≡ length xs
 zip_length R [] [] all = refl
 zip_length R [] (y ∷ ys) all = absurd all
 zip_length R (x ∷ xs) [] all = absurd all
 zip_length R (x ∷ xs) (y ∷ ys) all = ap suc (zip_length R xs ys all.1)
+
+pub none_left : {A : Type 0} (xs : List A) → length xs ≡ 0 → xs ≡ []
+none_left [] none = refl
+none_left (x ∷ xs) none = absurd (omega (arith, none))
 
 pub all_more : {A : Type 0} (Q : A → Type 0) (xs : List A) (x : A) → All Q xs → Q x → All Q (xs ++ x ∷ [])
 all_more Q [] x all is zero d within = is

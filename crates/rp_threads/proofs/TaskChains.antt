@@ -271,3 +271,37 @@ module _ {P : Type 0} (calls : List TaskCall) where
         where
           some_fault : (f : Fault) → Some f ≡ None → ⊥
           some_fault f is = cc
+
+-- ---- one turn, by its steps
+
+module _ {P : Type 0} (nodes : ℕ) (calls : List TaskCall) (turn : ℕ) (old new : TaskAt P) (between : Chair P) (full : Line)
+    (brought : IsBrought (Node (node_at nodes turn)) (Task old.seat.number) old.seat between old.line full) where
+  -- what the line gave on was heard, or memory ran out
+  pub unheard : (fault : Fault) → fault ≡ OutOfMemory → new.seat ≡ between → new.line ≡ line_after full → new.so_far ≡ old.so_far → IsUnmadeTurn nodes calls turn old new fault
+  unheard fault memory stays gives counts = inr (inl (record {
+    full = full;
+    brought = subst (λ (c : Chair P). IsBrought (Node (node_at nodes turn)) (Task old.seat.number) old.seat c old.line full) (sym stays) brought;
+    gives = gives;
+    memory = memory;
+    counts = counts;
+  }))
+
+  module _ (heard : Chair P) (so_far : Calls) (answered : Bool) (hears : Hears (given_on full) between heard answered) (gives : new.line ≡ line_after full)
+      (counts : so_far ≡ heard_by answered old.so_far) where
+    abbrev is_heard : IsHeard nodes calls turn old heard new.line so_far
+    is_heard = record { between = between; full = full; brought = brought; answered = answered; hears = hears; gives = gives; counts = counts }
+
+    pub turn_made : {A : Type 0} (result : Result A Fault) → OnOk result (Asks (asked_in nodes calls turn so_far) heard new.seat) → OnOk result (new.so_far ≡ asked_for calls so_far)
+        → OnOk result (IsTaskTurnOf nodes calls turn old new)
+    turn_made (Ok x) asks made = record { heard = heard; so_far = so_far; hears = is_heard; asks = asks; counts = made }
+    turn_made (Err fault) asks made = tt
+
+    pub turn_unmade : {A : Type 0} (result : Result A Fault)
+        → IfErr result (λ fault. (new.so_far ≡ so_far) × IsRefused (asked_in nodes calls turn so_far) heard new.seat fault)
+        → IfErr result (IsUnmadeTurn nodes calls turn old new)
+    turn_unmade (Ok x) err = tt
+    turn_unmade (Err fault) err = inr (inr (record {
+      heard = heard;
+      hears = subst (λ (c : Calls). IsHeard nodes calls turn old heard new.line c) (sym err.0) is_heard;
+      refused = subst (λ (c : Calls). IsRefused (asked_in nodes calls turn c) heard new.seat fault) (sym err.0) err.1;
+    }))

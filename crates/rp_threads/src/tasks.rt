@@ -8,7 +8,7 @@ ghost use Rattle.rp_model.specs.Parts.{fresh_task};
 ghost use Rattle.rp_model.specs.Tasks.{Again};
 ghost use Rattle.rp_threads.specs.Lines.{HoldsTextsOf, given_on, line_after};
 ghost use Rattle.rp_threads.specs.Tasks.{AreSentOnce};
-ghost use Rattle.rp_threads.specs.TaskRounds.{Hears, Asks, IsRefused, IsTaskTurnOf, IsUnmadeTurn, asked_in, asked_for, submitted};
+ghost use Rattle.rp_threads.specs.TaskRounds.{Hears, Asks, IsRefused, IsTaskTurnOf, IsUnmadeTurn, asked_in, asked_for, heard_by, submitted};
 ghost use Rattle.rp_threads.specs.Threads.{IsTaskLooped};
 ghost use Rattle.rp_threads.specs.Turns.{IsBrought, IsLost};
 
@@ -48,6 +48,17 @@ pub struct TaskEnd<M: Machine> {
 struct Calls {
     made: usize,
     waits: bool,
+}
+
+impl Calls {
+    /// Once a call has its reply, the task waits for none.
+    fn hear(&mut self, answered: bool)
+        ensures { self.new ≡ heard_by answered self.old }
+    {
+        if answered {
+            self.waits = false;
+        }
+    }
 }
 
 /// A task at its work: its seat, the line that its packets come through, and its calls so far.
@@ -198,9 +209,8 @@ impl<M: Machine> Caller<M> {
             (record { seat = self.new.seat; line = self.new.line; so_far = self.new.so_far })) }
     {
         bring(&mut self.seat, &mut self.line, alloc, node_in_turn(nodes, turn))?;
-        if hear(&mut self.seat, &mut self.line, alloc)? {
-            self.so_far.waits = false;
-        }
+        let answered = hear(&mut self.seat, &mut self.line, alloc)?;
+        self.so_far.hear(answered);
         ask(&mut self.seat, alloc, nodes, calls, &mut self.so_far, turn)
     }
 }

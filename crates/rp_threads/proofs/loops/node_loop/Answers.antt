@@ -1,5 +1,5 @@
 -- The line is empty at first, and each turn is one more.
-use Rattle.std.proofs.Common.{◌≡◌, ℕ, suc, ◌+◌, None, Some, refl, sym, ap, subst, ◌∙◌, add-one}
+use Rattle.std.proofs.Common.{◌≡◌, ℕ, suc, ◌+◌, None, Some, refl, sym, ap, subst, ◌∙◌, arith, add-one}
 use Rattle.rp_threads.specs.Loops.{sender_at, total_of}
 use Rattle.rp_threads.specs.Rounds.{NodeAt, AreTurns, IsTurnOf, IsUnmade, before_turns, is_to_lead}
 use Rattle.rp_threads.specs.Threads.{IsLooped}
@@ -44,12 +44,14 @@ returns-in-Err g c =
     let unmade = subst (λ (n : ℕ). IsUnmade m.next m.answers m.begin (sender_at c.args.nodes n) (is_to_lead before.seat.number n) before.seat now.seat before.line now.line c.in-Err.fault) one err.2 in
     subst (IsLooped m.next m.answers m.begin lets c.args.nodes c.args.turns c.args.seat c.args.line) (sym c.ended.ensures)
     (ended m.next m.answers m.begin lets c.args.nodes c.args.turns c.args.seat c.args.line done before now.seat now.line c.in-Err.fault c.loop-done.invariant.turns
-    _ err.0 passes unmade)
+    (omega (arith, c.loop-done-test.true)) err.0 passes unmade)
 
 pub returns : goal.returns
 returns g c =
     let m = g.M.Machine in
     let worker = c.loop-done.worker in
     let now : NodeAt g.row.M-Program.Denot = record { seat = worker.seat; line = worker.line; counts = c.loop-done.counts } in
+    let all : c.loop-done.done ≡ c.args.turns = omega (arith, c.loop-done-test.false, c.loop-done.auto.done-end) in
+    let turns = subst (λ (n : ℕ). AreTurns m.next m.answers m.begin g.G.Gate.lets c.args.nodes (before_turns c.args.seat c.args.line) n now) all c.loop-done.invariant.turns in
     subst (IsLooped m.next m.answers m.begin g.G.Gate.lets c.args.nodes c.args.turns c.args.seat c.args.line) (sym c.ended-2.ensures)
-    (looped m.next m.answers m.begin g.G.Gate.lets c.args.nodes c.args.turns c.args.seat c.args.line now _)
+    (looped m.next m.answers m.begin g.G.Gate.lets c.args.nodes c.args.turns c.args.seat c.args.line now turns)

@@ -1,5 +1,5 @@
 -- The line is empty and the task fresh at first, and each turn is one more.
-use Rattle.std.proofs.Common.{◌≡◌, ℕ, suc, ◌+◌, refl, sym, subst, add-one}
+use Rattle.std.proofs.Common.{◌≡◌, ℕ, suc, ◌+◌, refl, sym, subst, arith, add-one}
 use Rattle.rp_threads.specs.Tasks.{TaskAt, before_calls}
 use Rattle.rp_threads.specs.TaskRounds.{AreTaskTurns, IsTaskTurnOf, IsUnmadeTurn}
 use Rattle.rp_threads.specs.Threads.{IsTaskLooped}
@@ -35,12 +35,15 @@ returns-in-Err g c =
     let last : TaskAt g.row.M-Program.Denot = record { seat = after.seat; line = after.line; so_far = after.so_far } in
     let unmade = subst (λ (n : ℕ). IsUnmadeTurn a.nodes a.calls.now n before last c.in-Err.fault) (add-one done) c.in-Err.ensures.err in
     subst (IsTaskLooped a.nodes a.turns a.calls.now a.seat a.line) (sym c.ended.ensures)
-    (task_ended a.calls.now a.nodes a.turns a.seat a.line c.requires.fresh done before last c.in-Err.fault c.requires.nodes.0 c.loop-done.invariant.turns _ unmade)
+    (task_ended a.calls.now a.nodes a.turns a.seat a.line c.requires.fresh done before last c.in-Err.fault c.requires.nodes.0 c.loop-done.invariant.turns
+    (omega (arith, c.loop-done-test.true)) unmade)
 
 pub returns : goal.returns
 returns g c =
     let a = c.args in
     let caller = c.loop-done.caller in
     let now : TaskAt g.row.M-Program.Denot = record { seat = caller.seat; line = caller.line; so_far = caller.so_far } in
+    let all : c.loop-done.done ≡ a.turns = omega (arith, c.loop-done-test.false, c.loop-done.auto.done-end) in
+    let turns = subst (λ (n : ℕ). AreTaskTurns a.nodes a.calls.now (before_calls a.seat a.line) n now) all c.loop-done.invariant.turns in
     subst (IsTaskLooped a.nodes a.turns a.calls.now a.seat a.line) (sym c.ended-2.ensures)
-    (task_looped a.calls.now a.nodes a.turns a.seat a.line c.requires.fresh now _)
+    (task_looped a.calls.now a.nodes a.turns a.seat a.line c.requires.fresh now turns)

@@ -59,7 +59,7 @@ pub record IsFirstPlace (table mine : TableId) (actor : ℕ) (me : Sight) : Type
 abbrev pub AreFirstSeats : {P : Type 0} → TableId → Config → P → ℕ → List ℕ → List (Chair P) → Type 0
 AreFirstSeats table config program actor failures seats =
     (place : ℕ) → IfSome (slice_get seats place) (λ seat.
-      seat ≡ first_seat table config program (suc place) (actor + place) (slice_index failures place))
+    seat ≡ first_seat table config program (suc place) (actor + place) (slice_index failures place))
 
 -- Each node of the configuration, each of the eight tasks and the audit has a seat at one table, and did nothing. Of
 -- the devices of the nodes so many calls have failed.

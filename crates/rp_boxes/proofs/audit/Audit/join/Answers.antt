@@ -25,11 +25,11 @@ returns-then-first-known-clause-ok g c =
 
 pub invariant_of-self : goal.invariant_of-self
 invariant_of-self g c = (
-      subst (AreTold c.self.inside.seat.part)
-    (sym (still_known c.self.inside.known (c.from-place.result - 1) c.index-self-place-2.result _ c.in_err-put_reported.ensures.err))
-    c.self.invariant.0,
-      c.self.invariant.1,
-    )
+  subst (AreTold c.self.inside.seat.part)
+      (sym (still_known c.self.inside.known (c.from-place.result - 1) c.index-self-place-2.result _ c.in_err-put_reported.ensures.err))
+      c.self.invariant.0,
+  c.self.invariant.1,
+)
 
 pub returns-in_err-put_reported-clause-err : goal.returns-in_err-put_reported-clause-err
 returns-in_err-put_reported-clause-err g c =

@@ -7,7 +7,15 @@ use Rattle.rp_boxes.specs.Parts.{Part}
 use Rattle.rp_boxes.specs.Plays.{Sight}
 use Rattle.rp_boxes.specs.Seats.{Chair, setting_at}
 use Rattle.rp_boxes.specs.Together.{of_node, of_task}
-use Rattle.rp_boxes.proofs.together.AuditSeat.look_with.Goals as goal
+use Rattle.rp_boxes.proofs.audit_seat.AuditSeat.look_with.Goals as goal
+
+pub look_as_one-requires-clause-nodes : goal.look_as_one-requires-clause-nodes
+look_as_one-requires-clause-nodes g c k d less =
+    c.requires.nodes k d less ∙ ap (λ (chair : Chair g.row.M-Program.Denot). chair.table) (sym c.self.view_is) ∙ c.self.invariant.0.same ∙ ap (λ board. board.shared.table_id) (sym c.deref.ensures)
+
+pub look_as_one-requires-clause-tasks : goal.look_as_one-requires-clause-tasks
+look_as_one-requires-clause-tasks g c k d less =
+    c.requires.tasks k d less ∙ ap (λ (chair : Chair g.row.M-Program.Denot). chair.table) (sym c.self.view_is) ∙ c.self.invariant.0.same ∙ ap (λ board. board.shared.table_id) (sym c.deref.ensures)
 
 pub returns : goal.returns
 returns g c =

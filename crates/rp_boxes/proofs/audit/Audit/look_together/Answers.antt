@@ -4,7 +4,7 @@ use Rattle.rp_boxes.specs.Audits.{Audited}
 use Rattle.rp_boxes.specs.Together.{AreTogether}
 use Rattle.rp_boxes.proofs.Auditing.{lists}
 use Rattle.rp_boxes.proofs.OneWorld.{together}
-use Rattle.rp_boxes.proofs.together.Audit.look_together.Goals as goal
+use Rattle.rp_boxes.proofs.audit.Audit.look_together.Goals as goal
 
 pub returns : goal.returns
 returns g c =

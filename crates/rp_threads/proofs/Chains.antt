@@ -84,15 +84,12 @@ module _ {S P : Type 0} (next : S → Action → S) (answers : S → Action → 
   kept_failures first before last fault sound (inr left) other = left.0.failures ∙ sound.failures
 
   module _ {M D : Type 0} (turns : ℕ) (seat : Chair P) (line : Line) where
-    abbrev first : NodeAt P
-    first = before_turns seat line
-
     abbrev IsEnd : NodeEnd M D P → Type 0
     IsEnd end = IsLooped next answers begin lets nodes turns seat line end
 
-    pub looped : (now : NodeAt P) → AreTurns next answers begin lets nodes first turns now → IsEnd (end_of now.counts now.seat None)
+    pub looped : (now : NodeAt P) → AreTurns next answers begin lets nodes (before_turns seat line) turns now → IsEnd (end_of now.counts now.seat None)
     looped now are =
-        let has = all_turned first turns now are in
+        let has = all_turned (before_turns seat line) turns now are in
         let total = has.total in
         let events = has.events in
         record {
@@ -105,12 +102,12 @@ module _ {S P : Type 0} (next : S → Action → S) (answers : S → Action → 
           fault = tt;
         }
 
-    pub ended : (done : ℕ) (before : NodeAt P) (last : Chair P) (after : Line) (fault : Fault) → AreTurns next answers begin lets nodes first done before → done < turns
+    pub ended : (done : ℕ) (before : NodeAt P) (last : Chair P) (after : Line) (fault : Fault) → AreTurns next answers begin lets nodes (before_turns seat line) done before → done < turns
         → is_refusal fault ≡ false → lets before.seat.number (suc done) ≡ true
         → IsUnmade next answers begin (sender_at nodes (suc done)) (is_to_lead before.seat.number (suc done)) before.seat last before.line after fault
         → IsEnd (end_of before.counts last (Some fault))
     ended done before last after fault are within ends passes unmade =
-        let has = all_turned first done before are in
+        let has = all_turned (before_turns seat line) done before are in
         let from = sender_at nodes (suc done) in
         let lead = is_to_lead before.seat.number (suc done) in
         let left = unmade_left next answers begin from lead before.seat last before.line after fault unmade in

@@ -238,28 +238,25 @@ module _ {P : Type 0} (calls : List TaskCall) where
     -- ---- ends of loops
 
     module _ {M : Type 0} (turns : ℕ) (seat : Chair P) (line : Line) (fresh : seat.part ≡ fresh_part (OfTask fresh_task)) where
-      abbrev start : TaskAt P
-      start = before_calls seat line
-
       abbrev IsEnd : TaskEnd M P → Type 0
       IsEnd end = IsTaskLooped nodes turns calls seat line end
 
-      pub task_looped : (now : TaskAt P) → AreTaskTurns nodes calls start turns now → IsEnd (record { seat = now.seat; made = now.so_far.made; fault = None })
+      pub task_looped : (now : TaskAt P) → AreTaskTurns nodes calls (before_calls seat line) turns now → IsEnd (record { seat = now.seat; made = now.so_far.made; fault = None })
       task_looped now are =
-          let on = turns_on start turns now are in
+          let on = turns_on (before_calls seat line) turns now are in
           let none = none_made calls seat fresh in
           record {
             same = on.0;
             turned = λ ended. (now.line, now.so_far.waits, are);
             made = (now.so_far.waits, on.1 none);
-            first = λ ended some more. first_made start turns now none are some more;
+            first = λ ended some more. first_made (before_calls seat line) turns now none are some more;
             fault = tt;
           }
 
-      pub task_ended : (done : ℕ) (before last : TaskAt P) (fault : Fault) → 1 ≤ nodes → AreTaskTurns nodes calls start done before → done < turns
+      pub task_ended : (done : ℕ) (before last : TaskAt P) (fault : Fault) → 1 ≤ nodes → AreTaskTurns nodes calls (before_calls seat line) done before → done < turns
           → IsUnmadeTurn nodes calls (suc done) before last fault → IsEnd (record { seat = last.seat; made = last.so_far.made; fault = Some fault })
       task_ended done before last fault some are within unmade =
-          let on = turns_on start done before are in
+          let on = turns_on (before_calls seat line) done before are in
           let left = unmade_on (suc done) seat before last fault some on.0 (on.1 (none_made calls seat fresh)) unmade in
           record {
             same = left.0;

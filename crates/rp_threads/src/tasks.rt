@@ -7,7 +7,7 @@ ghost use Rattle.rp_codec.specs.declared.packet.Party.TheVariants as parties;
 ghost use Rattle.rp_model.specs.Parts.{fresh_task};
 ghost use Rattle.rp_model.specs.Tasks.{Again};
 ghost use Rattle.rp_threads.specs.Lines.{HoldsTextsOf, given_on, line_after};
-ghost use Rattle.rp_threads.specs.Tasks.{AreSentOnce};
+ghost use Rattle.rp_threads.specs.Tasks.{AreSentOnce, called};
 ghost use Rattle.rp_threads.specs.TaskRounds.{Hears, Asks, IsRefused, IsTaskTurnOf, IsUnmadeTurn, asked_in, asked_for, heard_by, submitted};
 ghost use Rattle.rp_threads.specs.Threads.{IsTaskLooped};
 ghost use Rattle.rp_threads.specs.Turns.{IsBrought, IsLost};
@@ -126,13 +126,18 @@ fn put_sent<M: Machine>(seat: &mut TaskSeat<M>, sent: Sent)
 fn make<M: Machine>(
     seat: &mut TaskSeat<M>,
     alloc: Global,
-    call: TaskCall,
+    node: NodeId,
+    object: u8,
+    operation: Operation,
+    arg: i64,
 ) -> Result<(), Fault>
     ensures got { seat.new.part.got ≡ seat.old.part.got }
-    ensures ok { OnOk result (Asks (submitted (Some call)) seat.old seat.new) }
-    ensures err { IfErr result (IsRefused (submitted (Some call)) seat.old seat.new) }
+    ensures ok { OnOk result (Asks (submitted (Some (called node object operation arg)))
+        seat.old seat.new) }
+    ensures err { IfErr result (IsRefused (submitted (Some (called node object operation arg)))
+        seat.old seat.new) }
 {
-    let sent = seat.call(alloc, call.node, call.object, call.operation, call.arg)?;
+    let sent = seat.call(alloc, node, object, operation, arg)?;
     put_sent(seat, sent);
     Ok(())
 }
@@ -170,7 +175,14 @@ fn ask<M: Machine>(
             ask_again(seat, alloc, node_in_turn(nodes, turn / PATIENCE))?;
         }
     } else if let Some(call) = calls.get(so_far.made) {
-        make(seat, alloc, *call)?;
+        make(
+            seat,
+            alloc,
+            call.node,
+            call.object,
+            call.operation,
+            call.arg,
+        )?;
         so_far.made += 1;
         so_far.waits = true;
     }

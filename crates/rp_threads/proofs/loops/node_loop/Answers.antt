@@ -1,5 +1,5 @@
 -- The line is empty at first, and each turn is one more.
-use Rattle.std.proofs.Common.{◌≡◌, ℕ, suc, ◌+◌, None, Some, refl, sym, ap, subst, ◌∙◌, arith, add-one}
+use Rattle.std.proofs.Common.{◌≡◌, ℕ, suc, ◌+◌, true, None, Some, refl, sym, ap, subst, ◌∙◌, arith, add-one}
 use Rattle.rp_threads.specs.Loops.{sender_at, total_of}
 use Rattle.rp_threads.specs.Rounds.{NodeAt, AreTurns, IsTurnOf, IsUnmade, before_turns, is_to_lead}
 use Rattle.rp_threads.specs.Threads.{IsLooped}

@@ -58,7 +58,8 @@ promise_allowed records i b =
 promise_told : (nodes x : ℕ) (records : List Rec) (sent : List Message) (running : Running) (from i b : ℕ) (answer : PrepareAnswer)
     → IsRunning sent records running → AllowsPromise records i b answer → IsSoundTurn nodes x records sent (tells_promise x running from i b answer)
 promise_told nodes x records sent running from i b (prepares.Promise last rec) runs allows =
-    let told = subst (λ (o : Option Vote). IsSo nodes sent (records ++ Promised i b ∷ []) (bodies.Promise i b o)) (sym allows.0) (reports records i b allows.2) in
+    let told = subst (λ (o : Option Vote). IsSo nodes sent (records ++ Promised i b ∷ []) (bodies.Promise i b o)) (sym allows.0)
+    (has_right (Promised i b) records (Promised i b ∷ []) (inl refl), reports records i b allows.2) in
     subst (λ (r : Rec). IsSoundTurn nodes x records sent (writes r running (says x (bodies.Promise i b last) from ∷ []))) (sym allows.1)
     (plain nodes x records sent (writes (Promised i b) running (says x (bodies.Promise i b last) from ∷ [])) tt
     (one_said nodes x sent (records ++ Promised i b ∷ []) (bodies.Promise i b last) from told (λ h. h))

@@ -26,7 +26,7 @@ use Rattle.rp_agreement.proofs.Places.{AnswersKnown, kept_from, number_is, same_
 
 -- ---- calls that are numbered on from a number
 
-abbrev AreNumbered : ℕ → ℕ → List Action → Type 0
+abbrev pub AreNumbered : ℕ → ℕ → List Action → Type 0
 AreNumbered t k [] = Unit {0}
 AreNumbered t k (action ∷ rest) = (calls_of action ≡ named t (suc k) ∷ []) × AreNumbered t (suc k) rest
 
@@ -38,13 +38,13 @@ by_places t k (x ∷ xs) each = (
 )
 
 -- where the names are those from 1 on, the calls are numbered from 1 on
-from_one : (t n : ℕ) (xs : List Action) → map calls_of xs ≡ map (λ k. named t k ∷ []) (one_to n) → AreNumbered t 0 xs
+pub from_one : (t n : ℕ) (xs : List Action) → map calls_of xs ≡ map (λ k. named t k ∷ []) (one_to n) → AreNumbered t 0 xs
 from_one t n xs names = by_places t 0 xs (λ j x is.
     let here : slice_get (map (λ k. named t k ∷ []) (one_to n)) j ≡ Some (calls_of x) = subst (λ (all : List (List CallName)). slice_get all j ≡ Some (calls_of x)) names (get_mapped calls_of xs j x is) in
     let hit = get_unmapped (λ (k : ℕ). named t k ∷ []) (one_to n) j (calls_of x) here in
     hit.2 ∙ ap (λ (k : ℕ). named t k ∷ []) (get_one_to n j hit.0 hit.1 ∙ (let e : suc j ≡ suc (0 + j) = omega arith in e)))
 
-as_many : (t n : ℕ) (xs : List Action) → map calls_of xs ≡ map (λ k. named t k ∷ []) (one_to n) → length xs ≡ n
+pub as_many : (t n : ℕ) (xs : List Action) → map calls_of xs ≡ map (λ k. named t k ∷ []) (one_to n) → length xs ≡ n
 as_many t n xs names =
     sym (length-map xs calls_of) ∙ ap (λ (all : List (List CallName)). length all) names ∙ length-map (one_to n) (λ k. named t k ∷ []) ∙ length-one_to n
 
@@ -57,7 +57,7 @@ above t k n (y ∷ ys) x are h is =
     ]
 
 -- the number of a member
-number_at : (t k : ℕ) (xs : List Action) (x : Action) → AreNumbered t k xs → Has x xs → (n : ℕ) × (calls_of x ≡ named t n ∷ []) × (k < n) × (n ≤ k + length xs)
+pub number_at : (t k : ℕ) (xs : List Action) (x : Action) → AreNumbered t k xs → Has x xs → (n : ℕ) × (calls_of x ≡ named t n ∷ []) × (k < n) × (n ≤ k + length xs)
 number_at t k [] x are h = absurd h
 number_at t k (y ∷ ys) x are h =
     elim h [

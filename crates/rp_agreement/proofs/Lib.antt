@@ -39,3 +39,4 @@ pub mod RangedParts
 pub mod RangedTurns
 pub mod RangedNodes
 pub mod RangeKeeping
+pub mod OnlyMade

@@ -7,6 +7,7 @@ use Rattle.rp_base.specs.declared.action.Action.{Action}
 use Rattle.rp_base.specs.declared.action.Action.TheVariants.{Noop}
 use Rattle.rp_base.specs.declared.record.Vote.{Vote}
 use Rattle.rp_base.specs.declared.record.Rec.{Rec}
+use Rattle.rp_base.specs.declared.record.Rec.TheVariants.{Promised}
 use Rattle.rp_base.specs.Number.{in_range}
 use Rattle.rp_base.specs.Sets.{Has}
 use Rattle.rp_base.specs.Majority.{majority_of, nodes_among, is_majority}
@@ -26,11 +27,12 @@ use Rattle.rp_agreement.proofs.Lists.{has_picked, highest_has}
 -- ---- what is told is so
 
 promise_so : (nodes : ℕ) (sent : List Message) (records : List Rec) (body : Body) (i b : ℕ) (last : Option Vote) → IsPromise body i b last → IsSo nodes sent records body
-    → Reports records i b last
+    → Has (Promised i b) records × Reports records i b last
 promise_so nodes sent records (bodies.Call action) i b last is so = absurd is
 promise_so nodes sent records (bodies.Prepare position ballot) i b last is so = absurd is
 promise_so nodes sent records (bodies.Promise position ballot vote) i b last is so =
-    subst (Reports records i b) is.2 (subst (λ (c : ℕ). Reports records i c vote) is.1 (subst (λ (j : ℕ). Reports records j ballot vote) is.0 so))
+    let Kept : ℕ → ℕ → Option Vote → Type 0 = λ j c o. Has (Promised j c) records × Reports records j c o in
+    subst (Kept i b) is.2 (subst (λ (c : ℕ). Kept i c vote) is.1 (subst (λ (j : ℕ). Kept j ballot vote) is.0 so))
 promise_so nodes sent records (bodies.Accept position ballot action) i b last is so = absurd is
 promise_so nodes sent records (bodies.Accepted position ballot action) i b last is so = absurd is
 promise_so nodes sent records (bodies.Decided position action) i b last is so = absurd is
@@ -41,10 +43,11 @@ promise_so nodes sent records (bodies.Report first applied actions) i b last is 
 
 -- who told a promise is a node that keeps it
 pub promise_kept : (nodes : ℕ) (node : ℕ → NodePart) (sent : List Message) → IsSound nodes node sent → (a i b : ℕ) (last : Option Vote) → HasPromised sent a i b last
-    → IsMember nodes a × Reports (node a).records i b last
+    → IsMember nodes a × Reports (node a).records i b last × Has (Promised i b) (node a).records
 promise_kept nodes node sent sound a i b last told =
     let so = subst (λ (party : Party). SaysSo nodes node sent party told.0.body) told.2 (sound.says told.0 told.1) in
-    (so.0, promise_so nodes sent (node a).records told.0.body i b last told.3 so.1)
+    let kept = promise_so nodes sent (node a).records told.0.body i b last told.3 so.1 in
+    (so.0, kept.1, kept.0)
 
 -- what is offered was asked for
 pub offer_asked : (nodes : ℕ) (node : ℕ → NodePart) (sent : List Message) → IsSound nodes node sent → (i b : ℕ) (v : Action) → IsOffered sent i b v → IsAsked sent v

@@ -5,7 +5,7 @@ use Rattle.std.proofs.lemmas.List.{take-append-le}
 use Rattle.rp_base.specs.declared.action.Action.{Action}
 use Rattle.rp_base.specs.declared.record.Vote.{Vote}
 use Rattle.rp_base.specs.declared.record.Rec.{Rec}
-use Rattle.rp_base.specs.declared.record.Rec.TheVariants.{Started, Voted, Learned}
+use Rattle.rp_base.specs.declared.record.Rec.TheVariants.{Started, Promised, Voted, Learned}
 use Rattle.rp_base.specs.Sets.{Has}
 use Rattle.rp_base.specs.Records.{applied_of}
 use Rattle.rp_codec.specs.Message.{Message, report_len}
@@ -96,7 +96,7 @@ pub so_written : (nodes x : ℕ) (sent : List Message) (records : List Rec) (wri
     → (body : Body) → IsSo nodes sent records body → IsSo nodes sent (with_record records written) body
 so_written nodes x sent records written may (bodies.Call action) so = so
 so_written nodes x sent records written may (bodies.Prepare i b) so = record_stays (Started b) records written so
-so_written nodes x sent records written may (bodies.Promise i b last) so = reports_stay nodes x sent records written i b last may so
+so_written nodes x sent records written may (bodies.Promise i b last) so = (record_stays (Promised i b) records written so.0, reports_stay nodes x sent records written i b last may so.1)
 so_written nodes x sent records written may (bodies.Accept i b v) so = (record_stays (Started b) records written so.0, so.1, so.2)
 so_written nodes x sent records written may (bodies.Accepted i b v) so = record_stays (Voted i b v) records written so
 so_written nodes x sent records written may (bodies.Decided i v) so = record_stays (Learned i v) records written so

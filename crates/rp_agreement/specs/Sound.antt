@@ -11,7 +11,7 @@ use Rattle.rp_base.specs.declared.action.Action.{Action}
 use Rattle.rp_base.specs.declared.proposal.Phase.TheVariants.{Preparing}
 use Rattle.rp_base.specs.declared.record.Vote.{Vote}
 use Rattle.rp_base.specs.declared.record.Rec.{Rec}
-use Rattle.rp_base.specs.declared.record.Rec.TheVariants.{Started, Voted, Learned}
+use Rattle.rp_base.specs.declared.record.Rec.TheVariants.{Started, Promised, Voted, Learned}
 use Rattle.rp_codec.specs.Message.{Message, IsCallBy, report_len}
 use Rattle.rp_codec.specs.declared.packet.Party.{Party}
 use Rattle.rp_codec.specs.declared.packet.Party.TheVariants.{Node, Task, Audit}
@@ -36,7 +36,7 @@ IsReported all first applied actions =
 abbrev pub IsSo : ℕ → List Message → List Rec → Body → Type 0
 IsSo nodes sent records (Call action) = ⊥
 IsSo nodes sent records (Prepare i b) = Has (Started b) records
-IsSo nodes sent records (Promise i b last) = Reports records i b last
+IsSo nodes sent records (Promise i b last) = Has (Promised i b) records × Reports records i b last
 IsSo nodes sent records (Accept i b v) = Has (Started b) records × IsFounded nodes sent i b v × IsAsked sent v
 IsSo nodes sent records (Accepted i b v) = Has (Voted i b v) records
 IsSo nodes sent records (Decided i v) = Has (Learned i v) records

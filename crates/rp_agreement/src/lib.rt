@@ -46,7 +46,7 @@ pub use ranges::{
 };
 pub use replies::{
     answers_are_one, calls_count_in_turn, calls_count_where_they_first_stand, events_keep_replies,
-    node_events_keep_replies, replies_answer_calls_that_count, replies_tell_the_order,
-    task_events_keep_replies,
+    node_events_keep_replies, only_made_calls_count, replies_answer_calls_that_count,
+    replies_tell_the_order, task_events_keep_replies,
 };
 pub use sends::{nodes_send_right_packets, tasks_send_right_packets};

@@ -1,6 +1,8 @@
 //! What a node says stands in its records.
 
 ghost use Rattle.std.specs.Prelude.{ℕ, Option, List};
+ghost use Rattle.rp_base.specs.Sets.{Has};
+ghost use Rattle.rp_base.specs.declared.record.Rec.TheVariants.{Promised};
 ghost use Rattle.rp_base.specs.declared.record.Vote.{Vote};
 ghost use Rattle.rp_codec.specs.Message.{Message};
 ghost use Rattle.rp_codec.specs.declared.packet.Body.{Body};
@@ -8,11 +10,12 @@ ghost use Rattle.rp_model.specs.Parts.{NodePart};
 ghost use Rattle.rp_agreement.specs.Told.{Says};
 ghost use Rattle.rp_model.specs.Facts.{HasPromised};
 ghost use Rattle.rp_agreement.specs.Founded.{Reports};
-ghost use Rattle.rp_agreement.specs.Sound.{IsSo, IsSound};
+ghost use Rattle.rp_agreement.specs.Sound.{IsMember, IsSo, IsSound};
 
 /// What a node says is so, by what it has written down by now and by what was sent: a vote or a
-/// decision is among its records, a promise binds it and reports its last vote, an offer is founded
-/// on a majority's promises, and a report tells what it has applied.
+/// decision is among its records, a promise too, which reports its last vote, an offer is founded on a
+/// majority's promises, and a report tells what it has applied. Who says something as a node is one of
+/// the nodes 1 to n.
 pub fn packets_say_so()
     ensures said { (nodes : ℕ) (node : ℕ → NodePart) (sent : List Message)
         → IsSound nodes node sent
@@ -21,4 +24,11 @@ pub fn packets_say_so()
         → IsSound nodes node sent
         → (a i b : ℕ) (last : Option Vote)
         → HasPromised sent a i b last → Reports (node a).records i b last }
+    ensures written { (nodes : ℕ) (node : ℕ → NodePart) (sent : List Message)
+        → IsSound nodes node sent
+        → (a i b : ℕ) (last : Option Vote)
+        → HasPromised sent a i b last → Has (Promised i b) (node a).records }
+    ensures members { (nodes : ℕ) (node : ℕ → NodePart) (sent : List Message)
+        → IsSound nodes node sent
+        → (a : ℕ) (body : Body) → Says sent a body → IsMember nodes a }
 {}

@@ -1,6 +1,6 @@
 //! Each reply that a task takes is the answer that the order gives to its call.
 
-ghost use Rattle.std.specs.Prelude.{◌≡◌, ℕ, suc, Result, Ok, Some, List, [], ◌∷◌, slice_get, take};
+ghost use Rattle.std.specs.Prelude.{◌≡◌, ◌≤◌, ℕ, suc, Result, Ok, Some, List, [], ◌∷◌, slice_get, take};
 ghost use Rattle.rp_base.specs.Config.{IsRightConfig};
 ghost use Rattle.rp_base.specs.declared.action.Action.{Action};
 ghost use Rattle.rp_base.specs.declared.config.Config.{Config};
@@ -23,7 +23,7 @@ ghost use Rattle.rp_agreement.specs.Computed.{order_of};
 ghost use Rattle.rp_agreement.specs.History.{IsHistory};
 ghost use Rattle.rp_agreement.specs.Inputs.{IsInput, IsTaskInput, NodeMoves, TaskMoves};
 ghost use Rattle.rp_agreement.specs.Sound.{IsMember};
-ghost use Rattle.rp_agreement.specs.Answered.{named, setting_for, Stands, AreItsCalls, IsKept, IsKeptWorld};
+ghost use Rattle.rp_agreement.specs.Answered.{calls_so_far, named, setting_for, Stands, AreItsCalls, IsKept, IsKeptWorld};
 
 use crate::opening::the_opening_is_sound;
 use rp_machine::{Machine, a_call_has_one_answer, an_answered_call_has_one_place};
@@ -155,3 +155,15 @@ pub fn calls_count_in_turn<M: Machine>()
         → let order = order_of config.nodes sent in
         (t : ℕ) → AreItsCalls sent t (task t) (kept_of M.next M.answers (M.begin program) order) }
 {}
+
+/// At a program of a machine no call takes effect in the order but those that its task made.
+pub fn only_made_calls_count<M: Machine>()
+    ensures { (config : Config) (program : M.Program) (node : ℕ → NodePart)
+        (task : ℕ → TaskPart) (sent : List Message)
+        → IsKept (setting_for M.next M.answers M.begin config program) node task sent
+        → let order = order_of config.nodes sent in
+        (t n place : ℕ) → IsPlace M.next M.answers (M.begin program) order (named t n) place
+        → (1 ≤ n) × (n ≤ calls_so_far (task t)) }
+{
+    calls_count_in_turn::<M>();
+}

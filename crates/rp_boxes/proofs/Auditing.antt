@@ -1,7 +1,8 @@
 -- What the audit knows is told by the reports that it got.
-use Rattle.std.proofs.Common.{◌≡◌, ℕ, zero, suc, ◌+◌, ◌-◌, ◌^◌, ◌<◌, ◌≤◌, Bool, true, false, if◌then◌else◌, nat_lt, Some, Vec, Result, Ok, Err, List, [], ◌∷◌, ◌++◌, length, map, take, slice_get, slice_set, get_or, inl, inr, refl, sym, ap, subst, ◌∙◌, arith, length-append, length-set}
+use Rattle.std.proofs.Common.{◌≡◌, ℕ, zero, suc, ◌+◌, ◌-◌, ◌^◌, ◌<◌, ◌≤◌, Bool, true, false, if◌then◌else◌, nat_lt, Some, Vec, Result, Ok, Err, List, [], ◌∷◌, ◌++◌, length, map, replicate, take, slice_get, slice_set, get_or, inl, inr, refl, sym, ap, subst, ◌∙◌, arith, length-append, length-set}
 use Rattle.std.specs.Prelude.{OnErr, unwrap_or, vec_len}
 use Rattle.std.proofs.lemmas.List.{length-take, map-set}
+use Rattle.std.proofs.lemmas.Option.{none-some}
 use Rattle.std.proofs.Math.Seq.{map-set_same}
 use Rattle.std.specs.declared.alloc.Global.{Global}
 use Rattle.rp_base.specs.Sets.{Has}
@@ -13,6 +14,7 @@ use Rattle.rp_boxes.specs.Parts.{Part, with_got}
 use Rattle.rp_boxes.specs.Audits.{Audited, IsTold, AreTold, IsJoined, known_of, report, with_reported}
 use Rattle.rp_boxes.specs.declared.audit.Added.TheVariants as added
 use Rattle.rp_boxes.proofs.Listed.{at_appended, at_taken}
+use Rattle.rp_boxes.proofs.Opening.{always_at}
 
 -- ---- a packet is got
 
@@ -30,6 +32,14 @@ told_still part known m are = record {
   };
   few = are.few;
 }
+
+-- nothing is known of any node
+pub none_told : (part : Part) (known : List (List Action)) → known ≡ replicate 7 [] → AreTold part known
+none_told part known none = subst (AreTold part) (sym none) (record {
+  seven = refl;
+  told = λ node before action is. absurd (none-some action (subst (λ (list : List Action). slice_get list before ≡ Some action) (always_at [] 7 node) is));
+  few = λ node. subst (λ (list : List Action). length list < 2 ^ 16) (sym (always_at [] 7 node)) (omega arith);
+})
 
 -- ---- one list is replaced
 

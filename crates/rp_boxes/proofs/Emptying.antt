@@ -1,5 +1,5 @@
 -- The receiver's steps at a box: it takes the packet out of a full one, and clears it.
-use Rattle.std.proofs.Common.{◌≡◌, ◌⊎◌, ℕ, ◌<◌, ◌≤◌, eqb, Some, None, Vec, List, [], ◌∷◌, ◌++◌, length, set, slice_index, inl, inr, refl, sym, ap, subst, ◌∙◌, arith}
+use Rattle.std.proofs.Common.{◌≡◌, ◌≢◌, ◌⊎◌, ℕ, ◌<◌, ◌≤◌, eqb, Some, None, Vec, List, [], ◌∷◌, ◌++◌, length, set, slice_index, inl, inr, refl, sym, ap, subst, ◌∙◌, arith}
 use Rattle.std.specs.declared.alloc.Global.{Global}
 use mathlib.Core.Option.{some, none}
 use lib.ListN.{get_elem?}
@@ -13,6 +13,7 @@ use Rattle.rp_model.specs.Effect.{Setting}
 use Rattle.rp_boxes.specs.Parts.{Part, View, actor_of, box_of, emptying, emptied}
 use Rattle.rp_boxes.specs.Rule.{Slot, IsBox, IsCarried, Ruled, all_sent}
 use Rattle.rp_boxes.specs.Plays.{alone, Took, Cleared}
+use Rattle.rp_boxes.specs.Moments.{IsMoment}
 use Rattle.rp_boxes.proofs.Worlds.{from_each, sent_by}
 use Rattle.rp_boxes.proofs.BoxSteps.{IsBoxStep, boxed, was, now, part_now, still, held_alone, none_both, as_it_is}
 
@@ -66,21 +67,25 @@ module _ {S : Type 0} (s : Setting S) (slots id x y : ℕ) (p : Part) (less : x 
         emptying = (λ e. subst (λ (q : Part). Has b q.takes) (sym (part_now s t r id y p (emptying b m p) here)) (inl refl), λ h. refl);
       }
 
-  pub take_allows : p.takes ≡ [] → Allows (Ruled s) slots id (alone y p) b (λ n. either (eqb n 2) 3 n) (λ found me. Took b (alone y p) found me)
-  take_allows free = λ t r size here fits.
+  pub take_allows : p.takes ≡ [] → (says : Type 0) → ((t : State Slot View) → IsMoment s ((y, p) ∷ []) t → slice_index t.words b ≢ 2 → says)
+      → Allows (Ruled s) slots id (alone y p) b (λ n. either (eqb n 2) 3 n) (λ found me. Took b (alone y p) found me × (found ≢ 2 → says))
+  take_allows free says follows = λ t r size here fits.
       exchanged (slice_index t.words b) 2 3
-      (λ n. (w : View) × (a : Act Slot) × Valid t.homes [] a × Ruled s (stepped t b n id [] w a) × Took b (alone y p) (slice_index t.words b) (w, carried_after [] a))
+      (λ n. (w : View) × (a : Act Slot) × Valid t.homes [] a × Ruled s (stepped t b n id [] w a) × (Took b (alone y p) (slice_index t.words b) (w, carried_after [] a) × (slice_index t.words b ≢ 2 → says)))
       (λ hit. let full = (r.boxes x y less fewer).full hit in (
         (y, emptying b full.0 p) ∷ [],
         takes_slot b (Some full.1),
         full.2,
         taken free full.0 t r here hit full.1 full.3 full.4,
-        record {
-          hit = λ e. record { from = x; to = y; less = (less, fewer); box = refl; packet = full.0; text = full.1; carried = full.3; is = refl };
-          miss = λ other. absurd (other hit);
-        },
+        (
+          record {
+            hit = λ e. record { from = x; to = y; less = (less, fewer); box = refl; packet = full.0; text = full.1; carried = full.3; is = refl };
+            miss = λ other. absurd (other hit);
+          },
+          λ other. absurd (other hit),
+        ),
       ))
-      (λ miss. ((y, p) ∷ [], keeps, tt, still s t b id ((y, p) ∷ []) here r, record { hit = λ e. absurd (miss e); miss = λ other. refl }))
+      (λ miss. ((y, p) ∷ [], keeps, tt, still s t b id ((y, p) ∷ []) here r, (record { hit = λ e. absurd (miss e); miss = λ other. refl }, follows t (record { rule = r; seat = id; sees = here }))))
 
   -- the receiver took the packet out of the box that it claimed
   cleared : p.takes ≡ b ∷ [] → (t : State Slot View) (r : Ruled s t) → 256 ≤ length t.homes → get_elem? t.views id ≡ some ((y, p) ∷ [])

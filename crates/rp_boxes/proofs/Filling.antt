@@ -1,5 +1,5 @@
 -- The sender's steps at a box: it claims an empty one, and publishes what it put there.
-use Rattle.std.proofs.Common.{◌≡◌, ℕ, ◌<◌, ◌≤◌, eqb, Some, None, Vec, List, [], ◌∷◌, length, set, slice_index, inl, refl, sym, subst, arith}
+use Rattle.std.proofs.Common.{◌≡◌, ◌≢◌, ℕ, ◌<◌, ◌≤◌, eqb, Some, None, Vec, List, [], ◌∷◌, length, set, slice_index, inl, refl, sym, subst, arith, get_or-set_same}
 use Rattle.std.specs.declared.alloc.Global.{Global}
 use mathlib.Core.Option.{some, none}
 use lib.ListN.{get_elem?}
@@ -11,8 +11,9 @@ use Rattle.rp_codec.specs.Message.{Message}
 use Rattle.rp_model.specs.Effect.{Setting}
 use Rattle.rp_boxes.specs.Parts.{Part, View, box_of, filling, filled}
 use Rattle.rp_boxes.specs.Rule.{Slot, IsBox, IsCarried, Ruled}
-use Rattle.rp_boxes.specs.Plays.{alone, Claimed, Published}
-use Rattle.rp_boxes.proofs.Worlds.{from_each}
+use Rattle.rp_boxes.specs.Plays.{alone, holding, Claimed, Published}
+use Rattle.rp_boxes.specs.Moments.{IsMoment}
+use Rattle.rp_boxes.proofs.Worlds.{at_below, from_each}
 use Rattle.rp_boxes.proofs.BoxSteps.{IsBoxStep, boxed, was, now, part_now, still, held_alone, none_both, as_it_is}
 
 module _ {S : Type 0} (s : Setting S) (slots id x y : ℕ) (p : Part) (less : x < 16) (fewer : y < 16) where
@@ -54,12 +55,13 @@ module _ {S : Type 0} (s : Setting S) (slots id x y : ℕ) (p : Part) (less : x 
         emptying = none_both (λ e. omega (arith, e)) (λ h. not_taken (subst (Has b) (same_takes y) h));
       }
 
-  pub claim_allows : p.fills ≡ [] → Allows (Ruled s) slots id (alone x p) b (λ n. either (eqb n 0) 1 n) (λ found me. Claimed b (alone x p) found me)
-  claim_allows free = λ t r size here fits.
+  pub claim_allows : p.fills ≡ [] → (says : Type 0) → ((t : State Slot View) → IsMoment s ((x, p) ∷ []) t → slice_index t.words b ≢ 0 → says)
+      → Allows (Ruled s) slots id (alone x p) b (λ n. either (eqb n 0) 1 n) (λ found me. Claimed b (alone x p) found me × (found ≢ 0 → says))
+  claim_allows free says follows = λ t r size here fits.
       exchanged (slice_index t.words b) 0 1
-      (λ n. (w : View) × (a : Act Slot) × Valid t.homes [] a × Ruled s (stepped t b n id [] w a) × Claimed b (alone x p) (slice_index t.words b) (w, carried_after [] a))
-      (λ hit. ((x, filling b p) ∷ [], takes_slot b None, (r.boxes x y less fewer).empty hit, claimed free t r here hit, record { hit = λ e. refl; miss = λ other. absurd (other hit) }))
-      (λ miss. ((x, p) ∷ [], keeps, tt, still s t b id ((x, p) ∷ []) here r, record { hit = λ e. absurd (miss e); miss = λ other. refl }))
+      (λ n. (w : View) × (a : Act Slot) × Valid t.homes [] a × Ruled s (stepped t b n id [] w a) × (Claimed b (alone x p) (slice_index t.words b) (w, carried_after [] a) × (slice_index t.words b ≢ 0 → says)))
+      (λ hit. ((x, filling b p) ∷ [], takes_slot b None, (r.boxes x y less fewer).empty hit, claimed free t r here hit, (record { hit = λ e. refl; miss = λ other. absurd (other hit) }, λ other. absurd (other hit))))
+      (λ miss. ((x, p) ∷ [], keeps, tt, still s t b id ((x, p) ∷ []) here r, (record { hit = λ e. absurd (miss e); miss = λ other. refl }, follows t (record { rule = r; seat = id; sees = here }))))
 
   -- the sender put a packet into the box that it claimed
   published : p.fills ≡ b ∷ [] → (m : Message) (text : Vec ℕ Global) → Has m p.sent → IsCarried x y text.items m → (t : State Slot View) (r : Ruled s t) → 256 ≤ length t.homes
@@ -107,6 +109,11 @@ module _ {S : Type 0} (s : Setting S) (slots id x y : ℕ) (p : Part) (less : x 
       }
 
   pub publish_allows : 256 ≤ slots → p.fills ≡ b ∷ [] → (m : Message) (text : Vec ℕ Global) → Has m p.sent → IsCarried x y text.items m
-      → Allows (Ruled s) slots id ((x, p) ∷ [], (b, Some text) ∷ []) b (λ n. 2) (λ found me. Published ((x, p) ∷ [], (b, Some text) ∷ []) me)
-  publish_allows roomy holds m text sent carried = λ t r size here fits.
-      ((x, filled p) ∷ [], gives, tt, published holds m text sent carried t r (omega (arith, size, roomy)) here, refl)
+      → (says : Type 0) → ((t : State Slot View) → IsMoment s ((x, filled p) ∷ []) t → slice_index t.words b ≡ 2 → get_elem? t.homes b ≡ some (some (Some text)) → says)
+      → Allows (Ruled s) slots id (holding x p b (Some text)) b (λ n. 2) (λ found me. Published (holding x p b (Some text)) me × says)
+  publish_allows roomy holds m text sent carried says follows = λ t r size here fits.
+      let after = published holds m text sent carried t r (omega (arith, size, roomy)) here in
+      let word : slice_index (set t.words b 2) b ≡ 2 = get_or-set_same t.words b 2 0 (rw r.long (omega (arith, less, fewer))) in
+      let slot : get_elem? (set t.homes b (some (Some text))) b ≡ some (some (Some text)) = set_here t.homes b (some (Some text)) (omega (arith, less, fewer, size, roomy)) in
+      let sees = set_here t.views id ((x, filled p) ∷ []) (at_below t.views id ((x, p) ∷ []) here) in
+      ((x, filled p) ∷ [], gives, tt, after, (refl, follows _ (record { rule = after; seat = id; sees = sees }) word slot))

@@ -60,7 +60,7 @@ always a zero (suc k) = refl
 always a (suc count) zero = refl
 always a (suc count) (suc k) = always a count k
 
-always_at : {A : Type 0} (a : A) (count k : ℕ) → unwrap_or (part_at (replicate count a) k) a ≡ a
+pub always_at : {A : Type 0} (a : A) (count k : ℕ) → unwrap_or (part_at (replicate count a) k) a ≡ a
 always_at a count zero = refl
 always_at a count (suc k) = always a count k
 

@@ -12,7 +12,7 @@ use Rattle.rp_codec.specs.declared.packet.Body.TheVariants.{Call, Prepare, Promi
 use Rattle.rp_codec.specs.declared.packet.Party.{Party}
 use Rattle.rp_codec.specs.declared.packet.Party.TheVariants.{Node, Task, Audit}
 use Rattle.rp_boxes.specs.Audits.{IsGotReport, report}
-use Rattle.rp_boxes.specs.Parts.{Part, with_got}
+use Rattle.rp_boxes.specs.Parts.{with_got}
 use Rattle.rp_boxes.specs.Seats.{Chair, IsFetched}
 
 -- who tells the audit is a node, and tells it a report

@@ -1,20 +1,27 @@
 -- What a step at a box is for a seat.
-use Rattle.std.proofs.Common.{◌≡◌, ℕ, Option, Some, None, Vec, List, [], ◌∷◌, inl, inr, refl, sym, ap, subst, ◌∙◌, arith}
-use Rattle.std.specs.Prelude.{IfSome, IfNone}
+use Rattle.std.proofs.Common.{◌≡◌, ◌≢◌, ℕ, Option, Some, None, Result, Ok, Err, Vec, List, [], ◌∷◌, inl, inr, refl, sym, ap, subst, ◌∙◌, arith}
+use Rattle.std.specs.Prelude.{IfSome, IfNone, IfErr, OnOk}
 use Rattle.std.specs.declared.alloc.Global.{Global}
 use Rattle.atomic_table.specs.Seated.{TableId}
 use Rattle.rp_base.specs.Sets.{Has}
 use Rattle.rp_base.specs.declared.config.Config.{Config}
-use Rattle.rp_base.proofs.Members.{has_split}
+use Rattle.rp_base.specs.declared.action.Action.{Action}
+use Rattle.rp_base.specs.declared.reply.Answer.{Answer}
+use Rattle.rp_base.proofs.Members.{has_split, has_right}
 use Rattle.rp_codec.specs.Message.{Message, IsPacket, IsParty}
 use Rattle.rp_codec.specs.Text.{text_of}
 use Rattle.rp_codec.specs.declared.packet.Party.{Party}
 use Rattle.rp_codec.specs.declared.packet.Party.TheVariants.{Node, Task, Audit}
+use Rattle.rp_model.specs.Effect.{Setting}
+use Rattle.rp_agreement.specs.Answered.{setting_for}
 use Rattle.rp_replica.specs.Held.{Held}
-use Rattle.rp_boxes.specs.Parts.{Part, actor_of, part_in, with_got}
+use Rattle.rp_boxes.specs.Looks.{IsWorldOf, WasSent}
+use Rattle.rp_boxes.specs.Moments.{WasFull, WasInUse, WasNotFull, WasPut, WasWord}
+use Rattle.rp_boxes.specs.Parts.{Part, View, actor_of, box_of, part_in, with_got}
 use Rattle.rp_boxes.specs.Plays.{Sight, alone}
 use Rattle.rp_boxes.specs.Rule.{IsCarried, HasOwnPackets}
 use Rattle.rp_boxes.specs.Seats.{Chair, IsAtTable, IsNodePlace, IsSentText, IsFetched}
+use Rattle.rp_boxes.proofs.Worlds.{is_sent}
 
 -- ---- parties
 
@@ -90,9 +97,9 @@ node_stays config begin number held part part' same sits = record { member = sit
 
 -- ---- what the seat is to a contract then
 
-module _ {P : Type 0} (config : Config) (program : P) (number k : ℕ) (mine mine' : TableId) (me me' : Sight) (same : mine' ≡ mine) where
+module _ {P : Type 0} (config : Config) (program : P) (number failures k : ℕ) (mine mine' : TableId) (me me' : Sight) (same : mine' ≡ mine) where
   abbrev chair : TableId → Part → Chair P
-  chair table part = record { table = table; config = config; program = program; number = number; part = part }
+  chair table part = record { table = table; config = config; program = program; number = number; failures = failures; part = part }
 
   pub same_chair : me' ≡ me → chair mine' (part_in me'.0) ≡ chair mine (part_in me.0)
   same_chair sees = λ i. chair (same i) (part_in (sees i).0)
@@ -117,3 +124,67 @@ module _ {P : Type 0} (config : Config) (program : P) (number k : ℕ) (mine min
   pub unfetched_chair : (found : Option (Vec ℕ Global)) → IfNone found (me' ≡ me) → IfNone found (chair mine' (part_in me'.0) ≡ chair mine (part_in me.0))
   unfetched_chair None is = same_chair is
   unfetched_chair (Some text) is = tt
+
+  -- what it got was sent by the other party
+  module _ {S : Type 0} (next : S → Action → S) (answers : S → Action → List Answer) (begin : P → S) (from to : Party) (own : actor_of to ≡ k) where
+    -- a world of which the seat's view is a piece
+    abbrev pub Sees : Vec ℕ Global → Type 0
+    Sees text = (parts : ℕ → Part) × IsWorldOf (setting_for next answers begin config program) me'.0 parts
+
+    was_sent : (text : Vec ℕ Global) → Finds (actor_of from) k me me' text → Sees text → WasSent next answers begin from to text.items (chair mine' (part_in me'.0))
+    was_sent text found seen =
+        let m = found.0 in
+        let part = part_in me'.0 in
+        let sees : me' ≡ alone k part = found.2 ∙ ap (alone k) (sym (ap (λ (z : Sight). part_in z.0) found.2)) in
+        let here = subst (λ (z : Sight). IsWorldOf (setting_for next answers begin config program) z.0 seen.0) sees seen.1 in
+        let known = here.knows k part (inl refl) in
+        let got : Has m part.got = subst (λ (z : Sight). Has m (part_in z.0).got) (sym found.2) (has_right m (part_in me.0).got (m ∷ []) (inl refl)) in
+        let all = (here.gets k known.1 m (subst (λ (p : Part). Has m p.got) (sym known.0) got)).1 in
+        let sender = is_sent seen.0 16 m all in
+        let is : sender.0 ≡ actor_of from = sym (here.sends sender.0 sender.1 m sender.2) ∙ found.1.from in
+        record {
+          parts = seen.0;
+          world = subst (λ (j : ℕ). IsWorldOf (setting_for next answers begin config program) ((j, part) ∷ []) seen.0) (sym own) here;
+          packet = m;
+          text = found.1.text;
+          sent = subst (λ (j : ℕ). Has m (seen.0 j).sent) is sender.2;
+        }
+
+    pub sent_chair : (found : Option (Vec ℕ Global)) → IfSome found (Finds (actor_of from) k me me') → IfSome found Sees
+        → IfSome found (λ text. WasSent next answers begin from to text.items (chair mine' (part_in me'.0)))
+    sent_chair None found seen = tt
+    sent_chair (Some text) found seen = was_sent text found seen
+
+  -- the boxes that it stepped on
+  module _ {S : Type 0} (next : S → Action → S) (answers : S → Action → List Answer) (begin : P → S) (sees : me' ≡ alone k (part_in me'.0)) where
+    abbrev pub s : Setting S
+    s = setting_for next answers begin config program
+
+    -- what it sees is what the party of its seat knows
+    seen_by : (party : Party) → actor_of party ≡ k → me'.0 ≡ (actor_of party, part_in me'.0) ∷ []
+    seen_by party own = ap (λ (z : Sight). z.0) sees ∙ ap (λ (j : ℕ). (j, part_in me'.0) ∷ []) (sym own)
+
+    module _ (from : Party) (own : actor_of from ≡ k) (bytes : List ℕ) (m : Message) (text : bytes ≡ text_of m) (to : ℕ) (named : to ≡ actor_of m.to) where
+      this_box : box_of k to ≡ box_of (actor_of from) (actor_of m.to)
+      this_box = λ i. box_of (sym own i) (named i)
+
+      pub put_chair : {A E : Type 0} (r : Result A E) → OnOk r (WasFull s me'.0 (box_of k to) bytes) → OnOk r (WasPut next answers begin from bytes (chair mine' (part_in me'.0)))
+      put_chair (Ok value) full = record { packet = m; text = text; box = subst (λ (z : View × ℕ). WasFull s z.0 z.1 bytes) (λ i. (seen_by from own i, this_box i)) full }
+      put_chair (Err error) full = tt
+
+      pub used_chair : {A E : Type 0} (r : Result A E) → IfErr r (λ back. WasWord s me'.0 (box_of k to) (λ word. word ≢ 0)) → IfErr r (λ back. WasInUse next answers begin from bytes (chair mine' (part_in me'.0)))
+      used_chair (Ok value) used = tt
+      used_chair (Err error) used = record { packet = m; text = text; box = subst (λ (z : View × ℕ). WasWord s z.0 z.1 (λ word. word ≢ 0)) (λ i. (seen_by from own i, this_box i)) used }
+
+  -- the box that was not full
+  module _ {S : Type 0} (next : S → Action → S) (answers : S → Action → List Answer) (begin : P → S) (at : me ≡ alone k (part_in me.0)) (from to : Party) (own : actor_of to ≡ k) where
+    -- in this use the word of the box to the seat was another
+    abbrev pub Misses : Type 0
+    Misses = WasWord (setting_for next answers begin config program) me'.0 (box_of (actor_of from) k) (λ word. word ≢ 2)
+
+    pub missed_chair : (found : Option (Vec ℕ Global)) → IfNone found (me' ≡ me) → IfNone found Misses → IfNone found (WasNotFull next answers begin from to (chair mine' (part_in me'.0)))
+    missed_chair None stays missed =
+        let sees : me' ≡ alone k (part_in me'.0) = subst (λ (z : Sight). z ≡ alone k (part_in z.0)) (sym stays) at in
+        subst (λ (z : View × ℕ). WasWord (setting_for next answers begin config program) z.0 z.1 (λ word. word ≢ 2))
+        (λ i. (seen_by next answers begin sees to own i, box_of (actor_of from) (sym own i))) missed
+    missed_chair (Some text) stays missed = tt

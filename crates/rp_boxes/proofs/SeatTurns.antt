@@ -1,34 +1,41 @@
 -- What a turn of a replica is for the seat of its node.
-use Rattle.std.proofs.Common.{◌≡◌, ◌⊎◌, ℕ, true, false, None, Result, Ok, Err, List, [], inl, inr, refl, sym, ap, subst, ◌∙◌}
+use Rattle.std.proofs.Common.{◌≡◌, ℕ, ◌<◌, true, false, Option, Some, None, Result, Ok, Err, List, [], inl, inr, refl, sym, ap, subst, ◌∙◌}
 use Rattle.atomic_table.specs.Seated.{TableId}
 use Rattle.rp_base.specs.declared.action.Action.{Action}
 use Rattle.rp_base.specs.declared.config.Config.{Config}
 use Rattle.rp_base.specs.declared.fault.Fault.{Fault}
 use Rattle.rp_base.specs.declared.fault.Fault.TheVariants.{OutOfMemory, Device, Failed}
+use Rattle.rp_base.specs.declared.record.Rec.{Rec}
 use Rattle.rp_base.specs.declared.reply.Answer.{Answer}
 use Rattle.rp_codec.specs.Message.{Message, IsPacket}
 use Rattle.rp_codec.specs.Reading.{all_of}
 use Rattle.rp_codec.specs.Text.{text_of}
+use Rattle.rp_store.specs.Disk.{Disk}
 use Rattle.rp_model.specs.Effect as nodes
 use Rattle.rp_model.specs.Effect.{Setting, Done, NodeInput, node_effect, cut_effect, cut_if, cut_part, turned, turned_if, goes_on_as}
-use Rattle.rp_model.specs.Parts.{Turn}
+use Rattle.rp_model.specs.Parts.{NodePart, Running, Turn}
 use Rattle.rp_agreement.specs.Answered.{setting_for}
 use Rattle.rp_agreement.specs.Inputs.{IsInput}
-use Rattle.rp_replica.specs.Held.{Held}
+use Rattle.rp_replica.specs.Held.{Held, with_text}
 use Rattle.rp_replica.specs.Inputs.{IsRightInput, packet_given, given_by, effect_if_given, input_effect}
 use Rattle.rp_replica.specs.Turning.{TurnsIf, FailsAt, Stops, StopsIf, effect_of}
 use Rattle.rp_replica.specs.declared.input.Input.{Input}
 use Rattle.rp_replica.specs.declared.input.Input.TheVariants.{Receive, Lead, Interrupt, Tick, Report}
 use Rattle.rp_replica.specs.declared.sent.Sent.{Sent}
-use Rattle.rp_world.specs.Nodes.{Member, member_of, RunsAs, IsComing}
+use Rattle.rp_world.specs.Nodes.{Member, member_of, RunsAs}
 use Rattle.rp_world.proofs.Standing.{stands, stands_failed, as_running, as_resting}
 use Rattle.rp_world.proofs.Turning.{same_effect, is_cut, taken, false_true}
 use Rattle.rp_boxes.specs.Parts.{Part, Role, OfNode, part_in, part_after}
 use Rattle.rp_boxes.specs.Rule.{HasOwnPackets}
 use Rattle.rp_boxes.specs.Plays.{Sight, Turned, alone}
-use Rattle.rp_boxes.specs.Seats.{Chair, IsAtTable, IsNodePlace, HasInputRanges, IsGot, IsTurn, IsCutTurn, IsNoTurn}
+use Rattle.rp_boxes.specs.Seats.{Chair, IsAtTable, IsNodePlace, HasInputRanges, IsGot, IsReason, IsTurn, IsCutTurn, IsNoTurn}
 use Rattle.rp_boxes.specs.Steps.{IsEvent}
 use Rattle.rp_boxes.specs.Counting.{HasTurned, HasStopped}
+
+-- a record that is written is no failure
+written_failures : (written : Option Rec) (disk : Disk) → (with_text disk written).failures ≡ disk.failures
+written_failures None disk = refl
+written_failures (Some rec) disk = refl
 
 -- ---- what the node is given
 
@@ -66,25 +73,29 @@ module _ {S P : Type 0} (next : S → Action → S) (answers : S → Action → 
   same_input = ap (effect_if_given next answers old) is.gives
 
   -- a chair whose part this is
-  abbrev chair : TableId → Part → Chair P
-  chair table part = record { table = table; config = config; program = program; number = number; part = part }
+  abbrev chair : TableId → ℕ → Part → Chair P
+  chair table failures part = record { table = table; config = config; program = program; number = number; failures = failures; part = part }
+
+  -- the step of its node
+  abbrev step : Result (Done NodePart) Fault
+  step = node_effect s number sits.node is.given
 
   -- the node's device had failed
-  pub was_stopped : old.failed ≡ true → (table : TableId) → IsNoTurn next answers begin (chair table before) input (chair table before) Failed
+  pub was_stopped : old.failed ≡ true → (table : TableId) → IsNoTurn next answers begin (chair table old.disk.failures before) input (chair table old.disk.failures before) Failed
   was_stopped failed table = record {
     unchanged = refl;
     given = is.given;
     gives = is.gives;
     node = sits.node;
     was = sits.is;
-    why = inl (refl, (as_resting member old sits.node failed sits.stands).stopped);
+    why = subst (λ (running : Option Running). IsReason running step Failed) (sym (as_resting member old sits.node failed sits.stands).stopped) refl;
   }
 
   module _ (working : old.failed ≡ false) (new : Held S) where
     runs : RunsAs member old sits.node
     runs = as_running member old sits.node working sits.stands
 
-    comes_so : (turn : Turn) → effect_of next answers old is.given ≡ Ok turn → node_effect s number sits.node is.given ≡ Ok (turned sits.node turn)
+    comes_so : (turn : Turn) → effect_of next answers old is.given ≡ Ok turn → step ≡ Ok (turned sits.node turn)
     comes_so turn came = same_effect next answers member old sits.node runs is.given ∙ ap (turned_if sits.node) came
 
     -- the turn took effect
@@ -98,9 +109,17 @@ module _ {S P : Type 0} (next : S → Action → S) (answers : S → Action → 
           record { given = is.given; gives = is.gives; node = sits.node; was = sits.is; done = t.0; comes = t.1; stands = stands member new t.0.part t.2; tells = t.3; is = refl },
         )
 
+    -- no call of the device failed then
+    failures_stay : (effect : Result Turn Fault) (sent : Sent) → TurnsIf effect old new sent → new.disk.failures ≡ old.disk.failures
+    failures_stay (Ok turn) sent turns = ap (λ (h : Held S). h.disk.failures) turns.0.goes ∙ written_failures turn.written old.disk
+    failures_stay (Err refusal) sent turns = absurd turns
+
+    pub has_not_failed : (sent : Sent) → TurnsIf (input_effect next answers old input) old new sent → new.disk.failures ≡ old.disk.failures
+    has_not_failed sent turns = failures_stay (input_effect next answers old input) sent turns
+
     -- the device failed
     abbrev HasStoppedSo : Fault → Type 0
-    HasStoppedSo fault = (fault ≡ Device) × (after : Part) × IsEvent s number before after × HasStopped s number before input new after
+    HasStoppedSo fault = (fault ≡ Device) × (old.disk.failures < new.disk.failures) × (after : Part) × IsEvent s number before after × HasStopped s number before input new after
 
     stopped_by : (turn : Turn) → effect_of next answers old is.given ≡ Ok turn → FailsAt turn.written old new → HasStoppedSo Device
     stopped_by turn came fails =
@@ -108,6 +127,7 @@ module _ {S P : Type 0} (next : S → Action → S) (answers : S → Action → 
         let left = cut_part kept sits.node turn.written in
         let cut : cut_effect s number sits.node is.given kept ≡ Ok (goes_on_as left) = ap (cut_if kept sits.node) (comes_so turn came) in (
           refl,
+          fails.disk.cause,
           part_after before (OfNode left) [],
           inl (record { member = sits.member; part = sits.node; was = sits.is; input = is.given; given = is.is; done = goes_on_as left; comes = inr (kept, cut); is = refl }),
           record {
@@ -115,6 +135,10 @@ module _ {S P : Type 0} (next : S → Action → S) (answers : S → Action → 
             gives = is.gives;
             node = sits.node;
             was = sits.is;
+            whole = turned sits.node turn;
+            step = comes_so turn came;
+            written = fails.rec;
+            writes = fails.is;
             kept = kept;
             done = goes_on_as left;
             comes = cut;
@@ -142,11 +166,16 @@ module _ {S P : Type 0} (next : S → Action → S) (answers : S → Action → 
 
     -- no event
     abbrev IsWhy : Fault → Type 0
-    IsWhy fault = ((fault ≡ Failed) × (sits.node.running ≡ None))
-        ⊎ (((fault ≡ OutOfMemory) × IsComing (node_effect s number sits.node is.given)) ⊎ (node_effect s number sits.node is.given ≡ Err fault))
+    IsWhy fault = IsReason sits.node.running step fault
+
+    -- since the node runs, its step gives the reason
+    by_step : (effect : Result (Done NodePart) Fault) (fault : Fault) → step ≡ effect → IsReason (Some old.running) effect fault → IsWhy fault
+    by_step effect fault came why =
+        subst (λ (running : Option Running). IsReason running step fault) (sym (ap (λ (p : NodePart). p.running) runs.known))
+        (subst (λ (e : Result (Done NodePart) Fault). IsReason (Some old.running) e fault) (sym came) why)
 
     why_while : (turn : Turn) → effect_of next answers old is.given ≡ Ok turn → new.failed ≡ false → (fault : Fault) → Stops turn.written old new fault → (new ≡ old) × IsWhy fault
-    why_while turn came works OutOfMemory stops = (stops.0, inr (inl (refl, subst IsComing (sym (comes_so turn came)) tt)))
+    why_while turn came works OutOfMemory stops = (stops.0, by_step (Ok (turned sits.node turn)) OutOfMemory (comes_so turn came) refl)
     why_while turn came works Device stops = absurd (false_true works (ap (λ (h : Held S). h.failed) stops.0.goes))
     why_while turn came works Failed stops = absurd (false_true working stops.1)
     why_while turn came works _ stops = absurd stops
@@ -156,7 +185,7 @@ module _ {S P : Type 0} (next : S → Action → S) (answers : S → Action → 
     why_if (Err refusal) came works fault stops = (
       stops.0,
       elim stops.1 [
-        | inl told ↦ inr (inr (same_effect next answers member old sits.node runs is.given ∙ ap (turned_if sits.node) came ∙ ap Err (sym told.0)))
+        | inl told ↦ by_step (Err refusal) fault (same_effect next answers member old sits.node runs is.given ∙ ap (turned_if sits.node) came) told.0
         | inr gone ↦ absurd (false_true working gone.1)
       ],
     )
@@ -185,8 +214,8 @@ module _ {S P : Type 0} (next : S → Action → S) (answers : S → Action → 
     sees_part : (q : Part) → me' ≡ alone number q → part_in me'.0 ≡ q
     sees_part q sees = ap (λ (seen : Sight). part_in seen.0) sees
 
-    new_chair : (q : Part) → me' ≡ alone number q → chair mine' (part_in me'.0) ≡ chair mine q
-    new_chair q sees = λ i. chair (same i) (sees_part q sees i)
+    new_chair : (failures failures' : ℕ) → failures' ≡ failures → (q : Part) → me' ≡ alone number q → chair mine' failures' (part_in me'.0) ≡ chair mine failures q
+    new_chair failures failures' stay q sees = λ i. chair (same i) (stay i) (sees_part q sees i)
 
     module _ (sent : Sent) (t : Turned (HasTurned s number before input new sent) number me') where
       pub turned_seat : IsAtTable table mine' number me' × IsNodePlace config (begin program) number new (part_in me'.0)
@@ -195,15 +224,15 @@ module _ {S P : Type 0} (next : S → Action → S) (answers : S → Action → 
         record { member = sits.member; node = t.said.done.part; is = ap (λ (p : Part). p.role) (sees_part t.part t.is ∙ t.said.is); stands = t.said.stands },
       )
 
-      pub turned_chair : IsTurn next answers begin (chair mine before) input (chair mine' (part_in me'.0)) sent
-      turned_chair = record {
+      pub turned_chair : new.disk.failures ≡ old.disk.failures → IsTurn next answers begin (chair mine old.disk.failures before) input (chair mine' new.disk.failures (part_in me'.0)) sent
+      turned_chair stay = record {
         given = t.said.given;
         gives = t.said.gives;
         node = t.said.node;
         was = t.said.was;
         done = t.said.done;
         comes = t.said.comes;
-        after = new_chair t.part t.is ∙ ap (chair mine) t.said.is;
+        after = new_chair old.disk.failures new.disk.failures stay t.part t.is ∙ ap (chair mine old.disk.failures) t.said.is;
         tells = t.said.tells;
       }
 
@@ -214,17 +243,23 @@ module _ {S P : Type 0} (next : S → Action → S) (answers : S → Action → 
         record { member = sits.member; node = t.said.done.part; is = ap (λ (p : Part). p.role) (sees_part t.part t.is ∙ t.said.is); stands = t.said.stands },
       )
 
-      pub stopped_chair : (fault : Fault) → fault ≡ Device → IsCutTurn next answers begin (chair mine before) input (chair mine' (part_in me'.0)) fault
-      stopped_chair fault device = record {
+      pub stopped_chair : (fault : Fault) → fault ≡ Device → old.disk.failures < new.disk.failures
+          → IsCutTurn next answers begin (chair mine old.disk.failures before) input (chair mine' new.disk.failures (part_in me'.0)) fault
+      stopped_chair fault device failed = record {
         device = device;
+        failed = failed;
         given = t.said.given;
         gives = t.said.gives;
         node = t.said.node;
         was = t.said.was;
+        whole = t.said.whole;
+        step = t.said.step;
+        written = t.said.written;
+        writes = t.said.writes;
         kept = t.said.kept;
         done = t.said.done;
         comes = t.said.comes;
-        after = new_chair t.part t.is ∙ ap (chair mine) t.said.is;
+        after = new_chair new.disk.failures new.disk.failures refl t.part t.is ∙ ap (chair mine new.disk.failures) t.said.is;
       }
 
   -- the seat where nothing happened
@@ -232,9 +267,9 @@ module _ {S P : Type 0} (next : S → Action → S) (answers : S → Action → 
   unturned_seat new same = subst (λ (h : Held S). IsNodePlace config (begin program) number h before) (sym same) sits
 
   pub unturned_chair : (working : old.failed ≡ false) (new : Held S) (fault : Fault) → StopsIf (input_effect next answers old input) old new fault → new.failed ≡ false → (table : TableId)
-      → IsNoTurn next answers begin (chair table before) input (chair table before) fault
+      → IsNoTurn next answers begin (chair table old.disk.failures before) input (chair table new.disk.failures before) fault
   unturned_chair working new fault stops works table = record {
-    unchanged = refl;
+    unchanged = ap (λ (h : Held S). chair table h.disk.failures before) (no_turn working new fault stops works).0;
     given = is.given;
     gives = is.gives;
     node = sits.node;

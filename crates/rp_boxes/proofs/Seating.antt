@@ -1,17 +1,15 @@
 -- Actors get seats one after another, as they are at first.
-use Rattle.std.proofs.Common.{◌≡◌, ℕ, zero, suc, ◌+◌, ◌<◌, ◌≤◌, List, [], ◌∷◌, ◌++◌, length, refl, sym, ap, subst, ◌∙◌, arith, length-append}
+use Rattle.std.proofs.Common.{◌≡◌, ℕ, zero, suc, ◌+◌, ◌<◌, ◌≤◌, List, [], ◌∷◌, ◌++◌, length, drop, slice_index, refl, sym, ap, subst, ◌∙◌, arith, length-append}
 use Rattle.atomic_table.specs.Seated.{TableId}
 use Rattle.rp_base.specs.declared.config.Config.{Config}
-use Rattle.rp_base.specs.Number.{IsTask}
-use Rattle.rp_model.specs.Parts.{fresh_node, fresh_task}
+use Rattle.rp_model.specs.Parts.{fresh_node}
 use Rattle.rp_replica.specs.Held.{Held}
-use Rattle.rp_world.specs.Callers.{Caller}
 use Rattle.rp_world.specs.Nodes.{member_of, RunsAs}
 use Rattle.rp_world.proofs.Standing.{stands}
-use Rattle.rp_boxes.specs.Parts.{Part, View, OfNode, OfTask, first_role, first_part, first_from, part_in}
+use Rattle.rp_boxes.specs.Parts.{Part, View, OfNode, first_role, first_part, first_from, part_in}
 use Rattle.rp_boxes.specs.Plays.{Sight, IsSized, alone}
-use Rattle.rp_boxes.specs.Seats.{Chair, IsAtTable, IsNodePlace, IsTaskPlace}
-use Rattle.rp_boxes.specs.Making.{AreFirstSeats, AreSeats, IsRest, IsFirstPlace, Unseated, after_seats, first_in, others_in, first_seat}
+use Rattle.rp_boxes.specs.Seats.{Chair, IsAtTable, IsNodePlace}
+use Rattle.rp_boxes.specs.Making.{AreFirstSeats, AreSeats, IsRest, Unseated, after_seats, others_in, first_seat}
 
 -- ---- the rest of the actors
 
@@ -92,9 +90,10 @@ module _ {P : Type 0} (old self : Unseated P) (seats : List (Chair P)) (same : s
       let count : old.next + length seats + 1 ≡ old.next + length grown = omega (arith, ap length is, length-append seats (seat ∷ [])) in
       one ∙ (ap (after_seats 1) same ∙ ap (λ (next : ℕ). let unseated : Unseated P = record old { next = next } in unseated) count)
 
-  pub seat_is : (seat : Chair P) (number actor number' actor' : ℕ) → seat ≡ first_seat self.table self.config self.program number actor → number ≡ number' → actor ≡ actor'
-      → seat ≡ first_seat old.table old.config old.program number' actor'
-  seat_is seat number actor number' actor' told named which = told ∙ (λ i. first_seat (same i).table (same i).config (same i).program (named i) (which i))
+  pub seat_is : (seat : Chair P) (number actor failures number' actor' failures' : ℕ) → seat ≡ first_seat self.table self.config self.program number actor failures
+      → number ≡ number' → actor ≡ actor' → failures ≡ failures' → seat ≡ first_seat old.table old.config old.program number' actor' failures'
+  seat_is seat number actor failures number' actor' failures' told named which failed =
+      told ∙ (λ i. first_seat (same i).table (same i).config (same i).program (named i) (which i) (failed i))
 
 -- no seat yet
 pub after_none : {P : Type 0} (old : Unseated P) (seats : List (Chair P)) → seats ≡ [] → old ≡ after_seats (length seats) old
@@ -102,14 +101,21 @@ after_none {P} old seats none =
     let count : old.next ≡ old.next + length seats = omega (arith, ap length none) in
     ap (λ (next : ℕ). let unseated : Unseated P = record old { next = next } in unseated) count
 
+-- what a list has at a place, and after it
+pub at_drop : (list : List ℕ) (n x : ℕ) (rest : List ℕ) → drop n list ≡ x ∷ rest → (slice_index list n ≡ x) × (drop (suc n) list ≡ rest)
+at_drop [] zero x rest is = absurd cc
+at_drop [] (suc n) x rest is = absurd cc
+at_drop (y ∷ ys) zero x rest is = (ap (λ (l : List ℕ). slice_index l 0) is, ap (λ (l : List ℕ). drop 1 l) is)
+at_drop (y ∷ ys) (suc n) x rest is = at_drop ys n x rest is
+
 -- ---- all seats
 
 -- what all seats at the table share
 abbrev shared : {P : Type 0} → Unseated P → TableId × Config × P
 shared unseated = (unseated.table, unseated.config, unseated.program)
 
-module _ {P : Type 0} (first later left last : Unseated P) (config : Config) (program : P) (nodes tasks : List (Chair P)) (audit : Chair P)
-    (configured : first.config ≡ config) (begun : first.program ≡ program) (audit_is : audit ≡ first_seat first.table first.config first.program 0 0)
+module _ {P : Type 0} (first later left last : Unseated P) (config : Config) (program : P) (failures : List ℕ) (nodes tasks : List (Chair P)) (audit : Chair P)
+    (configured : first.config ≡ config) (begun : first.program ≡ program) (audit_is : audit ≡ first_seat first.table first.config first.program 0 0 0)
     (one : later ≡ after_seats 1 first) (more : left ≡ after_seats later.config.nodes later) (passed : last ≡ record left { next = 8 }) where
   same_later : shared later ≡ shared first
   same_later = ap shared one
@@ -123,16 +129,16 @@ module _ {P : Type 0} (first later left last : Unseated P) (config : Config) (pr
   told : shared first ≡ (audit.table, config, program)
   told = λ i. (same_table i, configured i, begun i)
 
-  seats_at : (unseated : Unseated P) (actor : ℕ) (seats : List (Chair P)) → shared unseated ≡ shared first
-      → AreFirstSeats unseated.table unseated.config unseated.program actor seats → AreFirstSeats audit.table config program actor seats
-  seats_at unseated actor seats same are = subst (λ (z : TableId × Config × P). AreFirstSeats z.0 z.1 z.2 actor seats) (same ∙ told) are
+  seats_at : (unseated : Unseated P) (actor : ℕ) (failed : List ℕ) (seats : List (Chair P)) → shared unseated ≡ shared first
+      → AreFirstSeats unseated.table unseated.config unseated.program actor failed seats → AreFirstSeats audit.table config program actor failed seats
+  seats_at unseated actor failed seats same are = subst (λ (z : TableId × Config × P). AreFirstSeats z.0 z.1 z.2 actor failed seats) (same ∙ told) are
 
-  pub all_seats : length nodes ≡ later.config.nodes → AreFirstSeats later.table later.config later.program 1 nodes
-      → length tasks ≡ 8 → AreFirstSeats last.table last.config last.program 8 tasks → AreSeats config program nodes tasks audit
+  pub all_seats : length nodes ≡ later.config.nodes → AreFirstSeats later.table later.config later.program 1 failures nodes
+      → length tasks ≡ 8 → AreFirstSeats last.table last.config last.program 8 [] tasks → AreSeats config program failures nodes tasks audit
   all_seats size nodes_are eight tasks_are = record {
     size = size ∙ ap (λ (z : TableId × Config × P). z.1.nodes) (same_later ∙ told);
-    nodes_are = seats_at later 1 nodes same_later nodes_are;
+    nodes_are = seats_at later 1 failures nodes same_later nodes_are;
     eight = eight;
-    tasks_are = seats_at last 8 tasks same_last tasks_are;
-    audit_is = audit_is ∙ (λ i. first_seat (same_table i) (configured i) (begun i) 0 0);
+    tasks_are = seats_at last 8 [] tasks same_last tasks_are;
+    audit_is = audit_is ∙ (λ i. first_seat (same_table i) (configured i) (begun i) 0 0 0);
   }

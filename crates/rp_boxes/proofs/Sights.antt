@@ -5,12 +5,8 @@ use Rattle.atomic_table.specs.Table.{rest}
 use Rattle.rp_codec.specs.Message.{Message}
 use Rattle.rp_boxes.specs.Parts.{Part, box_of, on_first, filling, filled, emptying, emptied, with_got}
 use Rattle.rp_boxes.specs.Rule.{Slot, IsCarried}
-use Rattle.rp_boxes.specs.Plays.{Sight, alone, Claimed, Took, Published, Cleared}
+use Rattle.rp_boxes.specs.Plays.{Sight, alone, holding, Claimed, Took, Published, Cleared}
 use Rattle.rp_boxes.proofs.BoxSteps.{same_box}
-
--- the seat knows this part, and has the box out with what is in it
-abbrev pub holding : ℕ → Part → ℕ → Slot → Sight
-holding k p b slot = ((k, p) ∷ [], (b, slot) ∷ [])
 
 pub sees_claimed : (k b : ℕ) (p : Part) (old new : Sight) (found : ℕ) → old ≡ alone k p → Claimed b old found new → found ≡ 0 → new ≡ holding k (filling b p) b None
 sees_claimed k b p old new found is claimed hit = claimed.hit hit ∙ ap (λ (me : Sight). (on_first (filling b) me.0, (b, None) ∷ me.1)) is

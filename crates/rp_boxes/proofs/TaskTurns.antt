@@ -146,7 +146,7 @@ module _ {P : Type 0} (config mine : Config) (program : P) (number : ℕ) (table
     (at : IsAtTable table its (7 + number) me) (sits : IsTaskSeat number config mine caller (part_in me.0)) (same : its' ≡ its)
     (sends : List Message) (t : Turned (BecomesPart (part_in me.0) new.part sends) (7 + number) me') where
   abbrev chair : TableId → Part → Chair P
-  chair id part = record { table = id; config = config; program = program; number = number; part = part }
+  chair id part = record { table = id; config = config; program = program; number = number; failures = 0; part = part }
 
   sees : part_in me'.0 ≡ part_after (part_in me.0) (OfTask new.part) sends
   sees = ap (λ (seen : Sight). part_in seen.0) t.is ∙ t.said

@@ -1,5 +1,6 @@
 -- What is said of a node's part once a turn of its replica is counted (no public clause names it).
-use Rattle.std.specs.Prelude.{◌≡◌, ℕ, Ok}
+use Rattle.std.specs.Prelude.{◌≡◌, ℕ, Some, Ok}
+use Rattle.rp_base.specs.declared.record.Rec.{Rec}
 use Rattle.rp_model.specs.Effect.{Setting, Done, NodeInput, node_effect, cut_effect}
 use Rattle.rp_model.specs.Parts.{NodePart}
 use Rattle.rp_replica.specs.Held.{Held}
@@ -22,12 +23,16 @@ module _ {S : Type 0} (s : Setting S) (number : ℕ) (before : Part) (input : In
     pub tells : TellsSent sent done
     pub is : after ≡ part_after before (OfNode done.part) done.sends
 
-  -- the device failed within the step
+  -- the device failed while the step wrote its record
   pub record HasStopped (after : Part) : Type 0 where
     pub given : NodeInput
     pub gives : given_by input ≡ Ok given
     pub node : NodePart
     pub was : before.role ≡ OfNode node
+    pub whole : Done NodePart
+    pub step : node_effect s number node given ≡ Ok whole
+    pub written : Rec
+    pub writes : whole.written ≡ Some written
     pub kept : ℕ
     pub done : Done NodePart
     pub comes : cut_effect s number node given kept ≡ Ok done

@@ -10,3 +10,4 @@ pub mod Audits
 pub mod TaskSeats
 pub mod Looks
 pub mod Meeting
+pub mod Moments

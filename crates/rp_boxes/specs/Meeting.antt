@@ -6,9 +6,14 @@ use Rattle.rp_machine.specs.Places.{HasReply}
 use Rattle.rp_machine.specs.Replay.{kept_of}
 use Rattle.rp_agreement.specs.Answered.{named, AreItsCalls}
 use Rattle.rp_agreement.specs.Order.{Begins}
-use Rattle.rp_boxes.specs.Audits.{known_of}
-use Rattle.rp_boxes.specs.Parts.{task_of}
+use Rattle.rp_boxes.specs.Audits.{IsTold, known_of}
+use Rattle.rp_boxes.specs.Parts.{Part, task_of}
 use Rattle.rp_boxes.specs.Seats.{Chair}
+
+-- In one list of actions each action that is reported, in a report that the actor got, is at its position.
+pub record TellOneOrder (part : Part) : Type 0 where
+  pub order : List Action
+  pub tells : (node before : ℕ) (action : Action) → IsTold part node before action → slice_get order before ≡ Some action
 
 -- What is known of each node begins one list of actions.
 pub record AreOfOneOrder (known : List (List Action)) : Type 0 where

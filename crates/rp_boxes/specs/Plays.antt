@@ -15,6 +15,10 @@ Sight = Me Slot View
 abbrev pub alone : ℕ → Part → Sight
 alone k p = ((k, p) ∷ [], [])
 
+-- the seat knows this part, and has the box out with what is in it
+abbrev pub holding : ℕ → Part → ℕ → Slot → Sight
+holding k p b slot = ((k, p) ∷ [], (b, slot) ∷ [])
+
 -- the table has a word for each box and actor, and a slot for each box
 abbrev pub IsSized : TableId → Type 0
 IsSized table = (table.words ≡ 272) × (table.slots ≡ 256)

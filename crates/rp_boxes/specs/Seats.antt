@@ -1,5 +1,5 @@
 -- What a seat is to a contract, and what its calls come to (this project's own).
-use Rattle.std.specs.Prelude.{◌≡◌, ◌⊎◌, ℕ, ◌<◌, ◌^◌, Some, None, IfSome, IsSome, Ok, Err, List, [], ◌∷◌, length}
+use Rattle.std.specs.Prelude.{◌≡◌, ℕ, ◌<◌, ◌^◌, Option, Some, None, IfSome, IsSome, Result, Ok, Err, List, [], ◌∷◌, length}
 use Rattle.atomic_table.specs.Seated.{TableId}
 use Rattle.rp_base.specs.Number.{IsPosition, IsTask}
 use Rattle.rp_base.specs.Records.{applied_of}
@@ -8,6 +8,7 @@ use Rattle.rp_base.specs.declared.action.Action.{Action}
 use Rattle.rp_base.specs.declared.config.Config.{Config}
 use Rattle.rp_base.specs.declared.fault.Fault.{Fault}
 use Rattle.rp_base.specs.declared.fault.Fault.TheVariants.{OutOfMemory, Device, Failed}
+use Rattle.rp_base.specs.declared.record.Rec.{Rec}
 use Rattle.rp_base.specs.declared.reply.Answer.{Answer}
 use Rattle.rp_codec.specs.Message.{Message, IsPacket}
 use Rattle.rp_codec.specs.Text.{text_of}
@@ -23,18 +24,19 @@ use Rattle.rp_replica.specs.declared.input.Input.{Input}
 use Rattle.rp_replica.specs.declared.input.Input.TheVariants.{Receive, Lead, Interrupt, Tick, Report}
 use Rattle.rp_replica.specs.declared.sent.Sent.{Sent}
 use Rattle.rp_world.specs.Callers.{Caller}
-use Rattle.rp_world.specs.Nodes.{member_of, IsComing, StandsWhile, TellsSent}
+use Rattle.rp_world.specs.Nodes.{member_of, StandsWhile, TellsSent}
 use Rattle.rp_boxes.specs.Parts.{Part, OfNode, OfTask, part_in, part_after, with_got}
 use Rattle.rp_boxes.specs.Rule.{HasOwnPackets}
 use Rattle.rp_boxes.specs.Plays.{Sight, IsSized, alone}
 
 -- The table that a seat is at, what all nodes of that table share, the number of the seat's node or task (0 for the
--- audit), and what the seat knows of it.
+-- audit), how many calls of its device have failed (0 where it has none), and what the seat knows of its actor.
 pub record Chair (P : Type 0) : Type 0 where
   pub table : TableId
   pub config : Config
   pub program : P
   pub number : ℕ
+  pub failures : ℕ
   pub part : Part
 
 -- what the nodes at the table share
@@ -83,6 +85,12 @@ IsGot part (Report first) = Unit {0}
 
 -- ---- turns of a node
 
+-- why a node makes no step: since it is stopped; else memory ran out for the step, or this refuses it
+abbrev pub IsReason : Option Running → Result (Done NodePart) Fault → Fault → Type 0
+IsReason None effect fault = fault ≡ Failed
+IsReason (Some running) (Ok done) fault = fault ≡ OutOfMemory
+IsReason (Some running) (Err refusal) fault = fault ≡ refusal
+
 module _ {S P : Type 0} (next : S → Action → S) (answers : S → Action → List Answer) (begin : P → S) where
   -- One event: what the input comes to at the node, and its packets.
   pub record IsTurn (old : Chair P) (input : Input) (new : Chair P) (sent : Sent) : Type 0 where
@@ -95,28 +103,34 @@ module _ {S P : Type 0} (next : S → Action → S) (answers : S → Action → 
     pub after : new ≡ record old { part = part_after old.part (OfNode done.part) done.sends }
     pub tells : TellsSent sent done
 
-  -- One event: the device failed, and the node stopped within the step, of whose record some bytes were kept.
+  -- One event: the device failed while the step wrote its record, of which some bytes were kept, and the node stopped.
   pub record IsCutTurn (old : Chair P) (input : Input) (new : Chair P) (fault : Fault) : Type 0 where
     pub device : fault ≡ Device
+    pub failed : old.failures < new.failures
     pub given : NodeInput
     pub gives : given_by input ≡ Ok given
     pub node : NodePart
     pub was : old.part.role ≡ OfNode node
+    pub whole : Done NodePart
+    pub step : node_effect (setting_at next answers begin old) old.number node given ≡ Ok whole
+    pub written : Rec
+    pub writes : whole.written ≡ Some written
     pub kept : ℕ
     pub done : Done NodePart
     pub comes : cut_effect (setting_at next answers begin old) old.number node given kept ≡ Ok done
-    pub after : new ≡ record old { part = part_after old.part (OfNode done.part) done.sends }
+    pub after : new ≡ record old {
+      part = part_after old.part (OfNode done.part) done.sends;
+      failures = new.failures;
+    }
 
-  -- No event: the node is stopped since its device failed, memory was wanting for the step, or the step is refused.
+  -- No event: the node is stopped, memory ran out, or the step is refused.
   pub record IsNoTurn (old : Chair P) (input : Input) (new : Chair P) (fault : Fault) : Type 0 where
     pub unchanged : new ≡ old
     pub given : NodeInput
     pub gives : given_by input ≡ Ok given
     pub node : NodePart
     pub was : old.part.role ≡ OfNode node
-    pub why : ((fault ≡ Failed) × (node.running ≡ None))
-        ⊎ (((fault ≡ OutOfMemory) × IsComing (node_effect (setting_at next answers begin old) old.number node given))
-        ⊎ (node_effect (setting_at next answers begin old) old.number node given ≡ Err fault))
+    pub why : IsReason node.running (node_effect (setting_at next answers begin old) old.number node given) fault
 
 -- ---- packets
 

@@ -6,6 +6,8 @@ ghost use Rattle.rp_base.specs.declared.fault.Fault.TheVariants as faults;
 ghost use Rattle.rp_codec.specs.Message.{IsPacket};
 ghost use Rattle.rp_codec.specs.declared.packet.Party.TheVariants as parties;
 ghost use Rattle.rp_boxes.specs.Audits.{AreTold, IsAdded, IsGotReport, IsJoined, known_of, report, with_reported};
+ghost use Rattle.rp_boxes.specs.Looks.{WasSent};
+ghost use Rattle.rp_boxes.specs.Moments.{WasNotFull};
 ghost use Rattle.rp_boxes.specs.Meeting.{AreOfOneOrder, IsMet};
 ghost use Rattle.rp_boxes.specs.Seats.{IsFetched};
 
@@ -38,12 +40,14 @@ pub struct Audit<M: Machine> {
 impl<M: Machine> Model for Audit<M> {
     ghost use Rattle.std.specs.Prelude.{map};
     ghost use Rattle.rp_boxes.specs.Audits.{Audited, AreTold};
+    ghost use Rattle.rp_boxes.specs.Meeting.{TellOneOrder};
 
     ghost Value = { Audited M.Program };
 
     ghost view = { λ a. record { seat = a.seat; known = map (λ list. list.items) a.known } };
 
-    ghost invariant = { λ a. AreTold a.seat.part (map (λ list. list.items) a.known) };
+    ghost invariant = { λ a. AreTold a.seat.part (map (λ list. list.items) a.known)
+        × TellOneOrder a.seat.part };
 }
 
 /// Puts these actions in place of those from a position on, where that makes the list longer.
@@ -68,6 +72,10 @@ impl<M: Machine> Audit<M> {
     pub fn new(alloc: Global, seat: AuditSeat<M>) -> Self
         ensures { result ≡ record { seat = seat; known = replicate 7 [] } }
     {
+        the_order_exists();
+        reports_tell_the_order();
+        let mut seat = seat;
+        seat.look();
         Audit {
             seat,
             known: [
@@ -83,26 +91,33 @@ impl<M: Machine> Audit<M> {
     }
 
     /// The packet in the box from that party to the audit, as its text, or `None` where the box is
-    /// not full. It is a report.
+    /// not full. It is a report, which that party has sent.
     pub fn fetch(&mut self, from: Party) -> Option<Vec<u8>>
         ensures some { IfSome result (λ text. IsFetched from parties.Audit text.items
             self.old.seat self.new.seat) }
+        ensures sent { IfSome result (λ text. WasSent M.next M.answers M.begin from parties.Audit
+            text.items self.new.seat) }
         ensures none { IfNone result (self.new.seat ≡ self.old.seat) }
+        ensures missed { IfNone result (WasNotFull M.next M.answers M.begin from parties.Audit
+            self.new.seat) }
         ensures report { IfSome result (λ text. IsGotReport self.new.seat.part text.items) }
         ensures got { (text : List ℕ) → IsGotReport self.old.seat.part text
             → IsGotReport self.new.seat.part text }
         ensures known { self.new.known ≡ self.old.known }
     {
+        the_order_exists();
+        reports_tell_the_order();
         self.seat.fetch(from)
     }
 
     /// Adds a report that the audit got, as its text: where its first position is above what is
     /// known of its node and one more it leaves a gap, and nothing changes; else what is known of the
-    /// node becomes the longer of itself and of what the report makes it. Refused for memory, nothing
-    /// changes.
+    /// node becomes the longer of itself and of what the report makes it. What is known of any two
+    /// nodes begins one list of actions then. Refused for memory, nothing changes.
     pub fn add(&mut self, alloc: Global, packet: &[u8]) -> Result<Added, Fault>
         requires { IsGotReport self.old.seat.part packet.now }
         ensures ok { IfOk result (λ added. IsAdded self.old packet.now self.new added) }
+        ensures one { AreOfOneOrder self.new.known }
         ensures err { OnErr result (self.new ≡ self.old) }
         ensures only { IsOkUnless result faults.OutOfMemory }
     {
@@ -131,6 +146,7 @@ impl<M: Machine> Audit<M> {
             × IsPacket (report node first applied actions.now) }
         ensures ok { IfOk result (λ added. IsJoined self.old node first actions.now
             self.new added) }
+        ensures one { AreOfOneOrder self.new.known }
         ensures err { OnErr result (self.new ≡ self.old) }
     {
         let place = usize::from(node.get()) - 1;
@@ -150,10 +166,12 @@ impl<M: Machine> Audit<M> {
         })
     }
 
-    /// The actions that are known of a node, in order. Each was told by a report that the audit got.
+    /// The actions that are known of a node, in order. Each was told by a report that the audit got,
+    /// and what is known of any two nodes begins one list of actions.
     pub fn known(&self, node: NodeId) -> &[Action]
         ensures value { result.now ≡ known_of self.now.known node }
         ensures told { AreTold self.now.seat.part self.now.known }
+        ensures one { AreOfOneOrder self.now.known }
     {
         self.known[usize::from(node.get()) - 1].as_slice()
     }

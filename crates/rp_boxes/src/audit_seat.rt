@@ -2,6 +2,8 @@
 
 ghost use Rattle.std.specs.Prelude.{◌≡◌, IfSome, IfNone};
 ghost use Rattle.rp_codec.specs.declared.packet.Party.TheVariants.{Audit};
+ghost use Rattle.rp_boxes.specs.Looks.{WasSent};
+ghost use Rattle.rp_boxes.specs.Moments.{WasNotFull};
 ghost use Rattle.rp_boxes.specs.Rule.{HasOwnPackets};
 ghost use Rattle.rp_boxes.specs.Seats.{IsFetched};
 
@@ -35,6 +37,7 @@ impl<M: Machine> Model for AuditSeat<M> {
       config = (arc_value s.board).shared.key.config;
       program = (arc_value s.board).shared.key.program.value;
       number = 0;
+      failures = 0;
       part = part_in s.place.me.0;
     } };
 
@@ -47,10 +50,13 @@ const AUDIT: usize = 0;
 
 impl<M: Machine> AuditSeat<M> {
     /// The packet in the box from that party to the audit, as its text, or `None` where the box is
-    /// not full.
+    /// not full. That party has sent it.
     pub fn fetch(&mut self, from: Party) -> Option<Vec<u8>>
         ensures some { IfSome result (λ text. IsFetched from Audit text.items self.old self.new) }
+        ensures sent { IfSome result (λ text. WasSent M.next M.answers M.begin from Audit
+            text.items self.new) }
         ensures none { IfNone result (self.new ≡ self.old) }
+        ensures missed { IfNone result (WasNotFull M.next M.answers M.begin from Audit self.new) }
     {
         empty(&self.board.shared, &mut self.place, actor_of(from), AUDIT)
     }

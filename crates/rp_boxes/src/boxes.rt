@@ -1,15 +1,25 @@
 //! The steps at a box: its sender fills it, its receiver empties it.
 
-ghost use Rattle.std.specs.Prelude.{◌≡◌, ◌<◌, [], IfErr, IfSome, IfNone};
+ghost use Rattle.std.specs.Prelude.{◌≡◌, ◌≢◌, ◌<◌, ℕ, ◌∷◌, [], Some, None, Vec, true, false, slice_index, IfErr, IfSome, IfNone, OnOk};
+ghost use Rattle.std.specs.declared.alloc.Global.{Global};
+ghost use mathlib.Core.Option.{some};
+ghost use lib.ListN.{get_elem?};
+ghost use Rattle.atomic_table.specs.Table.{State};
+ghost use Rattle.rp_agreement.specs.Answered.{setting_for};
 ghost use Rattle.rp_base.specs.Sets.{Has};
 ghost use Rattle.rp_codec.specs.Message.{Message};
-ghost use Rattle.rp_boxes.specs.Parts.{part_in, with_got};
-ghost use Rattle.rp_boxes.specs.Plays.{IsSized, alone};
-ghost use Rattle.rp_boxes.specs.Rule.{IsCarried};
+ghost use Rattle.rp_boxes.specs.Looks.{IsWorldOf};
+ghost use Rattle.rp_boxes.specs.Moments.{IsMoment, WasFull, WasWord};
+ghost use Rattle.rp_boxes.specs.Parts.{Part, View, box_of, emptying, filled, filling, part_in, with_got};
+ghost use Rattle.rp_boxes.specs.Plays.{IsSized, alone, holding};
+ghost use Rattle.rp_boxes.specs.Rule.{IsCarried, Slot};
 
 use crate::board::{Known, Place, Slots};
+use crate::events::Saying;
+use crate::looking::look;
 use atomic_table::Play;
 use rp_machine::Machine;
+use std::marker::{Brand, PhantomData};
 
 /// The box has nothing.
 const EMPTY: u64 = 0;
@@ -20,31 +30,44 @@ const FULL: u64 = 2;
 /// Its receiver takes the packet out.
 const EMPTYING: u64 = 3;
 
-/// The sender claims a box that is empty.
-struct Claim;
+/// The sender claims a box that is empty, and of one that is not this is said.
+struct Claim<J> {
+    of: PhantomData<J>,
+}
 
-impl Play<Option<Vec<u8>>, Known> for Claim {
+impl<J: Saying> Play<Option<Vec<u8>>, Known> for Claim<J> {
+    ghost use Rattle.std.specs.Prelude.{◌≢◌};
+    ghost use Rattle.rp_boxes.specs.Parts.{part_in};
     ghost use Rattle.rp_boxes.specs.Plays.{Claimed};
 
-    ghost then = { λ step old found new. Claimed step.word old found new };
+    ghost then = { λ step old found new. Claimed step.word old found new
+        × (found ≢ 0 → J.says (part_in old.0)) };
 }
 
-/// The sender lets go of a box that it has filled.
-struct Publish;
+/// The sender lets go of a box that it has filled, of which this is said.
+struct Publish<J> {
+    of: PhantomData<J>,
+}
 
-impl Play<Option<Vec<u8>>, Known> for Publish {
+impl<J: Saying> Play<Option<Vec<u8>>, Known> for Publish<J> {
+    ghost use Rattle.rp_boxes.specs.Parts.{part_in};
     ghost use Rattle.rp_boxes.specs.Plays.{Published};
 
-    ghost then = { λ step old found new. Published old new };
+    ghost then = { λ step old found new. Published old new × J.says (part_in old.0) };
 }
 
-/// The receiver claims a box that is full.
-struct Take;
+/// The receiver claims a box that is full, and of one that is not this is said.
+struct Take<J> {
+    of: PhantomData<J>,
+}
 
-impl Play<Option<Vec<u8>>, Known> for Take {
+impl<J: Saying> Play<Option<Vec<u8>>, Known> for Take<J> {
+    ghost use Rattle.std.specs.Prelude.{◌≢◌};
+    ghost use Rattle.rp_boxes.specs.Parts.{part_in};
     ghost use Rattle.rp_boxes.specs.Plays.{Took};
 
-    ghost then = { λ step old found new. Took step.word old found new };
+    ghost then = { λ step old found new. Took step.word old found new
+        × (found ≢ 2 → J.says (part_in old.0)) };
 }
 
 /// The receiver lets go of a box that it has emptied.
@@ -54,6 +77,63 @@ impl Play<Option<Vec<u8>>, Known> for Clear {
     ghost use Rattle.rp_boxes.specs.Plays.{Cleared};
 
     ghost then = { λ step old found new. Cleared old new };
+}
+
+/// Claims the box to another actor, if it is empty. Of one that is not, what its caller picks is so.
+fn claim_empty<M: Machine, J: Saying>(
+    slots: &Slots<M>,
+    place: &mut Place,
+    from: usize,
+    to: usize,
+) -> bool
+    requires table { place.old.table_id ≡ slots.now.table_id }
+    requires sized { IsSized slots.now.table_id }
+    requires from { from < 16 }
+    requires to { to < 16 }
+    requires place { place.old.me ≡ alone from (part_in place.old.me.0) }
+    requires free { (part_in place.old.me.0).fills ≡ [] }
+    requires follows { (table : State Slot View) → IsMoment (setting_for M.next M.answers M.begin slots.now.key.config
+        slots.now.key.program.value) place.old.me.0 table
+        → slice_index table.words (box_of from to) ≢ 0 → J.says (part_in place.old.me.0) }
+    ensures table { place.new.table_id ≡ place.old.table_id }
+    ensures hit { result ≡ true → place.new.me ≡ holding from
+        (filling (box_of from to) (part_in place.old.me.0)) (box_of from to) None }
+    ensures miss { result ≡ false → (place.new.me ≡ place.old.me)
+        × J.says (part_in place.old.me.0) }
+{
+    slots.compare_exchange::<Claim<J>>(place, 16 * from + to, EMPTY, FILLING) == EMPTY
+}
+
+/// Puts a packet that the actor sent into the box that it claimed, and lets go of it. What its caller
+/// picks is so of the full box.
+fn deliver<M: Machine, J: Saying>(
+    slots: &Slots<M>,
+    place: &mut Place,
+    from: usize,
+    to: usize,
+    packet: Vec<u8>,
+)
+    requires table { place.old.table_id ≡ slots.now.table_id }
+    requires sized { IsSized slots.now.table_id }
+    requires from { from < 16 }
+    requires to { to < 16 }
+    requires place { place.old.me ≡ holding from (part_in place.old.me.0) (box_of from to) None }
+    requires fills { (part_in place.old.me.0).fills ≡ box_of from to ∷ [] }
+    requires packet { (m : Message) × Has m (part_in place.old.me.0).sent
+        × IsCarried from to packet.items m }
+    requires follows { (table : State Slot View) → IsMoment (setting_for M.next M.answers M.begin slots.now.key.config
+        slots.now.key.program.value)
+        ((from, filled (part_in place.old.me.0)) ∷ []) table
+        → slice_index table.words (box_of from to) ≡ 2
+        → get_elem? table.homes (box_of from to) ≡ some (some (Some packet))
+        → J.says (part_in place.old.me.0) }
+    ensures table { place.new.table_id ≡ place.old.table_id }
+    ensures place { place.new.me ≡ alone from (filled (part_in place.old.me.0)) }
+    ensures said { J.says (part_in place.old.me.0) }
+{
+    let at = 16 * from + to;
+    slots.exchange(place, at, Some(packet));
+    slots.store::<Publish<J>>(place, at, FULL);
 }
 
 /// Puts a packet that the actor sent into its box to another, if that is empty, and else gives the
@@ -75,18 +155,48 @@ pub(crate) fn fill<M: Machine>(
         × IsCarried from to packet.items m }
     ensures table { place.new.table_id ≡ place.old.table_id }
     ensures place { place.new.me ≡ place.old.me }
-    ensures err { IfErr result (λ back. back ≡ packet) }
+    ensures put { OnOk result (WasFull (setting_for M.next M.answers M.begin slots.now.key.config
+        slots.now.key.program.value) place.new.me.0 (box_of from to) packet.items) }
+    ensures back { IfErr result (λ back. back ≡ packet) }
+    ensures used { IfErr result (λ back. WasWord (setting_for M.next M.answers M.begin slots.now.key.config
+        slots.now.key.program.value) place.new.me.0 (box_of from to)
+        (λ word. word ≢ 0)) }
 {
-    let at = 16 * from + to;
-    if slots.compare_exchange::<Claim>(place, at, EMPTY, FILLING) != EMPTY {
+    if !claim_empty::<M, Brand>(slots, place, from, to) {
         return Err(packet);
     }
-    slots.exchange(place, at, Some(packet));
-    slots.store::<Publish>(place, at, FULL);
+    deliver::<M, Brand>(slots, place, from, to, packet);
     Ok(())
 }
 
-/// Takes the packet out of the box from another actor to this one, if it is full.
+/// Claims the box from another actor, if it is full. Of one that is not, what its caller picks is so.
+fn claim_full<M: Machine, J: Saying>(
+    slots: &Slots<M>,
+    place: &mut Place,
+    from: usize,
+    to: usize,
+) -> bool
+    requires table { place.old.table_id ≡ slots.now.table_id }
+    requires sized { IsSized slots.now.table_id }
+    requires from { from < 16 }
+    requires to { to < 16 }
+    requires place { place.old.me ≡ alone to (part_in place.old.me.0) }
+    requires free { (part_in place.old.me.0).takes ≡ [] }
+    requires follows { (table : State Slot View) → IsMoment (setting_for M.next M.answers M.begin slots.now.key.config
+        slots.now.key.program.value) place.old.me.0 table
+        → slice_index table.words (box_of from to) ≢ 2 → J.says (part_in place.old.me.0) }
+    ensures table { place.new.table_id ≡ place.old.table_id }
+    ensures hit { result ≡ true → (m : Message) × (text : Vec ℕ Global)
+        × IsCarried from to text.items m × (place.new.me ≡ holding to
+        (emptying (box_of from to) m (part_in place.old.me.0)) (box_of from to) (Some text)) }
+    ensures miss { result ≡ false → (place.new.me ≡ place.old.me)
+        × J.says (part_in place.old.me.0) }
+{
+    slots.compare_exchange::<Take<J>>(place, 16 * from + to, FULL, EMPTYING) == FULL
+}
+
+/// Takes the packet out of the box from another actor to this one, if it is full, and looks at the
+/// table: there is a world in which that actor has sent it.
 pub(crate) fn empty<M: Machine>(
     slots: &Slots<M>,
     place: &mut Place,
@@ -101,14 +211,21 @@ pub(crate) fn empty<M: Machine>(
     requires free { (part_in place.old.me.0).takes ≡ [] }
     ensures table { place.new.table_id ≡ place.old.table_id }
     ensures none { IfNone result (place.new.me ≡ place.old.me) }
+    ensures missed { IfNone result (WasWord (setting_for M.next M.answers M.begin slots.now.key.config
+        slots.now.key.program.value) place.new.me.0 (box_of from to)
+        (λ word. word ≢ 2)) }
     ensures some { IfSome result (λ text. (m : Message) × IsCarried from to text.items m
         × (place.new.me ≡ alone to (with_got m (part_in place.old.me.0)))) }
+    ensures world { IfSome result (λ text. (parts : ℕ → Part)
+        × IsWorldOf (setting_for M.next M.answers M.begin slots.now.key.config
+        slots.now.key.program.value) place.new.me.0 parts) }
 {
-    let at = 16 * from + to;
-    if slots.compare_exchange::<Take>(place, at, FULL, EMPTYING) != FULL {
+    if !claim_full::<M, Brand>(slots, place, from, to) {
         return None;
     }
+    let at = 16 * from + to;
     let packet = slots.exchange(place, at, None);
     slots.store::<Clear>(place, at, EMPTY);
+    look::<M, Brand>(slots, place);
     packet
 }

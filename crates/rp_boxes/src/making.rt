@@ -3,7 +3,7 @@
 ghost use Rattle.std.specs.Prelude.{◌≡◌, ◌+◌, ◌≤◌, ◌<◌, ◌⊎◌, ◌↔◌, ℕ, ◌∷◌, [], All, length, IfOk, IfErr, OnOk, IsErrOf};
 ghost use Rattle.rp_base.specs.Config.{IsRightConfig};
 ghost use Rattle.rp_base.specs.declared.fault.Fault.TheVariants as faults;
-ghost use Rattle.rp_boxes.specs.Making.{AreFirstSeats, AreSeats, IsFirstPlace, IsRest, IsWanting, after_seats, first_in, first_seat, others_in};
+ghost use Rattle.rp_boxes.specs.Making.{AreFirstSeats, AreSeats, CanFail, IsFirstPlace, IsRest, IsWanting, after_seats, failures_of, first_in, first_seat, others_in};
 ghost use Rattle.rp_boxes.specs.Parts.{Part, View};
 ghost use Rattle.rp_boxes.specs.Plays.{IsSized};
 
@@ -152,7 +152,7 @@ impl<M: Machine> Unseated<M> {
     fn audit(&mut self) -> Result<AuditSeat<M>, AllocError>
         requires { self.old.next ≡ 0 }
         ensures ok { IfOk result (λ seat. seat
-            ≡ first_seat self.old.table self.old.config self.old.program 0 0) }
+            ≡ first_seat self.old.table self.old.config self.old.program 0 0 0) }
         ensures rest { OnOk result (self.new ≡ after_seats 1 self.old) }
     {
         let board = Arc::try_clone(&self.board)?;
@@ -171,9 +171,10 @@ impl<M: Machine> Unseated<M> {
         requires node { (1 ≤ self.old.next) × (self.old.next ≤ self.old.config.nodes) }
         requires empty { (D.disk device).contents ≡ [] }
         ensures ok { IfOk result (λ seat. seat ≡ first_seat self.old.table self.old.config
-            self.old.program self.old.next self.old.next) }
+            self.old.program self.old.next self.old.next (D.disk device).failures) }
         ensures rest { OnOk result (self.new ≡ after_seats 1 self.old) }
         ensures only { IfErr result IsWanting }
+        ensures device { IsErrOf result Fault.Device → CanFail D.disk }
     {
         let board = Arc::try_clone(&self.board)?;
         let node = NodeId::new(self.next as u8).unwrap();
@@ -185,6 +186,8 @@ impl<M: Machine> Unseated<M> {
                     replica: opening.replica,
                     place,
                     board,
+                    spare: Vec::new(alloc),
+                    lost: 0,
                 })
             }
             Err((fault, _)) => Err(fault),
@@ -204,9 +207,10 @@ impl<M: Machine> Unseated<M> {
         requires empty { All (λ device. (D.disk device).contents ≡ []) devices.items }
         ensures size { IfOk result (λ seats. length seats.items ≡ self.old.config.nodes) }
         ensures seats { IfOk result (λ seats. AreFirstSeats self.old.table self.old.config
-            self.old.program 1 seats.items) }
+            self.old.program 1 (failures_of D.disk devices.items) seats.items) }
         ensures rest { OnOk result (self.new ≡ after_seats self.old.config.nodes self.old) }
         ensures only { IfErr result IsWanting }
+        ensures device { IsErrOf result Fault.Device → CanFail D.disk }
     {
         let mut seats = Vec::new(alloc);
         for device in devices {
@@ -219,7 +223,7 @@ impl<M: Machine> Unseated<M> {
     fn task(&mut self, alloc: Global, task: TaskId) -> Result<TaskSeat<M>, AllocError>
         requires { self.old.next ≡ 7 + task }
         ensures ok { IfOk result (λ seat. seat ≡ first_seat self.old.table self.old.config
-            self.old.program task (7 + task)) }
+            self.old.program task (7 + task) 0) }
         ensures rest { OnOk result (self.new ≡ after_seats 1 self.old) }
     {
         let board = Arc::try_clone(&self.board)?;
@@ -230,6 +234,7 @@ impl<M: Machine> Unseated<M> {
             task: Task::new(alloc, task),
             place,
             board,
+            lost: 0,
         })
     }
 
@@ -238,7 +243,7 @@ impl<M: Machine> Unseated<M> {
         requires { self.old.next ≡ 8 }
         ensures eight { IfOk result (λ seats. length seats.items ≡ 8) }
         ensures seats { IfOk result (λ seats. AreFirstSeats self.old.table self.old.config
-            self.old.program 8 seats.items) }
+            self.old.program 8 [] seats.items) }
         ensures rest { OnOk result (self.new ≡ after_seats 8 self.old) }
     {
         let mut seats = Vec::new(alloc);
@@ -261,8 +266,9 @@ fn made<M: Machine, D: Device>(
     requires count { length devices.items ≡ config.nodes }
     requires empty { All (λ device. (D.disk device).contents ≡ []) devices.items }
     ensures opened { IfOk result (λ all. AreSeats config program.now
-        all.nodes.items all.tasks.items all.audit) }
+        (failures_of D.disk devices.items) all.nodes.items all.tasks.items all.audit) }
     ensures only { IfErr result IsWanting }
+    ensures device { IsErrOf result Fault.Device → CanFail D.disk }
 {
     let mut unseated = Unseated::<M>::new(alloc, config, program)?;
     let audit = unseated.audit()?;
@@ -286,11 +292,12 @@ pub fn seats<M: Machine, D: Device>(
     devices: Vec<D>,
 ) -> Result<AllSeats<M, D>, Fault>
     ensures opened { IfOk result (λ all. AreSeats config program.now
-        all.nodes.items all.tasks.items all.audit) }
+        (failures_of D.disk devices.items) all.nodes.items all.tasks.items all.audit) }
     ensures refused { IsErrOf result Fault.BadConfig
         ↔ (¬ (IsRightConfig config × (length devices.items ≡ config.nodes)
         × All (λ device. (D.disk device).contents ≡ []) devices.items)) }
     ensures only { IfErr result (λ fault. (fault ≡ Fault.BadConfig) ⊎ IsWanting fault) }
+    ensures device { IsErrOf result Fault.Device → CanFail D.disk }
 {
     if !config.is_right() || devices.len() != usize::from(config.nodes) || !are_empty(&devices) {
         return Err(Fault::BadConfig);

@@ -72,6 +72,7 @@ impl<M: Machine> AuditSeat<M> {
             task,
             place: task_place,
             board: task_board,
+            lost,
         } = task;
         let (task_place, place) = look_together::<M>(&task_board.shared, task_place, place);
         let audit = AuditSeat { place, board };
@@ -81,6 +82,7 @@ impl<M: Machine> AuditSeat<M> {
             task,
             place: task_place,
             board: task_board,
+            lost,
         };
         (audit, task)
     }

@@ -1,6 +1,6 @@
 //! The seat of a node.
 
-ghost use Rattle.std.specs.Prelude.{◌≡◌, ◌⊎◌, nat_lt, length, false, IfOk, IfErr, IfSome, IfNone, IsOkUnless};
+ghost use Rattle.std.specs.Prelude.{◌≡◌, ◌⊎◌, nat_lt, length, false, IfOk, IfErr, IfSome, IfNone, OnOk, IsOkUnless};
 ghost use Rattle.rp_base.specs.Sets.{Has};
 ghost use Rattle.rp_base.specs.declared.fault.Fault.TheVariants as faults;
 ghost use Rattle.rp_codec.specs.Message.{Message, IsPacket};
@@ -8,6 +8,8 @@ ghost use Rattle.rp_codec.specs.declared.packet.Party.TheVariants.{Node};
 ghost use Rattle.rp_model.specs.Parts.{Running};
 ghost use Rattle.rp_replica.specs.Inputs.{IsRightInput};
 ghost use Rattle.rp_replica.specs.declared.input.Input.TheVariants.{Report};
+ghost use Rattle.rp_boxes.specs.Looks.{WasSent};
+ghost use Rattle.rp_boxes.specs.Moments.{WasInUse, WasNotFull, WasPut};
 ghost use Rattle.rp_boxes.specs.Seats.{IsGot, IsTurn, IsCutTurn, IsNoTurn, IsSentText, IsFetched, HasApplied, IsRunning, IsStopped, IsReport};
 
 use crate::actors::{actor_of, receiver};
@@ -19,9 +21,10 @@ use rp_base::{Fault, NodeId, Position};
 use rp_codec::Party;
 use rp_machine::Machine;
 use rp_replica::{Input, Replica, Sent, texts_are_packets};
-use rp_store::Device;
+use rp_store::{Device, InfallibleDevice};
 use std::alloc::Global;
 use std::marker::{Brand, Model};
+use std::mem;
 use std::sync::Arc;
 
 /// The seat of a node: the node itself, and its place at the table that all seats share. It crosses
@@ -32,6 +35,10 @@ pub struct NodeSeat<M: Machine, D: Device> {
     pub(crate) replica: Replica<M, D>,
     pub(crate) place: Place,
     pub(crate) board: Arc<Board<M>, Global>,
+    /// Room for the packets of the next step.
+    pub(crate) spare: Vec<u8>,
+    /// How many packets were given back and let go.
+    pub(crate) lost: u64,
 }
 
 impl<M: Machine, D: Device> Model for NodeSeat<M, D> {
@@ -46,6 +53,7 @@ impl<M: Machine, D: Device> Model for NodeSeat<M, D> {
       config = (arc_value s.board).shared.key.config;
       program = (arc_value s.board).shared.key.program.value;
       number = s.node;
+      failures = s.replica.disk.failures;
       part = part_in s.place.me.0;
     } };
 
@@ -72,7 +80,8 @@ impl<M: Machine, D: Device> NodeSeat<M, D> {
         if self.replica.has_failed() {
             return Err(Fault::Failed);
         }
-        match self.replica.turn(alloc, input) {
+        let buffer = mem::replace(&mut self.spare, Vec::new(alloc));
+        match self.replica.turn_into(alloc, buffer, input) {
             Ok(sent) => {
                 note_turn::<M, D, Brand>(
                     &self.board.shared,
@@ -100,24 +109,52 @@ impl<M: Machine, D: Device> NodeSeat<M, D> {
         }
     }
 
+    /// Lends the seat a buffer for the packets of its next step, so that this step need not take
+    /// memory for them. What the buffer holds is let go.
+    pub fn lend(&mut self, buffer: Vec<u8>)
+        ensures { self.new ≡ self.old }
+    {
+        self.spare = buffer;
+    }
+
     /// Puts a packet that a step of this seat sent, as its text, into the box to its receiver. It is
     /// given back where that box is not empty.
     pub fn put(&mut self, packet: Vec<u8>) -> Result<(), Vec<u8>>
         requires sent { IsSentText self.old.part packet.items }
         ensures unchanged { self.new ≡ self.old }
+        ensures put { OnOk result (WasPut M.next M.answers M.begin (Node self.new.number)
+            packet.items self.new) }
         ensures back { IfErr result (λ back. back ≡ packet) }
+        ensures used { IfErr result (λ back. WasInUse M.next M.answers M.begin
+            (Node self.new.number) packet.items self.new) }
     {
         let to = receiver(packet.as_slice());
         let node = usize::from(self.node.get());
         fill(&self.board.shared, &mut self.place, node, to, packet)
     }
 
+    /// Counts a packet that was given back and is let go.
+    pub fn lose(&mut self)
+        ensures { self.new ≡ self.old }
+    {
+        self.lost = self.lost.saturating_add(1);
+    }
+
+    /// How many packets were let go so.
+    pub fn lost(&self) -> u64 {
+        self.lost
+    }
+
     /// The packet in the box from that party to this seat, as its text, or `None` where the box is
-    /// not full.
+    /// not full. That party has sent it.
     pub fn fetch(&mut self, from: Party) -> Option<Vec<u8>>
         ensures some { IfSome result (λ text. IsFetched from (Node self.old.number) text.items
             self.old self.new) }
+        ensures sent { IfSome result (λ text. WasSent M.next M.answers M.begin from
+            (Node self.new.number) text.items self.new) }
         ensures none { IfNone result (self.new ≡ self.old) }
+        ensures missed { IfNone result (WasNotFull M.next M.answers M.begin from
+            (Node self.new.number) self.new) }
     {
         let node = usize::from(self.node.get());
         empty(&self.board.shared, &mut self.place, actor_of(from), node)
@@ -168,5 +205,15 @@ impl<M: Machine, D: Device> NodeSeat<M, D> {
             ⊎ IsNoTurn M.next M.answers M.begin self.old (Report first) self.new fault) }
     {
         self.turn(alloc, &Input::Report(first))
+    }
+}
+
+impl<M: Machine, D: InfallibleDevice> NodeSeat<M, D> {
+    /// No call of the device has failed, where such a device never fails. It does nothing: what it
+    /// promises is for contracts.
+    pub fn never_failed(&self)
+        ensures { self.now.failures ≡ 0 }
+    {
+        self.replica.never_failed();
     }
 }

@@ -1,6 +1,6 @@
 //! The seat of a task.
 
-ghost use Rattle.std.specs.Prelude.{◌≡◌, IfOk, IfErr, IfSome, IfNone, OnErr};
+ghost use Rattle.std.specs.Prelude.{◌≡◌, IfOk, IfErr, IfSome, IfNone, OnOk, OnErr};
 ghost use Rattle.rp_base.specs.Action.{IsRight};
 ghost use Rattle.rp_base.specs.Sets.{Has};
 ghost use Rattle.rp_base.specs.declared.fault.Fault.TheVariants.{OutOfMemory};
@@ -9,6 +9,8 @@ ghost use Rattle.rp_codec.specs.Text.{text_of};
 ghost use Rattle.rp_codec.specs.declared.packet.Party.TheVariants as parties;
 ghost use Rattle.rp_model.specs.Tasks.{Submit, Again};
 ghost use Rattle.rp_world.specs.Going.{reply_told};
+ghost use Rattle.rp_boxes.specs.Looks.{WasSent};
+ghost use Rattle.rp_boxes.specs.Moments.{WasInUse, WasNotFull, WasPut};
 ghost use Rattle.rp_boxes.specs.Parts.{task_of};
 ghost use Rattle.rp_boxes.specs.Seats.{IsSentText, IsFetched};
 ghost use Rattle.rp_boxes.specs.TaskSeats.{IsTaskTurn, IsNoTaskTurn, IsReplyTurn, IsTold};
@@ -43,6 +45,8 @@ pub struct TaskSeat<M: Machine> {
     pub(crate) task: Task,
     pub(crate) place: Place,
     pub(crate) board: Arc<Board<M>, Global>,
+    /// How many packets were given back and let go.
+    pub(crate) lost: u64,
 }
 
 impl<M: Machine> Model for TaskSeat<M> {
@@ -59,6 +63,7 @@ impl<M: Machine> Model for TaskSeat<M> {
       config = (arc_value s.board).shared.key.config;
       program = (arc_value s.board).shared.key.program.value;
       number = s.number;
+      failures = 0;
       part = part_in s.place.me.0;
     } };
 
@@ -161,19 +166,39 @@ impl<M: Machine> TaskSeat<M> {
     pub fn put(&mut self, packet: Vec<u8>) -> Result<(), Vec<u8>>
         requires sent { IsSentText self.old.part packet.items }
         ensures unchanged { self.new ≡ self.old }
+        ensures put { OnOk result (WasPut M.next M.answers M.begin (parties.Task self.new.number)
+            packet.items self.new) }
         ensures back { IfErr result (λ back. back ≡ packet) }
+        ensures used { IfErr result (λ back. WasInUse M.next M.answers M.begin
+            (parties.Task self.new.number) packet.items self.new) }
     {
         let to = receiver(packet.as_slice());
         let actor = actor_of(Party::Task(self.number));
         fill(&self.board.shared, &mut self.place, actor, to, packet)
     }
 
+    /// Counts a packet that was given back and is let go.
+    pub fn lose(&mut self)
+        ensures { self.new ≡ self.old }
+    {
+        self.lost = self.lost.saturating_add(1);
+    }
+
+    /// How many packets were let go so.
+    pub fn lost(&self) -> u64 {
+        self.lost
+    }
+
     /// The packet in the box from that party to this seat, as its text, or `None` where the box is
-    /// not full.
+    /// not full. That party has sent it.
     pub fn fetch(&mut self, from: Party) -> Option<Vec<u8>>
         ensures some { IfSome result (λ text. IsFetched from (parties.Task self.old.number)
             text.items self.old self.new) }
+        ensures sent { IfSome result (λ text. WasSent M.next M.answers M.begin from
+            (parties.Task self.new.number) text.items self.new) }
         ensures none { IfNone result (self.new ≡ self.old) }
+        ensures missed { IfNone result (WasNotFull M.next M.answers M.begin from
+            (parties.Task self.new.number) self.new) }
     {
         let actor = actor_of(Party::Task(self.number));
         empty(&self.board.shared, &mut self.place, actor_of(from), actor)

@@ -6,7 +6,7 @@ use std::alloc::{AllocError, Global};
 use std::sync::atomic::{AtomicU64, Ordering};
 use std::thread;
 
-/// In every turn of so many a thread looks how far the others are.
+/// A thread says how far it is in every turn of so many.
 const PERIOD: u64 = 8;
 
 /// How many turns a thread is ahead of the slowest at most.
@@ -22,14 +22,17 @@ const NODES: usize = 7;
 const TASKS: usize = 8;
 
 /// The gate of a run. A node leads by its patience alone: the turns in which its loop would have it
-/// lead at the least position that is free for it are spent. The threads of all nodes and tasks keep
-/// pace, so that none is through with its turns while another needs it: in every eighth turn each
-/// looks at the others, and lets them run until it is at most 16 turns ahead of the slowest. Once one
-/// was waited for too long, nobody waits any more.
+/// lead at the least position that is free for it are skipped. The threads of all nodes and tasks keep
+/// pace, so that none has made all its turns while another needs it: each says in every eighth turn
+/// how far it is, and one that is more than 16 turns ahead of the slowest lets others run. How far the
+/// slowest is says how many turns a thread may make until it looks again. Once one was waited for too
+/// long, nobody waits any more.
 #[derive(Drop)]
 pub(crate) struct Pace {
     /// How many turns the nodes and then the tasks are known to have made.
     turns: Vec<AtomicU64>,
+    /// In which turn each of them looks at the others again.
+    looks: Vec<AtomicU64>,
     /// Not 0 once one was waited for too long.
     free: AtomicU64,
 }
@@ -38,42 +41,54 @@ impl Pace {
     /// The gate of a run of so many nodes and eight tasks.
     pub(crate) fn new(alloc: Global, nodes: u8) -> Result<Self, AllocError> {
         let mut turns = Vec::new(alloc);
+        let mut looks = Vec::new(alloc);
         for place in 0..NODES + TASKS {
             let runs = place < usize::from(nodes) || place >= NODES;
             turns.push(AtomicU64::new(if runs { 0 } else { u64::MAX }))?;
+            looks.push(AtomicU64::new(0))?;
         }
         Ok(Pace {
             turns,
+            looks,
             free: AtomicU64::new(0),
         })
     }
 
-    /// Whether a thread in this turn is too far ahead of the slowest.
-    fn is_ahead(&self, turn: u64) -> bool {
-        let least = turn.saturating_sub(MOST_AHEAD);
-        self.turns
-            .iter()
-            .any(|word| word.load(Ordering::SeqCst) < least)
-    }
-
     /// The thread of this place is to make this turn.
     fn keep(&self, place: usize, turn: u64) {
-        if turn % PERIOD != 0 {
+        let (Some(made), Some(looks)) = (self.turns.get(place), self.looks.get(place)) else {
             return;
+        };
+        if turn % PERIOD == 0 {
+            made.store(turn, Ordering::SeqCst);
         }
-        if let Some(word) = self.turns.get(place) {
-            word.store(turn, Ordering::SeqCst);
+        if turn >= looks.load(Ordering::SeqCst) {
+            made.store(turn, Ordering::SeqCst);
+            looks.store(self.next_look(turn), Ordering::SeqCst);
         }
-        if self.free.load(Ordering::SeqCst) != 0 {
-            return;
-        }
+    }
+
+    /// How far the slowest is.
+    fn slowest(&self) -> u64 {
+        let turns = self.turns.iter().map(|turns| turns.load(Ordering::SeqCst));
+        turns.min().unwrap_or(u64::MAX)
+    }
+
+    /// Lets others run until the slowest is near enough to this turn. The turn in which the thread is
+    /// to look again.
+    fn next_look(&self, turn: u64) -> u64 {
         for _ in 0..MOST_WAITS {
-            if !self.is_ahead(turn) {
-                return;
+            if self.free.load(Ordering::SeqCst) != 0 {
+                return u64::MAX;
+            }
+            let farthest = self.slowest().saturating_add(MOST_AHEAD);
+            if turn <= farthest {
+                return farthest.saturating_add(1);
             }
             thread::yield_now();
         }
         self.free.store(1, Ordering::SeqCst);
+        u64::MAX
     }
 }
 

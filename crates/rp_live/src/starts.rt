@@ -4,7 +4,7 @@ ghost use Rattle.std.specs.Prelude.{◌≡◌, ◌≤◌, ℕ, suc, map, filter_
 ghost use Rattle.rp_base.specs.Config.{IsRightConfig};
 ghost use Rattle.rp_boxes.specs.Making.{AreSeats, IsWanting};
 ghost use Rattle.rp_codec.specs.declared.packet.Party.TheVariants as parties;
-ghost use Rattle.rp_store.specs.Disk.{empty_disk};
+ghost use Rattle.rp_store.specs.Disk.{disk_of, empty_disk};
 ghost use Rattle.rp_tasks.specs.Line.{line_of};
 ghost use Rattle.rp_live.specs.Events.{call_by};
 ghost use Rattle.rp_live.specs.Lines.{line_seed};
@@ -23,7 +23,7 @@ use std::alloc::{AllocError, Global};
 /// So many devices that hold nothing.
 fn devices(alloc: Global, count: u8) -> Result<Vec<MemDevice>, AllocError>
     ensures count { IfOk result (λ devices. length devices.items ≡ count) }
-    ensures empty { IfOk result (λ devices. All (λ device. device ≡ empty_disk) devices.items) }
+    ensures empty { IfOk result (λ devices. All (λ device. disk_of device ≡ empty_disk) devices.items) }
 {
     let mut devices = Vec::new(alloc);
     for _ in 0..count {

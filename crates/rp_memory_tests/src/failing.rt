@@ -50,9 +50,9 @@ impl FailingDevice {
 }
 
 impl Device for FailingDevice {
-    ghost use Rattle.std.specs.Prelude.{◌+◌};
+    ghost use Rattle.rp_store.specs.Disk.{disk_of};
 
-    ghost disk = { λ d. record d.inner { failures = d.inner.failures + d.failures } };
+    ghost disk = { λ d. record (disk_of d.inner) { failures = d.failures } };
 
     fn append(&mut self, bytes: &[u8]) -> Result<(), Fault> {
         if self.fails_at(Call::Append) {

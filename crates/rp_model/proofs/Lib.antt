@@ -3,3 +3,4 @@ pub mod Replying
 pub mod AppliedGrowing
 pub mod WorldGrowing
 pub mod Deciding
+pub mod Devices

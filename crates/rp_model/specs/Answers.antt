@@ -1,12 +1,12 @@
 -- What a step of a world answers, and events one after another (this project's own).
-use Rattle.std.specs.Prelude.{◌≡◌, ◌⊎◌, ℕ, ◌+◌, ◌-◌, ◌^◌, min, Option, Some, None, Result, Ok, Err, List, [], ◌∷◌, length}
+use Rattle.std.specs.Prelude.{◌≡◌, ◌⊎◌, ℕ, ◌+◌, ◌-◌, ◌^◌, min, Option, Some, None, IsSome, Result, Ok, Err, List, [], ◌∷◌, length}
 use Rattle.rp_base.specs.declared.fault.Fault.{Fault}
 use Rattle.rp_base.specs.declared.fault.Fault.TheVariants.{OutOfMemory, Device}
 use Rattle.rp_model.specs.declared.effect.Effect.{Effect}
 use Rattle.rp_model.specs.Parts.{NodePart}
 use Rattle.rp_model.specs.Effect.{Setting, untorn_part}
 use Rattle.rp_model.specs.Events.{Event, Submit, Again, Makes, Cut, Stop, Restart}
-use Rattle.rp_model.specs.World.{World, Happening, part_at, with_part, event_effect}
+use Rattle.rp_model.specs.World.{World, Happening, part_at, with_part, event_effect, step_writes}
 
 -- The effect tells what happened, behind so many messages: the number of the first one that was sent, how
 -- many there were (the greatest number of 32 bits stands for all above it), and the rest as it is.
@@ -22,15 +22,19 @@ abbrev pub untorn : ℕ → World → ℕ → Option NodePart → World
 untorn kept w me None = w
 untorn kept w me (Some part) = record w { nodes = with_part w.nodes me (untorn_part kept part) }
 
--- What a failing event leaves: the world as it was, but that torn bytes of a node may be gone that was to
--- start again, from the end.
+-- there is a node of this number, and it is stopped
+abbrev pub IsStopped : World → ℕ → Type 0
+IsStopped w me = (part : NodePart) × (part_at w.nodes me ≡ Some part) × (part.running ≡ None)
+
+-- What a failing event leaves: the world as it was, but that torn bytes of a node may be gone that was
+-- stopped and to start again, from the end.
 abbrev pub IsLeft : World → Event → World → Type 0
 IsLeft w (Submit task node object operation arg) left = left ≡ w
 IsLeft w (Again task node) left = left ≡ w
 IsLeft w (Makes step) left = left ≡ w
 IsLeft w (Cut step kept) left = left ≡ w
 IsLeft w (Stop me) left = left ≡ w
-IsLeft w (Restart me) left = (kept : ℕ) × (left ≡ untorn kept w me (part_at w.nodes me))
+IsLeft w (Restart me) left = (kept : ℕ) × (left ≡ untorn kept w me (part_at w.nodes me)) × IsStopped w me
 
 -- Where memory is wanting, the event would not have been refused, and nothing happens.
 pub record IsOutOfMemory {S : Type 0} (s : Setting S) (w : World) (event : Event) (left : World) : Type 0 where
@@ -44,13 +48,13 @@ pub record ComesTo {S : Type 0} (s : Setting S) (w : World) (event : Event) (aft
   pub effect : event_effect s w event ≡ Ok happening
   pub world : after ≡ happening.world
 
--- Where a device fails: a node's step, and a cut of one, is cut where some number of bytes is kept; a node
--- does not start again; and no other event has a device.
+-- Where a device fails: a node's step, and a cut of one, that writes a record is cut where some number of its
+-- bytes is kept; a node that is stopped does not start again; and no other event has a device.
 abbrev pub FailsBy : {S : Type 0} → Setting S → World → Event → World → Type 0
 FailsBy s w (Submit task node object operation arg) left = ⊥
 FailsBy s w (Again task node) left = ⊥
-FailsBy s w (Makes step) left = (kept : ℕ) × ComesTo s w (Cut step kept) left
-FailsBy s w (Cut step kept) left = (less : ℕ) × ComesTo s w (Cut step less) left
+FailsBy s w (Makes step) left = (kept : ℕ) × ComesTo s w (Cut step kept) left × IsSome (step_writes s w step)
+FailsBy s w (Cut step kept) left = (less : ℕ) × ComesTo s w (Cut step less) left × IsSome (step_writes s w step)
 FailsBy s w (Stop me) left = ⊥
 FailsBy s w (Restart me) left = IsLeft w (Restart me) left
 

@@ -1,8 +1,6 @@
 -- What a step of a node comes to, and whom its packets go to (this project's own).
-use Rattle.std.specs.Prelude.{◌≡◌, ◌⊎◌, ℕ, not, nat_eq, Some, None, Result, Ok, Err, List, [], map, filter}
+use Rattle.std.specs.Prelude.{ℕ, not, nat_eq, Some, None, List, [], map, filter}
 use Rattle.rp_base.specs.declared.record.Rec.{Rec}
-use Rattle.rp_base.specs.declared.fault.Fault.{Fault}
-use Rattle.rp_base.specs.declared.fault.Fault.TheVariants.{OutOfMemory}
 use Rattle.rp_codec.specs.Message.{Message}
 use Rattle.rp_codec.specs.declared.packet.Party.TheVariants.{Node, Task}
 use Rattle.rp_codec.specs.declared.packet.Body.{Body}
@@ -46,13 +44,3 @@ drops_foreign running = record { written = None; sent = []; running = running; d
 -- nothing happens, for want of a pending place
 abbrev pub drops_full : Running → Turn
 drops_full running = record { written = None; sent = []; running = running; dropped = Full }
-
--- memory was wanting for a value
-abbrev pub IsWanting : {A : Type 0} → Fault → Result A Fault → Type 0
-IsWanting fault (Ok value) = fault ≡ OutOfMemory
-IsWanting fault (Err refusal) = ⊥
-
--- What a call returned is what a definition says, value or refusal; or memory was wanting for the value.
-abbrev pub IsOutcome : {A : Type 0} → Result A Fault → Result A Fault → Type 0
-IsOutcome (Ok value) wanted = wanted ≡ Ok value
-IsOutcome (Err fault) wanted = (wanted ≡ Err fault) ⊎ IsWanting fault wanted

@@ -5,6 +5,7 @@ use Rattle.rp_base.specs.declared.reply.Answer.{Answer}
 use Rattle.rp_base.specs.declared.config.Config.{Config}
 use Rattle.rp_base.specs.declared.fault.Fault.{Fault}
 use Rattle.rp_base.specs.declared.fault.Fault.TheVariants.{NotRunning, NoSuchMessage, BadConfig}
+use Rattle.rp_base.specs.declared.record.Rec.{Rec}
 use Rattle.rp_codec.specs.Message.{Message}
 use Rattle.rp_codec.specs.declared.packet.Party.{Party}
 use Rattle.rp_codec.specs.declared.packet.Party.TheVariants.{Node, Task, Audit}
@@ -172,3 +173,59 @@ event_effect s w (Makes step) = step_effect s w step
 event_effect s w (Cut step kept) = cut_step s w step kept
 event_effect s w (Stop me) = stops w me (part_at w.nodes me)
 event_effect s w (Restart me) = restarts w me (part_at w.nodes me)
+
+-- ---- whose step it is, and what it writes
+
+-- the node that a party is, if it is one
+abbrev pub node_named : Party → Option ℕ
+node_named (Node me) = Some me
+node_named (Task task) = None
+node_named Audit = None
+
+-- the node that a packet is for
+abbrev pub receiver_of : Option Message → Option ℕ
+receiver_of None = None
+receiver_of (Some message) = node_named message.to
+
+-- the node that makes a step: for a delivery the one that the packet is for
+abbrev pub stepping : World → Step → Option ℕ
+stepping w (Deliver number) = receiver_of (part_at w.sent number)
+stepping w (Lead me choice) = Some me
+stepping w (Interrupt me source occurrence) = Some me
+stepping w (Tick me now) = Some me
+stepping w (Report me first) = Some me
+
+-- the node that an event happens to, if it is one
+abbrev pub node_of : World → Event → Option ℕ
+node_of w (Submit task node object operation arg) = None
+node_of w (Again task node) = None
+node_of w (Makes step) = stepping w step
+node_of w (Cut step kept) = stepping w step
+node_of w (Stop me) = Some me
+node_of w (Restart me) = Some me
+
+-- the record that a node writes first by what an input comes to, if it does
+abbrev pub written_by : Result (Done NodePart) Fault → Option Rec
+written_by (Ok done) = done.written
+written_by (Err fault) = None
+
+abbrev pub node_writes : {S : Type 0} → Setting S → ℕ → NodeInput → Option NodePart → Option Rec
+node_writes s me input None = None
+node_writes s me input (Some part) = written_by (node_effect s me part input)
+
+abbrev pub arrival_writes : {S : Type 0} → Setting S → World → Message → Party → Option Rec
+arrival_writes s w message (Node me) = node_writes s me (nodes.Receive message) (part_at w.nodes me)
+arrival_writes s w message (Task task) = None
+arrival_writes s w message Audit = None
+
+abbrev pub delivery_writes : {S : Type 0} → Setting S → World → Option Message → Option Rec
+delivery_writes s w None = None
+delivery_writes s w (Some message) = arrival_writes s w message message.to
+
+-- the record that a step writes, if it writes one
+abbrev pub step_writes : {S : Type 0} → Setting S → World → Step → Option Rec
+step_writes s w (Deliver number) = delivery_writes s w (part_at w.sent number)
+step_writes s w (Lead me choice) = node_writes s me (nodes.Lead choice) (part_at w.nodes me)
+step_writes s w (Interrupt me source occurrence) = node_writes s me (nodes.Interrupt source occurrence) (part_at w.nodes me)
+step_writes s w (Tick me now) = node_writes s me (nodes.Tick now) (part_at w.nodes me)
+step_writes s w (Report me first) = node_writes s me (nodes.Report first) (part_at w.nodes me)

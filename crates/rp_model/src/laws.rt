@@ -1,8 +1,9 @@
 //! What every event keeps, at any machine.
 
-ghost use Rattle.std.specs.Prelude.{◌≡◌, ℕ, Some, Ok, List, [], ◌++◌, length};
+ghost use Rattle.std.specs.Prelude.{◌≡◌, ◌≢◌, ℕ, Some, Ok, Err, List, [], ◌++◌, length};
 ghost use Rattle.rp_base.specs.Records.{applied_of};
 ghost use Rattle.rp_base.specs.declared.action.Action.{Action};
+ghost use Rattle.rp_base.specs.declared.fault.Fault.TheVariants.{Device};
 ghost use Rattle.rp_base.specs.declared.record.Rec.{Rec};
 ghost use Rattle.rp_model.specs.Effect.{Setting, NodeInput, running_effect};
 ghost use Rattle.rp_model.specs.Events.{Event};
@@ -27,6 +28,12 @@ pub fn worlds_grow<M: Machine>()
     ensures { (setting : Setting M) (before : World) (event : Event) (happening : Happening)
         → event_effect setting before event ≡ Ok happening
         → Grows before happening }
+{}
+
+/// No event is refused with `Device`: that is answered where a device failed, and nowhere else.
+pub fn no_event_is_refused_by_a_device<M: Machine>()
+    ensures { (setting : Setting M) (before : World) (event : Event)
+        → event_effect setting before event ≢ Err Device }
 {}
 
 /// The order of a world in which nothing was sent is empty.

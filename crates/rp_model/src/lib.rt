@@ -17,5 +17,8 @@ mod right;
 pub use effect::{Dropped, Effect};
 pub use event::{Event, Step};
 pub use interrupt::Interrupt;
-pub use laws::{applied_grows, nothing_is_decided_at_first, old_votes_change_nothing, worlds_grow};
+pub use laws::{
+    applied_grows, no_event_is_refused_by_a_device, nothing_is_decided_at_first,
+    old_votes_change_nothing, worlds_grow,
+};
 pub use right::RightAction;

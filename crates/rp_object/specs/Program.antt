@@ -18,11 +18,12 @@ use Rattle.rp_object.specs.declared.program.Declarations.{Declarations}
 abbrev pub operations_of : ObjectDeclaration → Operations
 operations_of declaration = arc_value declaration.operations
 
--- the object has the function, the procedure or the entry; a timing event is no operation of an object
+-- the object has the function, the procedure or the entry, whose index is 1; a timing event is no operation of
+-- an object
 abbrev pub has_operation : Operation → Operations → Bool
 has_operation (Function index) operations = is_some (of_index operations.functions.items index)
 has_operation (Procedure index) operations = is_some (of_index operations.procedures.items index)
-has_operation (Entry index) operations = is_some operations.entry
+has_operation (Entry index) operations = nat_eq index 1 && is_some operations.entry
 has_operation (SetTimer index) operations = false
 has_operation (CancelTimer index) operations = false
 

@@ -259,7 +259,7 @@ fn has_operation(operations: &Operations, operation: Operation) -> bool
     match operation {
         Operation::Function(index) => of_index(&operations.functions, index).is_some(),
         Operation::Procedure(index) => of_index(&operations.procedures, index).is_some(),
-        Operation::Entry(_) => operations.entry.is_some(),
+        Operation::Entry(index) => index == 1 && operations.entry.is_some(),
         Operation::SetTimer(_) | Operation::CancelTimer(_) => false,
     }
 }

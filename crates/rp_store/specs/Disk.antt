@@ -25,6 +25,27 @@ empty_disk = record {
   cuts = 0;
 }
 
+-- What memory holds as a device. None of its calls fails, so it counts no failures.
+pub record Memory : Type 0 where
+  pub contents : List ℕ
+  pub stable : ℕ
+  pub appends : ℕ
+  pub syncs : ℕ
+  pub reads : ℕ
+  pub cuts : ℕ
+
+-- memory, seen as a device
+abbrev pub disk_of : Memory → Disk
+disk_of m = record {
+  contents = m.contents;
+  stable = m.stable;
+  failures = 0;
+  appends = m.appends;
+  syncs = m.syncs;
+  reads = m.reads;
+  cuts = m.cuts;
+}
+
 -- after an append: the bytes stand at the end, and none of them is stable
 abbrev pub appended : List ℕ → Disk → Disk
 appended bytes d = record d { contents = d.contents ++ bytes; appends = suc d.appends }

@@ -66,3 +66,10 @@ pub trait CutDevice: Device {
     fn stop(&mut self, kept: u64)
         ensures { Self.disk self.new ≡ stopped kept (Self.disk self.old) };
 }
+
+/// A device none of whose calls fails, as memory is: so no step over it is answered with
+/// `Fault::Device`.
+pub trait InfallibleDevice: Device {
+    /// No failure is ever counted.
+    ghost never_fails: { (d : Self) → (Self.disk d).failures ≡ 0 };
+}

@@ -18,7 +18,7 @@ mod reading;
 mod store;
 
 pub use count::Count;
-pub use device::{CutDevice, Device};
+pub use device::{CutDevice, Device, InfallibleDevice};
 pub use laws::{one_reading, stop_inside_open, stop_inside_put};
 pub use memory::MemDevice;
 pub use store::{NotTorn, Opened, Store};

@@ -1,10 +1,10 @@
 //! A device in memory.
 
 ghost use Rattle.std.specs.Prelude.{◌≡◌};
-ghost use Rattle.rp_store.specs.Disk.{empty_disk};
+ghost use Rattle.rp_store.specs.Disk.{disk_of, empty_disk};
 
 use crate::count::Count;
-use crate::device::{CutDevice, Device};
+use crate::device::{CutDevice, Device, InfallibleDevice};
 use rp_base::Fault;
 use std::alloc::Global;
 use std::marker::Model;
@@ -22,14 +22,13 @@ pub struct MemDevice {
 
 impl Model for MemDevice {
     ghost use Rattle.std.specs.Prelude.{◌≤◌, length};
-    ghost use Rattle.rp_store.specs.Disk.{Disk};
+    ghost use Rattle.rp_store.specs.Disk.{Memory};
 
-    ghost Value = { Disk };
+    ghost Value = { Memory };
 
     ghost view = { λ m. record {
       contents = m.bytes.items;
       stable = m.synced;
-      failures = 0;
       appends = m.appends;
       syncs = m.syncs;
       reads = m.reads;
@@ -42,7 +41,7 @@ impl Model for MemDevice {
 impl MemDevice {
     /// A device that holds nothing. It takes no memory.
     pub fn new(alloc: Global) -> Self
-        ensures { result ≡ empty_disk }
+        ensures { disk_of result ≡ empty_disk }
     {
         MemDevice {
             bytes: Vec::new(alloc),
@@ -56,7 +55,9 @@ impl MemDevice {
 }
 
 impl Device for MemDevice {
-    ghost disk = { λ d. d };
+    ghost use Rattle.rp_store.specs.Disk.{disk_of};
+
+    ghost disk = { disk_of };
 
     fn append(&mut self, bytes: &[u8]) -> Result<(), Fault> {
         self.bytes.extend_from_slice(bytes)?;
@@ -96,4 +97,10 @@ impl CutDevice for MemDevice {
             self.bytes.truncate(self.synced + kept as usize);
         }
     }
+}
+
+impl InfallibleDevice for MemDevice {
+    ghost use Rattle.std.specs.Prelude.{refl};
+
+    ghost never_fails = { λ d. refl };
 }

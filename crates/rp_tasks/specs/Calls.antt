@@ -1,5 +1,5 @@
 -- A task's calls as its stub keeps them (this project's own).
-use Rattle.std.specs.Prelude.{ℕ, ◌+◌, ℤ, Option, Some, None, is_some, if◌then◌else◌}
+use Rattle.std.specs.Prelude.{ℕ, ◌+◌, Option, Some, None, is_some, if◌then◌else◌}
 use Rattle.rp_base.specs.declared.fault.Fault.{Fault}
 use Rattle.rp_base.specs.declared.fault.Fault.TheVariants.{TaskBusy, NumbersSpent}
 use Rattle.rp_base.specs.declared.action.Action.{Action}

@@ -10,6 +10,7 @@ use rand_chacha::rand_core::utils::NextWord;
 use rp_base::Fault;
 use std::alloc::Global;
 use std::marker::Model;
+use std::mem;
 
 /// How many packets a line holds at most.
 const ROOM: usize = 16;
@@ -24,6 +25,10 @@ const CASES: u32 = 16;
 pub struct FaultLine {
     held: Vec<Vec<u8>>,
     words: ChaCha20Rng,
+    /// Room for a second copy of a packet, kept from one packet to the next.
+    spare: Vec<u8>,
+    /// How many copies were lost.
+    lost: u64,
 }
 
 impl Model for FaultLine {
@@ -50,7 +55,15 @@ impl FaultLine {
         Ok(FaultLine {
             held: Vec::with_capacity(alloc, ROOM)?,
             words: ChaCha20Rng::from_seed(seed),
+            spare: Vec::new(alloc),
+            lost: 0,
         })
+    }
+
+    /// How many packets were lost since the line was made: by their words, or for want of a place.
+    /// A packet that was to be held twice and found one place counts as well.
+    pub fn lost(&self) -> u64 {
+        self.lost
     }
 
     /// Draws the next word of the stream.
@@ -69,9 +82,9 @@ impl FaultLine {
         ensures err { OnErr result (self.new ≡ self.old) }
         ensures only { IsOkUnless result Fault.OutOfMemory }
     {
-        let first = Vec::from_slice(alloc, packet)?;
-        let second = Vec::from_slice(alloc, packet)?;
-        self.hold(word, first, second);
+        let packet = Vec::from_slice(alloc, packet)?;
+        let copy = self.copy_of(alloc, &packet)?;
+        self.spare = self.hold(alloc, word, packet, copy);
         Ok(())
     }
 
@@ -83,11 +96,34 @@ impl FaultLine {
         ensures err { OnErr result (self.new ≡ self.old) }
         ensures only { IsOkUnless result Fault.OutOfMemory }
     {
-        let first = Vec::from_slice(alloc, packet)?;
-        let second = Vec::from_slice(alloc, packet)?;
+        let packet = Vec::from_slice(alloc, packet)?;
+        self.take(alloc, packet)
+    }
+
+    /// Takes a packet by the next word of the stream, as `accept` does, and does not copy it unless
+    /// it is held twice. At `OutOfMemory` the packet is gone.
+    pub fn take(&mut self, alloc: Global, packet: Vec<u8>) -> Result<(), Fault>
+        ensures ok { OnOk result
+            (self.new ≡ accepted (word_of self.old) packet.items (drawn self.old)) }
+        ensures err { OnErr result (self.new ≡ self.old) }
+        ensures only { IsOkUnless result Fault.OutOfMemory }
+    {
+        let copy = self.copy_of(alloc, &packet)?;
         let next = self.next_word();
-        self.hold(next, first, second);
+        self.spare = self.hold(alloc, next, packet, copy);
         Ok(())
+    }
+
+    /// A copy of a packet, in the room that the line keeps for it.
+    fn copy_of(&mut self, alloc: Global, packet: &Vec<u8>) -> Result<Vec<u8>, Fault>
+        ensures copy { IfOk result (λ copy. copy.items ≡ packet.now.items) }
+        ensures same { self.new ≡ self.old }
+        ensures only { IsOkUnless result Fault.OutOfMemory }
+    {
+        let mut copy = mem::replace(&mut self.spare, Vec::new(alloc));
+        copy.clear();
+        copy.extend_from_slice(packet.as_slice())?;
+        Ok(copy)
     }
 
     /// Gives on the packet whose place, counted from 0 in the order of acceptance, is the word
@@ -121,20 +157,35 @@ impl FaultLine {
         }
     }
 
-    /// Holds as many of the two copies as the word asks for.
-    fn hold(&mut self, word: u32, first: Vec<u8>, second: Vec<u8>)
+    /// Holds as many of the two copies as the word asks for. The room of the second, where it is not
+    /// held.
+    fn hold(&mut self, alloc: Global, word: u32, first: Vec<u8>, second: Vec<u8>) -> Vec<u8>
         requires { first.items ≡ second.items }
         ensures { self.new ≡ accepted word first.items self.old }
     {
         prove!(self.held.len() <= ROOM);
         match word % CASES {
-            0 | 1 => {}
+            0 | 1 => {
+                self.lose();
+                second
+            }
             2 | 3 => {
                 self.hold_one(first);
                 self.hold_one(second);
+                Vec::new(alloc)
             }
-            _ => self.hold_one(first),
+            _ => {
+                self.hold_one(first);
+                second
+            }
         }
+    }
+
+    /// A copy is lost: only its count changes.
+    fn lose(&mut self)
+        ensures { self.new ≡ self.old }
+    {
+        self.lost = self.lost.saturating_add(1);
     }
 
     /// Holds a packet behind the others, or loses it where there is no place.
@@ -144,6 +195,8 @@ impl FaultLine {
     {
         if self.held.len() < ROOM {
             self.held.push_reserved(packet);
+        } else {
+            self.lose();
         }
     }
 }

@@ -137,7 +137,7 @@ node_inside M D P m d s t = recorded_send (node_seat.the_field M D P m d).row _ 
       search (crosses, sendable, place.the_send) depth 9,
       (
         search (crosses, sendable, shared.the_send, shared.the_sync, lease.the_send, lease.the_sync) depth 25,
-        tt,
+        (search (crosses, sendable), (search (crosses, sendable), tt)),
       ),
     ),
   ),
@@ -162,7 +162,7 @@ task_inside M P m s = recorded_send (task_seat.the_field M P m).row _ _ (task_se
         search (crosses, sendable, place.the_send) depth 9,
         (
           search (crosses, sendable, shared.the_send, shared.the_sync, lease.the_send, lease.the_sync) depth 25,
-          tt,
+          (search (crosses, sendable), tt),
         ),
       ),
     ),
@@ -175,7 +175,7 @@ task_seat_send M P m s = let i = task_inside M P m s in search (sendable, i)
 -- ---- lines and ends
 
 line_inside : IsSend line.the_row
-line_inside = recorded_send (line.the_field).row _ _ (line.the_type).to_one (struct_send (shape line.the_type) (search (crosses, sendable) depth 20, (search (crosses, sendable) depth 40 fits 20000, tt)))
+line_inside = recorded_send (line.the_field).row _ _ (line.the_type).to_one (struct_send (shape line.the_type) (search (crosses, sendable) depth 20, (search (crosses, sendable) depth 40 fits 20000, (search (crosses, sendable), (search (crosses, sendable), tt)))))
 
 pub line_send : IsSend FaultLine.the_row
 line_send = let i = line_inside in search (sendable, i)
@@ -190,7 +190,10 @@ node_end_send M D P m d s t = recorded_send (NodeEnd.the_field M D P m d).row _ 
     search (crosses, sendable),
     (
       search (crosses, sendable),
-      (search (crosses, sendable), (search (crosses, sendable), (search (crosses, sendable, fault_send), tt))),
+      (
+        search (crosses, sendable),
+        (search (crosses, sendable), (search (crosses, sendable), (search (crosses, sendable, fault_send), tt))),
+      ),
     ),
   ),
 ))
@@ -201,7 +204,10 @@ task_call_send = search (crosses, sendable) depth 60 fits 40000
 pub task_end_send : (M P : RattleType) (m : machine.Ghosts M.Denot P.Denot) → IsSend M → IsSend (TaskEnd.the_row M P m)
 task_end_send M P m s = recorded_send (TaskEnd.the_field M P m).row _ _ (TaskEnd.the_type M P m).to_one (struct_send (shape (TaskEnd.the_type M P m)) (
   task_seat_send M P m s,
-  (search (crosses, sendable), (search (crosses, sendable, fault_send), tt)),
+  (
+    search (crosses, sendable),
+    (search (crosses, sendable), (search (crosses, sendable), (search (crosses, sendable, fault_send), tt))),
+  ),
 ))
 
 -- ---- what a closure captures

@@ -28,6 +28,8 @@ pub struct NodeEnd<M: Machine, D: Device> {
     pub led: u64,
     pub idle: u64,
     pub spent: u64,
+    /// How many packets its line lost.
+    pub lost: u64,
     /// Why the node stopped before its last turn.
     pub fault: Option<Fault>,
 }

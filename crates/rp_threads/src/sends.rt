@@ -21,8 +21,28 @@ fn put_one<M: Machine, D: Device>(seat: &mut NodeSeat<M, D>, alloc: Global, text
     }
 }
 
-/// Puts packets that the node sent, one by one, as `put_one` does.
+/// Puts packets that the node sent, one by one, as `put_one` does. One packet alone goes into its box
+/// as it is, and is not copied.
 pub(crate) fn put_all<M: Machine, D: Device>(
+    seat: &mut NodeSeat<M, D>,
+    alloc: Global,
+    texts: Vec<u8>,
+    count: usize,
+)
+    requires { AreSentTexts seat.old.part texts.items }
+    ensures { seat.new ≡ seat.old }
+{
+    seat.sends_packets();
+    if packet_len(texts.as_slice()) == Some(texts.len()) {
+        let _lost = seat.put(texts);
+    } else {
+        put_each(seat, alloc, texts.as_slice(), count);
+        seat.lend(texts);
+    }
+}
+
+/// Puts copies of packets that the node sent, one by one.
+fn put_each<M: Machine, D: Device>(
     seat: &mut NodeSeat<M, D>,
     alloc: Global,
     texts: &[u8],

@@ -61,7 +61,7 @@ fn bring<M: Machine>(
 {
     gives_what_it_took();
     match seat.fetch(Party::Node(from)) {
-        Some(packet) => line.accept(alloc, packet.as_slice()),
+        Some(packet) => line.take(alloc, packet),
         None => Ok(()),
     }
 }

@@ -11,7 +11,7 @@ use rp_base::Fault;
 use rp_boxes::NodeSeat;
 use rp_codec::Party;
 use rp_machine::Machine;
-use rp_replica::Input;
+use rp_replica::{Input, Sent};
 use rp_store::Device;
 use rp_tasks::{FaultLine, gives_what_it_took};
 use std::alloc::Global;
@@ -49,7 +49,7 @@ fn bring<M: Machine, D: Device>(
 {
     gives_what_it_took();
     match seat.fetch(from) {
-        Some(packet) => line.accept(alloc, packet.as_slice()),
+        Some(packet) => line.take(alloc, packet),
         None => Ok(()),
     }
 }
@@ -70,9 +70,9 @@ pub fn node_step<M: Machine, D: Device>(
     ensures err { IfErr result (λ fault. IsStopBy M.next M.answers M.begin
         (λ given. given ≡ input.now) seat.old seat.new fault) }
 {
-    let sent = seat.turn(alloc, input)?;
-    put_all(seat, alloc, sent.bytes.as_slice(), sent.packets);
-    Ok(sent.packets)
+    let Sent { bytes, packets, .. } = seat.turn(alloc, input)?;
+    put_all(seat, alloc, bytes, packets);
+    Ok(packets)
 }
 
 /// The node receives what the line gives on, or else leads where it is to.
@@ -95,6 +95,7 @@ fn work<M: Machine, D: Device>(
     match line.release() {
         Some(packet) => {
             let sent = node_step(seat, alloc, &Input::Receive(packet.as_slice()))?;
+            seat.lend(packet);
             Ok(Turned {
                 turn: Turn::Received,
                 sent,

@@ -69,6 +69,6 @@ nothing_held packets line none = record { each = λ text there. absurd (subst (�
 
 -- the first task did nothing yet
 pub first_is_fresh : {P : Type 0} (table : TableId) (config : Config) (program : P) (tasks : List (Chair P)) (seat : Chair P) → length tasks ≡ 8
-    → AreFirstSeats table config program 8 tasks → seat ≡ slice_index_or tasks 0 seat → seat.part ≡ fresh_part (OfTask fresh_task)
+    → AreFirstSeats table config program 8 [] tasks → seat ≡ slice_index_or tasks 0 seat → seat.part ≡ fresh_part (OfTask fresh_task)
 first_is_fresh table config program [] seat eight are is = absurd (omega (arith, eight))
 first_is_fresh {P} table config program (x ∷ xs) seat eight are is = ap (λ (c : Chair P). c.part) (is ∙ are 0)

@@ -15,7 +15,7 @@ first_is P [] x some is holds = absurd (omega (arith, some))
 first_is P (y ∷ ys) x some is holds = subst P (sym is) holds
 
 -- the first task made no call
-pub first_fresh : {P : Type 0} (table : TableId) (config : Config) (program : P) (tasks : List (Chair P)) → AreFirstSeats table config program 8 tasks
+pub first_fresh : {P : Type 0} (table : TableId) (config : Config) (program : P) (tasks : List (Chair P)) → AreFirstSeats table config program 8 [] tasks
     → IfSome (slice_get tasks 0) (λ seat. seat.part ≡ fresh_part (OfTask fresh_task))
 first_fresh table config program [] are = tt
 first_fresh {P} table config program (seat ∷ others) are = ap (λ (c : Chair P). c.part) (are 0)

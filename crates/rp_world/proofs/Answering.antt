@@ -1,53 +1,67 @@
 -- What is answered is a step of the world, and steps make a history.
-use Rattle.std.proofs.Common.{◌≡◌, ℕ, Result, Ok, Err, List, [], ◌∷◌, ◌++◌, inl, inr, ap, subst, ◌∙◌}
+use Rattle.std.proofs.Common.{◌≡◌, ℕ, Option, Result, Ok, Err, List, [], ◌∷◌, ◌++◌, inl, inr, ap, subst, ◌∙◌}
 use Rattle.rp_base.specs.declared.config.Config.{Config}
 use Rattle.rp_base.specs.declared.action.Action.{Action}
 use Rattle.rp_base.specs.declared.reply.Answer.{Answer}
+use Rattle.std.specs.Prelude.{IsSome}
 use Rattle.rp_base.specs.declared.fault.Fault.{Fault}
+use Rattle.rp_base.specs.declared.fault.Fault.TheVariants.{OutOfMemory, Device}
 use Rattle.rp_model.specs.declared.effect.Effect.{Effect}
+use Rattle.rp_model.proofs.Devices.{NoDevice}
 use Rattle.rp_model.specs.Effect.{Setting}
 use Rattle.rp_model.specs.Events.{Event, Step, Submit, Again, Makes, Cut, Stop, Restart}
-use Rattle.rp_model.specs.World.{World, Happening, event_effect, cut_step}
+use Rattle.rp_model.specs.World.{World, Happening, event_effect, cut_step, step_writes}
 use Rattle.rp_model.specs.Answers.{IsLeft, FailsBy, Steps, Happen}
-use Rattle.rp_world.specs.Going.{Fails, Answers, AnswersRestart, no_cut}
+use Rattle.rp_world.specs.Failures.{RisesOnly, AreCounted}
+use Rattle.rp_world.specs.Going.{Fails, Answers, AnswersRestart, Counts, no_cut}
 use Rattle.rp_world.specs.Steps.{Setup, IsSameSetup, setting_of}
 
 module _ {S : Type 0} (s : Setting S) (w : World) (event : Event) (new : World) (cut : ℕ → Result Happening Fault)
-    (left : new ≡ w → IsLeft w event new) (fails : (fault : Fault) → Fails cut new fault → FailsBy s w event new) where
-  stepped : (answer : Result Effect Fault) → Answers w (event_effect s w event) cut new answer → Steps s w event new answer
-  stepped (Ok told) is = record { happening = is.happening; came = is.came; world = is.world; tells = is.tells }
-  stepped (Err fault) is =
+    (left : new ≡ w → IsLeft w event new) (So : Result Effect Fault → Type 0) (fails : (fault : Fault) → So (Err fault) → Fails cut new fault → FailsBy s w event new) where
+  stepped : (answer : Result Effect Fault) → So answer → Answers w (event_effect s w event) cut new answer → Steps s w event new answer
+  stepped (Ok told) so is = record { happening = is.happening; came = is.came; world = is.world; tells = is.tells }
+  stepped (Err fault) so is =
       elim is [
         | inl refused ↦ inl (record { refusal = refused.came; unchanged = refused.unchanged })
         | inr other ↦
             elim other [
               | inl wants ↦ inr (inl (wants.memory, record { wanted = wants.wanted; effect = wants.came; left_so = left wants.unchanged }))
-              | inr failed ↦ inr (inr (failed.device, fails fault failed))
+              | inr failed ↦ inr (inr (failed.device, fails fault so failed))
             ]
       ]
 
 module _ {S : Type 0} (s : Setting S) (w new : World) (answer : Result Effect Fault) where
-  none_fails : (fault : Fault) → Fails no_cut new fault → ⊥
-  none_fails fault fails = absurd (let came = fails.came in cc)
+  none_fails : (fault : Fault) → Unit {0} → Fails no_cut new fault → ⊥
+  none_fails fault so fails = absurd (let came = fails.came in cc)
+
+  -- whatever a device failed at was so
+  why_so : (why : Type 0) (node : Option ℕ) (before after : List ℕ) (fault : Fault) → fault ≡ Device → Counts why node before after (let r : Result Effect Fault = Err fault in r) → why
+  why_so why node before after fault device counts =
+      let so : why × RisesOnly node before after = subst (λ (f : Fault). Counts why node before after (let r : Result Effect Fault = Err f in r)) device counts in
+      so.0
 
   pub submitted : (task node object : ℕ) (operation : _) (arg : _) → Answers w (event_effect s w (Submit task node object operation arg)) no_cut new answer → Steps s w (Submit task node object operation arg) new answer
-  submitted task node object operation arg is = stepped s w (Submit task node object operation arg) new no_cut (λ same. same) none_fails answer is
+  submitted task node object operation arg is = stepped s w (Submit task node object operation arg) new no_cut (λ same. same) (λ r. Unit {0}) none_fails answer tt is
 
   pub asked : (task node : ℕ) → Answers w (event_effect s w (Again task node)) no_cut new answer → Steps s w (Again task node) new answer
-  asked task node is = stepped s w (Again task node) new no_cut (λ same. same) none_fails answer is
+  asked task node is = stepped s w (Again task node) new no_cut (λ same. same) (λ r. Unit {0}) none_fails answer tt is
 
-  pub made : (step : Step) → Answers w (event_effect s w (Makes step)) (λ kept. cut_step s w step kept) new answer → Steps s w (Makes step) new answer
-  made step is =
-      stepped s w (Makes step) new (λ kept. cut_step s w step kept) (λ same. same)
-      (λ fault f. (f.kept, record { happening = f.happening; effect = f.came; world = f.world })) answer is
+  module _ (node : Option ℕ) (before after : List ℕ) (step : Step) where
+    abbrev So : Result Effect Fault → Type 0
+    So r = Counts (IsSome (step_writes s w step)) node before after r
 
-  pub was_cut : (step : Step) (kept : ℕ) → Answers w (event_effect s w (Cut step kept)) (λ less. cut_step s w step less) new answer → Steps s w (Cut step kept) new answer
-  was_cut step kept is =
-      stepped s w (Cut step kept) new (λ less. cut_step s w step less) (λ same. same)
-      (λ fault f. (f.kept, record { happening = f.happening; effect = f.came; world = f.world })) answer is
+    pub made : So answer → Answers w (event_effect s w (Makes step)) (λ kept. cut_step s w step kept) new answer → Steps s w (Makes step) new answer
+    made so is =
+        stepped s w (Makes step) new (λ kept. cut_step s w step kept) (λ same. same) So
+        (λ fault so f. (f.kept, record { happening = f.happening; effect = f.came; world = f.world }, why_so (IsSome (step_writes s w step)) node before after fault f.device so)) answer so is
+
+    pub was_cut : (kept : ℕ) → So answer → Answers w (event_effect s w (Cut step kept)) (λ less. cut_step s w step less) new answer → Steps s w (Cut step kept) new answer
+    was_cut kept so is =
+        stepped s w (Cut step kept) new (λ less. cut_step s w step less) (λ same. same) So
+        (λ fault so f. (f.kept, record { happening = f.happening; effect = f.came; world = f.world }, why_so (IsSome (step_writes s w step)) node before after fault f.device so)) answer so is
 
   pub stopped : (node : ℕ) → Answers w (event_effect s w (Stop node)) no_cut new answer → Steps s w (Stop node) new answer
-  stopped node is = stepped s w (Stop node) new no_cut (λ same. same) none_fails answer is
+  stopped node is = stepped s w (Stop node) new no_cut (λ same. same) (λ r. Unit {0}) none_fails answer tt is
 
 pub restarted : {S : Type 0} (s : Setting S) (w new : World) (answer : Result Effect Fault) (node : ℕ) → AnswersRestart w node (event_effect s w (Restart node)) new answer → Steps s w (Restart node) new answer
 restarted s w new (Ok told) node is = record { happening = is.happening; came = is.came; world = is.world; tells = is.tells }
@@ -60,6 +74,36 @@ restarted s w new (Err fault) node is =
             | inr device ↦ inr (inr (device, failed.left))
           ]
     ]
+
+-- ---- how often devices failed
+
+-- a fault of a device that rose has its reason
+pub rose : {A : Type 0} (why : Type 0) (node : Option ℕ) (before after : List ℕ) (answer : Result A Fault) → Counts why node before after answer → AreCounted node before after answer
+rose {A = A} why node before after (Ok told) counts = counts
+rose {A = A} why node before after (Err Device) counts = counts.1
+rose {A = A} why node before after (Err _) counts = counts
+
+calm : (node : Option ℕ) (before after : List ℕ) (answer : Result Effect Fault) → NoDevice answer → after ≡ before → AreCounted node before after answer
+calm node before after (Ok told) none same = same
+calm node before after (Err Device) none same = absurd none
+calm node before after (Err _) none same = same
+
+no_device : (w : World) (effect : Result Happening Fault) (new : World) (answer : Result Effect Fault) → NoDevice effect → Answers w effect no_cut new answer → NoDevice answer
+no_device w effect new (Ok told) none is = tt
+no_device w effect new (Err fault) none is =
+    elim is [
+      | inl refused ↦ subst NoDevice refused.came none
+      | inr other ↦
+          elim other [
+            | inl wants ↦ subst (λ (f : Fault). NoDevice (let r : Result Effect Fault = Err f in r)) (let same : OutOfMemory ≡ fault = cc in same) tt
+            | inr failed ↦ absurd (let came = failed.came in cc)
+          ]
+    ]
+
+-- where no device can fail the counts are as before
+pub none_rose : (node : Option ℕ) (before after : List ℕ) (w : World) (effect : Result Happening Fault) (new : World) (answer : Result Effect Fault) → NoDevice effect → Answers w effect no_cut new answer
+    → after ≡ before → AreCounted node before after answer
+none_rose node before after w effect new answer none is same = calm node before after answer (no_device w effect new answer none is) same
 
 module _ {S : Type 0} (s : Setting S) where
   -- one event more happens

@@ -1,7 +1,7 @@
 -- What a question about one node is told.
 use Rattle.std.specs.Borrow.{Bor}
 use Rattle.std.proofs.Common.{◌≡◌, ℕ, suc, Option, Some, None, Result, Ok, Err, List, slice_get, refl, sym, subst, ok_or}
-use Rattle.std.specs.Prelude.{IfSome, IfNone}
+use Rattle.std.specs.Prelude.{IfSome, IfNone, IsSome}
 use Rattle.rp_base.specs.declared.config.Config.{Config}
 use Rattle.rp_base.specs.declared.fault.Fault.{Fault}
 use Rattle.rp_base.specs.declared.fault.Fault.TheVariants.{NotRunning}
@@ -14,9 +14,18 @@ use Rattle.rp_world.specs.Callers.{Caller}
 use Rattle.rp_world.specs.Messages.{Sending}
 use Rattle.rp_world.specs.Nodes.{Member, member_of, RunsAs, StandsFor, IsLengthOf}
 use Rattle.rp_world.specs.Shape.{part_by, world_of, IsWorld}
-use Rattle.rp_world.specs.Steps.{IsToldOfRunning, IsReplicaOf, IsStored}
+use Rattle.rp_world.specs.Steps.{IsToldOf, IsToldOfRunning, Runs, IsReplicaOf, IsStored}
 use Rattle.rp_world.specs.declared.node.Node.{Node}
 use Rattle.rp_world.proofs.Moving.{part_here, stands_here}
+
+-- a node that answers a question runs
+pub answers_running : {A : Type 0} (a : A) (tells : A → List Rec → Type 0) (part : Option NodePart) → (let r : Result A Fault = Ok a in IsToldOf r tells part) → Runs part
+answers_running {A = A} a tells None told = absurd (cc)
+answers_running {A = A} a tells (Some part) told = while_told part.running told
+  where
+    while_told : (o : Option Known) → (let r : Result A Fault = Ok a in IsToldOfRunning r tells part.records o) → IsSome o
+    while_told None told = absurd (cc)
+    while_told (Some running) told = refl
 
 module _ {S D P : Type 0} (disk : D → Disk) (member : Member S) (n : Node S D P) (part : NodePart) (stands : StandsFor disk member n part) where
   abbrev Tells : Bor (Held S) → List Rec → Type 0

@@ -22,7 +22,7 @@ use Rattle.rp_world.specs.declared.node.Node.{Node}
 use Rattle.rp_world.specs.Callers.{Caller}
 use Rattle.rp_world.specs.Going.{Goes, Answers, AnswersRestart, no_cut}
 use Rattle.rp_world.specs.Messages.{Sending}
-use Rattle.rp_world.specs.Nodes.{Member, member_of, StandsFor, GoesBy, RefusedBy, IsCutBy, IsLeftTorn, NotTaken, TellsNothing, TellsOpened, setting_at, node_step}
+use Rattle.rp_world.specs.Nodes.{Member, member_of, StandsFor, GoesBy, RefusedBy, IsCutBy, IsLeftTorn, IsResting, NotTaken, TellsNothing, TellsOpened, setting_at, node_step}
 use Rattle.rp_world.specs.Shape.{part_by, world_of, IsWorld}
 use Rattle.rp_world.proofs.Moving.{no_node, part_here, stands_here, still_nodes, moved, stayed, goes, answered, stands_after}
 
@@ -149,9 +149,9 @@ module _ {S D P : Type 0} (disk : D → Disk) (config : Config) (begin : S) (nod
     pub restarted_left : (opened : Option (ℕ × ℕ)) → GoesBy disk member n new (λ p. Ok (restart_part p)) TellsOpened opened → Left disk member new
     restarted_left opened by = let d = by part stands in (d.0.part, d.2)
 
-    pub not_restarted : (fault : Fault) → (fault ≡ OutOfMemory) ⊎ (fault ≡ Device) → IsLeftTorn disk member n new
+    pub not_restarted : (fault : Fault) → (fault ≡ OutOfMemory) ⊎ (fault ≡ Device) → IsResting disk member n → IsLeftTorn disk member n new
         → AnswersRestart w me (restarts w me (part_at w.nodes me)) after_world (let r : Result Effect Fault = Err fault in r)
-    not_restarted fault why torn =
+    not_restarted fault why rests torn =
         let d = torn part stands in
         inr (record {
           why = why;
@@ -163,6 +163,7 @@ module _ {S D P : Type 0} (disk : D → Disk) (config : Config) (begin : S) (nod
                 (moved disk config begin nodes tasks i me placed n here messages new messages (untorn_part d.0 part) [] d.1 (sym (append-nil messages.sent))
                 ∙ ap (λ (ms : List Message). let x : World = record { nodes = with_part w.nodes me (untorn_part d.0 part); tasks = w.tasks; sent = ms } in x) (append-nil w.sent)
                 ∙ ap (untorn d.0 w me) (sym part_is_here)),
+            (part, part_is_here, rests part stands),
           );
         })
 

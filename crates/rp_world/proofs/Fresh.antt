@@ -1,6 +1,7 @@
 -- Fresh nodes and tasks, one more at a time, and the world that they are.
 use Rattle.std.proofs.Common.{◌≡◌, ℕ, zero, suc, Option, Some, None, List, [], ◌∷◌, ◌++◌, length, map, replicate, slice_get, refl, sym, ap, subst, ◌∙◌, arith}
-use Rattle.std.specs.Prelude.{All, IfSome}
+use Rattle.std.specs.Prelude.{All, IfSome, get_or, ◌<◌}
+use Rattle.std.proofs.lemmas.List.{append_assoc, map-append}
 use Rattle.rp_base.specs.declared.config.Config.{Config}
 use Rattle.rp_codec.specs.Message.{Message}
 use Rattle.rp_store.specs.Disk.{Disk}
@@ -30,6 +31,20 @@ one_more Q [] x all is zero = is
 one_more Q [] x all is (suc k) = tt
 one_more Q (y ∷ xs) x all is zero = all zero
 one_more Q (y ∷ xs) x all is (suc k) = one_more (λ j. Q (suc j)) xs x (λ j. all (suc j)) is k
+
+-- counts of what is done and of what is left, with one more done
+pub counted_more : {A B : Type 0} (F : A → ℕ) (f : B → ℕ) (xs : List A) (x : A) (y : B) (ys : List B) (whole : List ℕ) → F x ≡ f y → map F xs ++ map f (y ∷ ys) ≡ whole → map F (xs ++ x ∷ []) ++ map f ys ≡ whole
+counted_more {A = A} {B = B} F f xs x y ys whole same is =
+    ap (λ (l : List ℕ). l ++ map f ys) (map-append F xs (x ∷ [])) ∙ append_assoc (map F xs) (F x ∷ []) (map f ys) ∙ ap (λ (k : ℕ). map F xs ++ k ∷ map f ys) same ∙ is
+
+-- counts that are 0 each
+zero_at : {A : Type 0} (f : A → ℕ) (xs : List A) (k d : ℕ) → ((j : ℕ) → IfSome (slice_get xs j) (λ a. f a ≡ 0)) → k < length (map f xs) → get_or (map f xs) k d ≡ 0
+zero_at {A = A} f [] k d is within = absurd (omega (arith, within))
+zero_at {A = A} f (x ∷ xs) zero d is within = is zero
+zero_at {A = A} f (x ∷ xs) (suc k) d is within = zero_at f xs k d (λ j. is (suc j)) (omega (arith, within))
+
+pub all_zero : {A : Type 0} (f : A → ℕ) (xs : List A) → ((k : ℕ) → IfSome (slice_get xs k) (λ a. f a ≡ 0)) → All (λ count. count ≡ 0) (map f xs)
+all_zero {A = A} f xs is = λ k d within. zero_at f xs k d is within
 
 -- ---- the world
 

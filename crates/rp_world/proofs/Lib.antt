@@ -11,3 +11,4 @@ pub mod Hearing
 pub mod Calling
 pub mod Asked
 pub mod Fresh
+pub mod Failing

@@ -22,12 +22,12 @@ use Rattle.rp_world.proofs.Resting.{part_is}
 
 -- ---- lists
 
-get_map : {A B : Type 0} (f : A → B) (xs : List A) (i : ℕ) → slice_get (map f xs) i ≡ option_map f (slice_get xs i)
+pub get_map : {A B : Type 0} (f : A → B) (xs : List A) (i : ℕ) → slice_get (map f xs) i ≡ option_map f (slice_get xs i)
 get_map {A = A} {B = B} f [] i = refl
 get_map {A = A} {B = B} f (x ∷ xs) zero = refl
 get_map {A = A} {B = B} f (x ∷ xs) (suc i) = get_map f xs i
 
-set_map : {A B : Type 0} (f : A → B) (xs : List A) (i : ℕ) (x : A) → map f (slice_set xs i x) ≡ slice_set (map f xs) i (f x)
+pub set_map : {A B : Type 0} (f : A → B) (xs : List A) (i : ℕ) (x : A) → map f (slice_set xs i x) ≡ slice_set (map f xs) i (f x)
 set_map {A = A} {B = B} f [] i x = refl
 set_map {A = A} {B = B} f (y ∷ xs) zero x = refl
 set_map {A = A} {B = B} f (y ∷ xs) (suc i) x = ap (λ (l : List B). f y ∷ l) (set_map f xs i x)
@@ -44,7 +44,7 @@ set_keeps {A = A} P (y ∷ xs) zero x all is (suc k) = all (suc k)
 set_keeps {A = A} P (y ∷ xs) (suc i) x all is zero = all zero
 set_keeps {A = A} P (y ∷ xs) (suc i) x all is (suc k) = set_keeps (λ j. P (suc j)) xs i x (λ j. all (suc j)) is k
 
-set_same : {A : Type 0} (xs : List A) (i : ℕ) (x : A) → slice_get xs i ≡ Some x → slice_set xs i x ≡ xs
+pub set_same : {A : Type 0} (xs : List A) (i : ℕ) (x : A) → slice_get xs i ≡ Some x → slice_set xs i x ≡ xs
 set_same {A = A} [] i x here = refl
 set_same {A = A} (y ∷ xs) zero x here = let same : y ≡ x = cc in ap (λ (z : A). z ∷ xs) (sym same)
 set_same {A = A} (y ∷ xs) (suc i) x here = ap (λ (rest : List A). y ∷ rest) (set_same xs i x here)

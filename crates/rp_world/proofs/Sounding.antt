@@ -1,6 +1,7 @@
 -- The world of a cluster meets the invariant after each step, and what follows.
-use Rattle.std.proofs.Common.{◌≡◌, ℕ, suc, Option, Some, None, Result, Ok, Err, List, [], ◌∷◌, ◌++◌, length, inl, inr, refl, sym, ap, subst, ◌∙◌}
-use Rattle.std.specs.Prelude.{slice_get, unwrap_or}
+use Rattle.std.proofs.Common.{◌≡◌, ◌≤◌, ◌<◌, ℕ, zero, suc, Bool, true, false, arith, Option, Some, None, Result, Ok, Err, List, [], ◌∷◌, ◌++◌, length, inl, inr, refl, sym, ap, subst, ◌∙◌}
+use Rattle.std.specs.Prelude.{slice_get, unwrap_or, nat_lt}
+use Rattle.std.proofs.lemmas.Bool.{ltb-true}
 use Rattle.rp_base.specs.Records.{applied_of}
 use Rattle.rp_base.specs.Sets.{Has}
 use Rattle.rp_base.specs.declared.action.Action.{Action}
@@ -14,16 +15,18 @@ use Rattle.rp_model.specs.Answers.{untorn, IsLeft, FailsBy, Steps}
 use Rattle.rp_model.specs.declared.effect.Effect.{Effect}
 use Rattle.rp_model.specs.Effect.{Setting}
 use Rattle.rp_model.specs.Events.{Event, Submit, Again, Makes, Cut, Stop, Restart}
-use Rattle.rp_model.specs.Facts.{IsOrder}
+use Rattle.rp_base.specs.declared.record.Vote.{Vote}
+use Rattle.rp_agreement.proofs.Offering.{promise_kept}
+use Rattle.rp_model.specs.Facts.{HasPromised, IsOrder}
 use Rattle.rp_model.specs.Growing.{Grows}
 use Rattle.rp_model.specs.Parts.{NodePart, TaskPart, fresh_node, fresh_task}
 use Rattle.rp_model.specs.World.{World, Happening, part_at, event_effect}
-use Rattle.rp_agreement.specs.Sound.{IsSound}
+use Rattle.rp_agreement.specs.Sound.{IsMember, IsSound}
 use Rattle.rp_agreement.specs.Order.{AllSent, Begins, AreAlike}
 use Rattle.rp_agreement.specs.Computed.{order_of}
-use Rattle.rp_agreement.specs.Answered.{named, task_in, AreItsCalls, IsKept, IsKeptWorld}
+use Rattle.rp_agreement.specs.Answered.{named, calls_so_far, task_in, AreItsCalls, IsKept, IsKeptWorld}
 use Rattle.rp_agreement.specs.Worlds.{node_in}
-use Rattle.rp_world.specs.Agreeing.{EachTwo, AreLevel, Agree, IsOrdered}
+use Rattle.rp_world.specs.Agreeing.{EachTwo, AreLevel, Agree, TakesEffectOnce, IsOrdered}
 
 -- what was sent stays
 module _ {S : Type 0} (s : Setting S) (grows : (before : World) (event : Event) (happening : Happening) → event_effect s before event ≡ Ok happening → Grows before happening) where
@@ -108,6 +111,23 @@ module _ {S : Type 0} (next : S → Action → S) (answers : S → Action → Li
       (subst (λ (a : NodePart). P a (node_in later.nodes y)) (here now x one p)
       (states nodes (node_in now.nodes) (node_in later.nodes) now.sent later.sent sound after sent x y)))
 
+-- what stands at a place of a list
+get_short : {A : Type 0} (xs : List A) (k : ℕ) → k < length xs → (x : A) × (slice_get xs k ≡ Some x)
+get_short {A = A} [] k short = absurd (omega (arith, short))
+get_short {A = A} (x ∷ xs) zero short = (x, refl)
+get_short {A = A} (x ∷ xs) (suc k) short = get_short xs k (omega (arith, short))
+
+-- the part of a node of the world
+pub part_is_there : (w : World) (nodes x : ℕ) → length w.nodes ≡ nodes → IsMember nodes x → part_at w.nodes x ≡ Some (node_in w.nodes x)
+part_is_there w nodes zero size is = absurd (omega (arith, is.0))
+part_is_there w nodes (suc i) size is =
+    let here = get_short w.nodes i (omega (arith, is.1, size)) in
+    here.1 ∙ ap Some (sym (ap (λ (o : Option NodePart). unwrap_or o fresh_node) here.1))
+
+-- who promised is a node of the world
+pub promiser_there : (nodes : ℕ) (node : ℕ → NodePart) (sent : List Message) → IsSound nodes node sent → (x i b : ℕ) (last : Option Vote) → HasPromised sent x i b last → IsMember nodes x
+promiser_there nodes node sent sound x i b last told = (promise_kept nodes node sent sound x i b last told).0
+
 -- and there is one order, by which each reply is an answer
 module _ {S : Type 0} (s : Setting S)
     (exists : (n : ℕ) (sent : List Message) → IsOrder n sent (order_of n sent))
@@ -115,14 +135,28 @@ module _ {S : Type 0} (s : Setting S)
     (tells : (node : ℕ → NodePart) (task : ℕ → TaskPart) (sent : List Message) → IsKept s node task sent → (t k : ℕ) (answer : Answer) → slice_get (task t).replies k ≡ Some answer
     → HasReply s.next s.answers s.begin (order_of s.config.nodes sent) (named t (suc k)) answer)
     (counted : (node : ℕ → NodePart) (task : ℕ → TaskPart) (sent : List Message) → IsKept s node task sent → (t : ℕ) → AreItsCalls sent t (task t) (kept_of s.next s.answers s.begin (order_of s.config.nodes sent)))
+    (only : (node : ℕ → NodePart) (task : ℕ → TaskPart) (sent : List Message) → IsKept s node task sent → (t n place : ℕ) → IsPlace s.next s.answers s.begin (order_of s.config.nodes sent) (named t n) place
+    → (1 ≤ n) × (n ≤ calls_so_far (task t)))
     (once : (actions : List Action) (call : CallName) (one other : ℕ) → IsPlace s.next s.answers s.begin actions call one → IsPlace s.next s.answers s.begin actions call other → one ≡ other) where
   seated : (w : World) (t : ℕ) (part : TaskPart) → part_at w.tasks t ≡ Some part → task_in w.tasks t ≡ part
   seated w t part p = ap (λ (o : Option TaskPart). unwrap_or o fresh_task) p
+
+  -- a call takes effect at one place if it has its reply, at one at most else
+  placed : (order : List Action) (t k : ℕ) (part : TaskPart)
+      → ((answer : Answer) → slice_get part.replies k ≡ Some answer → HasReply s.next s.answers s.begin order (named t (suc k)) answer)
+      → (b : Bool) → nat_lt k (length part.replies) ≡ b → TakesEffectOnce s.next s.answers s.begin order (named t (suc k)) b
+  placed order t k part replied true is =
+      let got = get_short part.replies k (ltb-true k (length part.replies) is) in
+      let has = replied got.0 got.1 in
+      (has.place, has.takes_effect)
+  placed order t k part replied false is = once order (named t (suc k))
 
   pub ordered : (w : World) → IsKeptWorld s w → IsOrdered s.next s.answers s.begin s.config.nodes w
   ordered w kept =
       let nodes = s.config.nodes in
       let order = order_of nodes w.sent in
+      let replied : (t k : ℕ) (part : TaskPart) (answer : Answer) → part_at w.tasks t ≡ Some part → slice_get part.replies k ≡ Some answer → HasReply s.next s.answers s.begin order (named t (suc k)) answer =
+      λ t k part answer p is. tells (node_in w.nodes) (task_in w.tasks) w.sent kept.kept t k answer (ap (λ (a : TaskPart). slice_get a.replies k) (seated w t part p) ∙ is) in
       record {
         order = order;
         decided = exists nodes w.sent;
@@ -132,7 +166,8 @@ module _ {S : Type 0} (s : Setting S)
         calls = λ t part p.
             subst (λ (a : TaskPart). AreItsCalls w.sent t a (kept_of s.next s.answers s.begin order)) (seated w t part p)
             (counted (node_in w.nodes) (task_in w.tasks) w.sent kept.kept t);
-        replies = λ t k part answer p is.
-            tells (node_in w.nodes) (task_in w.tasks) w.sent kept.kept t k answer (ap (λ (a : TaskPart). slice_get a.replies k) (seated w t part p) ∙ is);
-        once = once order;
+        replies = replied;
+        once = λ t k part p. placed order t k part (λ answer. replied t k part answer p) (nat_lt k (length part.replies)) refl;
+        made = λ t n place part p at.
+            subst (λ (a : TaskPart). (1 ≤ n) × (n ≤ calls_so_far a)) (seated w t part p) (only (node_in w.nodes) (task_in w.tasks) w.sent kept.kept t n place at);
       }

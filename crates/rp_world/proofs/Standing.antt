@@ -36,6 +36,11 @@ module _ {S : Type 0} (member : Member S) (held : Held S) (part : NodePart) wher
   pub as_resting : held.failed ≡ true → StandsWhile member held part held.failed → RestsAs member.config.max_positions held.disk part
   as_resting failed is = subst (StandsWhile member held part) failed is
 
+-- what is so whatever was answered
+pub if_err : {A : Type 0} {So : Type 0} (answer : Result A Fault) → So → IfErr answer (λ fault. So)
+if_err (Ok told) so = tt
+if_err (Err fault) so = so
+
 no_records : (all : List Rec) (torn : List ℕ) → [] ≡ records_text all ++ torn → all ≡ []
 no_records [] torn is = refl
 no_records (r ∷ rs) torn is =

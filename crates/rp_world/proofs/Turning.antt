@@ -1,6 +1,6 @@
 -- What a replica's turn is for the node's part.
 use Rattle.std.proofs.Common.{◌≡◌, ℕ, Bool, true, false, if◌then◌else◌, Option, Some, None, Result, Ok, Err, List, [], ◌∷◌, ◌++◌, length, ◌⊎◌, inl, inr, refl, sym, ap, subst, ◌∙◌}
-use Rattle.std.specs.Prelude.{nat_le, IfOk, IfErr}
+use Rattle.std.specs.Prelude.{nat_le, IfOk, IfErr, IsSome}
 use Rattle.rp_base.specs.declared.action.Action.{Action}
 use Rattle.rp_base.specs.declared.config.Config.{Config}
 use Rattle.rp_base.specs.declared.fault.Fault.{Fault}
@@ -25,6 +25,9 @@ use Rattle.rp_world.specs.declared.node.Node.{Node}
 use Rattle.rp_world.specs.declared.node.Node.TheVariants.{Running, Stopped}
 use Rattle.rp_world.specs.Nodes.{Member, RunsAs, RestsAs, setting_at, node_step, IsComing, StandsWhile, StandsFor, GoesBy, IsCutBy, NotTaken, TellsSent}
 use Rattle.rp_world.proofs.Standing.{stands, stands_failed, as_running}
+
+some_of : {A : Type 0} (o : Option A) (x : A) → o ≡ Some x → IsSome o
+some_of {A = A} o x is = subst IsSome (sym is) refl
 
 -- a node that was cut is stopped
 cut_stopped : (kept : ℕ) (part : NodePart) (written : Option Rec) → (cut_part kept part written).running ≡ None
@@ -103,7 +106,7 @@ module _ {S : Type 0} (D P : Type 0) (next : S → Action → S) (answers : S �
     NotTakenHere n fault =
         ((node_step next answers member input part ≡ Err fault) × StandsFor disk member n part)
         ⊎ (((fault ≡ OutOfMemory) × IsComing (node_step next answers member input part) × StandsFor disk member n part)
-        ⊎ ((fault ≡ Device) × (kept : ℕ) × (done : Done NodePart) × (node_step next answers member input part ≡ Ok done) × StandsFor disk member n (cut_part kept part done.written)))
+        ⊎ ((fault ≡ Device) × (kept : ℕ) × (done : Done NodePart) × (node_step next answers member input part ≡ Ok done) × StandsFor disk member n (cut_part kept part done.written) × IsSome done.written))
 
     pub coming : (turn : Turn) → effect_of next answers old input ≡ Ok turn → node_step next answers member input part ≡ Ok (turned part turn)
     coming turn came = same_effect next answers member old part runs input ∙ ap (turned_if part) came
@@ -126,6 +129,7 @@ module _ {S : Type 0} (D P : Type 0) (next : S → Action → S) (answers : S �
             turned part turn,
             coming turn came,
             stands_failed member new (cut_part kept part turn.written) (ap (λ (h : Held S). h.failed) fails.goes) (rests_cut turn kept new.disk fails.holds.1),
+            some_of turn.written fails.rec fails.is,
           ))
 
       stops_so : (turn : Turn) → effect_of next answers old input ≡ Ok turn → (fault : Fault) → Stops turn.written old new fault → NotTakenHere (Running new) fault
@@ -162,7 +166,7 @@ module _ {S : Type 0} (D P : Type 0) (next : S → Action → S) (answers : S �
     pub fails_in_cut : (effect : Result Turn Fault) → effect_of next answers old input ≡ effect → (device : D) → IsNotCutIf disk effect old (let r : NotCut S D P = DeviceFailed device in r) → NotTakenHere (Stopped device) Device
     fails_in_cut (Ok turn) came device fails =
         let kept = fails.holds.0 in
-        inr (inr (refl, kept, turned part turn, coming turn came, rests_cut turn kept (disk device) fails.holds.1))
+        inr (inr (refl, kept, turned part turn, coming turn came, rests_cut turn kept (disk device) fails.holds.1, some_of turn.written fails.rec fails.is))
     fails_in_cut (Err refusal) came device fails = absurd fails
 
     pub refused_cut : (effect : Result Turn Fault) → effect_of next answers old input ≡ effect → (fault : Fault) (new : Held S) → IsNotCutIf disk effect old (let r : NotCut S D P = Refused fault new in r) → NotTakenHere (Running new) fault

@@ -1,16 +1,18 @@
 -- What nodes have in common (this project's own).
-use Rattle.std.specs.Prelude.{◌≡◌, ℕ, suc, Some, List, length, slice_get}
+use Rattle.std.specs.Prelude.{◌≡◌, ◌≤◌, ℕ, suc, Bool, true, false, nat_lt, Some, List, length, slice_get}
 use Rattle.rp_base.specs.Records.{applied_of}
+use Rattle.rp_base.specs.Sets.{Has}
 use Rattle.rp_base.specs.declared.action.Action.{Action}
+use Rattle.rp_base.specs.declared.record.Rec.{Rec}
 use Rattle.rp_base.specs.declared.reply.Answer.{Answer}
 use Rattle.rp_machine.specs.Calls.{CallName}
-use Rattle.rp_machine.specs.Places.{IsPlace, HasReply}
+use Rattle.rp_machine.specs.Places.{IsPlace, IsOnlyPlace, HasReply}
 use Rattle.rp_machine.specs.Replay.{replay_of, replay_state, kept_of}
 use Rattle.rp_model.specs.Facts.{IsOrder}
 use Rattle.rp_model.specs.World.{World, part_at}
 use Rattle.rp_model.specs.Parts.{NodePart}
 use Rattle.rp_model.specs.Parts.{TaskPart}
-use Rattle.rp_agreement.specs.Answered.{named, AreItsCalls}
+use Rattle.rp_agreement.specs.Answered.{named, calls_so_far, AreItsCalls}
 use Rattle.rp_agreement.specs.Order.{Begins, AreAlike}
 
 -- a node now and one later
@@ -22,6 +24,10 @@ EachTwo now later P =
 abbrev pub AreLevel : NodePart → NodePart → Type 0
 AreLevel one other = length (applied_of one.records) ≡ length (applied_of other.records)
 
+-- the node of this number has written the record
+abbrev pub HasWritten : World → ℕ → Rec → Type 0
+HasWritten w x rec = (part : NodePart) × (part_at w.nodes x ≡ Some part) × Has rec part.records
+
 -- Of what two nodes have applied, the one now and the other later, one begins the other; and where they
 -- have applied equally many actions they are in one state, with the same answers given, and show the same.
 pub record Agree {S : Type 0} (next : S → Action → S) (answers : S → Action → List Answer) (image : S → List ℕ) (begin : S) (now later : World) : Type 0 where
@@ -32,10 +38,17 @@ pub record Agree {S : Type 0} (next : S → Action → S) (answers : S → Actio
       → image (replay_state next answers begin (applied_of one.records)) ≡ image (replay_state next answers begin (applied_of other.records)))
 
 module _ {S : Type 0} (next : S → Action → S) (answers : S → Action → List Answer) (begin : S) where
+  -- A call takes effect at exactly one place of the actions, if it is answered; else at one place at most.
+  abbrev pub TakesEffectOnce : List Action → CallName → Bool → Type 0
+  TakesEffectOnce actions call true = (place : ℕ) × IsOnlyPlace next answers begin actions call place
+  TakesEffectOnce actions call false =
+      (one other : ℕ) → IsPlace next answers begin actions call one → IsPlace next answers begin actions call other → one ≡ other
+
   -- There is one order in which all happens: what each node has applied begins it; the calls of each task that
   -- count in it are those that the task made, in order, with their objects, operations and arguments, all of
   -- them or all but the one that it waits for; the reply that the task got to its nth call is the one that the
-  -- order gives, at the call's place; and no call takes effect at two places.
+  -- order gives, at the call's place. A call of the task takes effect once: at exactly one place of the order
+  -- where the task got its reply, at one at most else; and no call takes effect that the task did not make.
   pub record IsOrdered (nodes : ℕ) (w : World) : Type 0 where
     pub order : List Action
     pub decided : IsOrder nodes w.sent order
@@ -43,4 +56,6 @@ module _ {S : Type 0} (next : S → Action → S) (answers : S → Action → Li
     pub calls : (t : ℕ) (part : TaskPart) → part_at w.tasks t ≡ Some part → AreItsCalls w.sent t part (kept_of next answers begin order)
     pub replies : (t k : ℕ) (part : TaskPart) (answer : Answer) → part_at w.tasks t ≡ Some part → slice_get part.replies k ≡ Some answer
         → HasReply next answers begin order (named t (suc k)) answer
-    pub once : (call : CallName) (one other : ℕ) → IsPlace next answers begin order call one → IsPlace next answers begin order call other → one ≡ other
+    pub once : (t k : ℕ) (part : TaskPart) → part_at w.tasks t ≡ Some part → TakesEffectOnce order (named t (suc k)) (nat_lt k (length part.replies))
+    pub made : (t n place : ℕ) (part : TaskPart) → part_at w.tasks t ≡ Some part → IsPlace next answers begin order (named t n) place
+        → (1 ≤ n) × (n ≤ calls_so_far part)

@@ -1,13 +1,15 @@
 -- What a call of a cluster's parts comes to (no public clause names it).
-use Rattle.std.specs.Prelude.{◌≡◌, ◌⊎◌, ℕ, Option, None, Some, Result, Ok, Err, length}
+use Rattle.std.specs.Prelude.{◌≡◌, ◌⊎◌, ℕ, Option, None, Some, Result, Ok, Err, List, length}
 use Rattle.rp_base.specs.declared.reply.Reply.{Reply}
 use Rattle.rp_codec.specs.declared.packet.Body.{Body}
 use Rattle.rp_codec.specs.declared.packet.Body.TheVariants.{Call, Prepare, Promise, Accept, Accepted, Decided, Ask, Nack, Reply as Answer, Report}
 use Rattle.rp_base.specs.declared.fault.Fault.{Fault}
 use Rattle.rp_base.specs.declared.fault.Fault.TheVariants.{OutOfMemory, Device, NotRunning}
-use Rattle.rp_model.specs.Answers.{Tells, untorn}
-use Rattle.rp_model.specs.World.{World, Happening, part_at}
+use Rattle.rp_model.specs.Answers.{Tells, IsLeft}
+use Rattle.rp_model.specs.Events.{Restart}
+use Rattle.rp_model.specs.World.{World, Happening}
 use Rattle.rp_model.specs.declared.effect.Effect.{Effect}
+use Rattle.rp_world.specs.Failures.{RisesOnly}
 
 -- it happened, and was told so
 pub record Goes (w : World) (effect : Result Happening Fault) (new : World) (told : Effect) : Type 0 where
@@ -41,6 +43,13 @@ abbrev pub Answers : World → Result Happening Fault → (ℕ → Result Happen
 Answers w effect cut new (Ok told) = Goes w effect new told
 Answers w effect cut new (Err fault) = Refuses w effect new fault ⊎ (Wants w effect new fault ⊎ Fails cut new fault)
 
+-- after an answer the counts of failures are as before; where it is a fault of a device, this is so, and the
+-- count of this node alone rose
+abbrev pub Counts : {A : Type 0} → Type 0 → Option ℕ → List ℕ → List ℕ → Result A Fault → Type 0
+Counts why me old new (Ok told) = new ≡ old
+Counts why me old new (Err Device) = why × RisesOnly me old new
+Counts why me old new (Err _) = new ≡ old
+
 -- what a call answers that tells its effect in place
 abbrev pub told : {A : Type 0} → Result A Fault → Effect → Result Effect Fault
 told (Ok done) effect = Ok effect
@@ -50,12 +59,12 @@ told (Err fault) effect = Err fault
 abbrev pub no_cut : ℕ → Result Happening Fault
 no_cut kept = Err NotRunning
 
--- a restart that failed: some torn bytes may be gone
+-- a restart that failed: the node was stopped, and some torn bytes may be gone
 pub record StartsNot (w : World) (me : ℕ) (effect : Result Happening Fault) (new : World) (fault : Fault) : Type 0 where
   pub why : (fault ≡ OutOfMemory) ⊎ (fault ≡ Device)
   pub wanted : Happening
   pub came : effect ≡ Ok wanted
-  pub left : (kept : ℕ) × (new ≡ untorn kept w me (part_at w.nodes me))
+  pub left : IsLeft w (Restart me) new
 
 abbrev pub AnswersRestart : World → ℕ → Result Happening Fault → World → Result Effect Fault → Type 0
 AnswersRestart w me effect new (Ok told) = Goes w effect new told

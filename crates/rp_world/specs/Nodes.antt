@@ -1,6 +1,6 @@
 -- A node of a cluster: a replica that runs, or a device that rests. A replica whose device failed rests too
 -- (this project's own).
-use Rattle.std.specs.Prelude.{◌≡◌, ◌⊎◌, ℕ, min, Bool, true, false, Option, None, Result, Ok, Err, List, length}
+use Rattle.std.specs.Prelude.{◌≡◌, ◌⊎◌, ℕ, ◌<◌, min, Bool, true, false, Option, None, IsSome, Result, Ok, Err, List, length}
 use Rattle.rp_base.specs.declared.action.Action.{Action}
 use Rattle.rp_base.specs.declared.reply.Answer.{Answer}
 use Rattle.rp_base.specs.declared.fault.Fault.TheVariants.{OutOfMemory, Device}
@@ -87,17 +87,33 @@ module _ {S D P : Type 0} (disk : D → Disk) (member : Member S) (old new : Nod
       → (kept : ℕ) × StandsFor disk member new (record part { torn = min kept part.torn })
 
   -- Or the step was not taken: it is refused, and nothing changes; or memory was wanting for what it comes
-  -- to, and nothing changes; or the device failed, and the step is cut with some of its record's bytes kept.
+  -- to, and nothing changes; or the device failed, and the step, which writes a record, is cut with some of the
+  -- record's bytes kept.
   abbrev pub NotTaken : (NodePart → Result (Done NodePart) Fault) → Fault → Type 0
   NotTaken effect fault =
       (part : NodePart) → StandsFor disk member old part
       → ((effect part ≡ Err fault) × StandsFor disk member new part)
       ⊎ (((fault ≡ OutOfMemory) × IsComing (effect part) × StandsFor disk member new part)
-      ⊎ ((fault ≡ Device) × (kept : ℕ) × (done : Done NodePart) × (effect part ≡ Ok done) × StandsFor disk member new (cut_part kept part done.written)))
+      ⊎ ((fault ≡ Device) × (kept : ℕ) × (done : Done NodePart) × (effect part ≡ Ok done) × StandsFor disk member new (cut_part kept part done.written) × IsSome done.written))
 
 -- so many bytes are what some device holds that keeps the part
 abbrev pub IsLengthOf : ℕ → NodePart → ℕ → Type 0
 IsLengthOf most part len = (disk : Disk) × HoldsPart most disk part × (len ≡ length disk.contents)
+
+-- how often the device of a node has failed
+abbrev pub failures_in : {S D P : Type 0} → (D → Disk) → Node S D P → ℕ
+failures_in disk (Running held) = held.disk.failures
+failures_in disk (Stopped device) = (disk device).failures
+
+-- after an answer the count is as before, and higher where it is a fault of the device
+abbrev pub IsCounted : {A : Type 0} → ℕ → ℕ → Result A Fault → Type 0
+IsCounted old new (Ok told) = new ≡ old
+IsCounted old new (Err Device) = old < new
+IsCounted old new (Err _) = new ≡ old
+
+-- the node is stopped
+abbrev pub IsResting : {S D P : Type 0} → (D → Disk) → Member S → Node S D P → Type 0
+IsResting disk member node = (part : NodePart) → StandsFor disk member node part → part.running ≡ None
 
 -- nothing else is told
 abbrev pub TellsNothing : Unit {0} → Done NodePart → Type 0

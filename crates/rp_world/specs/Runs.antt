@@ -5,8 +5,9 @@ use Rattle.rp_base.specs.declared.fault.Fault.{Fault}
 use Rattle.rp_base.specs.declared.reply.Answer.{Answer}
 use Rattle.rp_model.specs.declared.event.Event.{Event}
 use Rattle.rp_model.specs.Events.{event_of}
-use Rattle.rp_model.specs.World.{World}
+use Rattle.rp_model.specs.World.{World, node_of}
 use Rattle.rp_model.specs.Answers.{Happen, IsFaulted}
+use Rattle.rp_world.specs.Failures.{AreCounted}
 use Rattle.rp_world.specs.Steps.{Setup, IsSameSetup, setting_of}
 use Rattle.rp_world.specs.declared.effect.Refused.{Refused}
 
@@ -28,7 +29,17 @@ module _ {S P : Type 0} (next : S → Action → S) (answers : S → Action → 
   ComesTo old events new (Ok all) = LeadsTo old events new
   ComesTo old events new (Err refused) = StopsAt old events new refused.place refused.fault
 
-  -- a run of a cluster: its world goes by the events, and all else stays
+  -- The counts of failures after a run: as before, but that of one node where its device failed, at the event
+  -- where the run stopped.
+  abbrev pub AreCountedBy : (old : Setup P) (events : List Event) (new : Setup P) (answer : Result Unit Refused) → ComesTo old events new.world answer → Type 0
+  AreCountedBy old events new (Ok all) came = new.failures ≡ old.failures
+  AreCountedBy old events new (Err refused) came =
+      let fault : Result Unit Fault = Err refused.fault in
+      AreCounted (node_of came.stopped (event_of came.event)) old.failures new.failures fault
+
+  -- A run of a cluster: its world goes by the events; the counts of failures stay, but where a device failed;
+  -- and all else stays.
   pub record IsRun (old : Setup P) (events : List Event) (new : Setup P) (answer : Result Unit Refused) : Type 0 where
     pub world : ComesTo old events new.world answer
     pub setup : IsSameSetup old new
+    pub failures : AreCountedBy old events new answer world

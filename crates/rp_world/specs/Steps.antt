@@ -1,6 +1,6 @@
 -- A cluster as one value, and what a step of it answers.
 use Rattle.std.specs.Borrow.{Bor}
-use Rattle.std.specs.Prelude.{◌≡◌, ◌⊎◌, Result, Err, ℕ, Option, Some, None, List, IsOkAnd}
+use Rattle.std.specs.Prelude.{◌≡◌, ◌⊎◌, Result, Err, ℕ, Option, Some, None, List, IsOkAnd, IsSome}
 use Rattle.rp_base.specs.declared.action.Action.{Action}
 use Rattle.rp_base.specs.declared.config.Config.{Config}
 use Rattle.rp_base.specs.declared.fault.Fault.{Fault}
@@ -13,16 +13,19 @@ use Rattle.rp_model.specs.Parts.{NodePart}
 use Rattle.rp_model.specs.Parts.{Running}
 use Rattle.rp_model.specs.Effect.{Setting}
 use Rattle.rp_model.specs.Events.{event_of}
-use Rattle.rp_model.specs.World.{World}
+use Rattle.rp_model.specs.World.{World, node_of}
 use Rattle.rp_model.specs.Answers.{Steps}
 use Rattle.rp_replica.specs.Held.{Held}
+use Rattle.rp_world.specs.Failures.{AreCounted}
 use Rattle.rp_world.specs.Nodes.{IsLengthOf}
 
--- a cluster: its configuration, the program that its nodes run, and its world
+-- a cluster: its configuration, the program that its nodes run, its world, and how often the device of each
+-- node has failed, in order of nodes
 pub record Setup (P : Type 0) : Type 0 where
   pub config : Config
   pub program : P
   pub world : World
+  pub failures : List ℕ
 
 -- the two have one configuration and one program
 pub record IsSameSetup {P : Type 0} (old new : Setup P) : Type 0 where
@@ -34,10 +37,12 @@ module _ {S P : Type 0} (next : S → Action → S) (answers : S → Action → 
   abbrev pub setting_of : Setup P → Setting S
   setting_of c = record { config = c.config; next = next; answers = answers; begin = start c.program }
 
-  -- a step of a cluster: its world goes by the event, and all else stays
+  -- A step of a cluster: its world goes by the event; the counts of failures stay, but that of the event's node
+  -- where a device failed; and all else stays.
   pub record IsStep (old : Setup P) (event : Event) (new : Setup P) (answer : Result Effect Fault) : Type 0 where
     pub world : Steps (setting_of old) old.world (event_of event) new.world answer
     pub setup : IsSameSetup old new
+    pub failures : AreCounted (node_of old.world (event_of event)) old.failures new.failures answer
 
 -- the same of a part that runs or is stopped
 abbrev pub IsToldOfRunning : {A : Type 0} → Result A Fault → (A → List Rec → Type 0) → List Rec → Option Running → Type 0
@@ -50,9 +55,14 @@ abbrev pub IsToldOf : {A : Type 0} → Result A Fault → (A → List Rec → Ty
 IsToldOf answer tells None = answer ≡ Err BadConfig
 IsToldOf answer tells (Some part) = IsToldOfRunning answer tells part.records part.running
 
--- the same, unless memory ran out
+-- there is such a node, and it runs
+abbrev pub Runs : Option NodePart → Type 0
+Runs None = ⊥
+Runs (Some part) = IsSome part.running
+
+-- the same, but for a node that runs memory may run out
 abbrev pub IsToldUnlessMemory : {A : Type 0} → Result A Fault → (A → List Rec → Type 0) → Option NodePart → Type 0
-IsToldUnlessMemory answer tells part = (answer ≡ Err OutOfMemory) ⊎ IsToldOf answer tells part
+IsToldUnlessMemory answer tells part = ((answer ≡ Err OutOfMemory) × Runs part) ⊎ IsToldOf answer tells part
 
 -- how many bytes a node's device holds: BadConfig where there is no such node
 abbrev pub IsStored : ℕ → Result ℕ Fault → Option NodePart → Type 0

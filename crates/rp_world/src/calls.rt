@@ -60,6 +60,7 @@ impl<M: Machine, D: CutDevice> World<M, D> {
             (task_takes self.old.config self.old.world task (tasks.Submit node object operation arg)
             (part_at self.old.world.tasks task)) no_cut self.new.world result }
         ensures setup { IsSameSetup self.old self.new }
+        ensures failures { self.new.failures ≡ self.old.failures }
     {
         let first = self.messages() + 1;
         let caller = &mut self.tasks[usize::from(task.get()) - 1];
@@ -78,6 +79,7 @@ impl<M: Machine, D: CutDevice> World<M, D> {
             (task_takes self.old.config self.old.world task (tasks.Again node)
             (part_at self.old.world.tasks task)) no_cut self.new.world result }
         ensures setup { IsSameSetup self.old self.new }
+        ensures failures { self.new.failures ≡ self.old.failures }
     {
         let first = self.messages() + 1;
         if node.get() > self.config.nodes {

@@ -1,14 +1,23 @@
 //! The cluster: all nodes and tasks, and every message that was sent.
 
-ghost use Rattle.std.specs.Prelude.{◌≡◌, ◌<◌, ◌-◌, ◌^◌, min, ◌↔◌, ◌⊎◌, length, All, [], None, IfOk, IfErr, IfSome, IsErrOf, IsTrue};
+ghost use Rattle.std.specs.Prelude.{◌≡◌, ◌<◌, ◌-◌, ◌^◌, ℕ, min, ◌↔◌, ◌⊎◌, length, map, All, List, [], Option, None, Some, IfOk, IfErr, IfSome, IsErrOf, IsTrue};
 ghost use Rattle.rp_base.specs.Config.{IsRightConfig};
 ghost use Rattle.rp_base.specs.Records.{applied_of};
 ghost use Rattle.rp_codec.specs.Message.{IsPacket};
 ghost use Rattle.rp_codec.specs.Text.{text_of};
 ghost use Rattle.rp_machine.specs.Replay.{replay_state};
+ghost use Rattle.rp_base.specs.declared.action.Action.{Action};
+ghost use Rattle.rp_base.specs.declared.record.Rec.TheVariants as records;
+ghost use Rattle.rp_base.specs.declared.record.Vote.{Vote};
+ghost use Rattle.rp_codec.specs.declared.packet.Body.TheVariants.{Decided};
+ghost use Rattle.rp_model.specs.Facts.{HasPromised, HasVoted, IsOffered, IsDecided, IsOrder};
+ghost use Rattle.rp_model.specs.Parts.{NodePart};
 ghost use Rattle.rp_model.specs.World.{opening_world, part_at};
-ghost use Rattle.rp_agreement.specs.Order.{AllSent};
-ghost use Rattle.rp_world.specs.Agreeing.{Agree, IsOrdered};
+ghost use Rattle.rp_agreement.specs.Decided.{IsCast};
+ghost use Rattle.rp_agreement.specs.Order.{AllSent, Begins};
+ghost use Rattle.rp_agreement.specs.Told.{Says};
+ghost use Rattle.rp_agreement.specs.Worlds.{node_in};
+ghost use Rattle.rp_world.specs.Agreeing.{Agree, HasWritten, IsOrdered};
 ghost use Rattle.rp_world.specs.Runs.{IsRun};
 ghost use Rattle.rp_world.specs.Shape.{IsCluster};
 ghost use Rattle.rp_world.specs.Steps.{IsStep, IsStored, IsToldOf, IsToldUnlessMemory, setting_of};
@@ -16,14 +25,15 @@ ghost use Rattle.rp_world.specs.Steps.{IsStep, IsStored, IsToldOf, IsToldUnlessM
 use crate::effect::Refused;
 use crate::world::World;
 use rp_agreement::{
-    applied_lists_are_alike, applied_lists_begin_the_order, calls_count_in_turn,
-    events_keep_ranges, events_keep_replies, replies_answer_calls_that_count,
-    replies_tell_the_order, states_are_alike, the_order_exists,
+    applied_lists_are_alike, applied_lists_begin_the_order, calls_count_in_turn, decisions_are_one,
+    decisions_stay, events_keep_ranges, events_keep_replies, offers_are_one,
+    only_made_calls_count, packets_say_so, replies_answer_calls_that_count, replies_tell_the_order,
+    states_are_alike, the_order_exists,
 };
 use rp_base::{Answer, Config, Fault, NodeId, TaskId};
 use rp_machine::{Machine, a_call_has_one_place};
 use rp_model::{Effect, Event, Step, worlds_grow};
-use rp_store::{CutDevice, Device};
+use rp_store::{CutDevice, Device, InfallibleDevice};
 use std::alloc::Global;
 use std::marker::Model;
 
@@ -64,8 +74,12 @@ impl<M: Machine, D: CutDevice> Cluster<M, D> {
         program: M::Program,
         devices: Vec<D>,
     ) -> Result<Self, Fault>
-        ensures opened { IfOk result (λ c. c
-            ≡ record { config = config; program = program; world = opening_world config.nodes }) }
+        ensures opened { IfOk result (λ c. c ≡ record {
+          config = config;
+          program = program;
+          world = opening_world config.nodes;
+          failures = map (λ device. (D.disk device).failures) devices.items;
+        }) }
         ensures refused { IsErrOf result Fault.BadConfig
             ↔ (¬ (IsRightConfig config × (length devices.items ≡ config.nodes)
             × All (λ device. (D.disk device).contents ≡ []) devices.items)) }
@@ -112,12 +126,15 @@ impl<M: Machine, D: CutDevice> Cluster<M, D> {
     /// are, nodes agree, before the run and behind it, and what they have applied begins one order: the
     /// calls of a task that count in it are those that the task made, in order, each reply that a task
     /// got is the answer to its call, and each such call takes effect at one place, no other at two.
+    /// What was decided before the run is decided after it.
     pub fn run(&mut self, alloc: Global, events: &[Event]) -> Result<(), Refused>
         ensures run { IsRun M.next M.answers M.begin self.old events.now self.new result }
         ensures agree { Agree M.next M.answers M.image (M.begin self.old.program)
             self.old.world self.new.world }
         ensures ordered { IsOrdered M.next M.answers (M.begin self.old.program)
             self.old.config.nodes self.new.world }
+        ensures decided { (i : ℕ) (v : Action) → IsDecided self.old.config.nodes self.old.world.sent i v
+            → IsDecided self.old.config.nodes self.new.world.sent i v }
     {
         self.is_kept();
         let ran = self.run_all(alloc, events);
@@ -128,6 +145,8 @@ impl<M: Machine, D: CutDevice> Cluster<M, D> {
         applied_lists_begin_the_order();
         calls_count_in_turn::<M>();
         replies_answer_calls_that_count::<M>();
+        only_made_calls_count::<M>();
+        decisions_stay();
         a_call_has_one_place::<M>();
         ran
     }
@@ -152,6 +171,40 @@ impl<M: Machine, D: CutDevice> Cluster<M, D> {
         ensures { IsCluster (setting_of M.next M.answers M.begin self.now) self.now.world }
     {
         let _ = self.world.messages();
+    }
+
+    /// What is so of every cluster, whatever happened to it: at a position one action at most is
+    /// decided, whether votes are counted in what was sent or in what nodes wrote; in one ballot one
+    /// action is offered at a position; what a node has applied begins the order, with none left out;
+    /// and a node has written the promise, the vote and the decision that it sent. It does nothing:
+    /// what it promises is for contracts.
+    pub fn agrees(&self)
+        ensures decided { (i : ℕ) (v w : Action)
+            → IsDecided self.now.config.nodes self.now.world.sent i v
+            → IsDecided self.now.config.nodes self.now.world.sent i w → v ≡ w }
+        ensures cast { let node = node_in self.now.world.nodes in (i b c : ℕ) (v w : Action)
+            → IsCast self.now.config.nodes node i b v
+            → IsCast self.now.config.nodes node i c w → v ≡ w }
+        ensures offered { (i b : ℕ) (v w : Action) → IsOffered self.now.world.sent i b v
+            → IsOffered self.now.world.sent i b w → v ≡ w }
+        ensures applied { (order : List Action)
+            → IsOrder self.now.config.nodes self.now.world.sent order
+            → (x : ℕ) (part : NodePart) → part_at self.now.world.nodes x ≡ Some part
+            → Begins (applied_of part.records) order }
+        ensures promised { (x i b : ℕ) (last : Option Vote)
+            → HasPromised self.now.world.sent x i b last
+            → HasWritten self.now.world x (records.Promised i b) }
+        ensures voted { (x i b : ℕ) (v : Action) → HasVoted self.now.world.sent x i b v
+            → HasWritten self.now.world x (records.Voted i b v) }
+        ensures learned { (x i : ℕ) (v : Action)
+            → Says self.now.world.sent x (Decided i v)
+            → HasWritten self.now.world x (records.Learned i v) }
+    {
+        self.is_kept();
+        decisions_are_one();
+        offers_are_one();
+        applied_lists_begin_the_order();
+        packets_say_so();
     }
 
     /// How many messages were sent.
@@ -209,5 +262,14 @@ impl<M: Machine, D: CutDevice> Cluster<M, D> {
             (part_at self.now.world.nodes node) }
     {
         self.world.stored(node)
+    }
+}
+
+impl<M: Machine, D: CutDevice + InfallibleDevice> Cluster<M, D> {
+    /// No device has failed, where such devices never do. What it promises is for contracts.
+    pub fn never_failed(&self)
+        ensures { All (λ count. count ≡ 0) self.now.failures }
+    {
+        self.world.never_failed();
     }
 }

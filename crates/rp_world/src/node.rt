@@ -1,18 +1,18 @@
 //! A node: a replica that runs, or a device that rests.
 
-ghost use Rattle.std.specs.Prelude.{◌≡◌, ◌⊎◌, ◌≤◌, ℕ, [], false, min, Ok, Some, None, IfOk, IfErr, IfSome, IfNone, IsSome, IsTrue};
+ghost use Rattle.std.specs.Prelude.{◌≡◌, ◌≢◌, ◌⊎◌, ◌≤◌, ℕ, [], false, min, Ok, Some, None, IfOk, IfErr, IfSome, IfNone, IsSome, IsTrue};
 ghost use Rattle.rp_base.specs.Config.{IsRightConfig};
 ghost use Rattle.rp_replica.specs.Inputs.{IsRightInput, given_by};
 ghost use Rattle.rp_base.specs.declared.fault.Fault.TheVariants as faults;
 ghost use Rattle.rp_model.specs.Effect.{NodeInput, stop_effect, restart_part};
 ghost use Rattle.rp_model.specs.Parts.{fresh_node};
 ghost use Rattle.rp_model.specs.Parts.{NodePart};
-ghost use Rattle.rp_world.specs.Nodes.{Member, member_of, RunsAs, RestsAs, StandsFor, GoesBy, IsCutBy, RefusedBy, IsLeftTorn, IsLengthOf, NotTaken, TellsNothing, TellsOpened, TellsSent, node_step};
+ghost use Rattle.rp_world.specs.Nodes.{Member, member_of, RunsAs, RestsAs, StandsFor, GoesBy, IsCutBy, IsCounted, IsResting, RefusedBy, IsLeftTorn, IsLengthOf, NotTaken, TellsNothing, TellsOpened, TellsSent, failures_in, node_step};
 
 use rp_base::{Config, Fault, NodeId};
 use rp_machine::Machine;
 use rp_replica::{Input, NotCut, Replica, Sent};
-use rp_store::{CutDevice, Device};
+use rp_store::{CutDevice, Device, InfallibleDevice};
 use std::alloc::Global;
 
 /// What a node is between its steps.
@@ -36,6 +36,8 @@ impl<M: Machine, D: CutDevice> Node<M, D> {
         requires empty { (D.disk device).contents ≡ [] }
         ensures ok { IfOk result (λ node. StandsFor D.disk
             (member_of me config (M.begin program.now)) node fresh_node) }
+        ensures failures { IfOk result (λ node. failures_in D.disk node
+            ≡ (D.disk device).failures) }
         ensures only { IfErr result (λ fault. (fault ≡ faults.OutOfMemory) ⊎ (fault
             ≡ faults.Device)) }
     {
@@ -97,6 +99,7 @@ impl<M: Machine, D: CutDevice> Node<M, D> {
             self result.0 stop_effect TellsNothing done) }
         ensures err { IfErr result.1 (λ fault. (member : Member M) → RefusedBy D.disk member
             self result.0 stop_effect fault) }
+        ensures failures { failures_in D.disk result.0 ≡ failures_in D.disk self }
     {
         match self {
             Node::Running(replica) => {
@@ -127,6 +130,9 @@ impl<M: Machine, D: CutDevice> Node<M, D> {
             self result.0 (λ part. Ok (restart_part part)) TellsOpened opened) }
         ensures err { IfErr result.1 (λ fault. IsLeftTorn D.disk
             (member_of me config (M.begin program.now)) self result.0) }
+        ensures rests { IfErr result.1 (λ fault. IsResting D.disk
+            (member_of me config (M.begin program.now)) self) }
+        ensures failures { IsCounted (failures_in D.disk self) (failures_in D.disk result.0) result.1 }
         ensures only { IfErr result.1 (λ fault. (fault ≡ faults.OutOfMemory) ⊎ (fault
             ≡ faults.Device)) }
     {
@@ -158,6 +164,8 @@ impl<M: Machine, D: CutDevice> Node<M, D> {
         ensures err { IfErr result (λ fault. (member : Member M) (given : NodeInput)
             → given_by input.now ≡ Ok given → NotTaken D.disk member self.old self.new
             (node_step M.next M.answers member given) fault) }
+        ensures failures { IsCounted (failures_in D.disk self.old) (failures_in D.disk self.new)
+            result }
     {
         match self {
             Node::Running(replica) => {
@@ -174,9 +182,10 @@ impl<M: Machine, D: CutDevice> Node<M, D> {
     /// memory enough, and else `OutOfMemory`.
     pub(crate) fn refusal(&self, alloc: Global, input: &Input) -> Fault
         requires right { IsRightInput input.now }
-        ensures { (member : Member M) (given : NodeInput) → given_by input.now ≡ Ok given
+        ensures why { (member : Member M) (given : NodeInput) → given_by input.now ≡ Ok given
             → NotTaken D.disk member self.now self.now
             (node_step M.next M.answers member given) result }
+        ensures working { result ≢ faults.Device }
     {
         match self {
             Node::Running(replica) => {
@@ -203,6 +212,7 @@ impl<M: Machine, D: CutDevice> Node<M, D> {
         ensures err { IfErr result.1 (λ fault. (member : Member M) (given : NodeInput)
             → given_by input.now ≡ Ok given → NotTaken D.disk member self result.0
             (node_step M.next M.answers member given) fault) }
+        ensures failures { IsCounted (failures_in D.disk self) (failures_in D.disk result.0) result.1 }
     {
         match self {
             Node::Running(replica) => {
@@ -216,6 +226,18 @@ impl<M: Machine, D: CutDevice> Node<M, D> {
                 }
             }
             Node::Stopped(device) => (Node::Stopped(device), Err(Fault::NotRunning)),
+        }
+    }
+}
+
+impl<M: Machine, D: CutDevice + InfallibleDevice> Node<M, D> {
+    /// The node's device has not failed, where such a device never does.
+    pub(crate) fn never_failed(&self)
+        ensures { failures_in D.disk self.now ≡ 0 }
+    {
+        match self {
+            Node::Running(replica) => replica.never_failed(),
+            Node::Stopped(_) => {}
         }
     }
 }
@@ -238,6 +260,7 @@ fn starts<M: Machine, D: CutDevice>(
         → RestsAs config.max_positions (D.disk device) part
         → (kept : ℕ) × StandsFor D.disk (member_of me config (M.begin program.now)) result.0
         (record part { torn = min kept part.torn })) }
+    ensures failures { IsCounted (D.disk device).failures (failures_in D.disk result.0) result.1 }
     ensures only { IfErr result.1 (λ fault. (fault ≡ faults.OutOfMemory) ⊎ (fault
         ≡ faults.Device)) }
 {

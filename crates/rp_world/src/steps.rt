@@ -1,6 +1,6 @@
 //! What an event comes to: steps of nodes, and stops within them.
 
-ghost use Rattle.std.specs.Prelude.{◌≡◌, ℕ, Ok, Some, IfOk, option_map};
+ghost use Rattle.std.specs.Prelude.{◌≡◌, ℕ, Ok, Some, IfOk, IsSome, option_map};
 ghost use Rattle.std.specs.List.{AllByRecursion};
 ghost use Rattle.rp_base.specs.Config.{IsRightConfig};
 ghost use Rattle.rp_codec.specs.Message.{Message, IsPacket};
@@ -10,10 +10,10 @@ ghost use Rattle.rp_model.specs.Effect.{Done, NodeInput, node_effect};
 ghost use Rattle.rp_model.specs.Parts.{NodePart};
 ghost use Rattle.rp_model.specs.Events as events;
 ghost use Rattle.rp_model.specs.Events.{IsEvent, event_of, step_of};
-ghost use Rattle.rp_model.specs.World.{part_at, node_takes, node_is_cut, delivers, delivery_is_cut, step_effect, cut_step};
+ghost use Rattle.rp_model.specs.World.{part_at, node_takes, node_is_cut, delivers, delivery_is_cut, step_effect, cut_step, stepping, step_writes, node_writes, delivery_writes, receiver_of};
 ghost use Rattle.rp_agreement.specs.Ranges.{IsRangedWorld};
 ghost use Rattle.rp_replica.specs.Inputs.{IsRightInput, given_by};
-ghost use Rattle.rp_world.specs.Going.{Answers, reply_told, told};
+ghost use Rattle.rp_world.specs.Going.{Answers, Counts, reply_told, told};
 ghost use Rattle.rp_world.specs.Steps.{IsStep, IsSameSetup, setting_of};
 
 use crate::effect::{nothing, of_step, taken};
@@ -90,6 +90,9 @@ impl<M: Machine, D: CutDevice> World<M, D> {
             Answers self.old.world (step_effect setting self.old.world (step_of step))
             (λ kept. cut_step setting self.old.world (step_of step) kept) self.new.world result }
         ensures setup { IsSameSetup self.old self.new }
+        ensures failures { let setting = setting_of M.next M.answers M.begin self.old in
+            Counts (IsSome (step_writes setting self.old.world (step_of step)))
+            (stepping self.old.world (step_of step)) self.old.failures self.new.failures result }
     {
         events_keep_ranges::<M>();
         match step {
@@ -110,6 +113,9 @@ impl<M: Machine, D: CutDevice> World<M, D> {
             Answers self.old.world (cut_step setting self.old.world (step_of step) kept)
             (λ less. cut_step setting self.old.world (step_of step) less) self.new.world result }
         ensures setup { IsSameSetup self.old self.new }
+        ensures failures { let setting = setting_of M.next M.answers M.begin self.old in
+            Counts (IsSome (step_writes setting self.old.world (step_of step)))
+            (stepping self.old.world (step_of step)) self.old.failures self.new.failures result }
     {
         match step {
             Step::Deliver(number) => self.cut_delivery(alloc, number, kept),
@@ -145,6 +151,10 @@ impl<M: Machine, D: CutDevice> World<M, D> {
             (part_at self.old.world.nodes node))
             self.new.world result }
         ensures setup { IsSameSetup self.old self.new }
+        ensures failures { (given : NodeInput) → given_by input.now ≡ Ok given
+            → let setting = setting_of M.next M.answers M.begin self.old in
+            Counts (IsSome (node_writes setting node given (part_at self.old.world.nodes node)))
+            (Some node) self.old.failures self.new.failures result }
     {
         let first = self.messages() + 1;
         let Some(node) = self.nodes.get_mut(usize::from(node.get()) - 1) else {
@@ -183,6 +193,10 @@ impl<M: Machine, D: CutDevice> World<M, D> {
             (part_at self.old.world.nodes node))
             self.new.world result }
         ensures setup { IsSameSetup self.old self.new }
+        ensures failures { (given : NodeInput) → given_by input.now ≡ Ok given
+            → let setting = setting_of M.next M.answers M.begin self.old in
+            Counts (IsSome (node_writes setting node given (part_at self.old.world.nodes node)))
+            (Some node) self.old.failures self.new.failures result }
     {
         let first = self.messages() + 1;
         let place = usize::from(node.get()) - 1;
@@ -219,6 +233,10 @@ impl<M: Machine, D: CutDevice> World<M, D> {
             (λ kept. delivery_is_cut setting self.old.world (part_at self.old.world.sent number) kept)
             self.new.world result }
         ensures setup { IsSameSetup self.old self.new }
+        ensures failures { let setting = setting_of M.next M.answers M.begin self.old in
+            let message = part_at self.old.world.sent number in
+            Counts (IsSome (delivery_writes setting self.old.world message)) (receiver_of message)
+            self.old.failures self.new.failures result }
     {
         let mut effect = nothing(0);
         match self.deliver(alloc, number, &mut effect) {
@@ -237,6 +255,10 @@ impl<M: Machine, D: CutDevice> World<M, D> {
             (λ kept. delivery_is_cut setting self.old.world (part_at self.old.world.sent number) kept)
             self.new.world (told result effect.new) }
         ensures setup { IsSameSetup self.old self.new }
+        ensures failures { let setting = setting_of M.next M.answers M.begin self.old in
+            let message = part_at self.old.world.sent number in
+            Counts (IsSome (delivery_writes setting self.old.world message)) (receiver_of message)
+            self.old.failures self.new.failures result }
     {
         let Some(receiver) = self.receiver_of(number) else {
             return Err(Fault::NoSuchMessage);
@@ -275,6 +297,10 @@ impl<M: Machine, D: CutDevice> World<M, D> {
             (λ kept. delivery_is_cut setting self.old.world (part_at self.old.world.sent number) kept)
             self.new.world (told result effect.new) }
         ensures setup { IsSameSetup self.old self.new }
+        ensures failures { let setting = setting_of M.next M.answers M.begin self.old in
+            let message = part_at self.old.world.sent number in
+            Counts (IsSome (delivery_writes setting self.old.world message)) (receiver_of message)
+            self.old.failures self.new.failures result }
     {
         events_keep_ranges::<M>();
         texts_are_packets();
@@ -314,6 +340,7 @@ impl<M: Machine, D: CutDevice> World<M, D> {
             (λ kept. delivery_is_cut setting self.old.world (part_at self.old.world.sent number) kept)
             self.new.world result }
         ensures setup { IsSameSetup self.old self.new }
+        ensures failures { self.new.failures ≡ self.old.failures }
     {
         let first = self.messages() + 1;
         let text = self.messages.text(number).unwrap();
@@ -340,6 +367,10 @@ impl<M: Machine, D: CutDevice> World<M, D> {
             (λ less. delivery_is_cut setting self.old.world (part_at self.old.world.sent number) less)
             self.new.world result }
         ensures setup { IsSameSetup self.old self.new }
+        ensures failures { let setting = setting_of M.next M.answers M.begin self.old in
+            let message = part_at self.old.world.sent number in
+            Counts (IsSome (delivery_writes setting self.old.world message)) (receiver_of message)
+            self.old.failures self.new.failures result }
     {
         let Some(receiver) = self.receiver_of(number) else {
             return Err(Fault::NoSuchMessage);
@@ -367,6 +398,10 @@ impl<M: Machine, D: CutDevice> World<M, D> {
             (λ less. delivery_is_cut setting self.old.world (part_at self.old.world.sent number) less)
             self.new.world result }
         ensures setup { IsSameSetup self.old self.new }
+        ensures failures { let setting = setting_of M.next M.answers M.begin self.old in
+            let message = part_at self.old.world.sent number in
+            Counts (IsSome (delivery_writes setting self.old.world message)) (receiver_of message)
+            self.old.failures self.new.failures result }
     {
         texts_are_packets();
         let first = self.messages() + 1;

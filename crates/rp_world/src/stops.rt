@@ -1,8 +1,9 @@
 //! Stops and restarts of nodes.
 
-ghost use Rattle.std.specs.Prelude.{◌≡◌};
+ghost use Rattle.std.specs.Prelude.{◌≡◌, Some};
 ghost use Rattle.rp_model.specs.World.{part_at, stops, restarts};
 ghost use Rattle.rp_world.specs.Going.{Answers, AnswersRestart, no_cut};
+ghost use Rattle.rp_world.specs.Failures.{AreCounted};
 ghost use Rattle.rp_world.specs.Steps.{IsSameSetup};
 
 use crate::effect::{nothing, opened};
@@ -21,6 +22,7 @@ impl<M: Machine, D: CutDevice> World<M, D> {
             (stops self.old.world node (part_at self.old.world.nodes node)) no_cut
             self.new.world result }
         ensures setup { IsSameSetup self.old self.new }
+        ensures failures { self.new.failures ≡ self.old.failures }
     {
         let first = self.messages() + 1;
         let place = usize::from(node.get()) - 1;
@@ -43,6 +45,7 @@ impl<M: Machine, D: CutDevice> World<M, D> {
             (restarts self.old.world node (part_at self.old.world.nodes node))
             self.new.world result }
         ensures setup { IsSameSetup self.old self.new }
+        ensures failures { AreCounted (Some node) self.old.failures self.new.failures result }
     {
         let first = self.messages() + 1;
         let place = usize::from(node.get()) - 1;

@@ -1,10 +1,11 @@
 //! A world as it lies in memory: the nodes, the tasks, and the messages.
 
-ghost use Rattle.std.specs.Prelude.{◌≡◌, ◌<◌, ◌≤◌, ◌⊎◌, ◌-◌, ◌^◌, min, length, All, [], IfOk, IfErr, IfSome, insert, option_copied, option_map, vec_len, vec_capacity};
+ghost use Rattle.std.specs.Prelude.{◌≡◌, ℕ, slice_get, ◌<◌, ◌≤◌, ◌⊎◌, ◌-◌, ◌^◌, min, length, map, All, [], IfOk, IfErr, IfSome, insert, option_copied, option_map, vec_len, vec_capacity};
 ghost use Rattle.rp_base.specs.Config.{IsRightConfig};
 ghost use Rattle.rp_base.specs.declared.fault.Fault.TheVariants as faults;
 ghost use Rattle.rp_codec.specs.Text.{text_of};
 ghost use Rattle.rp_model.specs.World.{opening_world, part_at};
+ghost use Rattle.rp_world.specs.Nodes.{failures_in};
 ghost use Rattle.rp_world.specs.Shape.{AreFresh, AreFreshTasks};
 ghost use Rattle.rp_world.specs.Steps.{IsStored, IsToldOf, IsToldUnlessMemory, IsReplicaOf};
 ghost use Rattle.rp_base.specs.Records.{applied_of};
@@ -16,7 +17,7 @@ use crate::task::Task;
 use rp_base::{Answer, Config, Fault, NodeId, TaskId};
 use rp_machine::Machine;
 use rp_replica::Replica;
-use rp_store::CutDevice;
+use rp_store::{CutDevice, InfallibleDevice};
 use std::alloc::{AllocError, Global};
 use std::marker::Model;
 
@@ -33,6 +34,8 @@ pub(crate) struct World<M: Machine, D: CutDevice> {
 impl<M: Machine, D: CutDevice> Model for World<M, D> {
     ghost use Rattle.rp_world.specs.Steps.{Setup};
     ghost use Rattle.rp_world.specs.Shape.{world_of, IsWorld};
+    ghost use Rattle.rp_world.specs.Nodes.{failures_in};
+    ghost use Rattle.std.specs.Prelude.{map};
 
     ghost Value = { Setup M.Program };
 
@@ -40,6 +43,7 @@ impl<M: Machine, D: CutDevice> Model for World<M, D> {
       config = w.config;
       program = w.program;
       world = world_of D.disk w.config.max_positions w.nodes.items w.tasks.items w.messages;
+      failures = map (failures_in D.disk) w.nodes.items;
     } };
 
     ghost invariant = { λ w. IsWorld D.disk w.config (M.begin w.program) w.nodes.items w.tasks.items };
@@ -56,6 +60,8 @@ fn opened<M: Machine, D: CutDevice>(
     requires count { length devices.items ≡ config.nodes }
     requires empty { All (λ device. (D.disk device).contents ≡ []) devices.items }
     ensures nodes { IfOk result (λ nodes. AreFresh D.disk config (M.begin program.now) nodes.items) }
+    ensures failures { IfOk result (λ nodes. map (failures_in D.disk) nodes.items
+        ≡ map (λ device. (D.disk device).failures) devices.items) }
     ensures only { IfErr result (λ fault. (fault ≡ faults.OutOfMemory) ⊎ (fault
         ≡ faults.Device)) }
 {
@@ -103,8 +109,12 @@ impl<M: Machine, D: CutDevice> World<M, D> {
         requires config { IsRightConfig config }
         requires count { length devices.items ≡ config.nodes }
         requires empty { All (λ device. (D.disk device).contents ≡ []) devices.items }
-        ensures opened { IfOk result (λ w. w
-            ≡ record { config = config; program = program; world = opening_world config.nodes }) }
+        ensures opened { IfOk result (λ w. w ≡ record {
+          config = config;
+          program = program;
+          world = opening_world config.nodes;
+          failures = map (λ device. (D.disk device).failures) devices.items;
+        }) }
         ensures only { IfErr result (λ fault. (fault ≡ faults.OutOfMemory) ⊎ (fault
             ≡ faults.Device)) }
     {
@@ -182,5 +192,23 @@ impl<M: Machine, D: CutDevice> World<M, D> {
             Some(node) => Ok(node.stored()),
             None => Err(Fault::BadConfig),
         }
+    }
+}
+
+/// None of these nodes' devices has failed, where such devices never do.
+fn none_failed<M: Machine, D: CutDevice + InfallibleDevice>(nodes: &[Node<M, D>])
+    ensures { (k : ℕ) → IfSome (slice_get nodes.now k) (λ node. failures_in D.disk node ≡ 0) }
+{
+    for node in nodes {
+        node.never_failed();
+    }
+}
+
+impl<M: Machine, D: CutDevice + InfallibleDevice> World<M, D> {
+    /// No device has failed, where such devices never do.
+    pub(crate) fn never_failed(&self)
+        ensures { All (λ count. count ≡ 0) self.now.failures }
+    {
+        none_failed(&self.nodes);
     }
 }

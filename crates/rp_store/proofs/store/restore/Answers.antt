@@ -1,4 +1,4 @@
-use Rattle.std.proofs.Common.{◌≡◌, ◌-◌, List, ℕ, length, Err, refl, ap, subst, ◌∙◌, arith}
+use Rattle.std.proofs.Common.{◌≡◌, ◌-◌, List, ℕ, length, Err, ap, subst, ◌∙◌, arith}
 use Rattle.rp_store.specs.Records.{records_text, AreRecordsOf}
 use Rattle.rp_store.proofs.Calls.{whole_length, settle_failed, front_keeps, read_refused, trim_refused, opening_failed, opening_cause, at_fault}
 use Rattle.rp_store.proofs.store.restore.Goals as goal

@@ -16,4 +16,4 @@ returns-clause-ordered g c = λ config program events world history.
     let s = setting_for m.next m.answers m.begin config program in
     let tells = c.replies_tell_the_order.ensures in
     ordered s c.the_order_exists.ensures c.applied_lists_begin_the_order.ensures
-    (c.replies_answer_calls_that_count.ensures config program) (c.calls_count_in_turn.ensures config program) (c.a_call_has_one_place.ensures (m.begin program)) world (tells.histories s events world history)
+    (c.replies_answer_calls_that_count.ensures config program) (c.calls_count_in_turn.ensures config program) (c.only_made_calls_count.ensures config program) (c.a_call_has_one_place.ensures (m.begin program)) world (tells.histories s events world history)

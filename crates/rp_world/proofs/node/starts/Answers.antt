@@ -1,6 +1,7 @@
 use Rattle.rp_model.specs.Effect.{restart_part}
 use Rattle.rp_world.specs.Nodes.{member_of}
 use Rattle.rp_world.proofs.Standing.{stands, starts_again, refused}
+use Rattle.rp_world.proofs.Failing.{opening_counted}
 use Rattle.rp_world.proofs.node.starts.Goals as goal
 
 pub returns-in-Ok-clause-ok : goal.returns-in-Ok-clause-ok
@@ -15,3 +16,11 @@ pub returns-in-Err-clause-err : goal.returns-in-Err-clause-err
 returns-in-Err-clause-err g c = λ part rests.
     let disk = g.D.Device.disk in
     refused c.args.config.max_positions (disk c.args.device) (disk c.in-Err.device) part rests c.in-Err.fault c.in-Err.ensures.err
+
+pub returns-in-Ok-clause-failures : goal.returns-in-Ok-clause-failures
+returns-in-Ok-clause-failures g c = c.in-Ok.ensures.ok.opened.failures
+
+pub returns-in-Err-clause-failures : goal.returns-in-Err-clause-failures
+returns-in-Err-clause-failures g c =
+    let disk = g.D.Device.disk in
+    opening_counted (disk c.args.device) (disk c.in-Err.device) c.in-Err.fault c.in-Err.ensures.err

@@ -7,6 +7,9 @@ use Rattle.rp_codec.specs.Message.{Message, IsPacket}
 use Rattle.rp_codec.specs.declared.packet.Body.TheVariants.{Report}
 use Rattle.rp_codec.specs.declared.packet.Party.TheVariants.{Audit}
 use Rattle.rp_boxes.specs.Audits.{report}
+use Rattle.rp_boxes.specs.Meeting.{AreOfOneOrder}
+use Rattle.rp_boxes.proofs.AuditTells.{of_one_order}
+use Rattle.rp_boxes.proofs.Auditing.{lists}
 use Rattle.rp_boxes.proofs.audit.Audit.add.Goals as goal
 
 -- the packet that was read, or another where none was
@@ -33,3 +36,7 @@ join-requires g c =
     ∙ (sym c.in-Report.is ∙ (c.body.ensures.value ∙ ap (λ (m : Message). m.body) same)) in
     let told : report c.in-Node.node c.in-Report.first c.in-Report.applied c.as_slice.result.now ≡ packet = λ i. record { from = from i; to = Audit; body = body i } in
     record { got = (c.in-Report.applied, subst (λ (m : Message). Has m c.args.self.now.seat.part.got) (sym told) got.4, subst IsPacket (sym told) right) }
+
+pub returns-in_err-packet-clause-one : goal.returns-in_err-packet-clause-one
+returns-in_err-packet-clause-one g c =
+    subst (λ audit. AreOfOneOrder audit.known) c.self.view_is (of_one_order c.self.inside.seat.part (lists c.self.inside.known) c.self.invariant.0 c.self.invariant.1)

@@ -7,6 +7,7 @@ use Rattle.rp_codec.specs.declared.packet.Party.{Party}
 use Rattle.rp_codec.specs.declared.packet.Party.TheVariants.{Audit}
 use Rattle.rp_boxes.specs.Audits.{AreTold, IsGotReport}
 use Rattle.rp_boxes.specs.Seats.{Chair, IsFetched}
+use Rattle.rp_boxes.proofs.AuditTells.{order_still}
 use Rattle.rp_boxes.proofs.Auditing.{lists, told_still}
 use Rattle.rp_boxes.proofs.Reporting.{all_got, got_still}
 use Rattle.rp_boxes.proofs.audit.Audit.fetch.Goals as goal
@@ -17,7 +18,11 @@ still {P} from known old new None are some none = subst (λ (chair : Chair P). A
 still {P} from known old new (Some text) are some none = subst (λ (chair : Chair P). AreTold chair.part known) (sym some.after) (told_still old.part known some.packet are)
 
 pub invariant_of-self : goal.invariant_of-self
-invariant_of-self g c = still c.args.from (lists c.self.inside.known) c.self.inside.seat c.fetch.new.self c.fetch.result c.self.invariant c.fetch.ensures.some c.fetch.ensures.none
+invariant_of-self g c =
+    let m = g.M.Machine in (
+      still c.args.from (lists c.self.inside.known) c.self.inside.seat c.fetch.new.self c.fetch.result c.self.invariant.0 c.fetch.ensures.some c.fetch.ensures.none,
+      order_still m.next m.answers m.begin c.the_order_exists.ensures c.reports_tell_the_order.ensures c.args.from c.self.inside.seat c.fetch.new.self c.fetch.result c.fetch.ensures.sent c.fetch.ensures.none c.self.invariant.1,
+    )
 
 pub returns-clause-report : goal.returns-clause-report
 returns-clause-report g c = all_got c.args.from c.self.inside.seat c.fetch.new.self c.fetch.result c.fetch.ensures.some

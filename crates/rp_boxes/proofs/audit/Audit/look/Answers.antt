@@ -15,5 +15,5 @@ returns-clause-one g c =
     let seen = c.look.ensures.world in
     record {
       order = order_of s.config.nodes (all_sent seen.0 16);
-      begins = known_begins s ((0, seat.part) ∷ []) seen.0 seen.1 c.the_order_exists.ensures c.reports_tell_the_order.ensures seat.part (inl refl) (lists c.self.inside.known) c.self.invariant;
+      begins = known_begins s ((0, seat.part) ∷ []) seen.0 seen.1 c.the_order_exists.ensures c.reports_tell_the_order.ensures seat.part (inl refl) (lists c.self.inside.known) c.self.invariant.0;
     }

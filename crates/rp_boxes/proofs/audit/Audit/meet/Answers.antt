@@ -20,7 +20,7 @@ returns-clause-met g c =
     let seen = c.meet-seat.ensures.world in
     let met : IsMet m.next m.answers m.begin known task = record {
       order = order_of s.config.nodes (all_sent seen.0 16);
-      begins = known_begins s view seen.0 seen.1 c.the_order_exists.ensures c.reports_tell_the_order.ensures seat.part (inr (inl refl)) known c.self.invariant;
+      begins = known_begins s view seen.0 seen.1 c.the_order_exists.ensures c.reports_tell_the_order.ensures seat.part (inr (inl refl)) known c.self.invariant.0;
       replies = replies_answer s view seen.0 seen.1 (c.replies_answer_calls_that_count.ensures task.config task.program) task.number task.part (inl refl);
       calls = calls_told s view seen.0 seen.1 task.number task.part (inl refl) (c.calls_count_in_turn.ensures task.config task.program);
     } in

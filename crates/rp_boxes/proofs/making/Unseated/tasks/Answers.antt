@@ -1,5 +1,5 @@
 -- One more task has a seat.
-use Rattle.std.proofs.Common.{◌≡◌, ◌+◌, ℕ, suc, length, slice_get, [], ◌∷◌, sym, ap, subst, arith}
+use Rattle.std.proofs.Common.{◌≡◌, ◌+◌, ℕ, suc, length, slice_get, slice_index, [], ◌∷◌, refl, sym, ap, subst, arith}
 use Rattle.std.specs.Prelude.{IfSome}
 use Rattle.std.proofs.lemmas.List.{length-append}
 use Rattle.rp_world.proofs.Fresh.{one_more}
@@ -23,7 +23,7 @@ loop-number-preserved g c =
     record {
       same = after_one old self seats same c.task.new.self c.push.new.self.items seat told.rest grown;
       count = omega (arith, ap length grown, length-append seats (seat ∷ []), c.loop-number.invariant.count);
-      seats = subst (λ l. (place : ℕ) → IfSome (slice_get l place) (λ s. s ≡ first_seat old.table old.config old.program (suc place) (8 + place))) (sym grown)
-          (one_more (λ place s. s ≡ first_seat old.table old.config old.program (suc place) (8 + place)) seats seat c.loop-number.invariant.seats
-          (seat_is old self seats same seat task (7 + task) (suc (length seats)) (8 + length seats) told.ok (omega (arith, number, count)) (omega (arith, number, count))));
+      seats = subst (λ l. (place : ℕ) → IfSome (slice_get l place) (λ s. s ≡ first_seat old.table old.config old.program (suc place) (8 + place) (slice_index [] place))) (sym grown)
+          (one_more (λ place s. s ≡ first_seat old.table old.config old.program (suc place) (8 + place) (slice_index [] place)) seats seat c.loop-number.invariant.seats
+          (seat_is old self seats same seat task (7 + task) 0 (suc (length seats)) (8 + length seats) 0 told.ok (omega (arith, number, count)) (omega (arith, number, count)) refl));
     }

@@ -1,11 +1,17 @@
 -- The packet is one that the seat sent, so its text names its receiver.
-use Rattle.std.proofs.Common.{◌≡◌, ℕ, sym, subst, ◌∙◌}
+use Rattle.std.proofs.Common.{◌≡◌, ◌≢◌, ℕ, refl, sym, subst, ◌∙◌}
+use Rattle.std.specs.Prelude.{IfErr, OnOk}
+use Rattle.std.specs.Arc.{arc_value}
+use Rattle.rp_agreement.specs.Answered.{setting_for}
+use Rattle.rp_boxes.specs.Moments.{WasFull, WasWord}
+use Rattle.rp_boxes.specs.Plays.{Sight, alone}
+use Rattle.rp_codec.specs.declared.packet.Party.TheVariants.{Node}
 use Rattle.rp_base.specs.Sets.{Has}
 use Rattle.rp_codec.specs.Message.{Message}
-use Rattle.rp_boxes.specs.Parts.{part_in}
+use Rattle.rp_boxes.specs.Parts.{box_of, part_in}
 use Rattle.rp_boxes.specs.Rule.{IsCarried}
 use Rattle.rp_boxes.specs.Seats.{Chair, IsSentText}
-use Rattle.rp_boxes.proofs.SeatBoxes.{carries}
+use Rattle.rp_boxes.proofs.SeatBoxes.{carries, put_chair, used_chair}
 use Rattle.rp_boxes.proofs.node_seat.NodeSeat.put.Goals as goal
 
 pub fill-requires-clause-packet : goal.fill-requires-clause-packet
@@ -16,3 +22,39 @@ fill-requires-clause-packet g c =
     let node : c.from-node.result ≡ c.self.inside.node = c.from-node.ensures ∙ c.get.ensures.value in
     subst (λ (k : ℕ). (m : Message) × Has m part.sent × IsCarried k c.receiver-to.result text m) (sym node)
     (carries c.self.inside.node c.receiver-to.result part text c.self.invariant.0.own sent (λ m right is. c.receiver-to.ensures.named m right (c.as_slice.ensures.value ∙ is)))
+
+pub returns-clause-put : goal.returns-clause-put
+returns-clause-put g c =
+    let m = g.M.Machine in
+    let key = (arc_value c.self.inside.board).shared.key in
+    let number = c.self.inside.node in
+    let place = c.self.inside.place in
+    let new = c.fill.new.place in
+    let text = c.args.packet.items in
+    let sent = subst (λ (chair : Chair g.row.M-Program.Denot). IsSentText chair.part text) (sym c.self.view_is) c.requires.sent in
+    let right = (c.self.invariant.0.own.sent sent.0 sent.1).0 in
+    let to = c.receiver-to.ensures.named sent.0 right (c.as_slice.ensures.value ∙ sent.2) in
+    let from : c.from-node.result ≡ number = c.from-node.ensures ∙ c.get.ensures.value in
+    let sees : new.me ≡ alone (number) (part_in new.me.0) = subst (λ (z : Sight). z ≡ alone (number) (part_in z.0)) (sym c.fill.ensures.place) c.self.invariant.0.place in
+    let here = subst (λ b. OnOk c.fill.result (WasFull (setting_for m.next m.answers m.begin b.shared.key.config b.shared.key.program.value) new.me.0 (box_of c.from-node.result c.receiver-to.result) text)) c.deref.ensures c.fill.ensures.put in
+    let is = subst (λ (j : ℕ). OnOk c.fill.result (WasFull (setting_for m.next m.answers m.begin key.config key.program.value) new.me.0 (box_of j c.receiver-to.result) text)) from here in
+    put_chair key.config key.program.value number c.self.inside.replica.disk.failures (number) place.table_id new.table_id place.me new.me c.fill.ensures.table m.next m.answers m.begin sees
+    (Node number) refl text sent.0 sent.2 c.receiver-to.result to c.fill.result is
+
+pub returns-clause-used : goal.returns-clause-used
+returns-clause-used g c =
+    let m = g.M.Machine in
+    let key = (arc_value c.self.inside.board).shared.key in
+    let number = c.self.inside.node in
+    let place = c.self.inside.place in
+    let new = c.fill.new.place in
+    let text = c.args.packet.items in
+    let sent = subst (λ (chair : Chair g.row.M-Program.Denot). IsSentText chair.part text) (sym c.self.view_is) c.requires.sent in
+    let right = (c.self.invariant.0.own.sent sent.0 sent.1).0 in
+    let to = c.receiver-to.ensures.named sent.0 right (c.as_slice.ensures.value ∙ sent.2) in
+    let from : c.from-node.result ≡ number = c.from-node.ensures ∙ c.get.ensures.value in
+    let sees : new.me ≡ alone (number) (part_in new.me.0) = subst (λ (z : Sight). z ≡ alone (number) (part_in z.0)) (sym c.fill.ensures.place) c.self.invariant.0.place in
+    let here = subst (λ b. IfErr c.fill.result (λ back. WasWord (setting_for m.next m.answers m.begin b.shared.key.config b.shared.key.program.value) new.me.0 (box_of c.from-node.result c.receiver-to.result) (λ word. word ≢ 0))) c.deref.ensures c.fill.ensures.used in
+    let is = subst (λ (j : ℕ). IfErr c.fill.result (λ back. WasWord (setting_for m.next m.answers m.begin key.config key.program.value) new.me.0 (box_of j c.receiver-to.result) (λ word. word ≢ 0))) from here in
+    used_chair key.config key.program.value number c.self.inside.replica.disk.failures (number) place.table_id new.table_id place.me new.me c.fill.ensures.table m.next m.answers m.begin sees
+    (Node number) refl text sent.0 sent.2 c.receiver-to.result to c.fill.result is

@@ -5,9 +5,9 @@ use Rattle.rp_agreement.specs.Answered.{setting_for}
 use Rattle.rp_boxes.specs.Counting.{HasTurned, HasStopped}
 use Rattle.rp_boxes.specs.Parts.{Part, part_in}
 use Rattle.rp_boxes.specs.Plays.{Turned}
-use Rattle.rp_boxes.specs.Seats.{Chair, IsGot, IsCutTurn, IsNoTurn}
+use Rattle.rp_boxes.specs.Seats.{Chair, IsGot, IsTurn, IsCutTurn, IsNoTurn}
 use Rattle.rp_boxes.specs.Steps.{IsEvent}
-use Rattle.rp_boxes.proofs.SeatTurns.{input_given, was_stopped, has_turned, has_stopped, turned_seat, stopped_seat, stopped_chair, unturned_chair}
+use Rattle.rp_boxes.proofs.SeatTurns.{input_given, was_stopped, has_turned, has_not_failed, has_stopped, turned_seat, turned_chair, stopped_seat, stopped_chair, unturned_chair}
 use Rattle.rp_boxes.proofs.node_seat.NodeSeat.turn.Goals as goal
 
 pub returns-then-has_failed-clause-err : goal.returns-then-has_failed-clause-err
@@ -70,7 +70,7 @@ note_stop-requires-clause-event g c =
     subst (λ b. (after : Part) × IsEvent (setting_for m.next m.answers m.begin b.shared.key.config b.shared.key.program.value) number p after
     × HasStopped (setting_for m.next m.answers m.begin b.shared.key.config b.shared.key.program.value) number p input c.turn.new.self after)
     (sym c.deref-in-Err.ensures)
-    (let h = has_stopped m.next m.answers m.begin key.config key.program.value number p c.self.inside.replica sits input given working c.turn.new.self c.in-Err.fault c.in-Err.ensures.err failed in (h.1, h.2, h.3))
+    (let h = has_stopped m.next m.answers m.begin key.config key.program.value number p c.self.inside.replica sits input given working c.turn.new.self c.in-Err.fault c.in-Err.ensures.err failed in (h.2, h.3, h.4))
 
 pub invariant_of-self-in-Err : goal.invariant_of-self-in-Err
 invariant_of-self-in-Err g c =
@@ -99,7 +99,7 @@ returns-then-not-has_failed-clause-err g c =
     let given = input_given c.texts_are_packets.ensures number p input c.self.invariant.0.own c.requires.right c.keeps_ranges.ensures got in
     let working = sym c.has_failed.ensures ∙ c.if-has_failed.false in
     let works = sym c.has_failed-in-Err.ensures ∙ c.if-not-has_failed.true in
-    let new : Chair g.row.M-Program.Denot = record { table = c.self.inside.place.table_id; config = key.config; program = key.program.value; number = number; part = p } in
+    let new : Chair g.row.M-Program.Denot = record { table = c.self.inside.place.table_id; config = key.config; program = key.program.value; number = number; failures = c.turn.new.self.disk.failures; part = p } in
     inr (subst (λ (chair : Chair g.row.M-Program.Denot). IsNoTurn m.next m.answers m.begin chair input new c.in-Err.fault) c.self.view_is
     (unturned_chair m.next m.answers m.begin key.config key.program.value number p c.self.inside.replica sits input given working c.turn.new.self c.in-Err.fault c.in-Err.ensures.err works c.self.inside.place.table_id))
 
@@ -115,11 +115,31 @@ returns-else-not-has_failed-clause-err g c =
     let given = input_given c.texts_are_packets.ensures number p input c.self.invariant.0.own c.requires.right c.keeps_ranges.ensures got in
     let working = sym c.has_failed.ensures ∙ c.if-has_failed.false in
     let failed = sym c.has_failed-in-Err.ensures ∙ c.if-not-has_failed.false in
-    let device = (has_stopped m.next m.answers m.begin key.config key.program.value number p c.self.inside.replica sits input given working c.turn.new.self c.in-Err.fault c.in-Err.ensures.err failed).0 in
+    let stopped = has_stopped m.next m.answers m.begin key.config key.program.value number p c.self.inside.replica sits input given working c.turn.new.self c.in-Err.fault c.in-Err.ensures.err failed in
     let told = subst (λ b. Turned (HasStopped (setting_for m.next m.answers m.begin b.shared.key.config b.shared.key.program.value) number p input c.turn.new.self) number c.note_stop.new.place.me)
     c.deref-in-Err.ensures c.note_stop.ensures.turned in
     let place = c.note_stop.new.place in
-    let new : Chair g.row.M-Program.Denot = record { table = place.table_id; config = key.config; program = key.program.value; number = number; part = part_in place.me.0 } in
+    let new : Chair g.row.M-Program.Denot = record { table = place.table_id; config = key.config; program = key.program.value; number = number; failures = c.turn.new.self.disk.failures; part = part_in place.me.0 } in
     inl (subst (λ (chair : Chair g.row.M-Program.Denot). IsCutTurn m.next m.answers m.begin chair input new c.in-Err.fault) c.self.view_is
     (stopped_chair m.next m.answers m.begin key.config key.program.value number p c.self.inside.replica sits input given (arc_value c.self.inside.board).shared.table_id c.self.inside.place.table_id c.note_stop.new.place.table_id c.self.inside.place.me c.note_stop.new.place.me
-    c.self.invariant.0 refl c.note_stop.ensures.table c.turn.new.self told c.in-Err.fault device))
+    c.self.invariant.0 refl c.note_stop.ensures.table c.turn.new.self told c.in-Err.fault stopped.0 stopped.1))
+
+pub returns-in-Ok-clause-ok : goal.returns-in-Ok-clause-ok
+returns-in-Ok-clause-ok g c =
+    let m = g.M.Machine in
+    let key = (arc_value c.self.inside.board).shared.key in
+    let number = c.self.inside.node in
+    let p = part_in c.self.inside.place.me.0 in
+    let input = c.args.input.now in
+    let sits = c.self.invariant.1 in
+    let got = subst (λ (chair : Chair g.row.M-Program.Denot). IsGot chair.part input) (sym c.self.view_is) c.requires.got in
+    let given = input_given c.texts_are_packets.ensures number p input c.self.invariant.0.own c.requires.right c.keeps_ranges.ensures got in
+    let working = sym c.has_failed.ensures ∙ c.if-has_failed.false in
+    let stay = has_not_failed m.next m.answers m.begin key.config key.program.value number p c.self.inside.replica sits input given working c.turn.new.self c.in-Ok.sent c.in-Ok.ensures.ok in
+    let told = subst (λ b. Turned (HasTurned (setting_for m.next m.answers m.begin b.shared.key.config b.shared.key.program.value) number p input c.turn.new.self c.in-Ok.sent) number c.note_turn.new.place.me)
+    c.deref.ensures c.note_turn.ensures.turned in
+    let place = c.note_turn.new.place in
+    let new : Chair g.row.M-Program.Denot = record { table = place.table_id; config = key.config; program = key.program.value; number = number; failures = c.turn.new.self.disk.failures; part = part_in place.me.0 } in
+    subst (λ (chair : Chair g.row.M-Program.Denot). IsTurn m.next m.answers m.begin chair input new c.in-Ok.sent) c.self.view_is
+    (turned_chair m.next m.answers m.begin key.config key.program.value number p c.self.inside.replica sits input given (arc_value c.self.inside.board).shared.table_id c.self.inside.place.table_id place.table_id c.self.inside.place.me place.me
+    c.self.invariant.0 refl c.note_turn.ensures.table c.turn.new.self c.in-Ok.sent told stay)

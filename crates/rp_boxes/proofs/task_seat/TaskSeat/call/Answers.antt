@@ -34,7 +34,7 @@ returns-in_err-next-clause-err g c =
     let input = Submit c.args.node c.args.object c.args.operation c.args.arg in
     let may = subst (λ (at : Config). may_call at c.args.node task.part (next_call task.task task.part c.args.object c.args.operation c.args.arg) task.part.outstanding ≡ c.next.result) sits.shared
     (ap (λ (z : ℤ). may_call inside.config c.args.node task.part (next_call task.task task.part c.args.object c.args.operation z) task.part.outstanding) (sym arg) ∙ sym c.next.ensures) in
-    let chair : Chair g.row.M-Program.Denot = record { table = inside.place.table_id; config = config; program = shared.key.program.value; number = number; part = p } in
+    let chair : Chair g.row.M-Program.Denot = record { table = inside.place.table_id; config = config; program = shared.key.program.value; number = number; failures = 0; part = p } in
     let fault = c.in_err-next.field-0.0 in
     let refused = may_effect config number task sits.named c.args.node c.args.object c.args.operation c.args.arg _ (may ∙ c.in_err-next.was) in
     subst (λ (at : Chair g.row.M-Program.Denot). IfErr c.from_residual.result (λ e. IsNoTaskTurn at input at e)) c.self.view_is
@@ -82,7 +82,7 @@ returns-in_err-sent-clause-err g c =
     let done = asking_done number c.args.node (waiting_for task.part call) (Some call) in
     let is = may ∙ c.in_ok-next.was in
     let comes = call_comes config number task sits.named c.args.node c.args.object c.args.operation c.args.arg call is in
-    let chair : Chair g.row.M-Program.Denot = record { table = inside.place.table_id; config = config; program = shared.key.program.value; number = number; part = p } in
+    let chair : Chair g.row.M-Program.Denot = record { table = inside.place.table_id; config = config; program = shared.key.program.value; number = number; failures = 0; part = p } in
     subst (λ (at : Chair g.row.M-Program.Denot). IfErr c.from_residual-in_err-sent.result (λ e. IsNoTaskTurn at input at e)) c.self.view_is
     (at_fault (IsNoTaskTurn chair input chair) OutOfMemory c.from_residual-in_err-sent.result c.from_residual-in_err-sent.ensures.1 (wanting_chair chair task sits.place.is input OutOfMemory done refl comes))
 
@@ -193,7 +193,7 @@ returns-clause-ok g c =
     ∙ (ap (λ (z : ℤ). waiting_for task.part (next_call task.task task.part c.args.object c.args.operation z)) arg
     ∙ ap (waiting_for task.part) (sym (call_is_next config number task sits.named c.args.node c.args.object c.args.operation c.args.arg call is))) in
     let place = c.note_asking.new.place in
-    let after : Chair g.row.M-Program.Denot = record { table = place.table_id; config = config; program = shared.key.program.value; number = number; part = part_in place.me.0 } in
+    let after : Chair g.row.M-Program.Denot = record { table = place.table_id; config = config; program = shared.key.program.value; number = number; failures = 0; part = part_in place.me.0 } in
     subst (λ (at : Chair g.row.M-Program.Denot). IsTaskTurn at input after c.in_ok-sent.sent) c.self.view_is
     (asked_chair config inside.config shared.key.program.value number shared.table_id inside.place.table_id place.table_id inside.place.me place.me task new
     c.self.invariant.0 sits c.note_asking.ensures.table (asked_of number c.args.node (Some call)) c.note_asking.ensures.turned done now refl input c.in_ok-sent.sent comes c.in_ok-sent.ensures)

@@ -80,7 +80,7 @@ returns-clause-ok g c =
     let quiet = sym (told_quiet number task.part told) in
     let place = c.look.new.place in
     let turned = subst (Turned (BecomesPart p new.part []) (7 + number)) (sym c.look.ensures.place) c.note_telling.ensures.turned in
-    let after : Chair g.row.M-Program.Denot = record { table = place.table_id; config = config; program = shared.key.program.value; number = number; part = part_in place.me.0 } in
+    let after : Chair g.row.M-Program.Denot = record { table = place.table_id; config = config; program = shared.key.program.value; number = number; failures = 0; part = part_in place.me.0 } in
     subst (λ (at : Chair g.row.M-Program.Denot). IsReplyTurn at bytes after c.in_ok-taken.taken) c.self.view_is
     (told_chair config inside.config shared.key.program.value number shared.table_id inside.place.table_id place.table_id inside.place.me place.me task new
     c.self.invariant.0 sits (c.look.ensures.table ∙ c.note_telling.ensures.table) [] turned done now quiet got.0 bytes c.in_ok-taken.taken got.1 got.2 comes

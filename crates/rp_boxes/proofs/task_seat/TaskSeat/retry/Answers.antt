@@ -26,7 +26,7 @@ returns-then-get-self-clause-err g c =
     let config = shared.key.config in
     let sits = c.self.invariant.1 in
     let input = Again c.args.node in
-    let chair : Chair g.row.M-Program.Denot = record { table = inside.place.table_id; config = config; program = shared.key.program.value; number = number; part = p } in
+    let chair : Chair g.row.M-Program.Denot = record { table = inside.place.table_id; config = config; program = shared.key.program.value; number = number; failures = 0; part = p } in
     let over : nat_lt config.nodes c.args.node ≡ true = lt-ltb config.nodes c.args.node (omega (arith, c.if-get-self.true, c.get.ensures.value, ap (λ (k : Config). k.nodes) sits.shared)) in
     subst (λ (at : Chair g.row.M-Program.Denot). IsNoTaskTurn at input at BadConfig) c.self.view_is
     (refused_chair chair task sits.place.is input BadConfig (again_above config number c.args.node task.part over))
@@ -46,7 +46,7 @@ returns-in_err-sent-clause-err g c =
     let within : nat_lt config.nodes c.args.node ≡ false = le-ltb config.nodes c.args.node (omega (arith, c.if-get-self.false, c.get.ensures.value, ap (λ (k : Config). k.nodes) sits.shared)) in
     let done = asking_done number c.args.node task.part task.part.outstanding in
     let comes = again_comes config number c.args.node task.part within in
-    let chair : Chair g.row.M-Program.Denot = record { table = inside.place.table_id; config = config; program = shared.key.program.value; number = number; part = p } in
+    let chair : Chair g.row.M-Program.Denot = record { table = inside.place.table_id; config = config; program = shared.key.program.value; number = number; failures = 0; part = p } in
     subst (λ (at : Chair g.row.M-Program.Denot). IfErr c.from_residual.result (λ e. IsNoTaskTurn at input at e)) c.self.view_is
     (at_fault (IsNoTaskTurn chair input chair) OutOfMemory c.from_residual.result c.from_residual.ensures.1 (wanting_chair chair task sits.place.is input OutOfMemory done refl comes))
 
@@ -87,7 +87,7 @@ returns-clause-ok g c =
     let done = asking_done number c.args.node task.part task.part.outstanding in
     let comes = again_comes config number c.args.node task.part within in
     let place = c.note_asking.new.place in
-    let after : Chair g.row.M-Program.Denot = record { table = place.table_id; config = config; program = shared.key.program.value; number = number; part = part_in place.me.0 } in
+    let after : Chair g.row.M-Program.Denot = record { table = place.table_id; config = config; program = shared.key.program.value; number = number; failures = 0; part = part_in place.me.0 } in
     subst (λ (at : Chair g.row.M-Program.Denot). IsTaskTurn at input after c.in_ok-sent.sent) c.self.view_is
     (asked_chair config inside.config shared.key.program.value number shared.table_id inside.place.table_id place.table_id inside.place.me place.me task task
     c.self.invariant.0 sits c.note_asking.ensures.table (asked_of number c.args.node call) c.note_asking.ensures.turned done refl (ap (asked_of number c.args.node) c.outstanding-call.ensures) input c.in_ok-sent.sent comes c.in_ok-sent.ensures)

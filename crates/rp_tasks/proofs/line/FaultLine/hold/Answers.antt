@@ -1,4 +1,4 @@
-use Rattle.std.proofs.Common.{◌%◌, ◌<◌, ◌≤◌, length, arith}
+use Rattle.std.proofs.Common.{◌%◌, ◌<◌, ◌≤◌, ◌∙◌, length, arith}
 use Rattle.std.proofs.lemmas.Grind.{common_steps}
 use Rattle.std.proofs.lemmas.List.{length-map}
 use Rattle.rp_tasks.proofs.Holding.{none_accepted, two_accepted}
@@ -7,7 +7,7 @@ use Rattle.rp_tasks.proofs.line.FaultLine.hold.Goals as goal
 pub returns-in-0 : goal.returns-in-0
 returns-in-0 c =
     let within : length c.args.self.now.held ≤ 16 = grind (arith, common_steps, length-map) in
-    none_accepted c.args.word c.args.first.items c.args.self.now c.in-0.is within
+    c.lose.ensures ∙ none_accepted c.args.word c.args.first.items c.args.self.now c.in-0.is within
 
 pub returns-in-2 : goal.returns-in-2
 returns-in-2 c =

@@ -25,5 +25,12 @@ returns-clause-ordered g c =
     let s = setting_of m.next m.answers m.begin old in
     let same = same_setting m.next m.answers m.begin old new c.run_all-ran.ensures.run.setup in
     ordered s c.the_order_exists.ensures c.applied_lists_begin_the_order.ensures (c.replies_answer_calls_that_count.ensures old.config old.program) (c.calls_count_in_turn.ensures old.config old.program)
+    (c.only_made_calls_count.ensures old.config old.program)
     (c.a_call_has_one_place.ensures (m.begin old.program)) new.world
     (subst (λ (t : Setting g.row.M.Denot). IsKeptWorld t new.world) same c.is_kept-2.ensures.kept)
+
+pub returns-clause-decided : goal.returns-clause-decided
+returns-clause-decided g c =
+    let old = c.args.self.now in
+    let new = c.run_all-ran.new.self in
+    c.decisions_stay.ensures old.config.nodes old.world.sent new.world.sent c.run_all-ran.ensures.sent

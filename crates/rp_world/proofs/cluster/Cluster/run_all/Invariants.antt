@@ -1,4 +1,4 @@
-use Rattle.std.proofs.Common.{take}
+use Rattle.std.proofs.Common.{◌≡◌, take}
 use Rattle.rp_agreement.specs.Order.{AllSent}
 use Rattle.rp_world.specs.Steps.{IsSameSetup}
 use Rattle.rp_world.specs.Runs.{LeadsTo}
@@ -10,6 +10,7 @@ invariant-loop-place g l =
     let m = g.M.Machine in
     record {
       setup : IsSameSetup l.initial.self l.self;
+      failures : l.self.failures ≡ l.initial.self.failures;
       so_far : LeadsTo m.next m.answers m.begin l.initial.self (take l.place l.events) l.self.world;
       sent : AllSent l.initial.self.world.sent l.self.world.sent;
     }

@@ -1,11 +1,13 @@
 -- A delivery is a step, and what it leads to meets the invariant.
 use Rattle.std.proofs.Common.{sym, subst}
+use Rattle.std.specs.Prelude.{IsSome}
 use Rattle.rp_model.specs.declared.event.Event.TheVariants.{Node}
 use Rattle.rp_model.specs.Effect.{Setting}
 use Rattle.rp_model.specs.Events.{IsEvent, Makes, Deliver, event_of}
+use Rattle.rp_model.specs.World.{stepping, step_writes}
 use Rattle.rp_world.specs.Shape.{IsCluster}
 use Rattle.rp_world.specs.Steps.{IsStep, setting_of}
-use Rattle.rp_world.proofs.Answering.{made, same_setting}
+use Rattle.rp_world.proofs.Answering.{made, rose, same_setting}
 use Rattle.rp_world.proofs.cluster.Cluster.step.Goals as goal
 
 pub invariant_of-self : goal.invariant_of-self
@@ -15,7 +17,7 @@ invariant_of-self g c =
     let new = c.delivered.new.self in
     let s = setting_of m.next m.answers m.begin old in
     let event = Makes (Deliver c.in-Deliver.number) in
-    let steps = made s old.world new.world c.delivered.result (Deliver c.in-Deliver.number) c.delivered.ensures.answer in
+    let steps = made s old.world new.world c.delivered.result (stepping old.world (Deliver c.in-Deliver.number)) old.failures new.failures (Deliver c.in-Deliver.number) c.delivered.ensures.failures c.delivered.ensures.answer in
     let is = subst (λ step. IsEvent (event_of (Node step))) c.in-Deliver.is (subst (λ e. IsEvent (event_of e)) c.in-Node.is c.keeps_ranges.ensures) in
     let now = c.self.invariant in
     subst (λ (t : Setting g.row.M.Denot). IsCluster t new.world) (sym (same_setting m.next m.answers m.begin old new c.delivered.ensures.setup))
@@ -31,10 +33,14 @@ returns-in-Deliver g c =
     let old = c.self.inside.world in
     let new = c.delivered.new.self in
     let s = setting_of m.next m.answers m.begin old in
-    let steps = made s old.world new.world c.delivered.result (Deliver c.in-Deliver.number) c.delivered.ensures.answer in
+    let steps = made s old.world new.world c.delivered.result (stepping old.world (Deliver c.in-Deliver.number)) old.failures new.failures (Deliver c.in-Deliver.number) c.delivered.ensures.failures c.delivered.ensures.answer in
     record {
       step = subst (λ was. IsStep m.next m.answers m.begin was c.args.event.now new c.delivered.result) c.self.view_is
           (subst (λ event. IsStep m.next m.answers m.begin old event new c.delivered.result) (sym c.in-Node.is)
           (subst (λ step. IsStep m.next m.answers m.begin old (Node step) new c.delivered.result) (sym c.in-Deliver.is)
-          (record { world = steps; setup = c.delivered.ensures.setup })));
+          (record {
+            world = steps;
+            setup = c.delivered.ensures.setup;
+            failures = rose (IsSome (step_writes s old.world (Deliver c.in-Deliver.number))) (stepping old.world (Deliver c.in-Deliver.number)) old.failures new.failures c.delivered.result c.delivered.ensures.failures;
+          })));
     }

@@ -10,3 +10,6 @@ returns-in-Ok-clause-ok g c =
     stands member c.in-Ok.opening.replica fresh_node
     (runs_fresh member (g.D.Device.disk c.args.device) c.in-Ok.opening.replica c.in-Ok.opening.records c.in-Ok.opening.cut_bytes
     c.in-Ok.ensures.ok c.requires.empty)
+
+pub returns-in-Ok-clause-failures : goal.returns-in-Ok-clause-failures
+returns-in-Ok-clause-failures g c = c.in-Ok.ensures.ok.opened.failures

@@ -3,8 +3,8 @@ use Rattle.rp_model.specs.Effect.{Done, restart_part}
 use Rattle.rp_model.specs.Parts.{NodePart}
 use Rattle.rp_store.specs.Disk.{Disk}
 use Rattle.rp_world.specs.declared.node.Node.TheVariants.{Running}
-use Rattle.rp_world.specs.Nodes.{member_of, RestsAs, StandsFor, TellsOpened}
-use Rattle.rp_world.proofs.Standing.{stands, as_running, as_resting, goes_on_running, started, not_started}
+use Rattle.rp_world.specs.Nodes.{member_of, RestsAs, StandsFor, TellsOpened, IsCounted, failures_in}
+use Rattle.rp_world.proofs.Standing.{stands, as_running, if_err, as_resting, goes_on_running, started, not_started}
 use Rattle.rp_world.proofs.node.Node.restart.Goals as goal
 
 pub returns-then-has_failed-clause-ok : goal.returns-then-has_failed-clause-ok
@@ -51,3 +51,29 @@ returns-in-Stopped-clause-err g c =
     let member = member_of c.args.me c.args.config (m.begin c.args.program.now) in
     not_started disk member c.args.self c.starts-in-Stopped.result.0 (disk c.in-Stopped.device) (λ part is. subst (λ n. StandsFor disk member n part) c.in-Stopped.is is)
     c.starts-in-Stopped.result.1 c.starts-in-Stopped.ensures.err
+
+pub returns-then-has_failed-clause-rests : goal.returns-then-has_failed-clause-rests
+returns-then-has_failed-clause-rests g c =
+    let m = g.M.Machine in
+    let disk = g.D.Device.disk in
+    let member = member_of c.args.me c.args.config (m.begin c.args.program.now) in
+    if_err c.starts.result.1 (λ part is.
+    (as_resting member c.in-Running.replica part (sym c.has_failed.ensures ∙ c.if-has_failed.true) (subst (λ n. StandsFor disk member n part) c.in-Running.is is)).stopped)
+
+pub returns-then-has_failed-clause-failures : goal.returns-then-has_failed-clause-failures
+returns-then-has_failed-clause-failures g c =
+    let disk = g.D.Device.disk in
+    subst (λ n. IsCounted (failures_in disk n) (failures_in disk c.starts.result.0) c.starts.result.1) (sym c.in-Running.is)
+    (subst (λ (d : Disk). IsCounted d.failures (failures_in disk c.starts.result.0) c.starts.result.1) c.close.ensures.disk c.starts.ensures.failures)
+
+pub returns-in-Stopped-clause-rests : goal.returns-in-Stopped-clause-rests
+returns-in-Stopped-clause-rests g c =
+    let m = g.M.Machine in
+    let disk = g.D.Device.disk in
+    let member = member_of c.args.me c.args.config (m.begin c.args.program.now) in
+    if_err c.starts-in-Stopped.result.1 (λ part is. let rests : RestsAs c.args.config.max_positions (disk c.in-Stopped.device) part = subst (λ n. StandsFor disk member n part) c.in-Stopped.is is in rests.stopped)
+
+pub returns-in-Stopped-clause-failures : goal.returns-in-Stopped-clause-failures
+returns-in-Stopped-clause-failures g c =
+    let disk = g.D.Device.disk in
+    subst (λ n. IsCounted (failures_in disk n) (failures_in disk c.starts-in-Stopped.result.0) c.starts-in-Stopped.result.1) (sym c.in-Stopped.is) c.starts-in-Stopped.ensures.failures

@@ -3,8 +3,9 @@ use Rattle.std.specs.Prelude.{IfOk, IfErr}
 use Rattle.rp_model.specs.Effect.{NodeInput}
 use Rattle.rp_replica.specs.Inputs.{given_by}
 use Rattle.rp_world.specs.declared.node.Node.TheVariants.{Running}
-use Rattle.rp_world.specs.Nodes.{Member, GoesBy, NotTaken, TellsSent, node_step}
+use Rattle.rp_world.specs.Nodes.{Member, GoesBy, NotTaken, TellsSent, IsCounted, failures_in, node_step}
 use Rattle.rp_world.proofs.Turning.{turned_ok, turned_err}
+use Rattle.rp_world.proofs.Failing.{turn_counted}
 use Rattle.rp_world.proofs.node.Node.turn.Goals as goal
 
 pub returns-else-has_failed-clause-ok : goal.returns-else-has_failed-clause-ok
@@ -24,3 +25,10 @@ returns-else-has_failed-clause-err g c =
     subst (λ n. IfErr c.turn_into.result (λ fault. (member : Member g.row.M.Denot) (given : NodeInput) → given_by c.args.input.now ≡ Ok given → NotTaken disk member n (Running new) (node_step m.next m.answers member given) fault))
     (sym c.in-Running.is)
     (turned_err g.row.D.Denot g.row.M-Program.Denot m.next m.answers disk c.in-Running.replica (sym c.has_failed.ensures ∙ c.if-has_failed.false) c.args.input.now new c.turn_into.result c.turn_into.ensures.err)
+
+pub returns-else-has_failed-clause-failures : goal.returns-else-has_failed-clause-failures
+returns-else-has_failed-clause-failures g c =
+    let m = g.M.Machine in
+    let new = c.turn_into.new.self in
+    subst (λ n. IsCounted (failures_in g.D.Device.disk n) new.disk.failures c.turn_into.result) (sym c.in-Running.is)
+    (turn_counted m.next m.answers c.in-Running.replica c.args.input.now new c.turn_into.result c.turn_into.ensures.ok c.turn_into.ensures.err)

@@ -1,4 +1,4 @@
-use Rattle.std.proofs.Common.{◌≡◌, ℕ, suc, ◌+◌, ◌-◌, ◌<◌, Result, Ok, Err, Some, None, List, length, slice_set, inl, inr, refl, sym, ap, subst, ◌∙◌, arith}
+use Rattle.std.proofs.Common.{◌≡◌, ℕ, suc, ◌+◌, ◌-◌, ◌<◌, Result, Ok, Err, Some, None, List, length, map, slice_set, inl, inr, refl, sym, ap, subst, ◌∙◌, arith}
 use Rattle.std.specs.Prelude.{IsSome, IsTrue}
 use Rattle.std.specs.List.{AllByRecursion}
 use Rattle.rp_base.specs.declared.fault.Fault.{Fault}
@@ -12,15 +12,16 @@ use Rattle.rp_model.specs.Effect as inputs
 use Rattle.rp_model.specs.Effect.{NodeInput, Done, node_effect}
 use Rattle.rp_model.specs.Parts.{NodePart}
 use Rattle.rp_model.specs.Events.{Makes, Deliver}
-use Rattle.rp_model.specs.World.{World, part_at, node_done, node_done_if, delivers, delivery_is_cut}
+use Rattle.rp_model.specs.World.{World, part_at, node_done, node_done_if, delivers, delivery_is_cut, delivery_writes, node_writes, receiver_of}
 use Rattle.rp_replica.specs.Inputs.{packet_given}
-use Rattle.rp_world.specs.Going.{Answers}
-use Rattle.rp_world.specs.Nodes.{member_of, setting_at}
+use Rattle.rp_world.specs.Going.{Answers, Counts}
+use Rattle.rp_world.specs.Nodes.{failures_in, member_of, setting_at}
 use Rattle.rp_world.specs.Shape.{world_of, part_by}
 use Rattle.rp_world.specs.Steps.{setting_of}
 use Rattle.rp_agreement.specs.Ranges.{IsRangedWorld}
 use Rattle.rp_world.proofs.Moving.{here_of, part_here, stands_here, nodes_stay}
 use Rattle.rp_world.proofs.Ending.{none_here}
+use Rattle.rp_world.proofs.Failing.{counts, heard_counts, same_counts, writes}
 use Rattle.rp_world.proofs.Taking.{on_ok, told_sent, still, texts, turned_left, turned, not_turned, not_turned_left}
 use Rattle.rp_world.proofs.Hearing.{sends_are, has_at, text_found, text_is, nothing_goes, heard_by_none, heard_resting, heard_running, cut_heard, received_comes}
 use Rattle.rp_world.proofs.world.World.hears.Goals as goal
@@ -320,3 +321,119 @@ returns-in-Err-clause-answer g c =
 
 pub lend-buffer-requires : goal.lend-buffer-requires
 lend-buffer-requires g c = record { settled = on_ok _ c.settle.result c.settle.ensures.settled c.if-is_err.ensures.value }
+
+pub returns-in_default-clause-failures : goal.returns-in_default-clause-failures
+returns-in_default-clause-failures g c = ap (λ v. v.failures) c.self.view_is
+
+pub returns-then-not-is_running-clause-failures : goal.returns-then-not-is_running-clause-failures
+returns-then-not-is_running-clause-failures g c =
+    let m = g.M.Machine in
+    let inside = c.self.inside in
+    let disk = g.D.Device.disk in
+    let begin = m.begin inside.program in
+    let i = c.from.result - 1 in
+    let me = c.args.node in
+    let nodes = inside.nodes.items in
+    let tasks = inside.tasks.items in
+    let placed : suc i ≡ me = omega (arith, c.get.ensures.value, c.get.ensures.in_range.0, c.from.ensures) in
+    let n = c.in-Some.node.now in
+    let within : i < length nodes = omega (arith, c.in-Some.ensures.variant.0 refl, inside.nodes.ok.0) in
+    let here = here_of nodes i n within c.in-Some.ensures.value in
+    let member = member_of me inside.config begin in
+    let s = setting_at m.next m.answers member in
+    let part = part_by disk inside.config.max_positions n in
+    let part_is = part_here disk inside.config begin nodes tasks i me placed n here in
+    let so = stands_here disk inside.config begin nodes tasks i me placed n here c.self.invariant in
+    let w = world_of disk inside.config.max_positions nodes tasks inside.messages in
+    let message = c.requires.to.0 in
+    let sent : part_at inside.messages.sent c.args.number ≡ Some message = ap (λ v. part_at v.world.sent c.args.number) c.self.view_is ∙ c.requires.to.1 in
+    let to = c.requires.to.2 in
+    subst (λ v. Counts (IsSome (delivery_writes (setting_of m.next m.answers m.begin v) v.world (part_at v.world.sent c.args.number))) (receiver_of (part_at v.world.sent c.args.number)) v.failures (map (failures_in disk) (slice_set nodes i n)) (let r : Result Effect Fault = Ok c.nothing-then-not-is_running.result in r)) c.self.view_is
+    (same_counts disk nodes i me placed n here n refl)
+
+pub returns-then-is_err-clause-failures : goal.returns-then-is_err-clause-failures
+returns-then-is_err-clause-failures g c =
+    let m = g.M.Machine in
+    let inside = c.self.inside in
+    let disk = g.D.Device.disk in
+    let begin = m.begin inside.program in
+    let i = c.from.result - 1 in
+    let me = c.args.node in
+    let nodes = inside.nodes.items in
+    let tasks = inside.tasks.items in
+    let placed : suc i ≡ me = omega (arith, c.get.ensures.value, c.get.ensures.in_range.0, c.from.ensures) in
+    let n = c.in-Some.node.now in
+    let within : i < length nodes = omega (arith, c.in-Some.ensures.variant.0 refl, inside.nodes.ok.0) in
+    let here = here_of nodes i n within c.in-Some.ensures.value in
+    let member = member_of me inside.config begin in
+    let s = setting_at m.next m.answers member in
+    let part = part_by disk inside.config.max_positions n in
+    let part_is = part_here disk inside.config begin nodes tasks i me placed n here in
+    let so = stands_here disk inside.config begin nodes tasks i me placed n here c.self.invariant in
+    let w = world_of disk inside.config.max_positions nodes tasks inside.messages in
+    let message = c.requires.to.0 in
+    let sent : part_at inside.messages.sent c.args.number ≡ Some message = ap (λ v. part_at v.world.sent c.args.number) c.self.view_is ∙ c.requires.to.1 in
+    let to = c.requires.to.2 in
+    subst (λ v. Counts (IsSome (delivery_writes (setting_of m.next m.answers m.begin v) v.world (part_at v.world.sent c.args.number))) (receiver_of (part_at v.world.sent c.args.number)) v.failures (map (failures_in disk) (slice_set nodes i n)) (let r : Result Effect Fault = Err OutOfMemory in r)) c.self.view_is
+    (same_counts disk nodes i me placed n here n refl)
+
+pub returns-in-Ok-clause-failures : goal.returns-in-Ok-clause-failures
+returns-in-Ok-clause-failures g c =
+    let m = g.M.Machine in
+    let inside = c.self.inside in
+    let disk = g.D.Device.disk in
+    let begin = m.begin inside.program in
+    let i = c.from.result - 1 in
+    let me = c.args.node in
+    let nodes = inside.nodes.items in
+    let tasks = inside.tasks.items in
+    let placed : suc i ≡ me = omega (arith, c.get.ensures.value, c.get.ensures.in_range.0, c.from.ensures) in
+    let n = c.in-Some.node.now in
+    let within : i < length nodes = omega (arith, c.in-Some.ensures.variant.0 refl, inside.nodes.ok.0) in
+    let here = here_of nodes i n within c.in-Some.ensures.value in
+    let member = member_of me inside.config begin in
+    let s = setting_at m.next m.answers member in
+    let part = part_by disk inside.config.max_positions n in
+    let part_is = part_here disk inside.config begin nodes tasks i me placed n here in
+    let so = stands_here disk inside.config begin nodes tasks i me placed n here c.self.invariant in
+    let w = world_of disk inside.config.max_positions nodes tasks inside.messages in
+    let message = c.requires.to.0 in
+    let sent : part_at inside.messages.sent c.args.number ≡ Some message = ap (λ v. part_at v.world.sent c.args.number) c.self.view_is ∙ c.requires.to.1 in
+    let to = c.requires.to.2 in
+    let new = c.turn.new.self in
+    subst (λ v. Counts (IsSome (delivery_writes (setting_of m.next m.answers m.begin v) v.world (part_at v.world.sent c.args.number))) (receiver_of (part_at v.world.sent c.args.number)) v.failures (map (failures_in disk) (slice_set nodes i new)) (let r : Result Effect Fault = Ok c.of_step.result in r)) c.self.view_is
+    (same_counts disk nodes i me placed n here new c.in-Ok.ensures.failures)
+
+pub returns-in-Err-clause-failures : goal.returns-in-Err-clause-failures
+returns-in-Err-clause-failures g c =
+    let m = g.M.Machine in
+    let inside = c.self.inside in
+    let disk = g.D.Device.disk in
+    let begin = m.begin inside.program in
+    let i = c.from.result - 1 in
+    let me = c.args.node in
+    let nodes = inside.nodes.items in
+    let tasks = inside.tasks.items in
+    let placed : suc i ≡ me = omega (arith, c.get.ensures.value, c.get.ensures.in_range.0, c.from.ensures) in
+    let n = c.in-Some.node.now in
+    let within : i < length nodes = omega (arith, c.in-Some.ensures.variant.0 refl, inside.nodes.ok.0) in
+    let here = here_of nodes i n within c.in-Some.ensures.value in
+    let member = member_of me inside.config begin in
+    let s = setting_at m.next m.answers member in
+    let part = part_by disk inside.config.max_positions n in
+    let part_is = part_here disk inside.config begin nodes tasks i me placed n here in
+    let so = stands_here disk inside.config begin nodes tasks i me placed n here c.self.invariant in
+    let w = world_of disk inside.config.max_positions nodes tasks inside.messages in
+    let message = c.requires.to.0 in
+    let sent : part_at inside.messages.sent c.args.number ≡ Some message = ap (λ v. part_at v.world.sent c.args.number) c.self.view_is ∙ c.requires.to.1 in
+    let to = c.requires.to.2 in
+    let ranged = subst (λ v. IsRangedWorld v.config.nodes v.world) (sym c.self.view_is) c.requires.ranged in
+    let packet = ranged.packets message (has_at inside.messages.sent c.args.number message sent) in
+    let text : c.unwrap-text.result.now ≡ text_of message = text_is c.text.result c.unwrap-text.result (part_at c.lend-buffer.new.self.sent c.args.number) message c.unwrap-text.ensures c.text.ensures (ap (λ (ms : List Message). part_at ms c.args.number) (c.lend-buffer.ensures.sent ∙ c.settle.ensures.sent) ∙ sent) in
+    let given : NodeInput = inputs.Receive message in
+    let gives : packet_given (all_of c.unwrap-text.result.now) ≡ Ok given = ap (λ l. packet_given (all_of l)) text ∙ c.texts_are_packets.ensures message packet in
+    let new = c.turn.new.self in
+    subst (λ v. Counts (IsSome (delivery_writes (setting_of m.next m.answers m.begin v) v.world (part_at v.world.sent c.args.number))) (receiver_of (part_at v.world.sent c.args.number)) v.failures (map (failures_in disk) (slice_set nodes i new)) (let r : Result Effect Fault = Err c.in-Err.fault in r)) c.self.view_is
+    (heard_counts s w me c.args.number message sent to c.in-Err.fault (map (failures_in disk) nodes) (map (failures_in disk) (slice_set nodes i new))
+    (counts disk nodes i me placed n here new (IsSome (node_writes s me given (part_at w.nodes me))) c.in-Err.fault
+    (λ device. subst (λ o. IsSome (node_writes s me given o)) (sym part_is) (writes disk nodes i me placed n here new member part so m.next m.answers given c.in-Err.fault (c.in-Err.ensures.err member given gives) device)) c.in-Err.ensures.failures))

@@ -1,10 +1,11 @@
 use Rattle.std.proofs.Common.{refl, sym, ap, subst, ◌∙◌}
+use Rattle.std.specs.Prelude.{IsSome}
 use Rattle.rp_model.specs.Effect as inputs
 use Rattle.rp_model.specs.Effect.{NodeInput, node_effect}
 use Rattle.rp_model.specs.Events as events
 use Rattle.rp_model.specs.Events.{step_of}
-use Rattle.rp_model.specs.World.{node_done, node_done_if, node_takes, step_effect, cut_step}
-use Rattle.rp_world.specs.Going.{Answers}
+use Rattle.rp_model.specs.World.{node_done, node_done_if, node_takes, step_effect, cut_step, step_writes, stepping}
+use Rattle.rp_world.specs.Going.{Answers, Counts}
 use Rattle.rp_world.specs.Steps.{setting_of}
 use Rattle.rp_world.proofs.Hearing.{sends_are, same_input}
 use Rattle.rp_world.proofs.world.World.makes.Goals as goal
@@ -51,3 +52,27 @@ returns-in-Tick-clause-answer g c = subst (λ step. Answers c.args.self.now.worl
 
 pub returns-in-Report-clause-answer : goal.returns-in-Report-clause-answer
 returns-in-Report-clause-answer g c = subst (λ step. Answers c.args.self.now.world (step_effect (setting_of g.M.Machine.next g.M.Machine.answers g.M.Machine.begin c.args.self.now) c.args.self.now.world (step_of step)) (λ kept. cut_step (setting_of g.M.Machine.next g.M.Machine.answers g.M.Machine.begin c.args.self.now) c.args.self.now.world (step_of step) kept) c.gives-in-Report.new.self.world c.gives-in-Report.result) (sym c.in-Report.is) (c.gives-in-Report.ensures.answer (inputs.Report c.in-Report.first) refl)
+
+pub returns-in-Lead-clause-failures : goal.returns-in-Lead-clause-failures
+returns-in-Lead-clause-failures g c =
+    let m = g.M.Machine in
+    let was = c.args.self.now in
+    let s = setting_of m.next m.answers m.begin was in
+    subst (λ step. Counts (IsSome (step_writes s was.world (step_of step))) (stepping was.world (step_of step)) was.failures c.gives.new.self.failures c.gives.result) (sym c.in-Lead.is)
+    (c.gives.ensures.failures (inputs.Lead c.in-Lead.position) refl)
+
+pub returns-in-Tick-clause-failures : goal.returns-in-Tick-clause-failures
+returns-in-Tick-clause-failures g c =
+    let m = g.M.Machine in
+    let was = c.args.self.now in
+    let s = setting_of m.next m.answers m.begin was in
+    subst (λ step. Counts (IsSome (step_writes s was.world (step_of step))) (stepping was.world (step_of step)) was.failures c.gives-in-Tick.new.self.failures c.gives-in-Tick.result) (sym c.in-Tick.is)
+    (c.gives-in-Tick.ensures.failures (inputs.Tick c.in-Tick.now) refl)
+
+pub returns-in-Report-clause-failures : goal.returns-in-Report-clause-failures
+returns-in-Report-clause-failures g c =
+    let m = g.M.Machine in
+    let was = c.args.self.now in
+    let s = setting_of m.next m.answers m.begin was in
+    subst (λ step. Counts (IsSome (step_writes s was.world (step_of step))) (stepping was.world (step_of step)) was.failures c.gives-in-Report.new.self.failures c.gives-in-Report.result) (sym c.in-Report.is)
+    (c.gives-in-Report.ensures.failures (inputs.Report c.in-Report.first) refl)

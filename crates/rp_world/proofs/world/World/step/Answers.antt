@@ -1,14 +1,116 @@
-use Rattle.std.proofs.Common.{sym, subst}
-use Rattle.rp_model.specs.Events.{step_of}
+-- Each event's answer is a step of the world, and the counts of failures are as it says.
+use Rattle.std.proofs.Common.{None, Some, sym, subst}
+use Rattle.std.specs.Prelude.{IsSome, ℤ}
+use Rattle.std.specs.Int.{w64}
+use Rattle.std.proofs.lemmas.Int.{to_z-of_z}
+use Rattle.rp_model.specs.Events.{Submit, Again, Stop, IsEvent, event_of, step_of}
+use Rattle.rp_model.specs.World.{event_effect, stepping, step_writes}
+use Rattle.rp_model.proofs.Devices.{event_is}
+use Rattle.rp_world.specs.Going.{Answers, no_cut}
 use Rattle.rp_world.specs.Steps.{IsStep, setting_of}
-use Rattle.rp_world.proofs.Answering.{was_cut}
+use Rattle.rp_world.proofs.Answering.{submitted, asked, made, was_cut, stopped, restarted, rose, none_rose}
 use Rattle.rp_world.proofs.world.World.step.Goals as goal
+
+pub returns-in-Submit : goal.returns-in-Submit
+returns-in-Submit g c =
+    let m = g.M.Machine in
+    let old = c.args.self.now in
+    let new = c.submit.new.self in
+    let s = setting_of m.next m.answers m.begin old in
+    let v = c.in-Submit in
+    let event = Submit v.task v.node v.object v.operation v.arg in
+    let range = subst (λ e. IsEvent (event_of e)) v.is c.requires.event in
+    let answer : Answers old.world (event_effect s old.world event) no_cut new.world c.submit.result =
+    subst (λ (z : ℤ). Answers old.world (event_effect s old.world (Submit v.task v.node v.object v.operation z)) no_cut new.world c.submit.result) (to_z-of_z w64 v.arg range.4) c.submit.ensures.answer in
+    record {
+      step = subst (λ e. IsStep m.next m.answers m.begin old e new c.submit.result) (sym v.is)
+          (record {
+            world = submitted s old.world new.world c.submit.result v.task v.node v.object v.operation v.arg answer;
+            setup = c.submit.ensures.setup;
+            failures = none_rose None old.failures new.failures old.world (event_effect s old.world event) new.world c.submit.result (event_is s old.world event) answer c.submit.ensures.failures;
+          });
+    }
+
+pub returns-in-Again : goal.returns-in-Again
+returns-in-Again g c =
+    let m = g.M.Machine in
+    let old = c.args.self.now in
+    let new = c.again.new.self in
+    let s = setting_of m.next m.answers m.begin old in
+    let v = c.in-Again in
+    let event = Again v.task v.node in
+    record {
+      step = subst (λ e. IsStep m.next m.answers m.begin old e new c.again.result) (sym v.is)
+          (record {
+            world = asked s old.world new.world c.again.result v.task v.node c.again.ensures.answer;
+            setup = c.again.ensures.setup;
+            failures = none_rose None old.failures new.failures old.world (event_effect s old.world event) new.world c.again.result (event_is s old.world event) c.again.ensures.answer c.again.ensures.failures;
+          });
+    }
+
+pub returns-in-Node : goal.returns-in-Node
+returns-in-Node g c =
+    let m = g.M.Machine in
+    let old = c.args.self.now in
+    let new = c.makes.new.self in
+    let s = setting_of m.next m.answers m.begin old in
+    let step = step_of c.in-Node.step in
+    let node = stepping old.world step in
+    record {
+      step = subst (λ e. IsStep m.next m.answers m.begin old e new c.makes.result) (sym c.in-Node.is)
+          (record {
+            world = made s old.world new.world c.makes.result node old.failures new.failures step c.makes.ensures.failures c.makes.ensures.answer;
+            setup = c.makes.ensures.setup;
+            failures = rose (IsSome (step_writes s old.world step)) node old.failures new.failures c.makes.result c.makes.ensures.failures;
+          });
+    }
 
 pub returns-in-Cut : goal.returns-in-Cut
 returns-in-Cut g c =
     let m = g.M.Machine in
     let old = c.args.self.now in
+    let new = c.cuts.new.self in
+    let s = setting_of m.next m.answers m.begin old in
+    let step = step_of c.in-Cut.step in
+    let node = stepping old.world step in
     record {
-      step = subst (λ event. IsStep m.next m.answers m.begin old event c.cuts.new.self c.cuts.result) (sym c.in-Cut.is)
-          (record { world = was_cut (setting_of m.next m.answers m.begin old) old.world c.cuts.new.self.world c.cuts.result (step_of c.in-Cut.step) c.in-Cut.kept c.cuts.ensures.answer; setup = c.cuts.ensures.setup });
+      step = subst (λ e. IsStep m.next m.answers m.begin old e new c.cuts.result) (sym c.in-Cut.is)
+          (record {
+            world = was_cut s old.world new.world c.cuts.result node old.failures new.failures step c.in-Cut.kept c.cuts.ensures.failures c.cuts.ensures.answer;
+            setup = c.cuts.ensures.setup;
+            failures = rose (IsSome (step_writes s old.world step)) node old.failures new.failures c.cuts.result c.cuts.ensures.failures;
+          });
+    }
+
+pub returns-in-Stop : goal.returns-in-Stop
+returns-in-Stop g c =
+    let m = g.M.Machine in
+    let old = c.args.self.now in
+    let new = c.stop.new.self in
+    let s = setting_of m.next m.answers m.begin old in
+    let v = c.in-Stop in
+    let event = Stop v.node in
+    record {
+      step = subst (λ e. IsStep m.next m.answers m.begin old e new c.stop.result) (sym v.is)
+          (record {
+            world = stopped s old.world new.world c.stop.result v.node c.stop.ensures.answer;
+            setup = c.stop.ensures.setup;
+            failures = none_rose (Some v.node) old.failures new.failures old.world (event_effect s old.world event) new.world c.stop.result (event_is s old.world event) c.stop.ensures.answer c.stop.ensures.failures;
+          });
+    }
+
+pub returns-in-Restart : goal.returns-in-Restart
+returns-in-Restart g c =
+    let m = g.M.Machine in
+    let old = c.args.self.now in
+    let new = c.restart.new.self in
+    let s = setting_of m.next m.answers m.begin old in
+    let v = c.in-Restart in
+    record {
+      step = subst (λ e. IsStep m.next m.answers m.begin old e new c.restart.result) (sym v.is)
+          (record {
+            world = restarted s old.world new.world c.restart.result v.node c.restart.ensures.answer;
+            setup = c.restart.ensures.setup;
+            failures = c.restart.ensures.failures;
+          });
     }

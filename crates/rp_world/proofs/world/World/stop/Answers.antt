@@ -1,13 +1,14 @@
-use Rattle.std.proofs.Common.{◌≡◌, ℕ, suc, ◌+◌, ◌-◌, ◌<◌, None, length, slice_set, inl, refl, sym, ap, subst, ◌∙◌, arith}
+use Rattle.std.proofs.Common.{◌≡◌, ℕ, suc, ◌+◌, ◌-◌, ◌<◌, None, length, map, slice_set, inl, refl, sym, ap, subst, ◌∙◌, arith}
 use Rattle.std.specs.Prelude.{IfOk, IfErr, insert}
 use Rattle.rp_model.specs.declared.effect.Dropped.TheVariants.{No}
 use Rattle.rp_model.specs.Effect.{stop_effect}
 use Rattle.rp_model.specs.World.{stops, part_at}
 use Rattle.rp_model.specs.declared.effect.Effect.{Effect}
 use Rattle.rp_world.specs.Going.{Answers, no_cut}
-use Rattle.rp_world.specs.Nodes.{Member, GoesBy, RefusedBy, TellsNothing, member_of}
+use Rattle.rp_world.specs.Nodes.{Member, GoesBy, RefusedBy, TellsNothing, failures_in, member_of}
 use Rattle.rp_world.specs.Shape.{world_of}
 use Rattle.rp_world.proofs.Moving.{here_of, put_back}
+use Rattle.rp_world.proofs.Failing.{same_counts}
 use Rattle.rp_world.proofs.Ending.{none_here, still, stopped, not_stopped, left_by_stop}
 use Rattle.rp_world.proofs.world.World.stop.Goals.{in-Ok, in-Err}
 use Rattle.rp_world.proofs.world.World.stop.Goals as goal
@@ -66,3 +67,19 @@ returns-clause-answer g c =
           subst (Answers _ _ no_cut after) (sym b.result-is)
           (not_stopped disk inside.config begin nodes inside.tasks.items inside.messages c.self.invariant i c.args.node placed n here new c.put_back.new.nodes.items put b.in-Err.fault (err member))
     ])
+
+pub returns-clause-failures : goal.returns-clause-failures
+returns-clause-failures g c =
+    let inside = c.self.inside in
+    let disk = g.D.Device.disk in
+    let i = c.from-place.result - 1 in
+    let me = c.args.node in
+    let nodes = inside.nodes.items in
+    let placed : suc i ≡ me = omega (arith, c.get.ensures.value, c.get.ensures.in_range.0, c.from-place.ensures) in
+    let within : i < length nodes = omega (arith, c.if-place-len.false, c.len.ensures, inside.nodes.ok.0) in
+    let n = c.remove.result in
+    let new = c.stop-node.result.0 in
+    let here = here_of nodes i n within c.remove.ensures.value in
+    let put : c.put_back.new.nodes.items ≡ slice_set nodes i new = c.put_back.ensures ∙ ap (λ l. insert l i new) c.remove.ensures.items ∙ put_back nodes i new within in
+    let is_after : map (failures_in disk) c.put_back.new.nodes.items ≡ map (failures_in disk) (slice_set nodes i new) = ap (map (failures_in disk)) put in
+    is_after ∙ same_counts disk nodes i me placed n here new c.stop-node.ensures.failures ∙ ap (λ v. v.failures) c.self.view_is

@@ -4,7 +4,7 @@ use Rattle.rp_boxes.specs.Parts.{Part}
 use Rattle.rp_boxes.specs.Seats.{Chair, IsSentText}
 use Rattle.rp_threads.specs.Turns.{AreSentTexts}
 use Rattle.rp_threads.proofs.Cuts.{is_first}
-use Rattle.rp_threads.proofs.sends.put_all.Goals as goal
+use Rattle.rp_threads.proofs.sends.put_each.Goals as goal
 
 pub split_at-requires : goal.split_at-requires
 split_at-requires g c =

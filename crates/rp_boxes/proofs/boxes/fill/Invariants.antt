@@ -1,0 +1,17 @@
+-- What is said of the box: it is in use, or it has the packet.
+use Rattle.std.proofs.Common.{◌≢◌, ◌∷◌, []}
+use Rattle.rp_agreement.specs.Answered.{setting_for}
+use Rattle.rp_boxes.specs.Moments.{WasFull, WasWord}
+use Rattle.rp_boxes.specs.Parts.{box_of, filled, part_in}
+use Rattle.rp_boxes.proofs.boxes.fill.Given as goal
+
+abbrev pub ghosts-claim_empty : goal.ghosts-claim_empty
+ghosts-claim_empty g a = record {
+  says = λ part. WasWord (setting_for g.M.Machine.next g.M.Machine.answers g.M.Machine.begin a.slots.now.key.config a.slots.now.key.program.value) a.place.now.me.0 (box_of a.from a.to) (λ word. word ≢ 0);
+}
+
+abbrev pub ghosts-deliver : goal.ghosts-deliver
+ghosts-deliver g a = record {
+  says = λ part. WasFull (setting_for g.M.Machine.next g.M.Machine.answers g.M.Machine.begin a.slots.now.key.config a.slots.now.key.program.value)
+      ((a.from, filled (part_in a.place.now.me.0)) ∷ []) (box_of a.from a.to) a.packet.items;
+}

@@ -1,0 +1,57 @@
+-- What a step at a box shows its seat of the table at that moment (this project's own).
+use Rattle.std.specs.Prelude.{◌≡◌, ◌≢◌, ℕ, Vec, Some, List, [], ◌∷◌, slice_index}
+use Rattle.std.specs.declared.alloc.Global.{Global}
+use mathlib.Core.Option.{some}
+use lib.ListN.{get_elem?}
+use Rattle.atomic_table.specs.Table.{State}
+use Rattle.rp_base.specs.declared.action.Action.{Action}
+use Rattle.rp_base.specs.declared.reply.Answer.{Answer}
+use Rattle.rp_codec.specs.Message.{Message}
+use Rattle.rp_codec.specs.Text.{text_of}
+use Rattle.rp_codec.specs.declared.packet.Party.{Party}
+use Rattle.rp_model.specs.Effect.{Setting}
+use Rattle.rp_boxes.specs.Parts.{View, actor_of, box_of}
+use Rattle.rp_boxes.specs.Rule.{Slot, Ruled}
+use Rattle.rp_boxes.specs.Seats.{Chair, setting_at}
+
+-- The table at a moment: it keeps the rule, and some seat knows this.
+pub record IsMoment {S : Type 0} (s : Setting S) (view : View) (table : State Slot View) : Type 0 where
+  pub rule : Ruled s table
+  pub seat : ℕ
+  pub sees : get_elem? table.views seat ≡ some view
+
+-- At a moment when a seat knew this, the word of a box was such.
+pub record WasWord {S : Type 0} (s : Setting S) (view : View) (b : ℕ) (is : ℕ → Type 0) : Type 0 where
+  pub table : State Slot View
+  pub moment : IsMoment s view table
+  pub word : is (slice_index table.words b)
+
+-- At a moment when a seat knew this, a box was full of these bytes.
+pub record WasFull {S : Type 0} (s : Setting S) (view : View) (b : ℕ) (bytes : List ℕ) : Type 0 where
+  pub table : State Slot View
+  pub moment : IsMoment s view table
+  pub full : slice_index table.words b ≡ 2
+  pub text : Vec ℕ Global
+  pub inside : get_elem? table.homes b ≡ some (some (Some text))
+  pub is : text.items ≡ bytes
+
+module _ {S P : Type 0} (next : S → Action → S) (answers : S → Action → List Answer) (begin : P → S) where
+  -- The packet of this text was in the box from the seat's party to its receiver.
+  pub record WasPut (from : Party) (bytes : List ℕ) (seat : Chair P) : Type 0 where
+    pub packet : Message
+    pub text : bytes ≡ text_of packet
+    pub box : WasFull (setting_at next answers begin seat) ((actor_of from, seat.part) ∷ [])
+        (box_of (actor_of from) (actor_of packet.to)) bytes
+
+  -- The box from the seat's party to the receiver of the packet of this text was not empty.
+  pub record WasInUse (from : Party) (bytes : List ℕ) (seat : Chair P) : Type 0 where
+    pub packet : Message
+    pub text : bytes ≡ text_of packet
+    pub box : WasWord (setting_at next answers begin seat) ((actor_of from, seat.part) ∷ [])
+        (box_of (actor_of from) (actor_of packet.to)) (λ word. word ≢ 0)
+
+  -- The box from a party to that of the seat was not full.
+  abbrev pub WasNotFull : Party → Party → Chair P → Type 0
+  WasNotFull from to seat =
+      WasWord (setting_at next answers begin seat) ((actor_of to, seat.part) ∷ [])
+      (box_of (actor_of from) (actor_of to)) (λ word. word ≢ 2)

@@ -1,0 +1,194 @@
+-- How often the device of a node failed, after a step of it.
+use Rattle.std.proofs.Common.{◌≡◌, ◌≢◌, ℕ, suc, ◌<◌, Option, Some, None, Result, Ok, Err, List, map, option_map, slice_get, slice_set, inl, inr, refl, sym, ap, subst, ◌∙◌, arith}
+use Rattle.std.specs.Prelude.{IfOk, IfErr, IsSome}
+use Rattle.rp_base.specs.declared.action.Action.{Action}
+use Rattle.rp_base.specs.declared.fault.Fault.{Fault}
+use Rattle.rp_base.specs.declared.fault.Fault.TheVariants.{OutOfMemory, Device, Failed}
+use Rattle.rp_base.specs.declared.fault.PacketReason.{PacketReason}
+use Rattle.rp_base.specs.declared.record.Rec.{Rec}
+use Rattle.rp_base.specs.declared.reply.Answer.{Answer}
+use Rattle.rp_codec.specs.Message.{Message}
+use Rattle.rp_codec.specs.Reading.{all_of}
+use Rattle.rp_store.specs.Disk.{Disk}
+use Rattle.rp_model.specs.Effect.{Setting, NodeInput, node_effect}
+use Rattle.rp_model.specs.Parts.{NodePart, Turn}
+use Rattle.rp_codec.specs.declared.packet.Party.{Party}
+use Rattle.rp_model.specs.declared.effect.Effect.{Effect}
+use Rattle.rp_model.specs.World.{World, part_at, with_part, written_by, node_named, receiver_of, node_writes, arrival_writes, delivery_writes}
+use Rattle.rp_model.proofs.Devices.{NoDevice, input_is, turn_is}
+use Rattle.rp_replica.specs.declared.cut.NotCut.{NotCut}
+use Rattle.rp_replica.specs.declared.cut.NotCut.TheVariants.{Failed as DeviceFailed, Refused}
+use Rattle.rp_replica.specs.declared.input.Input.{Input}
+use Rattle.rp_replica.specs.declared.input.Input.TheVariants.{Receive, Lead, Interrupt, Tick, Report}
+use Rattle.rp_replica.specs.declared.sent.Sent.{Sent}
+use Rattle.rp_replica.specs.Cutting.{CutsIf, IsNotCutIf, cut_disk}
+use Rattle.rp_replica.specs.Held.{Held, setting_of, with_text}
+use Rattle.rp_replica.specs.Inputs.{packet_given, effect_if_given, input_effect}
+use Rattle.rp_replica.specs.Opening.{IsRefusedOpening}
+use Rattle.rp_replica.specs.Turning.{TurnsIf, Stops, StopsIf, IsRefused}
+use Rattle.rp_world.specs.Failures.{RisesAt}
+use Rattle.rp_world.specs.Going.{Counts}
+use Rattle.rp_world.specs.Nodes.{Member, StandsFor, NotTaken, failures_in, IsCounted, setting_at, node_step}
+use Rattle.rp_world.specs.declared.node.Node.{Node}
+use Rattle.rp_world.proofs.Moving.{get_map, set_map, set_same}
+
+-- ---- one device
+
+-- a fault that is none of the device leaves the count
+pub not_device : (k : ℕ) (fault : Fault) → fault ≢ Device → IsCounted k k (let r : Result Sent Fault = Err fault in r)
+not_device k Device none = absurd (none refl)
+not_device k _ none = refl
+
+-- nor does a record that is written, or torn
+written_counted : (disk : Disk) (written : Option Rec) → (with_text disk written).failures ≡ disk.failures
+written_counted disk None = refl
+written_counted disk (Some rec) = refl
+
+torn_counted : (kept : ℕ) (disk : Disk) (written : Option Rec) → (cut_disk kept disk written).failures ≡ disk.failures
+torn_counted kept disk None = refl
+torn_counted kept disk (Some rec) = refl
+
+no_packet : {S : Type 0} (next : S → Action → S) (answers : S → Action → List Answer) (old : Held S) (read : Result Message PacketReason) → NoDevice (effect_if_given next answers old (packet_given read))
+no_packet next answers old (Ok message) = tt
+no_packet next answers old (Err reason) = tt
+
+module _ {S : Type 0} (next : S → Action → S) (answers : S → Action → List Answer) (old : Held S) where
+  -- no input is refused as a fault of the device
+  input_so : (input : Input) → NoDevice (input_effect next answers old input)
+  input_so (Receive bytes) = no_packet next answers old (all_of bytes.now)
+  input_so (Lead choice) = turn_is (setting_of next answers old) old.me old.records old.running (NodeInput.Lead choice)
+  input_so (Interrupt source occurrence) = tt
+  input_so (Tick now) = tt
+  input_so (Report first) = tt
+
+  stops_counted : (new : Held S) (written : Option Rec) (fault : Fault) → Stops written old new fault → IsCounted old.disk.failures new.disk.failures (let r : Result Sent Fault = Err fault in r)
+  stops_counted new written OutOfMemory stops = ap (λ (h : Held S). h.disk.failures) stops.0
+  stops_counted new written Device stops = stops.0.disk.cause
+  stops_counted new written Failed stops = ap (λ (h : Held S). h.disk.failures) stops.0
+  stops_counted new written _ stops = absurd stops
+
+  refused_counted : (new : Held S) (refusal fault : Fault) → (let r : Result Turn Fault = Err refusal in NoDevice r) → IsRefused refusal old new fault → (n : ℕ) × (n ≡ old.disk.failures) × (n ≡ new.disk.failures) × (fault ≢ Device)
+  refused_counted new refusal fault none refused = (
+    old.disk.failures,
+    refl,
+    sym (ap (λ (h : Held S). h.disk.failures) refused.0),
+    λ device.
+        elim refused.1 [
+          | inl told ↦ absurd (subst (λ (f : Fault). let r : Result Turn Fault = Err f in NoDevice r) (sym told.0 ∙ device) none)
+          | inr gone ↦ absurd (let same : Failed ≡ Device = sym gone.0 ∙ device in cc)
+        ],
+  )
+
+  by_refusal : (new : Held S) (refusal fault : Fault) → (let r : Result Turn Fault = Err refusal in NoDevice r) → IsRefused refusal old new fault
+      → IsCounted old.disk.failures new.disk.failures (let r : Result Sent Fault = Err fault in r)
+  by_refusal new refusal fault none refused =
+      let is = refused_counted new refusal fault none refused in
+      subst (λ (k : ℕ). IsCounted k new.disk.failures (let r : Result Sent Fault = Err fault in r)) is.1
+      (subst (λ (k : ℕ). IsCounted is.0 k (let r : Result Sent Fault = Err fault in r)) is.2 (not_device is.0 fault is.3))
+
+  by_effect : (new : Held S) (effect : Result Turn Fault) → NoDevice effect → (fault : Fault) → StopsIf effect old new fault → IsCounted old.disk.failures new.disk.failures (let r : Result Sent Fault = Err fault in r)
+  by_effect new (Ok turn) none fault stops = stops_counted new turn.written fault stops
+  by_effect new (Err refusal) none fault stops = by_refusal new refusal fault none stops
+
+  goes_counted : (new : Held S) (effect : Result Turn Fault) (sent : Sent) → TurnsIf effect old new sent → new.disk.failures ≡ old.disk.failures
+  goes_counted new (Ok turn) sent turns = ap (λ (h : Held S). h.disk.failures) turns.0.goes ∙ written_counted old.disk turn.written
+  goes_counted new (Err refusal) sent turns = absurd turns
+
+  -- a turn
+  pub turn_counted : (input : Input) (new : Held S) (answer : Result Sent Fault) → IfOk answer (λ sent. TurnsIf (input_effect next answers old input) old new sent)
+      → IfErr answer (λ fault. StopsIf (input_effect next answers old input) old new fault) → IsCounted old.disk.failures new.disk.failures answer
+  turn_counted input new (Ok sent) ok err = goes_counted new (input_effect next answers old input) sent ok
+  turn_counted input new (Err fault) ok err = by_effect new (input_effect next answers old input) (input_so input) fault err
+
+  -- a step that would be refused
+  pub refuses_no_device : (input : Input) (fault : Fault) → StopsIf (input_effect next answers old input) old old fault → fault ≢ Device
+  refuses_no_device input fault stops device =
+      let counted : old.disk.failures < old.disk.failures =
+      subst (λ (f : Fault). IsCounted old.disk.failures old.disk.failures (let r : Result Sent Fault = Err f in r)) device (by_effect old (input_effect next answers old input) (input_so input) fault stops) in
+      absurd (omega (arith, counted))
+
+  cut_counted_by : (effect : Result Turn Fault) (kept : ℕ) (d : Disk) → CutsIf effect kept old d → d.failures ≡ old.disk.failures
+  cut_counted_by (Ok turn) kept d cuts = ap (λ (x : Disk). x.failures) cuts.disk_is ∙ torn_counted kept old.disk turn.written
+  cut_counted_by (Err refusal) kept d cuts = absurd cuts
+
+  -- a cut
+  pub cut_counted : (input : Input) (kept : ℕ) (d : Disk) → CutsIf (input_effect next answers old input) kept old d → d.failures ≡ old.disk.failures
+  cut_counted input kept d cuts = cut_counted_by (input_effect next answers old input) kept d cuts
+
+  module _ {D : Type 0} (P : Type 0) (disk : D → Disk) where
+    fails_by : (effect : Result Turn Fault) (device : D) → IsNotCutIf disk effect old (let r : NotCut S D P = DeviceFailed device in r) → old.disk.failures < (disk device).failures
+    fails_by (Ok turn) device fails = fails.disk_is.cause
+    fails_by (Err refusal) device fails = absurd fails
+
+    -- where the device failed
+    pub cut_failed : (input : Input) (device : D) → IsNotCutIf disk (input_effect next answers old input) old (let r : NotCut S D P = DeviceFailed device in r) → old.disk.failures < (disk device).failures
+    cut_failed input device fails = fails_by (input_effect next answers old input) device fails
+
+    refused_by : (effect : Result Turn Fault) → NoDevice effect → (fault : Fault) (new : Held S) → IsNotCutIf disk effect old (let r : NotCut S D P = Refused fault new in r)
+        → IsCounted old.disk.failures new.disk.failures (let r : Result Sent Fault = Err fault in r)
+    refused_by (Ok turn) none fault new stops = stops_counted new turn.written fault stops.0
+    refused_by (Err refusal) none fault new stops = by_refusal new refusal fault none stops
+
+    -- where it is refused
+    pub cut_refused : (input : Input) (fault : Fault) (new : Held S) → IsNotCutIf disk (input_effect next answers old input) old (let r : NotCut S D P = Refused fault new in r)
+        → IsCounted old.disk.failures new.disk.failures (let r : Result Sent Fault = Err fault in r)
+    cut_refused input fault new stops = refused_by (input_effect next answers old input) (input_so input) fault new stops
+
+-- an opening that is refused
+pub opening_counted : (old new : Disk) (fault : Fault) → IsRefusedOpening old fault new → IsCounted old.failures new.failures (let r : Result Sent Fault = Err fault in r)
+opening_counted old new OutOfMemory why = elim why [ inl same ↦ same.failures | inr opened ↦ opened.2.failures ]
+opening_counted old new Device why = why.1
+opening_counted old new _ why = absurd why
+
+-- ---- all devices
+
+module _ {S D P : Type 0} (disk : D → Disk) (nodes : List (Node S D P)) (i me : ℕ) (placed : suc i ≡ me) (n : Node S D P) (here : slice_get nodes i ≡ Some n) (new : Node S D P) where
+  abbrev before : List ℕ
+  before = map (failures_in disk) nodes
+
+  abbrev after : List ℕ
+  after = map (failures_in disk) (slice_set nodes i new)
+
+  was_here : slice_get before i ≡ Some (failures_in disk n)
+  was_here = get_map (failures_in disk) nodes i ∙ ap (λ (o : Option (Node S D P)). option_map (failures_in disk) o) here
+
+  -- the count of one node is as before
+  pub same_counts : failures_in disk new ≡ failures_in disk n → after ≡ before
+  same_counts same =
+      set_map (failures_in disk) nodes i new ∙ ap (slice_set before i) same ∙ set_same before i (failures_in disk n) was_here
+
+  rises_at : failures_in disk n < failures_in disk new → RisesAt me before after
+  rises_at rose = record {
+    before = failures_in disk n;
+    after = failures_in disk new;
+    was = subst (λ (k : ℕ). part_at before k ≡ Some (failures_in disk n)) placed was_here;
+    rose = rose;
+    others = set_map (failures_in disk) nodes i new ∙ subst (λ (k : ℕ). slice_set before i (failures_in disk new) ≡ with_part before k (failures_in disk new)) placed refl;
+  }
+
+  -- or higher, where the device failed
+  pub counts : (why : Type 0) (fault : Fault) → (fault ≡ Device → why) → IsCounted (failures_in disk n) (failures_in disk new) (let r : Result Sent Fault = Err fault in r)
+      → Counts why (Some me) before after (let r : Result Effect Fault = Err fault in r)
+  counts why Device so counted = (so refl, rises_at counted)
+  counts why _ so counted = same_counts counted
+
+  module _ (member : Member S) (part : NodePart) (stands : StandsFor disk member n part) (next : S → Action → S) (answers : S → Action → List Answer) (input : NodeInput) where
+    -- the device failed where a record was written
+    pub writes : (fault : Fault) → NotTaken disk member n new (node_step next answers member input) fault → fault ≡ Device → IsSome (written_by (node_effect (setting_at next answers member) member.me part input))
+    writes fault not_taken device =
+        elim (not_taken part stands) [
+          | inl refused ↦ absurd (subst NoDevice (refused.0 ∙ ap Err device) (input_is (setting_at next answers member) member.me part input))
+          | inr other ↦
+              elim other [
+                | inl memory ↦ absurd (let same : OutOfMemory ≡ Device = sym memory.0 ∙ device in cc)
+                | inr failed ↦ subst (λ r. IsSome (written_by r)) (sym failed.3) failed.5
+              ]
+        ]
+
+-- a delivery to a node is a step of that node
+module _ {S : Type 0} (s : Setting S) (w : World) (me number : ℕ) (m : Message) (sent : part_at w.sent number ≡ Some m) (to : m.to ≡ Party.Node me) (fault : Fault) (before after : List ℕ) where
+  pub heard_counts : (let r : Result Effect Fault = Err fault in Counts (IsSome (node_writes s me (NodeInput.Receive m) (part_at w.nodes me))) (Some me) before after r)
+      → (let r : Result Effect Fault = Err fault in Counts (IsSome (delivery_writes s w (part_at w.sent number))) (receiver_of (part_at w.sent number)) before after r)
+  heard_counts is =
+      subst (λ (o : Option Message). let r : Result Effect Fault = Err fault in Counts (IsSome (delivery_writes s w o)) (receiver_of o) before after r) (sym sent)
+      (subst (λ (party : Party). let r : Result Effect Fault = Err fault in Counts (IsSome (arrival_writes s w m party)) (node_named party) before after r) (sym to) is)

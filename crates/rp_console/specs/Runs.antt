@@ -1,5 +1,5 @@
 -- How a run in memory stands to a play, and what it writes.
-use Rattle.std.specs.Prelude.{◌≡◌, ℕ, Option, Result, Ok, Err, List, length}
+use Rattle.std.specs.Prelude.{◌≡◌, ℕ, Option, Result, Ok, Err, List, length, replicate}
 use Rattle.std.specs.Io.KnownBytes.{Appends}
 use Rattle.rp_base.specs.declared.action.Action.{Action}
 use Rattle.rp_base.specs.declared.config.Config.{Config}
@@ -22,9 +22,14 @@ run_setting next answers start image cluster options = record {
   traced = options.traced;
 }
 
--- a cluster that opens
+-- a cluster that opens over devices that have not failed
 abbrev pub opening_setup : {P : Type 0} → Config → P → Setup P
-opening_setup config program = record { config = config; program = program; world = opening_world config.nodes }
+opening_setup config program = record {
+  config = config;
+  program = program;
+  world = opening_world config.nodes;
+  failures = replicate config.nodes 0;
+}
 
 -- the cluster has so many nodes, and eight tasks
 pub record HasParts {P : Type 0} (nodes : ℕ) (cluster : Setup P) : Type 0 where

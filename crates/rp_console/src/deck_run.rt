@@ -44,8 +44,8 @@ pub fn run_script<R: Read, W: Write>(
 }
 
 /// Runs the script of a deck, and writes what it prints. A fault ends the run where it comes, and then a
-/// beginning of that is written: `OutOfMemory`, `Device`, or `Io` where the writer fails. One order of
-/// actions gives all states and replies that are written, and after any two lines nodes agree.
+/// beginning of that is written: `OutOfMemory`, or `Io` where the writer fails. One order of actions
+/// gives all states and replies that are written, and after any two lines nodes agree.
 pub fn run_deck<W: Write>(
     alloc: Global,
     deck: Deck,

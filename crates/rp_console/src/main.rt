@@ -16,6 +16,9 @@
 //! - `status`: what the program says of a fault, and the status that it ends with
 #![tactic(auto)]
 
+ghost use Rattle.std.specs.Prelude.{◌≡◌};
+ghost use Rattle.rp_console.specs.Status.{status_after, status_of};
+
 mod agreeing;
 mod args;
 mod deck_run;
@@ -62,10 +65,7 @@ fn given_words(rt: &HostRuntime) -> Result<Vec<String>, Fault> {
 /// Does what the words ask for, or tells why they are wrong.
 fn obey<T: Threads + Wait>(rt: &HostRuntime, threads: &T, words: &[String]) -> u8 {
     match read_args(rt.alloc(), words) {
-        Ok(args) => match run_as(rt, threads, args) {
-            Ok(()) => 0,
-            Err(fault) => fail(rt, fault),
-        },
+        Ok(args) => end(rt, run_as(rt, threads, args)),
         Err(error) if error.kind() == ErrorKind::OutOfMemory => fail(rt, Fault::OutOfMemory),
         Err(error) => {
             let _ = error.print(rt);
@@ -87,8 +87,20 @@ fn run_as<T: Threads + Wait>(rt: &HostRuntime, threads: &T, args: Args) -> Resul
     }
 }
 
+/// Reports a run's fault, if it has one. The status that it ends the program with.
+fn end(rt: &HostRuntime, ran: Result<(), Fault>) -> u8
+    ensures { result ≡ status_after ran }
+{
+    match ran {
+        Ok(()) => 0,
+        Err(fault) => fail(rt, fault),
+    }
+}
+
 /// Tells a fault on standard error. The status that it ends the program with.
-fn fail(rt: &HostRuntime, fault: Fault) -> u8 {
+fn fail(rt: &HostRuntime, fault: Fault) -> u8
+    ensures { result ≡ status_of fault }
+{
     let _ = tell(&fault, &mut rt.stderr());
     status(&fault)
 }

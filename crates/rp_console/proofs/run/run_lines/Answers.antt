@@ -5,7 +5,7 @@ use Rattle.rp_console.specs.Output.{Play, opening_play, command_said, script_sai
 use Rattle.rp_console.specs.Runs.{opening_setup, run_setting}
 use Rattle.rp_deck.specs.declared.deck.Line.{Line}
 use Rattle.rp_console.proofs.Saying.{sets_out, goes_on, fails, ends, script_ends, script_more}
-use Rattle.rp_console.proofs.Stepping.{same_setting, same_trans, opening_parts}
+use Rattle.rp_console.proofs.Stepping.{same_setting, same_trans, opening_parts, never_ends_so}
 use Rattle.rp_console.proofs.Writing.{writes_nothing, writes_failed}
 use Rattle.rp_console.proofs.run.run_lines.Goals as goal
 

@@ -63,9 +63,9 @@ impl<M: Machine, D: Device> Model for NodeSeat<M, D> {
 
 impl<M: Machine, D: Device> NodeSeat<M, D> {
     /// One step of the node, of a packet that the seat got or of another input. It is one event, and
-    /// the packets are those that it sends. Refused with 1 where memory ran out, with 3 once the
-    /// device has failed, or with 6 or 7 where the node cannot lead: then nothing has happened. With
-    /// 2 the device fails, and the node stops within the step.
+    /// the packets are those that it sends. Refused with `OutOfMemory`, with `Failed` once the device
+    /// has failed, or with `BallotsSpent` or `LogFull` where the node cannot lead: then nothing has
+    /// happened. With `Device` the device fails, and the node stops within the step.
     pub fn turn(&mut self, alloc: Global, input: &Input) -> Result<Sent, Fault>
         requires right { IsRightInput input.now }
         requires got { IsGot self.old.part input.now }
@@ -175,10 +175,12 @@ impl<M: Machine, D: Device> NodeSeat<M, D> {
         let _place = &self.place;
     }
 
-    /// How many actions the node has applied. `Failed` once its device has failed.
+    /// How many actions the node has applied. `Failed` once its device has failed: then the node is
+    /// stopped.
     pub fn applied(&self) -> Result<u32, Fault>
         ensures ok { IfOk result (λ count. HasApplied self.now.part count) }
         ensures only { IsOkUnless result faults.Failed }
+        ensures stopped { IfErr result (λ fault. IsStopped self.now.part) }
     {
         if self.replica.has_failed() {
             return Err(Fault::Failed);

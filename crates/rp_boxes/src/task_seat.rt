@@ -72,9 +72,9 @@ impl<M: Machine> Model for TaskSeat<M> {
 }
 
 impl<M: Machine> TaskSeat<M> {
-    /// The task makes its next call and asks a node. It is one event. Refused with 9 while a call
-    /// waits for its reply, with 10 after call 2^32 - 1, with 12 for a node above the last or a
-    /// call that is not right, or with 1 where memory ran out: then nothing has happened.
+    /// The task makes its next call and asks a node. It is one event. Refused with `TaskBusy` while a
+    /// call waits for its reply, with `NumbersSpent` after call 2^32 - 1, with `BadConfig` for a node
+    /// above the last or a call that is not right, or with `OutOfMemory`: then nothing has happened.
     pub fn call(
         &mut self,
         alloc: Global,
@@ -105,8 +105,8 @@ impl<M: Machine> TaskSeat<M> {
     }
 
     /// The task asks a node once more for the call that waits for its reply, and for nothing where
-    /// none waits. It is one event. Refused with 12 for a node above the last, or with 1 where
-    /// memory ran out: then nothing has happened.
+    /// none waits. It is one event. Refused with `BadConfig` for a node above the last, or with
+    /// `OutOfMemory`: then nothing has happened.
     pub fn retry(&mut self, alloc: Global, node: NodeId) -> Result<Sent, Fault>
         ensures ok { IfOk result (λ sent. IsTaskTurn self.old (Again node) self.new sent) }
         ensures err { IfErr result (λ fault. IsNoTaskTurn self.old (Again node) self.new fault) }

@@ -1,5 +1,5 @@
 -- What an event is for the tasks: a node's, which changes none of them, or one task's own step.
-use Rattle.std.proofs.Common.{◌≡◌, ◌⊎◌, ℕ, suc, ◌+◌, ◌-◌, ◌<◌, ◌^◌, Bool, true, false, not, cond, ◌||◌, ℤ, Result, Ok, Err, Option, Some, None, List, [], ◌∷◌, ◌++◌, length, arith, inl, inr, refl, sym, ap, subst, ◌∙◌}
+use Rattle.std.proofs.Common.{◌≡◌, ◌⊎◌, ℕ, suc, ◌+◌, ◌-◌, ◌<◌, ◌^◌, Bool, true, false, not, ◌||◌, ℤ, Result, Ok, Err, Option, Some, None, List, [], ◌∷◌, ◌++◌, length, arith, inl, inr, refl, sym, ap, subst, ◌∙◌}
 use Rattle.std.specs.Prelude.{is_some, nat_lt, nat_le, nat_eq, if◌then◌else◌}
 use Rattle.std.proofs.lemmas.Bool.{cases_Bool, cond-true, cond-false, and_parts, eqb-true, ltb-true}
 use Rattle.std.proofs.lemmas.List.{length-append}
@@ -23,9 +23,8 @@ use Rattle.rp_model.specs.Effect as nodes
 use Rattle.rp_model.specs.Effect.{Setting, Done, NodeInput, turned_if, running_effect, effect_while, node_effect, cut_if, cut_effect, stops_while, restart_while, goes_on_as, stop_part}
 use Rattle.rp_model.specs.Events.{event_of, step_of}
 use Rattle.rp_model.specs.Parts.{NodePart, Running, TaskPart, Turn}
-use Rattle.rp_model.specs.Tasks as tasks
 use Rattle.rp_model.specs.Tasks.{TaskInput, Submit, Again, Take, next_call, may_call, calls_if, asks_again, takes, takes_reply, task_hears, task_effect, asks}
-use Rattle.rp_model.specs.World.{World, Happening, part_at, nothing_happens, node_done, task_done, node_done_if, task_done_if, task_takes, task_is_told, node_takes, node_hears, node_is_told, arrives, delivers, stops, restarts, step_effect, cut_step, delivery_is_cut, arrival_is_cut, hearing_is_cut, node_is_cut, event_effect}
+use Rattle.rp_model.specs.World.{World, Happening, part_at, nothing_happens, task_done, node_done_if, task_done_if, task_takes, task_is_told, node_takes, node_hears, node_is_told, arrives, delivers, stops, restarts, step_effect, cut_step, delivery_is_cut, arrival_is_cut, hearing_is_cut, node_is_cut, event_effect}
 use Rattle.rp_model.specs.declared.event.Event.{Event}
 use Rattle.rp_model.specs.declared.event.Event.TheVariants as events
 use Rattle.rp_model.specs.declared.event.Step.{Step}

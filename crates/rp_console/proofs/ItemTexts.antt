@@ -1,16 +1,14 @@
 -- The texts of items.
-use Rattle.std.proofs.Common.{◌≡◌, ℕ, suc, Option, Some, None, List, [], ◌∷◌, ◌++◌, refl, sym, ap, ◌∙◌, append_assoc, append-nil}
+use Rattle.std.proofs.Common.{◌≡◌, ℕ, Option, Some, None, List, [], ◌∷◌, ◌++◌, refl, sym, ap, ◌∙◌, append_assoc, append-nil}
 use Rattle.std.specs.Prelude.{flat_map}
 use Rattle.rp_base.specs.declared.reply.Answer.{Answer}
-use Rattle.rp_codec.specs.Message.{Message}
 use Rattle.rp_machine.specs.Replay.{one_to}
-use Rattle.rp_model.specs.declared.effect.Dropped.{Dropped}
 use Rattle.rp_model.specs.declared.event.Event.{Event}
 use Rattle.rp_model.specs.declared.event.Event.TheVariants.{Submit, Again, Node, Cut, Stop, Restart}
 use Rattle.rp_model.specs.Parts.{NodePart}
 use Rattle.rp_model.specs.World.{World, Happening, part_at}
 use Rattle.rp_console.specs.Items.{Item, Other, item_text, items_text}
-use Rattle.rp_console.specs.Output.{RunSetting, called_by, taken_items, taken_text, traced_text, changed_text, effect_text, happening_items, opened_text, dropped_text, node_of_event, part_items, part_text, nodes_items, nodes_text}
+use Rattle.rp_console.specs.Output.{RunSetting, called_by, taken_items, taken_text, changed_text, effect_text, opened_text, dropped_text, node_of_event, part_items, part_text, nodes_items, nodes_text}
 
 pub items_text-append : (xs ys : List Item) → items_text (xs ++ ys) ≡ items_text xs ++ items_text ys
 items_text-append [] ys = refl

@@ -1,5 +1,5 @@
 -- What is printed is what one order gives.
-use Rattle.std.proofs.Common.{◌≡◌, ◌⊎◌, ℕ, zero, suc, ◌-◌, ◌<◌, ◌≤◌, ◌^◌, min, Bool, true, Result, Ok, Err, OnOk, Option, Some, None, List, [], ◌∷◌, ◌++◌, map, length, take, arith, inl, inr, refl, sym, ap, subst, ◌∙◌, append_assoc, ◌+◌}
+use Rattle.std.proofs.Common.{◌≡◌, ℕ, zero, suc, ◌<◌, ◌≤◌, ◌^◌, Bool, true, Result, Ok, Err, OnOk, Option, Some, None, List, [], ◌∷◌, ◌++◌, map, length, take, arith, inl, inr, refl, sym, ap, subst, ◌∙◌, append_assoc, ◌+◌}
 use Rattle.std.specs.Prelude.{is_some, nat_eq, slice_get, if◌then◌else◌}
 use Rattle.std.proofs.Math.Seq.{take-append_seam}
 use Rattle.std.proofs.lemmas.Bool.Decides.{nat_tests}
@@ -16,7 +16,7 @@ use Rattle.rp_base.proofs.Members.{has_left, has_right, mapped_has, passes, set_
 use Rattle.rp_codec.specs.Message.{Message}
 use Rattle.rp_machine.specs.Calls.{CallName, calls_of, call_of}
 use Rattle.rp_machine.specs.Places.{IsPlace, HasReply}
-use Rattle.rp_machine.specs.Replay.{number_for, one_to, Replayed, unmoved, replay_of, replay_state, kept_of, replay_from, counts}
+use Rattle.rp_machine.specs.Replay.{number_for, one_to, Replayed, unmoved, replay_of, replay_state, kept_of, replay_from}
 use Rattle.rp_machine.proofs.Calling.{one_to_bound}
 use Rattle.rp_machine.proofs.Placing.{one_of_image}
 use Rattle.rp_machine.proofs.Replaying.{replay_from-append, goes_on_from}
@@ -24,14 +24,13 @@ use Rattle.rp_model.specs.Parts.{NodePart, TaskPart}
 use Rattle.rp_model.specs.World.{World, part_at}
 use Rattle.rp_world.specs.Agreeing.{IsOrdered}
 use Rattle.rp_agreement.specs.Answered.{named, calls_so_far, calls_by, AreMade, AreItsCalls}
-use Rattle.rp_agreement.specs.Order.{Begins}
 use Rattle.rp_agreement.proofs.Lists.{has_get}
 use Rattle.rp_console.specs.Agreeing.{call_for, HasReplyIn, IsShownBy, IsRepliedBy, IsPrinted, RunIsPrinted, RunAgrees, RunPrints}
-use Rattle.rp_console.specs.Items.{Item, Replied, Shown, Asked, asked_by}
+use Rattle.rp_console.specs.Items.{Item, Replied, Shown, asked_by}
 use Rattle.rp_console.specs.Output.{RunSetting, text_of, run_said}
 use Rattle.rp_console.specs.Stream.{Writes}
 use Rattle.rp_deck.specs.declared.deck.Line.{Line}
-use Rattle.rp_console.proofs.Recounting.{WasShown, WasTaken, WereMade, IsRecounted, run_recounts}
+use Rattle.rp_console.proofs.Recounting.{IsRecounted, run_recounts}
 
 -- ---- calls by their names
 

@@ -1,5 +1,5 @@
 -- What the items of a run are to its world: what was shown, taken and called.
-use Rattle.std.proofs.Common.{◌≡◌, ◌≢◌, ◌⊎◌, ℕ, zero, suc, ◌+◌, ◌-◌, ◌<◌, ◌≤◌, ◌^◌, min, Bool, true, false, cond, ◌&&◌, Result, Ok, Err, Option, Some, None, List, [], ◌∷◌, ◌++◌, length, replicate, arith, inl, inr, refl, sym, ap, subst, ◌∙◌, append_assoc, append-nil}
+use Rattle.std.proofs.Common.{◌≡◌, ◌≢◌, ◌⊎◌, ℕ, zero, suc, ◌+◌, ◌-◌, ◌^◌, min, Bool, true, false, cond, ◌&&◌, Result, Ok, Err, Option, Some, None, List, [], ◌∷◌, ◌++◌, length, replicate, arith, inl, inr, refl, sym, ap, subst, ◌∙◌, append_assoc, append-nil}
 use Rattle.std.specs.Prelude.{nat_eq, nat_le, slice_get, flat_map}
 use Rattle.std.specs.List.{cons_option}
 use Rattle.std.proofs.lemmas.Bool.{cases_eq}
@@ -16,12 +16,12 @@ use Rattle.rp_base.specs.declared.reply.Answer.{Answer}
 use Rattle.rp_base.proofs.Members.{has_split, has_left, has_right}
 use Rattle.rp_codec.specs.Message.{Message}
 use Rattle.rp_machine.specs.Replay.{one_to, replay_state}
-use Rattle.rp_model.specs.Effect.{Setting, Done}
+use Rattle.rp_model.specs.Effect.{Done}
 use Rattle.rp_model.specs.Events.{event_of}
 use Rattle.rp_model.specs.Growing.{Grows}
 use Rattle.rp_model.specs.Parts.{NodePart, Running, TaskPart, fresh_task}
 use Rattle.rp_model.specs.Tasks.{TaskInput, Submit, Again, Take as TakeMessage, asks}
-use Rattle.rp_model.specs.World.{World, Happening, part_at, with_part, task_done, opening_world, event_effect}
+use Rattle.rp_model.specs.World.{World, Happening, part_at, task_done, opening_world, event_effect}
 use Rattle.rp_model.specs.declared.event.Event.{Event}
 use Rattle.rp_model.specs.declared.event.Event.TheVariants.{Node as NodeStep}
 use Rattle.rp_model.specs.declared.event.Step.TheVariants.{Deliver}
@@ -32,11 +32,11 @@ use Rattle.rp_agreement.specs.Told.{Asks}
 use Rattle.rp_agreement.proofs.PartPlaces.{part_below, put_there, put_beside}
 use Rattle.rp_console.specs.Agreeing.{call_for}
 use Rattle.rp_console.specs.Items.{Item, Called, Replied, Shown, Other, Asked, asked_in, asked_by}
-use Rattle.rp_console.specs.Output.{RunSetting, Play, Said, nothing_said, line_said, and_then, called_by, taken_items, happening_items, traced_text, changed_text, state_item, part_items, nodes_items, least_unsettled, effect_of, effect_said, event_said, drain_from, command_said, script_said, opening_play, run_said, from_to}
+use Rattle.rp_console.specs.Output.{RunSetting, Play, Said, nothing_said, line_said, and_then, called_by, taken_items, traced_text, changed_text, state_item, part_items, nodes_items, least_unsettled, effect_of, effect_said, event_said, drain_from, command_said, script_said, opening_play, run_said, from_to}
 use Rattle.rp_console.specs.Printed.{refused_line_of, limit_line_of}
 use Rattle.rp_console.specs.Status.{with_line_feed}
 use Rattle.rp_console.specs.Trace.{task_name}
-use Rattle.rp_console.proofs.Acting.{made_by, calls_as, IsForNone, IsForTask, IsFor, event_is_for, StepsOn, task_steps_on}
+use Rattle.rp_console.proofs.Acting.{made_by, calls_as, IsForNone, IsFor, event_is_for, StepsOn, task_steps_on}
 use Rattle.rp_console.proofs.Refusing.{part_there}
 use Rattle.rp_deck.specs.declared.deck.Command.{Command}
 use Rattle.rp_deck.specs.declared.deck.Command.TheVariants.{Take, Lose, Drain, Show}

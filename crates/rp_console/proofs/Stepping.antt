@@ -1,11 +1,14 @@
 -- A step of a run.
-use Rattle.std.proofs.Common.{inl, inr, ◌≡◌, ℕ, ◌≤◌, Result, Ok, Err, List, length, OnOk, arith, sym, ap, subst, ◌∙◌}
+use Rattle.std.proofs.Common.{inl, inr, ◌≡◌, ℕ, zero, suc, ◌≤◌, Option, Some, None, Result, Ok, Err, List, length, OnOk, arith, sym, ap, subst, ◌∙◌}
+use Rattle.std.specs.Prelude.{All, IfErr, IsErrAnd}
+use Rattle.std.proofs.lemmas.Option.{get_or_from_slice_get, slice_get_within}
+use Rattle.std.proofs.lemmas.Result.{IfErr-weaker}
 use Rattle.std.proofs.lemmas.List.{length-replicate}
 use Rattle.rp_base.specs.Fault.{code_of}
 use Rattle.rp_base.specs.declared.action.Action.{Action}
 use Rattle.rp_base.specs.declared.config.Config.{Config}
 use Rattle.rp_base.specs.declared.fault.Fault.{Fault}
-use Rattle.rp_base.specs.declared.fault.Fault.TheVariants.{OutOfMemory, Device}
+use Rattle.rp_base.specs.declared.fault.Fault.TheVariants.{OutOfMemory, Device, Failed, BadPacket, NotRunning, BallotsSpent, LogFull, NoSuchMessage, TaskBusy, NumbersSpent, BadDeck, BadConfig, Io}
 use Rattle.rp_base.specs.declared.reply.Answer.{Answer}
 use Rattle.rp_model.specs.declared.effect.Effect.{Effect}
 use Rattle.rp_model.specs.declared.event.Event.{Event}
@@ -13,9 +16,11 @@ use Rattle.rp_model.specs.Answers.{IsDone, IsFaulted, IsRefused}
 use Rattle.rp_model.specs.Effect.{Setting}
 use Rattle.rp_model.specs.Events.{event_of}
 use Rattle.rp_model.specs.Parts.{fresh_node, fresh_task}
-use Rattle.rp_model.specs.World.{World, Happening, event_effect, opening_world}
+use Rattle.rp_model.specs.World.{World, Happening, event_effect, node_of, opening_world, part_at}
+use Rattle.rp_agreement.proofs.PartPlaces.{put_there}
+use Rattle.rp_world.specs.Failures.{AreCounted, RisesAt, RisesOnly}
 use Rattle.rp_world.specs.Steps.{Setup, IsSameSetup, setting_of}
-use Rattle.rp_console.specs.Faults.{IsRunFault}
+use Rattle.rp_console.specs.Faults.{IsDeviceRunFault, IsRunFault}
 use Rattle.rp_console.specs.Runs.{HasParts, run_setting}
 use Rattle.rp_deck.specs.Script.{IsEventWithin}
 use Rattle.rp_console.specs.declared.options.RunOptions.{RunOptions}
@@ -29,6 +34,14 @@ always_ok (Err fault) p = tt
 kept_lengths : (w : World) (answer : Result Happening Fault) (happening : Happening) → answer ≡ Ok happening → Keeps w answer
     → (length happening.world.nodes ≡ length w.nodes) × (length happening.world.tasks ≡ length w.tasks)
 kept_lengths w answer happening is keeps = subst (Keeps w) is keeps
+
+-- how a fault leaves the counts of failures
+abbrev pub FailsAsCounted : Option ℕ → List ℕ → List ℕ → Fault → Type 0
+FailsAsCounted me before after fault = let answer : Result Effect Fault = Err fault in AreCounted me before after answer
+
+rises_somewhere : (me : Option ℕ) (before after : List ℕ) → RisesOnly me before after → (node : ℕ) × RisesAt node before after
+rises_somewhere None before after rises = absurd rises
+rises_somewhere (Some me) before after rises = (me, rises)
 
 module _ {S P : Type 0} (next : S → Action → S) (answers : S → Action → List Answer) (start : P → S) (nodes : ℕ) (old new : Setup P) (event : Event)
     (parts : HasParts nodes old) (fits : IsEventWithin nodes 8 8 event) where
@@ -55,10 +68,47 @@ module _ {S P : Type 0} (next : S → Action → S) (answers : S → Action → 
   }
 
   -- a fault that is no refusal ends the run
-  pub ends_with : (fault : Fault) → IsFaulted (setting_of next answers start old) old.world (event_of event) new.world fault → (IsNumbered fault → ⊥) → IsRunFault fault
-  ends_with fault (inl refused) other = absurd (other (subst (Keeps old.world) refused.refusal keeps))
-  ends_with fault (inr (inl memory)) other = subst IsRunFault (sym memory.0) tt
-  ends_with fault (inr (inr device)) other = subst IsRunFault (sym device.0) tt
+  pub ends_with : (fault : Fault) → IsFaulted (setting_of next answers start old) old.world (event_of event) new.world fault → (IsNumbered fault → ⊥)
+      → FailsAsCounted (node_of old.world (event_of event)) old.failures new.failures fault → IsDeviceRunFault old.failures new.failures fault
+  ends_with fault (inl refused) other counted = absurd (other (subst (Keeps old.world) refused.refusal keeps))
+  ends_with fault (inr (inl memory)) other counted = inl (subst IsRunFault (sym memory.0) tt)
+  ends_with fault (inr (inr device)) other counted =
+      let me = node_of old.world (event_of event) in
+      let rises = rises_somewhere me old.failures new.failures (subst (FailsAsCounted me old.failures new.failures) device.0 counted) in
+      inr (device.0, rises.0, rises.1)
+
+-- counts that have not changed are the same where all goes well, and then a refusal is as counted
+pub refused_counts : (me : Option ℕ) (before after : List ℕ) (fault : Fault) → 5 ≤ code_of fault → FailsAsCounted me before after fault → after ≡ before
+refused_counts me before after OutOfMemory numbered counted = counted
+refused_counts me before after Device numbered counted = absurd (omega (arith, numbered))
+refused_counts me before after Failed numbered counted = counted
+refused_counts me before after (BadPacket reason) numbered counted = counted
+refused_counts me before after NotRunning numbered counted = counted
+refused_counts me before after BallotsSpent numbered counted = counted
+refused_counts me before after LogFull numbered counted = counted
+refused_counts me before after NoSuchMessage numbered counted = counted
+refused_counts me before after TaskBusy numbered counted = counted
+refused_counts me before after NumbersSpent numbered counted = counted
+refused_counts me before after (BadDeck line reason) numbered counted = counted
+refused_counts me before after BadConfig numbered counted = counted
+refused_counts me before after Io numbered counted = counted
+
+-- a fault that ends a run in memory ends one over devices
+pub ends_over : (before after : List ℕ) (answer : Result Unit Fault) → IfErr answer IsRunFault → IfErr answer (IsDeviceRunFault before after)
+ends_over before after answer ended = IfErr-weaker answer _ _ (λ fault run. inl run) ended
+
+-- what is so of all counts is so of each
+count_at : (Q : ℕ → Type 0) (counts : List ℕ) (place count : ℕ) → part_at counts place ≡ Some count → All Q counts → Q count
+count_at Q counts zero count is all = absurd (cc)
+count_at Q counts (suc i) count is all = subst Q (get_or_from_slice_get counts i count count is) (all i count (slice_get_within counts i count is))
+
+-- no count rises where all are 0
+pub never_rises : (before after : List ℕ) (fault : Fault) → All (λ count. count ≡ 0) after → IsDeviceRunFault before after fault → IsRunFault fault
+never_rises before after fault none (inl run) = run
+never_rises before after fault none (inr (is, node, rises)) =
+    let there : part_at after node ≡ Some rises.after = ap (λ (l : List ℕ). part_at l node) rises.others ∙ put_there before node rises.before rises.after rises.was in
+    let zero : rises.after ≡ 0 = count_at (λ count. count ≡ 0) after node rises.after there none in
+    absurd (omega (arith, zero, rises.rose))
 
 -- a fault with one of the numbers of refusals is a refusal
 pub refused_of : {S : Type 0} (s : Setting S) (w left : World) (event : Event) (fault : Fault) → IsFaulted s w (event_of event) left fault → 5 ≤ code_of fault → IsRefused s w (event_of event) left fault
@@ -88,3 +138,8 @@ opening_parts nodes cluster config opened = record {
   nodes_there = ap (λ (w : World). length w.nodes) opened ∙ length-replicate nodes fresh_node;
   tasks = ap (λ (w : World). length w.tasks) opened ∙ length-replicate 8 fresh_task;
 }
+
+-- what is so of a fault is so of an answer that fails by it
+pub faulted : (Q : Fault → Type 0) (fault : Fault) (answer : Result Unit Fault) → IsErrAnd answer (λ e. e ≡ fault) → Q fault → IfErr answer Q
+faulted Q fault (Ok done) is q = tt
+faulted Q fault (Err other) is q = subst Q (sym is) q

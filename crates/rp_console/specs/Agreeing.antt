@@ -11,8 +11,9 @@ use Rattle.rp_machine.specs.Replay.{replay_state}
 use Rattle.rp_model.specs.World.{World, part_at}
 use Rattle.rp_world.specs.Agreeing.{Agree, IsOrdered}
 use Rattle.rp_console.specs.Items.{Item, Replied, Shown, Asked, asked_by, items_text}
-use Rattle.rp_console.specs.Output.{RunSetting, run_said, drain_limit, tally_run, objects_run}
+use Rattle.rp_console.specs.Output.{RunSetting, run_said, drain_limit, output_of, tally_run, objects_run}
 use Rattle.rp_console.specs.Trace.{task_name}
+use Rattle.rp_deck.specs.Deck.{IsRightDeck}
 use Rattle.rp_deck.specs.declared.deck.Deck.{Deck}
 use Rattle.rp_deck.specs.declared.deck.DeckProgram.{DeckProgram}
 use Rattle.rp_deck.specs.declared.deck.DeckProgram.TheVariants.{Tally, Objects}
@@ -81,3 +82,7 @@ PrintsAt traced deck old new (Objects program) = RunPrints (objects_run traced d
 
 abbrev pub DeckPrints : Bool → Deck → Option (List ℕ) → Option (List ℕ) → Type 0
 DeckPrints traced deck old new = PrintsAt traced deck old new deck.program
+
+-- what a run of a script prints: the output of some right deck, of which the same is so
+abbrev pub ScriptPrints : Bool → Option (List ℕ) → Option (List ℕ) → Type 0
+ScriptPrints traced old new = (deck : Deck) × IsRightDeck deck × Appends old new (output_of traced deck) × DeckPrints traced deck old new

@@ -5,6 +5,8 @@ use Rattle.std.specs.Str.Parse.{IsNumeral, digits_value, without_leading_plus}
 use Rattle.clap.specs.Words.{App, Rule, Shape, Text, new_app, new_rule, one_of, subcommand_of, with_rule, with_subcommand}
 use Rattle.clap.specs.Simple.{on_top}
 use Rattle.clap.specs.declared.builder.action.ArgAction.TheVariants.{SetTrue}
+use Rattle.clap.specs.declared.error.kind.ErrorKind.{ErrorKind}
+use Rattle.clap.specs.declared.error.kind.ErrorKind.TheVariants.{DisplayHelp, OutOfMemory}
 use Rattle.clap.specs.declared.builder.value_parser.ValueParser.TheVariants.{Signed}
 use Rattle.rp_console.specs.declared.args.Args.{Args}
 use Rattle.rp_console.specs.declared.args.Args.TheVariants.{Script, Live}
@@ -78,3 +80,9 @@ pub record IsNumberText (text : Text) (number : ℕ) : Type 0 where
 abbrev pub ReadsAs : Option Text → ℕ → Type 0
 ReadsAs None number = ⊥
 ReadsAs (Some text) number = IsNumberText text number
+
+-- the status after words that are not read: 0 behind help, 4 where memory ran out, else 2
+abbrev pub words_status_of : ErrorKind → ℕ
+words_status_of OutOfMemory = 4
+words_status_of DisplayHelp = 0
+words_status_of _ = 2

@@ -1,12 +1,13 @@
 -- Which faults end a run, and the program.
-use Rattle.std.specs.Prelude.{◌≡◌, ◌⊎◌}
+use Rattle.std.specs.Prelude.{◌≡◌, ◌⊎◌, ℕ, List}
 use Rattle.rp_base.specs.declared.fault.Fault.{Fault}
 use Rattle.rp_base.specs.declared.fault.Fault.TheVariants.{OutOfMemory, Device, Failed, BadPacket, NotRunning, BallotsSpent, LogFull, NoSuchMessage, TaskBusy, NumbersSpent, BadDeck, BadConfig, Io}
+use Rattle.rp_world.specs.Failures.{RisesAt}
 
--- a fault that ends a run: memory ran out, a device failed, or a write did
+-- a fault that ends a run in memory: memory ran out, or a write failed
 abbrev pub IsRunFault : Fault → Type 0
 IsRunFault OutOfMemory = Unit {0}
-IsRunFault Device = Unit {0}
+IsRunFault Device = ⊥
 IsRunFault Failed = ⊥
 IsRunFault (BadPacket reason) = ⊥
 IsRunFault NotRunning = ⊥
@@ -35,14 +36,11 @@ IsBadDeck (BadDeck line reason) = Unit {0}
 IsBadDeck BadConfig = ⊥
 IsBadDeck Io = ⊥
 
+-- A fault that ends a run over devices, by the counts of their failures before and after: one that ends a run
+-- in memory, or one of a device, whose count is then higher.
+abbrev pub IsDeviceRunFault : List ℕ → List ℕ → Fault → Type 0
+IsDeviceRunFault before after fault = IsRunFault fault ⊎ ((fault ≡ Device) × (node : ℕ) × RisesAt node before after)
+
 -- a fault that ends the program: a bad deck, or one that ends a run
-abbrev pub IsScriptFault : Fault → Type 0
-IsScriptFault fault = IsBadDeck fault ⊎ IsRunFault fault
-
--- a fault that ends a run in threads: one that ends a run, or a device that failed before
-abbrev pub IsThreadsFault : Fault → Type 0
-IsThreadsFault fault = IsRunFault fault ⊎ (fault ≡ Failed)
-
--- and a fault that ends the program where it runs so
-abbrev pub IsLiveModeFault : Fault → Type 0
-IsLiveModeFault fault = IsBadDeck fault ⊎ IsThreadsFault fault
+abbrev pub IsProgramFault : Fault → Type 0
+IsProgramFault fault = IsBadDeck fault ⊎ IsRunFault fault

@@ -1,5 +1,5 @@
 -- What a run does that its reader sees, item by item (this project's own).
-use Rattle.std.specs.Prelude.{ℕ, ℤ, nat_eq, Option, Some, None, List, [], ◌∷◌, ◌++◌, filter_map, flat_map, if◌then◌else◌}
+use Rattle.std.specs.Prelude.{ℕ, ℤ, nat_eq, Option, Some, None, List, [], ◌++◌, filter_map, flat_map, if◌then◌else◌}
 use Rattle.rp_base.specs.declared.action.Operation.{Operation}
 use Rattle.rp_base.specs.declared.reply.Answer.{Answer}
 use Rattle.rp_console.specs.Printed.{reply_line_of, applied_line_of}

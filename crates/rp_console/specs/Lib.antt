@@ -1,6 +1,8 @@
 pub mod Agreeing
 pub mod CommandLine
+pub mod Console
 pub mod Faults
+pub mod Figures
 pub mod Items
 pub mod LiveOutput
 pub mod LiveRun

@@ -1,5 +1,5 @@
 -- What is told of a fault (this project's own).
-use Rattle.std.specs.Prelude.{ℕ, List, [], ◌∷◌, ◌++◌, codes, decimal}
+use Rattle.std.specs.Prelude.{ℕ, Result, Ok, Err, List, [], ◌∷◌, ◌++◌, codes, decimal}
 use Rattle.rp_base.specs.Fault.{code_of, name_of}
 use Rattle.rp_base.specs.declared.fault.Fault.{Fault}
 use Rattle.rp_base.specs.declared.fault.Fault.TheVariants.{BadDeck}
@@ -10,6 +10,11 @@ use Rattle.rp_base.specs.declared.fault.DeckReason.TheVariants.{NodesExpected, U
 abbrev pub status_of : Fault → ℕ
 status_of (BadDeck line reason) = 3
 status_of _ = 4
+
+-- the status after a run: 0 where it had no fault
+abbrev pub status_after : {A : Type 0} → Result A Fault → ℕ
+status_after (Ok done) = 0
+status_after (Err fault) = status_of fault
 
 -- the words of a reason
 abbrev pub reason_text_of : DeckReason → List ℕ

@@ -1,9 +1,9 @@
 //! What the words of the command line ask for.
 
-ghost use Rattle.std.specs.Prelude.{◌≡◌, ◌≢◌, ℕ, Some, true, false, codes, IfOk, map, option_map};
+ghost use Rattle.std.specs.Prelude.{◌≡◌, ℕ, Some, true, false, codes, IfOk, map, option_map};
 ghost use Rattle.clap.specs.Words.{app_of, kind_of, subcommand_of, fault_of, found_of, one_text, FailsBy};
 ghost use Rattle.clap.specs.declared.builder.command.Command.TheViews.{out-Command};
-ghost use Rattle.rp_console.specs.CommandLine.{console, script, live, name_of, trace_of, seed_of, turns_of, ReadsAs};
+ghost use Rattle.rp_console.specs.CommandLine.{console, script, live, name_of, trace_of, seed_of, turns_of, words_status_of, ReadsAs};
 
 use clap::error::ErrorKind;
 use clap::{Arg, ArgAction, ArgMatches, Command, Error, value_parser};
@@ -117,11 +117,7 @@ fn number_of(found: &ArgMatches<'_>, id: &str) -> u32
 
 /// The status that the program ends with where its words were not read.
 pub fn words_status(error: &Error) -> u8
-    ensures memory { kind_of error.now ≡ ErrorKind.OutOfMemory → result ≡ 4 }
-    ensures help { kind_of error.now ≡ ErrorKind.DisplayHelp → result ≡ 0 }
-    ensures mistake { kind_of error.now ≢ ErrorKind.OutOfMemory
-        → kind_of error.now ≢ ErrorKind.DisplayHelp
-        → result ≡ 2 }
+    ensures { result ≡ words_status_of (kind_of error.now) }
 {
     match error.kind() {
         ErrorKind::OutOfMemory => 4,

@@ -1,13 +1,11 @@
 //! Runs the script of a deck.
 
 ghost use Rattle.std.specs.Prelude.{◌≡◌, ◌≤◌, [], length, All, IfOk, IfErr, OnOk};
-ghost use Rattle.std.specs.Io.KnownBytes.{Appends};
-ghost use Rattle.rp_console.specs.Agreeing.{DeckPrints};
+ghost use Rattle.rp_console.specs.Agreeing.{DeckPrints, ScriptPrints};
 ghost use Rattle.rp_deck.specs.Deck.{IsRightDeck};
-ghost use Rattle.rp_console.specs.Faults.{IsBadDeck, IsRunFault, IsScriptFault};
+ghost use Rattle.rp_console.specs.Faults.{IsBadDeck, IsRunFault, IsProgramFault};
 ghost use Rattle.rp_console.specs.Output.{output_of};
 ghost use Rattle.rp_console.specs.Stream.{Writes};
-ghost use Rattle.rp_deck.specs.declared.deck.Deck.{Deck};
 
 use crate::agreeing::scripts_agree;
 use crate::options::RunOptions;
@@ -32,11 +30,11 @@ pub fn run_script<R: Read, W: Write>(
     traced: bool,
     writer: &mut W,
 ) -> Result<(), Fault>
-    ensures output { OnOk result ((deck : Deck) × IsRightDeck deck × Appends
-        (W.contents writer.old) (W.contents writer.new) (output_of traced deck)) }
+    ensures output { OnOk result (ScriptPrints traced
+        (W.contents writer.old) (W.contents writer.new)) }
     ensures bad { IfErr result (λ fault. IsBadDeck fault
         → W.contents writer.new ≡ W.contents writer.old) }
-    ensures fault { IfErr result IsScriptFault }
+    ensures fault { IfErr result IsProgramFault }
 {
     let text = read_whole(alloc, reader)?;
     let deck = read_deck(alloc, &text, Mode::Script)?;
@@ -44,8 +42,8 @@ pub fn run_script<R: Read, W: Write>(
 }
 
 /// Runs the script of a deck, and writes what it prints. A fault ends the run where it comes, and then a
-/// beginning of that is written: `OutOfMemory`, `Device`, or `Io` where the writer fails. One order of
-/// actions gives all states and replies that are written, and after any two lines nodes agree.
+/// beginning of that is written: `OutOfMemory`, or `Io` where the writer fails. One order of actions
+/// gives all states and replies that are written, and after any two lines nodes agree.
 pub fn run_deck<W: Write>(
     alloc: Global,
     deck: Deck,

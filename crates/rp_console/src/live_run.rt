@@ -2,11 +2,8 @@
 
 ghost use Rattle.std.specs.Prelude.{◌≡◌, All, IfErr, IfOk, OnOk};
 ghost use Rattle.std.specs.Arc.{arc_value};
-ghost use Rattle.std.specs.Io.KnownBytes.{Appends};
-ghost use Rattle.rp_console.specs.Faults.{IsBadDeck, IsLiveModeFault, IsThreadsFault};
-ghost use Rattle.rp_console.specs.LiveOutput.{lived_text};
-ghost use Rattle.rp_console.specs.LiveRun.{MayCome, event_of, events_of};
-ghost use Rattle.rp_console.specs.Output.{names_of};
+ghost use Rattle.rp_console.specs.Faults.{IsBadDeck, IsProgramFault, IsRunFault};
+ghost use Rattle.rp_console.specs.LiveRun.{LivePrints, MayCome, event_of, events_of};
 ghost use Rattle.rp_base.specs.Config.{IsRightConfig};
 ghost use Rattle.rp_object.specs.State.{first_state};
 ghost use Rattle.rp_object.specs.Step.{objects_next, objects_answers};
@@ -15,9 +12,8 @@ ghost use Rattle.rp_live.specs.Faults.{IsLiveFault};
 ghost use Rattle.rp_live.specs.Lived.{IsLived};
 ghost use Rattle.rp_deck.specs.Deck.{IsRightDeck};
 ghost use Rattle.rp_deck.specs.Live.{IsDeckFor};
-ghost use Rattle.rp_deck.specs.declared.deck.Deck.{Deck};
-ghost use Rattle.rp_live.specs.declared.run.Lived.{Lived};
 
+use crate::figures::{FiguresLine, milliseconds_since};
 use crate::live_output::tell_lived;
 use crate::stream::read_whole;
 use rp_base::{Config, Fault};
@@ -30,30 +26,38 @@ use std::alloc::{AllocError, Global};
 use std::io::{Read, Write};
 use std::sync::Wait;
 use std::thread::Threads;
+use std::time::{Clock, Instant};
 
 /// Reads a deck, runs its nodes and tasks in threads for so many turns each, and then prints what
-/// came of it. Which packets are lost, repeated and reordered follows from the seed. Nothing runs
-/// where the deck is bad; where the writer fails, a beginning of what came of it was written.
-pub fn run_live<T: Threads + Wait, R: Read, W: Write>(
+/// came of it. Which packets are lost, repeated and reordered follows from the seed. It returns how
+/// the run went, in figures. Nothing runs where the deck is bad; where the writer fails, a beginning
+/// of what came of it was written.
+pub fn run_live<T: Threads + Wait + Clock, R: Read, W: Write>(
     rt: &T,
     alloc: Global,
     reader: &mut R,
     seed: u32,
     turns: u32,
     writer: &mut W,
-) -> Result<(), Fault>
-    ensures output { OnOk result ((deck : Deck) × IsRightDeck deck × IsDeckFor Mode.Live deck
-        × ((lived : Lived) × MayCome deck lived × Appends
-        (W.contents writer.old) (W.contents writer.new)
-        (lived_text (names_of deck.tasks) lived))) }
+) -> Result<FiguresLine, Fault>
+    ensures output { OnOk result (LivePrints seed turns
+        (W.contents writer.old) (W.contents writer.new)) }
     ensures bad { IfErr result (λ fault. IsBadDeck fault
         → W.contents writer.new ≡ W.contents writer.old) }
-    ensures fault { IfErr result IsLiveModeFault }
+    ensures fault { IfErr result IsProgramFault }
 {
     let text = read_whole(alloc, reader)?;
     let deck = read_deck(alloc, &text, Mode::Live)?;
+    let begun = Instant::now(rt);
     let lived = live_deck(rt, alloc, &deck, seed, turns)?;
-    tell_lived(alloc, &deck.tasks, &lived, writer)
+    let milliseconds = milliseconds_since(rt, begun);
+    match tell_lived(alloc, &deck.tasks, &lived, writer) {
+        Ok(()) => Ok(FiguresLine {
+            figures: lived.figures,
+            milliseconds,
+        }),
+        Err(fault) => Err(fault),
+    }
 }
 
 /// Runs a deck in threads.
@@ -66,8 +70,8 @@ fn live_deck<T: Threads + Wait>(
 ) -> Result<Lived, Fault>
     requires right { IsRightDeck deck.now }
     requires live { IsDeckFor Mode.Live deck.now }
-    ensures lived { IfOk result (MayCome deck.now) }
-    ensures fault { IfErr result IsThreadsFault }
+    ensures lived { IfOk result (MayCome deck.now seed turns) }
+    ensures fault { IfErr result IsRunFault }
 {
     let events = events_of(alloc, deck.script.as_slice())?;
     let turns = u64::from(turns);
@@ -94,7 +98,8 @@ fn live_objects<T: Threads + Wait>(
     requires config { IsRightConfig config }
     requires events { All (IsLive config.nodes) events.now }
     ensures lived { IfOk result (IsLived objects_next objects_answers
-        (first_state (arc_value program.now.declarations)) config.nodes) }
+        (λ program. first_state (arc_value program.declarations))
+        config program.now events.now seed turns) }
     ensures only { IfErr result IsLiveFault }
 {
     live::<T, Objects>(rt, alloc, config, program, events, seed, turns)

@@ -1,4 +1,4 @@
-//! Runs the lines of a script, at any machine and over any devices.
+//! Runs the lines of a script, at any machine and over any devices that never fail.
 
 ghost use Rattle.std.specs.Prelude.{◌≡◌, ◌≤◌, ◌<◌, ◌^◌, [], length, All, IfErr, OnOk};
 ghost use Rattle.rp_model.specs.World.{part_at};
@@ -7,7 +7,7 @@ ghost use Rattle.rp_deck.specs.Script.{FitsIn, IsEventWithin};
 ghost use Rattle.rp_console.specs.Output.{Play, event_said, lost, drained, part_text, nodes_text, command_said, run_said, text_of};
 ghost use Rattle.rp_console.specs.Runs.{run_setting, opening_setup, HasParts, Follows, Says};
 ghost use Rattle.rp_console.specs.Stream.{Writes};
-ghost use Rattle.rp_console.specs.Faults.{IsRunFault};
+ghost use Rattle.rp_console.specs.Faults.{IsDeviceRunFault, IsRunFault};
 
 use crate::effects::tell_effect;
 use crate::options::RunOptions;
@@ -19,15 +19,15 @@ use rp_base::{Fault, NodeId};
 use rp_deck::{Command, Line};
 use rp_machine::Machine;
 use rp_model::{Event, Step, worlds_grow};
-use rp_store::CutDevice;
+use rp_store::{CutDevice, InfallibleDevice};
 use rp_world::Cluster;
 use std::alloc::Global;
 use std::io::Write;
 
-/// Runs the lines of a script over a cluster of new devices, and writes what they print. A fault ends the
-/// run where it comes, and then a beginning of that is written: `OutOfMemory`, `Device`, or `Io` where
-/// the writer fails.
-pub fn run_lines<M: Machine, D: CutDevice, W: Write>(
+/// Runs the lines of a script over a cluster of new devices that never fail, and writes what they print.
+/// A fault ends the run where it comes, and then a beginning of that is written: `OutOfMemory`, or `Io`
+/// where the writer fails.
+pub fn run_lines<M: Machine, D: CutDevice + InfallibleDevice, W: Write>(
     alloc: Global,
     options: &RunOptions<'_>,
     program: M::Program,
@@ -49,7 +49,9 @@ pub fn run_lines<M: Machine, D: CutDevice, W: Write>(
         settled: Settled::new(alloc),
     };
     for line in lines {
-        run.take(alloc, options, line, writer)?;
+        let taken = run.take(alloc, options, line, writer);
+        run.cluster.never_failed();
+        taken?;
     }
     Ok(())
 }
@@ -74,12 +76,14 @@ impl<M: Machine, D: CutDevice> Run<M, D> {
         requires line { FitsIn options.now.config.nodes 8 8 line.now.command }
         ensures parts { OnOk result (HasParts options.now.config.nodes self.new.cluster) }
         ensures setup { IsSameSetup self.old.cluster self.new.cluster }
+        ensures counts { OnOk result (self.new.cluster.failures ≡ self.old.cluster.failures) }
         ensures said { (play : Play) → Follows self.old.cluster.world self.old.settled play
             → Says self.new.cluster.world self.new.settled
             (W.contents writer.old) (W.contents writer.new)
             (command_said (run_setting M.next M.answers M.begin M.image self.old.cluster options.now)
             options.now.most line.now.number play line.now.command) result }
-        ensures fault { IfErr result IsRunFault }
+        ensures fault { IfErr result (IsDeviceRunFault self.old.cluster.failures
+            self.new.cluster.failures) }
     {
         let number = line.number;
         match line.command {
@@ -103,12 +107,14 @@ impl<M: Machine, D: CutDevice> Run<M, D> {
         requires event { IsEventWithin options.now.config.nodes 8 8 event.now }
         ensures parts { OnOk result (HasParts options.now.config.nodes self.new.cluster) }
         ensures setup { IsSameSetup self.old.cluster self.new.cluster }
+        ensures counts { OnOk result (self.new.cluster.failures ≡ self.old.cluster.failures) }
         ensures said { (play : Play) → Follows self.old.cluster.world self.old.settled play
             → Says self.new.cluster.world self.new.settled
             (W.contents writer.old) (W.contents writer.new)
             (event_said (run_setting M.next M.answers M.begin M.image self.old.cluster options.now)
             line play event.now) result }
-        ensures fault { IfErr result IsRunFault }
+        ensures fault { IfErr result (IsDeviceRunFault self.old.cluster.failures
+            self.new.cluster.failures) }
     {
         worlds_grow::<M>();
         match self.cluster.step(alloc, event) {
@@ -157,12 +163,14 @@ impl<M: Machine, D: CutDevice> Run<M, D> {
         requires parts { HasParts options.now.config.nodes self.old.cluster }
         ensures parts { OnOk result (HasParts options.now.config.nodes self.new.cluster) }
         ensures setup { IsSameSetup self.old.cluster self.new.cluster }
+        ensures counts { OnOk result (self.new.cluster.failures ≡ self.old.cluster.failures) }
         ensures said { (play : Play) → Follows self.old.cluster.world self.old.settled play
             → Says self.new.cluster.world self.new.settled
             (W.contents writer.old) (W.contents writer.new)
             (drained (run_setting M.next M.answers M.begin M.image self.old.cluster options.now)
             line options.now.most play) result }
-        ensures fault { IfErr result IsRunFault }
+        ensures fault { IfErr result (IsDeviceRunFault self.old.cluster.failures
+            self.new.cluster.failures) }
     {
         for delivered in 0..options.most {
             let message = self.settled.least();

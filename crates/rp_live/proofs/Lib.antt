@@ -1,4 +1,8 @@
 pub mod Running
 pub mod Seating
+pub mod Noting
+pub mod Zips
 pub mod Reporting
-pub mod Meeting
+pub mod Counting
+pub mod Loops
+pub mod Living

@@ -1,13 +1,12 @@
--- A node that runs goes on running, and refuses neither notes nor reports.
-use Rattle.std.proofs.Common.{◌≡◌, ◌⊎◌, ℕ, Option, Some, None, Result, Ok, Err, List, inl, inr, refl, sym, ap, subst, ◌∙◌}
-use Rattle.std.specs.Prelude.{IsSome}
+-- A node that runs goes on running; where no call of its device fails, it refuses notes and reports for want of memory alone.
+use Rattle.std.proofs.Common.{◌≡◌, ◌⊎◌, ℕ, Option, Some, None, Result, Ok, Err, List, inl, inr, refl, sym, ap, subst, ◌∙◌, arith}
+use Rattle.std.specs.Prelude.{IsSome, IfErr, IsOkUnless}
 use Rattle.rp_base.specs.declared.action.Action.{Action}
 use Rattle.rp_base.specs.declared.fault.Fault.{Fault}
 use Rattle.rp_base.specs.declared.fault.Fault.TheVariants.{OutOfMemory}
 use Rattle.rp_base.specs.declared.reply.Answer.{Answer}
-use Rattle.rp_boxes.specs.Making.{IsWanting}
 use Rattle.rp_boxes.specs.Parts.{Part, Role, OfNode}
-use Rattle.rp_boxes.specs.Seats.{Chair, IsGot, IsReason, IsTurn, IsCutTurn, IsNoTurn, setting_at}
+use Rattle.rp_boxes.specs.Seats.{Chair, IsGot, IsReason, IsStopped, IsTurn, IsCutTurn, IsNoTurn, setting_at}
 use Rattle.rp_model.specs.Effect.{Setting, Done, NodeInput, Receive, Lead, Interrupt, Tick, Report, turned, turned_if, effect_while, running_effect}
 use Rattle.rp_model.specs.Parts.{NodePart, Running, Turn}
 use Rattle.rp_replica.specs.Inputs.{IsRightInput, given_by}
@@ -45,10 +44,20 @@ module _ {S : Type 0} (s : Setting S) (me : ℕ) (node : NodePart) where
   only_memory (Tick now) (Some running) fault taken runs why = why
   only_memory (Report first) (Some running) fault taken runs why = why
 
+none_runs : (running : Option Running) → IsSome running → running ≡ None → ⊥
+none_runs None some none = absurd (cc)
+none_runs (Some running) some none = absurd (cc)
+
 -- ---- its seat
 
 pub same_node : (role : Role) (a b : NodePart) → role ≡ OfNode a → role ≡ OfNode b → a ≡ b
 same_node role a b is_a is_b = let e : OfNode a ≡ OfNode b = sym is_a ∙ is_b in cc
+
+-- a node that runs is not stopped
+pub not_stopped : (part : Part) → Runs part → IsStopped part → ⊥
+not_stopped part runs stopped =
+    let same : runs.0 ≡ stopped.0 = same_node part.role runs.0 stopped.0 runs.1 stopped.1 in
+    none_runs stopped.0.running (subst (λ (n : NodePart). IsSome n.running) same runs.2) stopped.2
 
 module _ {S P : Type 0} (next : S → Action → S) (answers : S → Action → List Answer) (begin : P → S) (old new : Chair P) where
   pub turn_runs : (input : Input) (sent : Sent) → IsTurn next answers begin old input new sent → Runs new.part
@@ -58,19 +67,21 @@ module _ {S P : Type 0} (next : S → Action → S) (answers : S → Action → 
     while_runs (setting_at next answers begin old) old.number t.node t.given t.node.running t.done t.comes,
   )
 
-  -- where it runs and takes the input, only memory or the device may be wanting
-  stops_wanting : (input : Input) (fault : Fault) → ((given : NodeInput) → given_by input ≡ Ok given → IsTaken given) → Runs old.part
-      → IsCutTurn next answers begin old input new fault ⊎ IsNoTurn next answers begin old input new fault → IsWanting fault
-  stops_wanting input fault taken runs (inl cut) = inr cut.device
-  stops_wanting input fault taken runs (inr none) =
+  -- where it runs and takes the input, and no call of its device failed, memory ran out
+  stops_memory : (input : Input) (fault : Fault) → ((given : NodeInput) → given_by input ≡ Ok given → IsTaken given) → Runs old.part → new.failures ≡ 0
+      → IsCutTurn next answers begin old input new fault ⊎ IsNoTurn next answers begin old input new fault → fault ≡ OutOfMemory
+  stops_memory input fault taken runs never (inl cut) = let less = cut.failed in absurd (omega (arith, less, never))
+  stops_memory input fault taken runs never (inr none) =
       let same : runs.0 ≡ none.node = same_node old.part.role runs.0 none.node runs.1 none.was in
       let some : IsSome none.node.running = subst (λ (n : NodePart). IsSome n.running) same runs.2 in
-      inl (only_memory (setting_at next answers begin old) old.number none.node none.given none.node.running fault (taken none.given none.gives) some none.why)
+      only_memory (setting_at next answers begin old) old.number none.node none.given none.node.running fault (taken none.given none.gives) some none.why
 
-  pub report_wanting : (first : ℕ) (fault : Fault) → Runs old.part
-      → IsCutTurn next answers begin old (inputs.Report first) new fault ⊎ IsNoTurn next answers begin old (inputs.Report first) new fault → IsWanting fault
-  report_wanting first fault runs why =
-      stops_wanting (inputs.Report first) fault (λ given is. let e : Report first ≡ given = cc in subst IsTaken e tt) runs why
+  pub report_memory : (first : ℕ) → Runs old.part → new.failures ≡ 0 → {A : Type 0} (result : Result A Fault)
+      → IfErr result (λ fault. IsCutTurn next answers begin old (inputs.Report first) new fault ⊎ IsNoTurn next answers begin old (inputs.Report first) new fault)
+      → IsOkUnless result OutOfMemory
+  report_memory first runs never (Ok sent) why = tt
+  report_memory first runs never (Err fault) why =
+      stops_memory (inputs.Report first) fault (λ given is. let e : Report first ≡ given = cc in subst IsTaken e tt) runs never why
 
   -- ---- notes
 
@@ -81,9 +92,13 @@ module _ {S P : Type 0} (next : S → Action → S) (answers : S → Action → 
   note_taken (inputs.Tick now) given note is = let e : Tick now ≡ given = cc in subst IsTaken e tt
   note_taken (inputs.Report first) given note is = absurd note
 
-  pub note_wanting : (input : Input) (fault : Fault) → IsNote input → Runs old.part → IsStopBy next answers begin (λ given. given ≡ input) old new fault → IsWanting fault
-  note_wanting input fault note runs stop =
-      stops_wanting stop.input fault (λ given is. note_taken stop.input given (subst IsNote (sym stop.is) note) is) runs stop.why
+  pub note_memory : (input : Input) (fault : Fault) → IsNote input → Runs old.part → new.failures ≡ 0 → IsStopBy next answers begin (λ given. given ≡ input) old new fault
+      → fault ≡ OutOfMemory
+  note_memory input fault note runs never stop =
+      stops_memory stop.input fault (λ given is. note_taken stop.input given (subst IsNote (sym stop.is) note) is) runs never stop.why
+
+  pub note_turn : (input : Input) (count : ℕ) → IsEventBy next answers begin (λ given. given ≡ input) old new count → (sent : Sent) × IsTurn next answers begin old input new sent
+  note_turn input count event = (event.sent, subst (λ (i : Input). IsTurn next answers begin old i new event.sent) event.is event.turn)
 
   pub note_runs : (input : Input) (count : ℕ) → IsEventBy next answers begin (λ given. given ≡ input) old new count → Runs new.part
   note_runs input count event = turn_runs event.input event.sent event.turn

@@ -1,21 +1,20 @@
 -- The same seats, whatever happened at them since.
-use Rattle.std.proofs.Common.{◌≡◌, ◌⊎◌, Result, Ok, Err, inl, inr, ℕ, zero, suc, ◌+◌, ◌<◌, ◌≤◌, Bool, false, nat_eq, nat_lt, if◌then◌else◌, Option, Some, None, List, [], ◌∷◌, ◌++◌, length, map, slice_get, refl, sym, ap, subst, ◌∙◌, arith}
+use Rattle.std.proofs.Common.{◌≡◌, ◌⊎◌, Result, Ok, Err, inl, inr, ℕ, zero, suc, ◌+◌, ◌<◌, ◌≤◌, Bool, false, nat_eq, nat_lt, if◌then◌else◌, Option, Some, None, List, [], ◌∷◌, ◌++◌, length, map, slice_get, refl, sym, ap, ◌∙◌, arith}
 use Rattle.std.proofs.lemmas.Grind.{common_steps}
 use Rattle.std.proofs.lemmas.List.{append_assoc, map-append}
 use Rattle.std.specs.List.{AllZip}
-use Rattle.std.specs.Prelude.{All, IfSome, IfErr, IsErrOf, slice_index}
+use Rattle.std.specs.Prelude.{All, IfErr, IfSome, IsErrOf, IsOkUnless, slice_index}
 use Rattle.rp_base.specs.declared.fault.Fault.{Fault}
-use Rattle.rp_base.specs.declared.fault.Fault.TheVariants.{BadConfig}
-use Rattle.rp_boxes.specs.Making.{IsWanting}
+use Rattle.rp_base.specs.declared.fault.Fault.TheVariants.{BadConfig, Device, OutOfMemory}
+use Rattle.rp_store.specs.Disk.{disk_of}
 use Rattle.atomic_table.specs.Seated.{TableId}
 use Rattle.rp_base.specs.declared.config.Config.{Config}
 use Rattle.rp_model.specs.Parts.{fresh_node, fresh_task}
-use Rattle.rp_boxes.specs.Making.{AreFirstSeats, first_seat}
+use Rattle.rp_boxes.specs.Making.{AreFirstSeats, CanFail, IsWanting, first_seat}
 use Rattle.rp_boxes.specs.Parts.{OfNode, OfTask, OfAudit, first_role, fresh_part}
 use Rattle.rp_boxes.specs.Seats.{Chair}
 use Rattle.rp_boxes.proofs.Seating.{node_role}
-use Rattle.rp_threads.specs.Loops.{IsSameSeat}
-use Rattle.rp_live.specs.Seats.{IsSeatOf, AreSeatsOf, Runs}
+use Rattle.rp_live.specs.Seats.{Runs}
 
 -- ---- lists
 
@@ -33,39 +32,15 @@ all_within Q [] each k d within = absurd (omega (arith, within))
 all_within Q (x ∷ xs) each zero d within = each zero (omega (arith, within))
 all_within Q (x ∷ xs) each (suc k) d within = all_within Q xs (λ j less. each (suc j) (omega (arith, less))) k d (omega (arith, within))
 
--- ---- the same seats
+-- ---- at first
 
-module _ {P : Type 0} where
-  module _ (table : TableId) (program : P) where
-    still_of : (number : ℕ) (old new : Chair P) → IsSameSeat old new → IsSeatOf table program number old → IsSeatOf table program number new
-    still_of number old new same is = record {
-      table_is = same.table ∙ is.table_is;
-      program_is = same.program ∙ is.program_is;
-      number_is = same.number ∙ is.number_is;
-    }
-
-    pub seats_still : (number : ℕ) (olds news : List (Chair P)) → AllZip IsSameSeat olds news → AreSeatsOf table program number olds → AreSeatsOf table program number news
-    seats_still number [] [] same are = tt
-    seats_still number [] (new ∷ news) same are = absurd same
-    seats_still number (old ∷ olds) [] same are = absurd same
-    seats_still number (old ∷ olds) (new ∷ news) same are = (still_of number old new same.0 are.0, seats_still (suc number) olds news same.1 are.1)
-
-    -- ---- at first
-
-    seats_from : (number : ℕ) (seats : List (Chair P)) → ((place : ℕ) → IfSome (slice_get seats place) (IsSeatOf table program (number + place))) → AreSeatsOf table program number seats
-    seats_from number [] each = tt
-    seats_from number (seat ∷ seats) each = (
-      subst (λ (k : ℕ). IsSeatOf table program k seat) (let e : number + 0 ≡ number = omega arith in e) (each zero),
-      seats_from (suc number) seats (λ place. subst (λ (k : ℕ). IfSome (slice_get seats place) (IsSeatOf table program k)) (let e : number + suc place ≡ suc number + place = omega arith in e) (each (suc place))),
-    )
-
-    pub first_seats : (config : Config) (actor : ℕ) (failures : List ℕ) (seats : List (Chair P)) → AreFirstSeats table config program actor failures seats → AreSeatsOf table program 1 seats
-    first_seats config actor failures seats are =
-        seats_from 1 seats (λ place. some_then (λ (seat : Chair P). seat ≡ first_seat table config program (suc place) (actor + place) (slice_index failures place)) (IsSeatOf table program (1 + place)) (λ seat is. record {
-          table_is = ap (λ (c : Chair P). c.table) is;
-          program_is = ap (λ (c : Chair P). c.program) is;
-          number_is = ap (λ (c : Chair P). c.number) is ∙ let e : suc place ≡ 1 + place = omega arith in e;
-        }) (slice_get seats place) (are place))
+-- all seats are at the table
+pub first_tables : {P : Type 0} (table : TableId) (config : Config) (program : P) (actor : ℕ) (failures : List ℕ) (seats : List (Chair P))
+    → AreFirstSeats table config program actor failures seats → All (λ seat. seat.table ≡ table) seats
+first_tables {P} table config program actor failures seats are =
+    all_places (λ (seat : Chair P). seat.table ≡ table) seats (λ place.
+    some_then (λ (seat : Chair P). seat ≡ first_seat table config program (suc place) (actor + place) (slice_index failures place)) (λ (seat : Chair P). seat.table ≡ table)
+    (λ seat is. ap (λ (c : Chair P). c.table) is) (slice_get seats place) (are place))
 
 -- nodes run at first
 pub nodes_run : {P : Type 0} (table : TableId) (config : Config) (program : P) (failures : List ℕ) (seats : List (Chair P)) → length seats ≤ 7 → AreFirstSeats table config program 1 failures seats
@@ -95,18 +70,15 @@ tasks_fresh {P} table config program seats are =
 
 -- ---- what ran
 
-pub zip_seats : {A B P : Type 0} (R : A → B → Type 0) (f : A → Chair P) (h : B → Chair P) → ((x : A) (y : B) → R x y → IsSameSeat (f x) (h y))
-    → (xs : List A) (ys : List B) → AllZip R xs ys → AllZip IsSameSeat (map f xs) (map h ys)
-zip_seats R f h same [] [] all = tt
-zip_seats R f h same [] (y ∷ ys) all = absurd all
-zip_seats R f h same (x ∷ xs) [] all = absurd all
-zip_seats R f h same (x ∷ xs) (y ∷ ys) all = (same x y all.0, zip_seats R f h same xs ys all.1)
-
 pub zip_length : {A B : Type 0} (R : A → B → Type 0) (xs : List A) (ys : List B) → AllZip R xs ys → length ys ≡ length xs
 zip_length R [] [] all = refl
 zip_length R [] (y ∷ ys) all = absurd all
 zip_length R (x ∷ xs) [] all = absurd all
 zip_length R (x ∷ xs) (y ∷ ys) all = ap suc (zip_length R xs ys all.1)
+
+pub none_left : {A : Type 0} (xs : List A) → length xs ≡ 0 → xs ≡ []
+none_left [] none = refl
+none_left (x ∷ xs) none = absurd (omega (arith, none))
 
 pub all_more : {A : Type 0} (Q : A → Type 0) (xs : List A) (x : A) → All Q xs → Q x → All Q (xs ++ x ∷ [])
 all_more Q [] x all is zero d within = is
@@ -121,7 +93,7 @@ one_ready {A} {P} f starts grown start seat rest left seats is same steps so_far
     ap (λ (l : List A). map f l ++ left) is ∙ ap (λ (l : List (Chair P)). l ++ left) (map-append f starts (start ∷ []))
     ∙ append_assoc (map f starts) (f start ∷ []) left ∙ ap (λ (s : Chair P). map f starts ++ s ∷ left) same ∙ ap (λ (l : List (Chair P)). map f starts ++ l) (sym steps) ∙ so_far
 
-mapped : {A B : Type 0} (f : A → B) (xs : List A) → length (map f xs) ≡ length xs
+pub mapped : {A B : Type 0} (f : A → B) (xs : List A) → length (map f xs) ≡ length xs
 mapped f [] = refl
 mapped f (x ∷ xs) = ap suc (mapped f xs)
 
@@ -133,8 +105,14 @@ all_mapped Q f [] all k d within = absurd (omega (arith, within))
 all_mapped Q f (x ∷ xs) all zero d within = all zero (f d) (omega arith)
 all_mapped Q f (x ∷ xs) all (suc k) d within = all_mapped Q f xs (λ j e less. all (suc j) e (omega (arith, less))) k d (omega (arith, within))
 
--- a fault that is not BadConfig is for want of memory or of a device
-pub only_wanting : {A : Type 0} (result : Result A Fault) → (IsErrOf result BadConfig → ⊥) → IfErr result (λ fault. (fault ≡ BadConfig) ⊎ IsWanting fault) → IfErr result IsWanting
-only_wanting (Ok value) right only = tt
-only_wanting (Err fault) right (inl bad) = absurd (right (ap Err bad))
-only_wanting (Err fault) right (inr wanting) = wanting
+-- a device in memory never fails
+pub memory_never : CanFail disk_of → ⊥
+memory_never can = let failed = can.failed in omega (arith, failed)
+
+-- where the configuration is right and no device fails, memory ran out
+pub only_memory : {A : Type 0} (result : Result A Fault) → (IsErrOf result BadConfig → ⊥) → (IsErrOf result Device → ⊥)
+    → IfErr result (λ fault. (fault ≡ BadConfig) ⊎ IsWanting fault) → IsOkUnless result OutOfMemory
+only_memory (Ok value) right never only = tt
+only_memory (Err fault) right never (inl bad) = absurd (right (ap Err bad))
+only_memory (Err fault) right never (inr (inl memory)) = memory
+only_memory (Err fault) right never (inr (inr device)) = absurd (never (ap Err device))

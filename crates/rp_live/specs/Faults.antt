@@ -1,8 +1,8 @@
--- What may be wanting to a run (this project's own).
-use Rattle.std.specs.Prelude.{◌≡◌, ◌⊎◌}
+-- What ends a run before it is through (this project's own).
+use Rattle.std.specs.Prelude.{◌≡◌}
 use Rattle.rp_base.specs.declared.fault.Fault.{Fault}
-use Rattle.rp_base.specs.declared.fault.Fault.TheVariants.{OutOfMemory, Device, Failed}
+use Rattle.rp_base.specs.declared.fault.Fault.TheVariants.{OutOfMemory}
 
--- memory, or a device that works
+-- memory ran out, or no thread could be started
 abbrev pub IsLiveFault : Fault → Type 0
-IsLiveFault fault = (fault ≡ OutOfMemory) ⊎ ((fault ≡ Device) ⊎ (fault ≡ Failed))
+IsLiveFault fault = fault ≡ OutOfMemory

@@ -1,38 +1,76 @@
 -- What came of a run in threads (this project's own).
-use Rattle.std.specs.Prelude.{◌≡◌, ◌↔◌, ℕ, suc, true, Some, IfSome, List, length, flat_map, slice_get}
+use Rattle.std.specs.Prelude.{◌≡◌, ◌↔◌, ℕ, suc, true, All, IfSome, List, length, flat_map, filter_map, map, slice_get}
+use Rattle.std.specs.List.{AllZip}
 use Rattle.rp_base.specs.declared.action.Action.{Action}
+use Rattle.rp_base.specs.declared.config.Config.{Config}
 use Rattle.rp_base.specs.declared.reply.Answer.{Answer}
-use Rattle.rp_machine.specs.Places.{HasReply}
-use Rattle.rp_agreement.specs.Answered.{named}
-use Rattle.rp_agreement.specs.Order.{Begins}
-use Rattle.rp_boxes.specs.Audits.{known_of}
-use Rattle.rp_boxes.specs.Meeting.{AreOfOneOrder}
+use Rattle.rp_codec.specs.declared.packet.Party.TheVariants.{Node, Task}
+use Rattle.rp_machine.specs.Replay.{kept_of}
+use Rattle.rp_model.specs.declared.event.Event.{Event}
+use Rattle.rp_store.specs.Disk.{Memory}
+use Rattle.rp_boxes.specs.Audits.{Audited, known_of}
+use Rattle.rp_boxes.specs.Making.{AreSeats}
+use Rattle.rp_boxes.specs.Parts.{task_of}
+use Rattle.rp_boxes.specs.Seats.{Chair, HasApplied}
+use Rattle.rp_boxes.specs.Together.{AreTogether}
+use Rattle.rp_threads.specs.Loops.{IsSameSeat}
+use Rattle.rp_threads.specs.Threads.{IsLooped, IsTaskLooped}
+use Rattle.rp_threads.specs.declared.loops.NodeEnd.{NodeEnd}
+use Rattle.rp_threads.specs.declared.tasks.TaskEnd.{TaskEnd}
+use Rattle.rp_live.specs.Calls.{CountsCalls}
+use Rattle.rp_live.specs.Events.{call_by}
+use Rattle.rp_live.specs.Lines.{party_line}
+use Rattle.rp_live.specs.Noted.{AreNoted}
+use Rattle.rp_live.specs.Pace.{paced}
+use Rattle.rp_live.specs.Seats.{HasOnlyReported, IsAsked}
 use Rattle.rp_live.specs.declared.run.Lived.{Lived}
+
+-- the replies that a task has at its end
+abbrev pub replies_at : {M P : Type 0} → TaskEnd M P → List Answer
+replies_at end = (task_of end.seat.part.role).replies
 
 -- of each node from 1 on as many actions are known as it has applied
 abbrev pub KnowsAll : List (List Action) → List ℕ → Type 0
 KnowsAll known applied = (place : ℕ) → IfSome (slice_get applied place) (λ count. count ≡ length (known_of known (suc place)))
 
-module _ {S : Type 0} (next : S → Action → S) (answers : S → Action → List Answer) (begin : S) (known : List (List Action)) where
-  -- What is known of each node begins one list of actions, and in it each of these replies, in order, answers the call
-  -- of the task from 1 on, which takes effect at one place.
-  pub record AreAnswers (task : ℕ) (replies : List Answer) : Type 0 where
-    pub order : List Action
-    pub begins : (node : ℕ) → Begins (known_of known node) order
-    pub answered : (k : ℕ) (answer : Answer) → slice_get replies k ≡ Some answer → HasReply next answers begin order (named task (suc k)) answer
+module _ {S P : Type 0} (next : S → Action → S) (answers : S → Action → List Answer) (begin : P → S) where
+  -- How the nodes and the tasks of a program came to their ends: all had their seats at one table, the nodes noted the
+  -- interrupts and ticks among the events, and then each made its turns over the line of its party, and the tasks the
+  -- calls among the events.
+  pub record HasRun (config : Config) (program : P) (events : List Event) (seed turns : ℕ)
+      (audit : Chair P) (nodes : List (NodeEnd S Memory P)) (tasks : List (TaskEnd S P)) : Type 0 where
+    pub first_nodes : List (Chair P)
+    pub first_tasks : List (Chair P)
+    pub failures : List ℕ
+    pub seats : AreSeats config program failures first_nodes first_tasks audit
+    pub noted : List (Chair P)
+    pub notes : AreNoted next answers begin events (length events) first_nodes noted
+    pub node_loops : AllZip (λ seat end.
+        IsLooped next answers begin paced config.nodes turns seat (party_line seed (Node seat.number)) end) noted nodes
+    pub task_loops : AllZip (λ seat end.
+        IsTaskLooped config.nodes turns (filter_map (call_by seat.number) events) seat (party_line seed (Task seat.number)) end) first_tasks tasks
 
-  -- These are the replies of so many tasks, from 1 on, one task's behind the other's.
-  pub record AreReplies (tasks : ℕ) (replies : List Answer) : Type 0 where
-    pub by_task : List (List Answer)
-    pub count : length by_task ≡ tasks
-    pub joined : replies ≡ flat_map (λ list. list) by_task
-    pub answered : (place : ℕ) → IfSome (slice_get by_task place) (AreAnswers (suc place))
+  -- What was told of the nodes and tasks of these ends: the nodes reported to the audit; then all looked at the table as
+  -- one. So many actions each node has applied, and these are the replies of all tasks. The nodes agree where of each all
+  -- is known that it has applied.
+  pub record IsTold {D : Type 0} (audit : Chair P) (nodes : List (NodeEnd S D P)) (tasks : List (TaskEnd S P)) (lived : Lived) : Type 0 where
+    pub last : List (Chair P)
+    pub reported : AllZip (λ end seat. HasOnlyReported end.seat seat) nodes last
+    pub applied : AllZip (λ seat count. HasApplied seat.part count) last lived.applied.items
+    pub known : Audited P
+    pub same : IsSameSeat audit known.seat
+    pub asked : AllZip (λ seat count. IsAsked seat count (known_of known.known seat.number)) last lived.applied.items
+    pub together : AreTogether next answers begin known last (map (λ end. end.seat) tasks)
+    pub replies : lived.replies.items ≡ flat_map replies_at tasks
+    pub agree : (lived.agree ≡ true) ↔ KnowsAll known.known lived.applied.items
 
--- Something is known of each of so many nodes, and all of it begins one list of actions. The replies are those of the
--- eight tasks, and each is right. The nodes agree where of each all is known that it has applied.
-pub record IsLived {S : Type 0} (next : S → Action → S) (answers : S → Action → List Answer) (begin : S) (nodes : ℕ) (lived : Lived) : Type 0 where
-  pub known : List (List Action)
-  pub one : AreOfOneOrder known
-  pub replies : AreReplies next answers begin known 8 lived.replies.items
-  pub applied : length lived.applied.items ≡ nodes
-  pub agree : (lived.agree ≡ true) ↔ KnowsAll known lived.applied.items
+  -- A whole run. In the one order the counted calls of each task are the calls among the events, in order, that it made.
+  pub record IsLived (config : Config) (program : P) (events : List Event) (seed turns : ℕ) (lived : Lived) : Type 0 where
+    pub audit : Chair P
+    pub nodes : List (NodeEnd S Memory P)
+    pub tasks : List (TaskEnd S P)
+    pub ran : HasRun config program events seed turns audit nodes tasks
+    pub told : IsTold audit nodes tasks lived
+    pub size : length lived.applied.items ≡ config.nodes
+    pub calls : All (λ end.
+        CountsCalls end.seat.number (filter_map (call_by end.seat.number) events) end.made (kept_of next answers (begin program) told.together.order)) tasks

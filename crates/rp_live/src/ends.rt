@@ -1,20 +1,39 @@
 //! How a thread ended.
 
-ghost use Rattle.std.specs.Prelude.{◌≡◌, Some, IfErr, OnOk};
-ghost use Rattle.rp_live.specs.Faults.{IsLiveFault};
+ghost use Rattle.std.specs.Prelude.{◌≡◌, Some, None, IfOk, OnOk, IsOkUnless};
+ghost use Rattle.rp_live.specs.Seats.{IsEndOfRun};
 
 use rp_base::Fault;
+use rp_boxes::{NodeSeat, TaskSeat};
+use rp_machine::Machine;
+use rp_store::InfallibleDevice;
+use rp_threads::{NodeEnd, TaskEnd};
 
-/// Refused where a loop stopped since memory or a device that works was wanting. A loop stops for
-/// nothing else, where its calls are right.
-pub(crate) fn ended(fault: Option<Fault>) -> Result<(), Fault>
-    ensures ok { OnOk result (¬ ((given : Fault) × (fault ≡ Some given) × IsLiveFault given)) }
-    ensures err { IfErr result (λ given. (fault ≡ Some given) × IsLiveFault given) }
+/// The seat of a node whose thread ended. Refused where its loop stopped: since memory ran out, for
+/// its device never fails.
+pub(crate) fn node_ended<M: Machine, D: InfallibleDevice>(
+    end: NodeEnd<M, D>,
+) -> Result<NodeSeat<M, D>, Fault>
+    requires { IsEndOfRun end }
+    ensures ok { IfOk result (λ seat. seat ≡ end.seat) }
+    ensures none { OnOk result (end.fault ≡ None) }
+    ensures only { IsOkUnless result Fault.OutOfMemory }
 {
-    match fault {
+    end.seat.never_failed();
+    match end.fault {
+        Some(fault) => Err(fault),
+        None => Ok(end.seat),
+    }
+}
+
+/// The seat of a task whose thread ended. Refused where its loop stopped since memory ran out: a task
+/// that stopped at a call that it may not make has the replies to those before.
+pub(crate) fn task_ended<M: Machine>(end: TaskEnd<M>) -> Result<TaskSeat<M>, Fault>
+    ensures ok { IfOk result (λ seat. seat ≡ end.seat) }
+    ensures only { IsOkUnless result Fault.OutOfMemory }
+{
+    match end.fault {
         Some(Fault::OutOfMemory) => Err(Fault::OutOfMemory),
-        Some(Fault::Device) => Err(Fault::Device),
-        Some(Fault::Failed) => Err(Fault::Failed),
-        _ => Ok(()),
+        _ => Ok(end.seat),
     }
 }

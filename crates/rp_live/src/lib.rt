@@ -9,18 +9,21 @@
 //! - `pace`: in which turns a node turns, and how the threads keep pace
 //! - `ends`: how a thread ended
 //! - `reports`: the audit reads the logs of the nodes
-//! - `meetings`: the audit meets the tasks
+//! - `replies`: the replies of the tasks
+//! - `figures`: how a run went, in numbers for a person to read
 //! - `run`: a whole run
 #![tactic(auto)]
 
 mod calls;
 mod ends;
+mod figures;
 mod lines;
-mod meetings;
 mod notes;
 mod pace;
+mod replies;
 mod reports;
 mod run;
 mod starts;
 
+pub use figures::Figures;
 pub use run::{Lived, live};

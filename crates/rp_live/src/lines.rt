@@ -2,8 +2,7 @@
 
 ghost use Rattle.std.specs.Prelude.{◌≡◌, IfOk, IsOkUnless};
 ghost use Rattle.rp_codec.specs.Text.{party_number};
-ghost use Rattle.rp_tasks.specs.Line.{line_of};
-ghost use Rattle.rp_live.specs.Lines.{line_seed};
+ghost use Rattle.rp_live.specs.Lines.{line_seed, party_line};
 
 use rp_base::Fault;
 use rp_codec::Party;
@@ -37,7 +36,7 @@ fn seed_for(seed: u32, party: Party) -> [u8; 32]
 
 /// The line of a party: its words are those of the run's seed and the party.
 pub(crate) fn line_for(alloc: Global, seed: u32, party: Party) -> Result<FaultLine, Fault>
-    ensures line { IfOk result (λ line. line ≡ line_of (line_seed seed party)) }
+    ensures line { IfOk result (λ line. line ≡ party_line seed party) }
     ensures only { IsOkUnless result Fault.OutOfMemory }
 {
     FaultLine::new(alloc, seed_for(seed, party))

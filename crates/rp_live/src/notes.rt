@@ -1,38 +1,45 @@
 //! What nodes note before they run.
 
-ghost use Rattle.std.specs.Prelude.{◌≡◌, ◌≤◌, All, length, IfErr, OnOk};
-ghost use Rattle.rp_boxes.specs.Making.{IsWanting};
-ghost use Rattle.rp_threads.specs.Loops.{IsSameSeat};
+ghost use Rattle.std.specs.Prelude.{◌≡◌, ◌≤◌, All, Some, length, OnOk, IsOkUnless};
+ghost use Rattle.rp_boxes.specs.Seats.{IsTurn};
 ghost use Rattle.rp_live.specs.Events.{IsLive};
+ghost use Rattle.rp_live.specs.Noted.{IsNoted, AreNoted, noted_by};
 ghost use Rattle.rp_live.specs.Seats.{IsNote, Runs};
+ghost use Rattle.rp_replica.specs.declared.sent.Sent.{Sent};
 
 use rp_base::{Fault, NodeId};
 use rp_boxes::NodeSeat;
 use rp_machine::Machine;
 use rp_model::{Event, Step};
 use rp_replica::Input;
-use rp_store::Device;
+use rp_store::InfallibleDevice;
 use rp_threads::node_step;
 use std::alloc::Global;
 
 /// The node notes an interrupt or a tick. Packets that it sends go into their boxes.
-fn note_one<M: Machine, D: Device>(
+fn note_one<M: Machine, D: InfallibleDevice>(
     seat: &mut NodeSeat<M, D>,
     alloc: Global,
     input: &Input,
 ) -> Result<(), Fault>
     requires note { IsNote input.now }
     requires runs { Runs seat.old.part }
-    ensures same { IsSameSeat seat.old seat.new }
+    ensures ok { OnOk result ((sent : Sent) × IsTurn M.next M.answers M.begin
+        seat.old input.now seat.new sent) }
     ensures runs { OnOk result (Runs seat.new.part) }
-    ensures only { IfErr result IsWanting }
+    ensures only { IsOkUnless result Fault.OutOfMemory }
 {
-    node_step(seat, alloc, input)?;
-    Ok(())
+    match node_step(seat, alloc, input) {
+        Ok(_) => Ok(()),
+        Err(fault) => {
+            seat.never_failed();
+            Err(fault)
+        }
+    }
 }
 
 /// The node of this number notes it.
-fn note_at<M: Machine, D: Device>(
+fn note_at<M: Machine, D: InfallibleDevice>(
     seats: &mut Vec<NodeSeat<M, D>>,
     alloc: Global,
     node: NodeId,
@@ -42,15 +49,17 @@ fn note_at<M: Machine, D: Device>(
     requires note { IsNote input.now }
     requires run { All (λ seat. Runs seat.part) seats.old.items }
     ensures size { length seats.new.items ≡ length seats.old.items }
+    ensures ok { OnOk result (IsNoted M.next M.answers M.begin (Some (node, input.now))
+        seats.old.items seats.new.items) }
     ensures run { OnOk result (All (λ seat. Runs seat.part) seats.new.items) }
-    ensures only { IfErr result IsWanting }
+    ensures only { IsOkUnless result Fault.OutOfMemory }
 {
     let place = usize::from(node.get()) - 1;
     note_one(&mut seats[place], alloc, input)
 }
 
 /// An event is noted at its node, if it is an interrupt or a tick.
-fn note<M: Machine, D: Device>(
+fn note<M: Machine, D: InfallibleDevice>(
     seats: &mut Vec<NodeSeat<M, D>>,
     alloc: Global,
     event: &Event,
@@ -58,8 +67,10 @@ fn note<M: Machine, D: Device>(
     requires live { IsLive (length seats.old.items) event.now }
     requires run { All (λ seat. Runs seat.part) seats.old.items }
     ensures size { length seats.new.items ≡ length seats.old.items }
+    ensures ok { OnOk result (IsNoted M.next M.answers M.begin (noted_by event.now)
+        seats.old.items seats.new.items) }
     ensures run { OnOk result (All (λ seat. Runs seat.part) seats.new.items) }
-    ensures only { IfErr result IsWanting }
+    ensures only { IsOkUnless result Fault.OutOfMemory }
 {
     match *event {
         Event::Node(Step::Interrupt { node, interrupt }) => note_at(
@@ -77,7 +88,7 @@ fn note<M: Machine, D: Device>(
 }
 
 /// The interrupts and the ticks among the events are noted in order, each at its node.
-pub(crate) fn note_all<M: Machine, D: Device>(
+pub(crate) fn note_all<M: Machine, D: InfallibleDevice>(
     seats: &mut Vec<NodeSeat<M, D>>,
     alloc: Global,
     events: &[Event],
@@ -85,7 +96,10 @@ pub(crate) fn note_all<M: Machine, D: Device>(
     requires live { All (IsLive (length seats.old.items)) events.now }
     requires run { All (λ seat. Runs seat.part) seats.old.items }
     ensures size { length seats.new.items ≡ length seats.old.items }
-    ensures only { IfErr result IsWanting }
+    ensures ok { OnOk result (AreNoted M.next M.answers M.begin events.now (length events.now)
+        seats.old.items seats.new.items) }
+    ensures run { OnOk result (All (λ seat. Runs seat.part) seats.new.items) }
+    ensures only { IsOkUnless result Fault.OutOfMemory }
 {
     for event in events {
         note(seats, alloc, event)?;

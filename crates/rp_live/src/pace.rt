@@ -93,6 +93,10 @@ impl Pace {
 }
 
 impl Gate for Pace {
+    ghost use Rattle.rp_live.specs.Pace.{paced};
+
+    ghost lets = { paced };
+
     fn before(&self, node: NodeId, turn: u64) -> bool {
         self.keep(usize::from(node.get()) - 1, turn);
         turn % (8 + u64::from(node.get())) != 0

@@ -1,25 +1,67 @@
 //! The audit reads the logs of the nodes.
 
-ghost use Rattle.std.specs.Prelude.{◌≡◌, ℕ, ◌↔◌, ◌+◌, ◌<◌, ◌≤◌, ◌^◌, length, IsTrue, IfSome, IfOk, IfErr, OnOk};
-ghost use Rattle.rp_boxes.specs.Making.{IsWanting};
-ghost use Rattle.rp_boxes.specs.Seats.{HasApplied};
+ghost use Rattle.std.specs.Prelude.{◌≡◌, ℕ, ◌↔◌, ◌+◌, ◌<◌, ◌≤◌, ◌^◌, All, None, length, IsTrue, IfSome, IfOk, OnOk, IsOkUnless};
+ghost use Rattle.std.specs.List.{AllZip};
+ghost use Rattle.rp_boxes.specs.Audits.{known_of};
+ghost use Rattle.rp_boxes.specs.Seats.{HasApplied, IsReport, IsSentText};
 ghost use Rattle.rp_threads.specs.Loops.{IsSameSeat};
 ghost use Rattle.rp_live.specs.Lived.{KnowsAll};
-ghost use Rattle.rp_live.specs.Faults.{IsLiveFault};
-ghost use Rattle.rp_live.specs.Seats.{Runs};
+ghost use Rattle.rp_live.specs.Seats.{HasOnlyReported, HasReportedFrom, IsAsked, IsEndOfRun, IsRead, KnowsMore, Runs, StillRuns};
 
-use crate::ends::ended;
+use crate::ends::node_ended;
 use rp_base::{Fault, NodeId, Position};
 use rp_boxes::{Audit, NodeSeat};
 use rp_codec::Party;
 use rp_machine::Machine;
-use rp_store::Device;
+use rp_replica::Sent;
+use rp_store::InfallibleDevice;
 use rp_threads::NodeEnd;
 use std::alloc::Global;
 
+/// The node makes a report of what it has applied, from a position on.
+fn report_from<M: Machine, D: InfallibleDevice>(
+    seat: &mut NodeSeat<M, D>,
+    alloc: Global,
+    first: Position,
+) -> Result<Sent, Fault>
+    requires runs { Runs seat.old.part }
+    ensures ok { IfOk result (λ sent. IsReport first seat.old seat.new sent) }
+    ensures only { IsOkUnless result Fault.OutOfMemory }
+{
+    let report = seat.report(alloc, first);
+    seat.never_failed();
+    report
+}
+
+/// Puts a report that the node sent into its box. Where the box is not empty it is lost, and counted.
+fn put_report<M: Machine, D: InfallibleDevice>(seat: &mut NodeSeat<M, D>, report: Vec<u8>)
+    requires { IsSentText seat.old.part report.items }
+    ensures { seat.new ≡ seat.old }
+{
+    if seat.put(report).is_err() {
+        seat.lose();
+    }
+}
+
+/// The node reports from a position on: the report goes into its box.
+fn send_report<M: Machine, D: InfallibleDevice>(
+    seat: &mut NodeSeat<M, D>,
+    alloc: Global,
+    first: Position,
+) -> Result<(), Fault>
+    requires runs { Runs seat.old.part }
+    ensures only_reported { OnOk result (HasOnlyReported seat.old seat.new) }
+    ensures reported { OnOk result (HasReportedFrom seat.new first) }
+    ensures only { IsOkUnless result Fault.OutOfMemory }
+{
+    let report = report_from(seat, alloc, first)?;
+    put_report(seat, report.bytes);
+    Ok(())
+}
+
 /// The node reports once, from a position on: the report goes through its box to the audit, which
-/// adds it. It is lost where the box is full.
-fn report_once<M: Machine, D: Device>(
+/// adds it. It is lost where the box is not empty.
+fn report_once<M: Machine, D: InfallibleDevice>(
     audit: &mut Audit<M>,
     seat: &mut NodeSeat<M, D>,
     alloc: Global,
@@ -27,82 +69,105 @@ fn report_once<M: Machine, D: Device>(
 ) -> Result<(), Fault>
     requires runs { Runs seat.old.part }
     ensures same { OnOk result (IsSameSeat audit.old.seat audit.new.seat) }
-    ensures applied { OnOk result ((count : ℕ) → HasApplied seat.old.part count
-        → HasApplied seat.new.part count) }
-    ensures only { IfErr result IsWanting }
+    ensures only_reported { OnOk result (HasOnlyReported seat.old seat.new) }
+    ensures reported { OnOk result (HasReportedFrom seat.new first) }
+    ensures more { OnOk result (KnowsMore audit.old.known audit.new.known) }
+    ensures only { IsOkUnless result Fault.OutOfMemory }
 {
-    let report = seat.report(alloc, first)?;
-    let _lost = seat.put(report.bytes);
+    send_report(seat, alloc, first)?;
     if let Some(packet) = audit.fetch(Party::Node(seat.number())) {
         audit.add(alloc, packet.as_slice())?;
     }
     Ok(())
 }
 
-/// The position behind so many actions, if the log has it.
-fn position_behind(known: usize) -> Option<Position>
+/// The position after so many actions, if a log can have it.
+fn position_after(known: usize) -> Option<Position>
     requires { known < 2 ^ 32 }
-    ensures { IfSome result (λ position. position ≡ known + 1) }
+    ensures some { IfSome result (λ position. position ≡ known + 1) }
+    ensures none { result ≡ None → 65535 ≤ known }
 {
     Position::new(u16::try_from(known + 1).ok()?)
 }
 
 /// The node reports until the audit knows all that it has applied. How many actions that is.
-fn read_log<M: Machine, D: Device>(
+fn read_log<M: Machine, D: InfallibleDevice>(
     audit: &mut Audit<M>,
     seat: &mut NodeSeat<M, D>,
     alloc: Global,
 ) -> Result<u32, Fault>
+    requires { Runs seat.old.part }
     ensures same { OnOk result (IsSameSeat audit.old.seat audit.new.seat) }
+    ensures reported { OnOk result (HasOnlyReported seat.old seat.new) }
+    ensures more { OnOk result (KnowsMore audit.old.known audit.new.known) }
     ensures applied { IfOk result (λ count. HasApplied seat.new.part count) }
-    ensures only { IfErr result IsLiveFault }
+    ensures read { IfOk result (λ count. IsRead seat.new count
+        (known_of audit.new.known seat.new.number)) }
+    ensures only { IsOkUnless result Fault.OutOfMemory }
 {
     let node = seat.number();
     let applied = seat.applied()?;
     let mut known = audit.known(node).len();
     while known < applied as usize {
-        let Some(first) = position_behind(known) else {
-            break;
+        let Some(first) = position_after(known) else {
+            return Ok(applied);
         };
         report_once(audit, seat, alloc, first)?;
         let now_known = audit.known(node).len();
         if now_known <= known {
-            break;
+            return Ok(applied);
         }
         known = now_known;
     }
     Ok(applied)
 }
 
-/// The same of a node whose thread ended.
-fn read_end<M: Machine, D: Device>(
+/// The same of a node whose thread ended. Its seat, and how many actions it has applied.
+fn read_end<M: Machine, D: InfallibleDevice>(
     audit: &mut Audit<M>,
     end: NodeEnd<M, D>,
     alloc: Global,
-) -> Result<u32, Fault>
+) -> Result<(NodeSeat<M, D>, u32), Fault>
+    requires ended { IsEndOfRun end }
+    requires still { StillRuns end }
     ensures same { OnOk result (IsSameSeat audit.old.seat audit.new.seat) }
-    ensures only { IfErr result IsLiveFault }
+    ensures reported { IfOk result (λ read. HasOnlyReported end.seat read.0) }
+    ensures more { OnOk result (KnowsMore audit.old.known audit.new.known) }
+    ensures applied { IfOk result (λ read. HasApplied read.0.part read.1) }
+    ensures read { IfOk result (λ read. IsRead read.0 read.1
+        (known_of audit.new.known read.0.number)) }
+    ensures only { IsOkUnless result Fault.OutOfMemory }
 {
-    ended(end.fault)?;
-    let mut seat = end.seat;
-    read_log(audit, &mut seat, alloc)
+    let mut seat = node_ended(end)?;
+    let applied = read_log(audit, &mut seat, alloc)?;
+    Ok((seat, applied))
 }
 
-/// The nodes report one after the other. How many actions each has applied.
-pub(crate) fn read_logs<M: Machine, D: Device>(
+/// The nodes report one after the other. Their seats, and how many actions each has applied.
+pub(crate) fn read_logs<M: Machine, D: InfallibleDevice>(
     audit: &mut Audit<M>,
     nodes: Vec<NodeEnd<M, D>>,
     alloc: Global,
-) -> Result<Vec<u32>, Fault>
+) -> Result<(Vec<NodeSeat<M, D>>, Vec<u32>), Fault>
+    requires ended { All IsEndOfRun nodes.items }
+    requires still { All StillRuns nodes.items }
     ensures same { OnOk result (IsSameSeat audit.old.seat audit.new.seat) }
-    ensures size { IfOk result (λ applied. length applied.items ≡ length nodes.items) }
-    ensures only { IfErr result IsLiveFault }
+    ensures reported { IfOk result (λ read. AllZip (λ end seat. HasOnlyReported end.seat seat)
+        nodes.items read.0.items) }
+    ensures applied { IfOk result (λ read. AllZip (λ seat count. HasApplied seat.part count)
+        read.0.items read.1.items) }
+    ensures asked { IfOk result (λ read. AllZip (λ seat count. IsAsked seat count
+        (known_of audit.new.known seat.number)) read.0.items read.1.items) }
+    ensures only { IsOkUnless result Fault.OutOfMemory }
 {
+    let mut seats = Vec::new(alloc);
     let mut applied = Vec::new(alloc);
     for end in nodes {
-        applied.push(read_end(audit, end, alloc)?)?;
+        let (seat, count) = read_end(audit, end, alloc)?;
+        seats.push(seat)?;
+        applied.push(count)?;
     }
-    Ok(applied)
+    Ok((seats, applied))
 }
 
 /// Whether the audit knows as many actions of each node as that has applied.

@@ -1,22 +1,23 @@
 //! A whole run.
 
-ghost use Rattle.std.specs.Prelude.{◌≡◌, ◌≤◌, All, map, length, IfOk, IfErr};
+ghost use Rattle.std.specs.Prelude.{◌≡◌, ◌≤◌, All, length, IfOk, IfErr, IsOkUnless};
 ghost use Rattle.rp_base.specs.Config.{IsRightConfig};
 ghost use Rattle.rp_live.specs.Events.{IsLive};
-ghost use Rattle.rp_live.specs.Lived.{IsLived};
-ghost use Rattle.rp_live.specs.Seats.{AreSeatsOf};
+ghost use Rattle.rp_live.specs.Lived.{IsLived, IsTold};
+ghost use Rattle.rp_live.specs.Seats.{IsEndOfRun, StillRuns};
 ghost use Rattle.rp_live.specs.Faults.{IsLiveFault};
 
-use crate::meetings::meet_all;
+use crate::figures::Figures;
 use crate::notes::note_all;
 use crate::pace::Pace;
+use crate::replies::replies_of;
 use crate::reports::{knows_all, read_logs};
 use crate::starts::{node_starts, seats_in_memory, task_starts};
 use rp_base::{Answer, Config, Fault};
 use rp_boxes::{AllSeats, Audit, AuditSeat};
 use rp_machine::Machine;
 use rp_model::Event;
-use rp_store::Device;
+use rp_store::InfallibleDevice;
 use rp_threads::{NodeEnd, TaskEnd, run_threads};
 use std::alloc::Global;
 use std::sync::Wait;
@@ -31,31 +32,36 @@ pub struct Lived {
     pub applied: Vec<u32>,
     /// Whether the audit knows all that each node has applied.
     pub agree: bool,
+    /// How the run went, in numbers.
+    pub figures: Figures,
 }
 
-/// The audit reads the logs of all nodes and meets all tasks.
-fn audited<M: Machine, D: Device>(
+/// The audit reads the logs of all nodes, and then all look at the table as one.
+fn audited<M: Machine, D: InfallibleDevice>(
     alloc: Global,
     seat: AuditSeat<M>,
     nodes: Vec<NodeEnd<M, D>>,
     tasks: Vec<TaskEnd<M>>,
 ) -> Result<Lived, Fault>
-    requires nodes { length nodes.items ≤ 7 }
-    requires eight { length tasks.items ≡ 8 }
-    requires seats { AreSeatsOf seat.table seat.program 1 (map (λ end. end.seat) tasks.items) }
-    ensures lived { IfOk result (λ lived. IsLived M.next M.answers (M.begin seat.program)
-        (length nodes.items) lived) }
-    ensures only { IfErr result IsLiveFault }
+    requires few { length nodes.items ≤ 7 }
+    requires ended { All IsEndOfRun nodes.items }
+    requires still { All StillRuns nodes.items }
+    requires nodes { All (λ end. end.seat.table ≡ seat.table) nodes.items }
+    requires tasks { All (λ end. end.seat.table ≡ seat.table) tasks.items }
+    ensures told { IfOk result (IsTold M.next M.answers M.begin seat nodes.items tasks.items) }
+    ensures only { IsOkUnless result Fault.OutOfMemory }
 {
+    let figures = Figures::of(nodes.as_slice(), tasks.as_slice());
     let mut audit = Audit::new(alloc, seat);
-    let applied = read_logs(&mut audit, nodes, alloc)?;
-    let (mut audit, replies) = meet_all(audit, tasks, alloc)?;
-    audit.look();
+    let (nodes, applied) = read_logs(&mut audit, nodes, alloc)?;
+    let (tasks, replies) = replies_of(tasks, alloc)?;
     let agree = knows_all(&audit, applied.as_slice());
+    audit.look_together(nodes, tasks);
     Ok(Lived {
         replies,
         applied,
         agree,
+        figures,
     })
 }
 
@@ -63,9 +69,9 @@ fn audited<M: Machine, D: Device>(
 /// threads of their own, over lines that lose packets, repeat them and change their order, as the
 /// words of the seed say. Before that the interrupts and the ticks among the events are noted, in
 /// order, each at its node; its other events are the calls of the tasks. Afterwards the audit reads
-/// the logs of all nodes and meets all tasks. Which replies come, and how much is applied, differs
-/// from run to run. `OutOfMemory` where a growth was refused or a thread could not be started, also
-/// in a thread; `Device` and `Failed` where a device failed.
+/// the logs of all nodes, and all look at the table as one. Which replies come, and how much is
+/// applied, differs from run to run. `OutOfMemory` where a growth was refused or a thread could not be
+/// started, also in a thread.
 pub fn live<R: Threads + Wait, M: Machine + Send>(
     rt: &R,
     alloc: Global,
@@ -79,8 +85,8 @@ where
     M::Program: Send + Sync,
     requires config { IsRightConfig config }
     requires events { All (IsLive config.nodes) events.now }
-    ensures lived { IfOk result (λ lived. IsLived M.next M.answers (M.begin program.now)
-        config.nodes lived) }
+    ensures lived { IfOk result (IsLived M.next M.answers M.begin
+        config program.now events.now seed turns) }
     ensures only { IfErr result IsLiveFault }
 {
     let AllSeats {

@@ -1,17 +1,16 @@
 //! Seats are made, and those of nodes and tasks are made ready to run.
 
-ghost use Rattle.std.specs.Prelude.{◌≡◌, ◌≤◌, ℕ, List, suc, map, filter_map, length, slice_get, All, IfOk, IfErr, IfSome, IsOkUnless};
+ghost use Rattle.std.specs.Prelude.{◌≡◌, ℕ, List, map, filter_map, length, All, IfOk, IsOkUnless};
 ghost use Rattle.rp_base.specs.Config.{IsRightConfig};
-ghost use Rattle.rp_boxes.specs.Making.{AreSeats, IsWanting};
+ghost use Rattle.rp_boxes.specs.Making.{AreSeats};
 ghost use Rattle.rp_codec.specs.declared.packet.Party.TheVariants as parties;
 ghost use Rattle.rp_store.specs.Disk.{disk_of, empty_disk};
-ghost use Rattle.rp_tasks.specs.Line.{line_of};
 ghost use Rattle.rp_live.specs.Events.{call_by};
-ghost use Rattle.rp_live.specs.Lines.{line_seed};
+ghost use Rattle.rp_live.specs.Lines.{party_line};
 
 use crate::calls::calls_of;
 use crate::lines::line_for;
-use rp_base::{Config, Fault, TaskId};
+use rp_base::{Config, Fault};
 use rp_boxes::{AllSeats, NodeSeat, TaskSeat, seats};
 use rp_codec::Party;
 use rp_machine::Machine;
@@ -41,7 +40,7 @@ pub(crate) fn seats_in_memory<M: Machine>(
     requires { IsRightConfig config }
     ensures seats { IfOk result (λ all. (failures : List ℕ) × AreSeats config program.now failures
         all.nodes.items all.tasks.items all.audit) }
-    ensures only { IfErr result IsWanting }
+    ensures only { IsOkUnless result Fault.OutOfMemory }
 {
     let devices = devices(alloc, config.nodes)?;
     seats(alloc, config, program, devices)
@@ -55,7 +54,7 @@ fn node_start<M: Machine, D: Device>(
 ) -> Result<NodeStart<M, D>, Fault>
     ensures seat { IfOk result (λ start. start.seat ≡ seat) }
     ensures line { IfOk result (λ start. start.line
-        ≡ line_of (line_seed seed (parties.Node seat.number))) }
+        ≡ party_line seed (parties.Node seat.number)) }
     ensures only { IsOkUnless result Fault.OutOfMemory }
 {
     let line = line_for(alloc, seed, Party::Node(seat.number()))?;
@@ -70,7 +69,7 @@ pub(crate) fn node_starts<M: Machine, D: Device>(
 ) -> Result<Vec<NodeStart<M, D>>, Fault>
     ensures seats { IfOk result (λ starts. map (λ start. start.seat) starts.items ≡ seats.items) }
     ensures lines { IfOk result (λ starts. All (λ start. start.line
-        ≡ line_of (line_seed seed (parties.Node start.seat.number))) starts.items) }
+        ≡ party_line seed (parties.Node start.seat.number)) starts.items) }
     ensures only { IsOkUnless result Fault.OutOfMemory }
 {
     let mut starts = Vec::new(alloc);
@@ -85,42 +84,38 @@ fn task_start<M: Machine>(
     alloc: Global,
     seed: u32,
     events: &[Event],
-    task: TaskId,
     seat: TaskSeat<M>,
 ) -> Result<TaskStart<M>, Fault>
     ensures seat { IfOk result (λ start. start.seat ≡ seat) }
     ensures calls { IfOk result (λ start. start.calls.items
-        ≡ filter_map (call_by task) events.now) }
+        ≡ filter_map (call_by seat.number) events.now) }
     ensures line { IfOk result (λ start. start.line
-        ≡ line_of (line_seed seed (parties.Task task))) }
+        ≡ party_line seed (parties.Task seat.number)) }
     ensures only { IsOkUnless result Fault.OutOfMemory }
 {
+    let task = seat.number();
     let calls = calls_of(alloc, events, task)?;
     let line = line_for(alloc, seed, Party::Task(task))?;
     Ok(TaskStart { seat, calls, line })
 }
 
-/// The tasks from 1 on are ready to run, each with its calls among the events.
+/// The tasks are ready to run, each with its calls among the events.
 pub(crate) fn task_starts<M: Machine>(
     alloc: Global,
     seed: u32,
     events: &[Event],
     seats: Vec<TaskSeat<M>>,
 ) -> Result<Vec<TaskStart<M>>, Fault>
-    requires { length seats.items ≤ 8 }
     ensures seats { IfOk result (λ starts. map (λ start. start.seat) starts.items ≡ seats.items) }
-    ensures calls { IfOk result (λ starts. (place : ℕ) → IfSome (slice_get starts.items place)
-        (λ start. start.calls.items ≡ filter_map (call_by (suc place)) events.now)) }
-    ensures lines { IfOk result (λ starts. (place : ℕ) → IfSome (slice_get starts.items place)
-        (λ start. start.line ≡ line_of (line_seed seed (parties.Task (suc place))))) }
+    ensures calls { IfOk result (λ starts. All (λ start. start.calls.items
+        ≡ filter_map (call_by start.seat.number) events.now) starts.items) }
+    ensures lines { IfOk result (λ starts. All (λ start. start.line
+        ≡ party_line seed (parties.Task start.seat.number)) starts.items) }
     ensures only { IsOkUnless result Fault.OutOfMemory }
 {
     let mut starts = Vec::new(alloc);
-    let mut number = 0;
     for seat in seats {
-        number += 1;
-        let task = TaskId::new(number).unwrap();
-        starts.push(task_start(alloc, seed, events, task, seat)?)?;
+        starts.push(task_start(alloc, seed, events, seat)?)?;
     }
     Ok(starts)
 }

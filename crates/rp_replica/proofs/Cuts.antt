@@ -1,6 +1,7 @@
 -- What a stop within the write of a record leaves.
 use Rattle.std.proofs.Common.{◌≡◌, ℕ, zero, suc, ◌+◌, ◌≤◌, Bool, true, false, cond, Option, Some, None, List, [], ◌∷◌, ◌++◌, length, take, refl, sym, ap, subst, ◌∙◌, arith, inl, inr}
-use Rattle.std.specs.Prelude.{Result, Ok, Err, OnErr, IfErr, nat_le}
+use Rattle.std.specs.Prelude.{Result, Ok, Err, OnErr, IfErr, nat_le, filter}
+use Rattle.std.specs.List.{AllByRecursion}
 use Rattle.std.specs.Result.{IsErrAnd}
 use Rattle.std.proofs.lemmas.Bool.{cases_lt, le-leb, lt-leb}
 use Rattle.std.proofs.lemmas.List.{append-nil}
@@ -19,7 +20,7 @@ use Rattle.rp_model.specs.Effect.{cut_part, stop_part}
 use Rattle.rp_model.specs.Parts.{is_in_log}
 use Rattle.rp_replica.specs.Tied.{IsOnDisk}
 use Rattle.rp_replica.specs.Held.{Held, part_of}
-use Rattle.rp_replica.specs.Kept.{HoldsPart}
+use Rattle.rp_replica.specs.Kept.{HoldsPart, HoldsOnly, HoldsItsRecords, HoldsCut}
 use Rattle.rp_replica.specs.Turning.{Stops}
 use Rattle.rp_replica.specs.Cutting.{MayWrite, Cuts, FailsInCut}
 use Rattle.rp_replica.proofs.Keeping.{counts_more}
@@ -79,6 +80,30 @@ module _ (most kept : ℕ) (part : NodePart) (rec : Rec) where
             })
       ]
 
+  -- and no other records, where there were no others
+  pub cut_only : (disk after : Disk) → HoldsOnly disk part → part.torn ≡ 0 → IsRecord rec → after.contents ≡ disk.contents ++ take kept (record_text rec)
+      → HoldsOnly after (cut_part kept part (Some rec))
+  cut_only disk after h untorn right is =
+      let none : h.torn ≡ [] = no_bytes h.torn (sym untorn ∙ h.bytes) in
+      let text : disk.contents ≡ records_text part.records = h.found.whole ∙ ap (λ (t : List ℕ). records_text part.records ++ t) none ∙ append-nil (records_text part.records) in
+      let contents : after.contents ≡ records_text part.records ++ take kept (record_text rec) = is ∙ ap (λ (t : List ℕ). t ++ take kept (record_text rec)) text in
+      elim (cases_lt kept (length (record_text rec))) [
+        | inl less ↦
+            subst (HoldsOnly after) (sym (cut_by false (lt-leb (length (record_text rec)) kept less)))
+            (record {
+              torn = take kept (record_text rec);
+              found = subst (λ (t : List ℕ). AreRecordsOf t part.records (take kept (record_text rec))) (sym contents) (before_put part.records rec kept h.found.each right less);
+              bytes = sym (taken_all kept (record_text rec) (omega arith));
+            })
+        | inr whole ↦
+            subst (HoldsOnly after) (sym (cut_by true (le-leb (length (record_text rec)) kept whole)))
+            (record {
+              torn = [];
+              found = subst (λ (t : List ℕ). AreRecordsOf t (part.records ++ rec ∷ []) []) (sym contents) (after_put part.records rec kept h.found.each right whole);
+              bytes = untorn;
+            })
+      ]
+
 -- what a stop leaves of contents that were all stable
 pub stopped_contents : (kept : ℕ) (text : List ℕ) (disk : Disk) → disk.stable ≡ length disk.contents → (stopped kept (appended text disk)).contents ≡ disk.contents ++ take kept text
 stopped_contents kept text disk stable = ap (λ (n : ℕ). take (n + kept) (disk.contents ++ text)) stable ∙ passed disk.contents
@@ -91,6 +116,14 @@ stopped_contents kept text disk stable = ap (λ (n : ℕ). take (n + kept) (disk
 
 -- ---- a replica
 
+all_that : (test : Rec → Bool) (all : List Rec) → AllByRecursion IsRecord all → AllByRecursion IsRecord (filter test all)
+all_that test [] each = tt
+all_that test (rec ∷ rest) each =
+    elim (test rec) as (λ b. AllByRecursion IsRecord (cond b (rec ∷ filter test rest) (filter test rest))) [
+      | true ↦ (each.0, all_that test rest each.1)
+      | false ↦ all_that test rest each.1
+    ]
+
 module _ {S : Type 0} (held : Held S) (stands : IsOnDisk held.config.max_positions held.disk held.failed held.records) (working : held.failed ≡ false) where
   works : IsOnDisk held.config.max_positions held.disk false held.records
   works = subst (λ (f : Bool). IsOnDisk held.config.max_positions held.disk f held.records) working stands
@@ -98,21 +131,36 @@ module _ {S : Type 0} (held : Held S) (stands : IsOnDisk held.config.max_positio
   pub held_now : HoldsPart held.config.max_positions held.disk (part_of held)
   held_now = holds_now held.config.max_positions held.disk held.records (Some held.running) works
 
+  -- and no other record where its contents are the texts of its records
+  only_now : HoldsItsRecords held → HoldsOnly held.disk (part_of held)
+  only_now only = record {
+    torn = [];
+    found = subst (λ (contents : List ℕ). AreRecordsOf contents held.records []) (sym only)
+        (only_records held.records (subst (AllByRecursion IsRecord) (sym works.counted) (all_that (is_in_log held.config.max_positions) works.all works.each)));
+    bytes = refl;
+  }
+
+  pub stops_with : HoldsItsRecords held → HoldsOnly held.disk (stop_part (part_of held))
+  stops_with only = let h = only_now only in record { torn = h.torn; found = h.found; bytes = h.bytes }
+
+  -- some bytes of a record stand behind the others
+  cuts_by : (kept : ℕ) (rec : Rec) (after : Disk) → MayWrite held.config.max_positions (Some rec) → after.contents ≡ held.disk.contents ++ take kept (record_text rec) → HoldsCut kept held after (Some rec)
+  cuts_by kept rec after may is = record {
+    left = cut_holds held.config.max_positions kept (part_of held) rec held.disk after held_now refl may.0 may.1 is;
+    only = λ only. cut_only held.config.max_positions kept (part_of held) rec held.disk after (only_now only) refl may.0 is;
+  }
+
   -- it stops within the write of a record
   pub torn_cuts : (kept : ℕ) (rec : Rec) (after : Disk) → MayWrite held.config.max_positions (Some rec) → after ≡ stopped kept (appended (record_text rec) held.disk) → Cuts (Some rec) kept held after
   torn_cuts kept rec after may is = record {
     disk_is = is;
-    holds = cut_holds held.config.max_positions kept (part_of held) rec held.disk after held_now refl may.0 may.1
-        (ap (λ (d : Disk). d.contents) is ∙ stopped_contents kept (record_text rec) held.disk (works.stable refl));
+    holds = cuts_by kept rec after may (ap (λ (d : Disk). d.contents) is ∙ stopped_contents kept (record_text rec) held.disk (works.stable refl));
     working = working;
   }
 
   -- its device fails there
-  pub failure_cuts : (rec : Rec) (after : Disk) → MayWrite held.config.max_positions (Some rec) → AppendFailed (record_text rec) held.disk after
-      → (kept : ℕ) × HoldsPart held.config.max_positions after (cut_part kept (part_of held) (Some rec))
-  failure_cuts rec after may failed =
-      let kept = failed.contents.0 in
-      (kept, cut_holds held.config.max_positions kept (part_of held) rec held.disk after held_now refl may.0 may.1 failed.contents.1)
+  pub failure_cuts : (rec : Rec) (after : Disk) → MayWrite held.config.max_positions (Some rec) → AppendFailed (record_text rec) held.disk after → (kept : ℕ) × HoldsCut kept held after (Some rec)
+  failure_cuts rec after may failed = (failed.contents.0, cuts_by failed.contents.0 rec after may failed.contents.1)
 
   pub torn_fails : (rec : Rec) (after : Disk) → MayWrite held.config.max_positions (Some rec) → AppendFailed (record_text rec) held.disk after → FailsInCut (Some rec) held after
   torn_fails rec after may failed = record {

@@ -5,12 +5,11 @@ use Rattle.rp_base.specs.declared.record.Rec.{Rec}
 use Rattle.rp_codec.specs.Record.{IsRecord, record_text}
 use Rattle.rp_store.specs.Disk.{Disk, appended, stopped, AppendFailed}
 use Rattle.rp_model.specs.Parts.{Turn}
-use Rattle.rp_model.specs.Effect.{cut_part}
 use Rattle.rp_model.specs.Parts.{is_in_log}
 use Rattle.rp_replica.specs.declared.cut.NotCut.{NotCut}
 use Rattle.rp_replica.specs.declared.cut.NotCut.TheVariants.{Failed as DeviceFailed, Refused}
-use Rattle.rp_replica.specs.Held.{Held, part_of}
-use Rattle.rp_replica.specs.Kept.{HoldsPart}
+use Rattle.rp_replica.specs.Held.{Held}
+use Rattle.rp_replica.specs.Kept.{HoldsCut}
 use Rattle.rp_replica.specs.Turning.{Stops, IsRefused}
 
 -- the record that a turn writes first, or why there is no turn
@@ -31,7 +30,7 @@ cut_disk kept disk (Some rec) = stopped kept (appended (record_text rec) disk)
 -- so what a cut leaves of the node's part.
 pub record Cuts {S : Type 0} (written : Option Rec) (kept : ℕ) (old : Held S) (disk : Disk) : Type 0 where
   pub disk_is : disk ≡ cut_disk kept old.disk written
-  pub holds : HoldsPart old.config.max_positions disk (cut_part kept (part_of old) written)
+  pub holds : HoldsCut kept old disk written
   pub working : old.failed ≡ false
 
 -- the device failed while the record was written: it holds some cut of the turn
@@ -39,7 +38,7 @@ pub record FailsInCut {S : Type 0} (written : Option Rec) (old : Held S) (disk :
   pub rec : Rec
   pub is : written ≡ Some rec
   pub disk_is : AppendFailed (record_text rec) old.disk disk
-  pub holds : (kept : ℕ) × HoldsPart old.config.max_positions disk (cut_part kept (part_of old) written)
+  pub holds : (kept : ℕ) × HoldsCut kept old disk written
   pub working : old.failed ≡ false
 
 -- why the turn is not cut, and what that leaves: the device alone where it failed, else the replica as it was

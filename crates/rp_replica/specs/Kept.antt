@@ -1,10 +1,12 @@
 -- What a device keeps of a node's part (this project's own).
-use Rattle.std.specs.Prelude.{◌≡◌, ℕ, List, length}
+use Rattle.std.specs.Prelude.{◌≡◌, ℕ, Option, List, length}
 use Rattle.rp_base.specs.declared.record.Rec.{Rec}
 use Rattle.rp_store.specs.Disk.{Disk}
-use Rattle.rp_store.specs.Records.{AreRecordsOf}
+use Rattle.rp_store.specs.Records.{records_text, AreRecordsOf}
 use Rattle.rp_model.specs.Parts.{NodePart}
 use Rattle.rp_model.specs.Parts.{records_in_log}
+use Rattle.rp_model.specs.Effect.{cut_part}
+use Rattle.rp_replica.specs.Held.{Held, part_of}
 
 -- The device holds the records of the part, and those above the log, which do not count; the torn bytes
 -- stand behind them.
@@ -14,3 +16,19 @@ pub record HoldsPart (most : ℕ) (disk : Disk) (part : NodePart) : Type 0 where
   pub found : AreRecordsOf disk.contents all torn
   pub records : part.records ≡ records_in_log most all
   pub bytes : part.torn ≡ length torn
+
+-- The device holds the records of the part and no others; the torn bytes stand behind them.
+pub record HoldsOnly (disk : Disk) (part : NodePart) : Type 0 where
+  pub torn : List ℕ
+  pub found : AreRecordsOf disk.contents part.records torn
+  pub bytes : part.torn ≡ length torn
+
+-- the device of a replica holds the texts of its records and nothing else
+abbrev pub HoldsItsRecords : {S : Type 0} → Held S → Type 0
+HoldsItsRecords held = held.disk.contents ≡ records_text held.records
+
+-- The device holds what a stop within the write of this record, or of none, leaves of the node's part, and
+-- no other records where it held no others before.
+pub record HoldsCut {S : Type 0} (kept : ℕ) (old : Held S) (disk : Disk) (written : Option Rec) : Type 0 where
+  pub left : HoldsPart old.config.max_positions disk (cut_part kept (part_of old) written)
+  pub only : HoldsItsRecords old → HoldsOnly disk (cut_part kept (part_of old) written)

@@ -9,8 +9,8 @@ use Rattle.rp_store.specs.Opening.{IsOpened, IsNotOpened}
 use Rattle.rp_model.specs.Parts.{fresh_running, records_in_log}
 use Rattle.rp_replica.specs.Held.{Held}
 
--- The replica runs by the records of the device that count, and by them alone; it tells how many they are
--- and how many torn bytes were cut off.
+-- The replica runs by the records of the device that count, and by them alone; it tells how many records the
+-- device holds, those above the log too, and how many torn bytes were cut off.
 pub record Opens {S : Type 0} (me : ℕ) (config : Config) (begin : S) (old : Disk) (held : Held S) (count cut_bytes : ℕ) : Type 0 where
   pub all : List Rec
   pub opened : IsOpened old all cut_bytes held.disk
@@ -23,7 +23,7 @@ pub record Opens {S : Type 0} (me : ℕ) (config : Config) (begin : S) (old : Di
     disk = held.disk;
     failed = false;
   }
-  pub counted : count ≡ length held.records
+  pub counted : count ≡ length all
 
 -- Why it is not opened, and what that leaves: where memory ran out, the device as it was, but for a read, or
 -- read, cut and synced; where the device failed, each whole record. There is no other reason.

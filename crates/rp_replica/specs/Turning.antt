@@ -10,9 +10,9 @@ use Rattle.rp_store.specs.Disk.{AppendFailed}
 use Rattle.rp_model.specs.Parts.{Turn}
 use Rattle.rp_replica.specs.declared.sent.Sent.{Sent}
 use Rattle.rp_replica.specs.Packets.{texts_of}
-use Rattle.rp_model.specs.Effect.{NodeInput, running_effect, cut_part}
-use Rattle.rp_replica.specs.Kept.{HoldsPart}
-use Rattle.rp_replica.specs.Held.{Held, setting_of, part_of, held_after}
+use Rattle.rp_model.specs.Effect.{NodeInput, running_effect}
+use Rattle.rp_replica.specs.Kept.{HoldsCut}
+use Rattle.rp_replica.specs.Held.{Held, setting_of, held_after}
 
 -- The turn took effect: its record is written and stable, and the bytes are the texts of its packets.
 pub record Turns {S : Type 0} (turn : Turn) (old new : Held S) (sent : Sent) : Type 0 where
@@ -28,7 +28,7 @@ pub record FailsAt {S : Type 0} (written : Option Rec) (old new : Held S) : Type
   pub is : written ≡ Some rec
   pub disk : AppendFailed (record_text rec) old.disk new.disk
   pub goes : new ≡ record old { disk = new.disk; failed = true }
-  pub holds : (kept : ℕ) × HoldsPart old.config.max_positions new.disk (cut_part kept (part_of old) written)
+  pub holds : (kept : ℕ) × HoldsCut kept old new.disk written
 
 -- why a turn did not take effect, and what that leaves; there is no other reason
 abbrev pub Stops : {S : Type 0} → Option Rec → Held S → Held S → Fault → Type 0

@@ -1,6 +1,6 @@
 //! How the calls of a replica stand to the definitions of worlds.
 
-ghost use Rattle.std.specs.Prelude.{◌≡◌, ℕ, Some, None, Ok, Err};
+ghost use Rattle.std.specs.Prelude.{◌≡◌, ℕ, Some, None, Ok, Err, length};
 ghost use Rattle.rp_base.specs.declared.config.Config.{Config};
 ghost use Rattle.rp_base.specs.declared.fault.Fault.{Fault};
 ghost use Rattle.rp_codec.specs.Message.{Message, IsPacket};
@@ -12,7 +12,7 @@ ghost use Rattle.rp_model.specs.Parts.{NodePart};
 ghost use Rattle.rp_model.specs.Parts.{Turn};
 ghost use Rattle.rp_replica.specs.Held.{Held, setting_of, part_of};
 ghost use Rattle.rp_replica.specs.Inputs.{packet_given};
-ghost use Rattle.rp_replica.specs.Kept.{HoldsPart};
+ghost use Rattle.rp_replica.specs.Kept.{HoldsPart, HoldsOnly};
 ghost use Rattle.rp_replica.specs.Opening.{Opens};
 ghost use Rattle.rp_replica.specs.Turning.{Turns, effect_of};
 ghost use Rattle.rp_replica.specs.declared.sent.Sent.{Sent};
@@ -39,11 +39,15 @@ pub fn texts_are_packets()
         → packet_given (all_of (text_of m)) ≡ Ok (NodeInput.Receive m) }
 {}
 
-/// What is opened over a device is what a restart makes of the stopped part that the device keeps.
+/// What is opened over a device is what a restart makes of the stopped part that the device keeps; and
+/// where it holds no other records, it tells how many the part has.
 pub fn opening_is_a_restart<M: Machine>()
-    ensures { (me : ℕ) (config : Config) (begin : M) (disk : Disk) (held : Held M)
+    ensures part { (me : ℕ) (config : Config) (begin : M) (disk : Disk) (held : Held M)
         (count cut_bytes : ℕ) (part : NodePart) → HoldsPart config.max_positions disk part
         → part.running ≡ None → Opens me config begin disk held count cut_bytes
         → restart_part part
-        ≡ record (goes_on_as (part_of held)) { opened = Some (count, cut_bytes) } }
+        ≡ record (goes_on_as (part_of held)) { opened = Some (length held.records, cut_bytes) } }
+    ensures count { (me : ℕ) (config : Config) (begin : M) (disk : Disk) (held : Held M)
+        (count cut_bytes : ℕ) (part : NodePart) → HoldsOnly disk part
+        → Opens me config begin disk held count cut_bytes → count ≡ length part.records }
 {}

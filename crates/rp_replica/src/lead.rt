@@ -18,7 +18,7 @@ impl<M: Machine, D: Device> Replica<M, D> {
     /// The word to lead at a position, or with none at the least position that is not learned and at
     /// which no proposal of this node runs. Where the position is learned nothing happens. It is
     /// refused with `LogFull` above the log or 64 positions above the first unlearned one, with
-    /// `BallotsSpent` where the node has no ballot left, and then with 1, 2 or 3.
+    /// `BallotsSpent` where the node has no ballot left, and then as `Replica` says.
     #[inline(never)]
     pub(crate) fn lead_into(
         &mut self,

@@ -30,7 +30,7 @@ use rp_store::Device;
 impl<M: Machine, D: Device> Replica<M, D> {
     /// The word to lead at a position. Where it is learned nothing happens. It is refused with
     /// `LogFull` above the log or 64 positions above the first unlearned one, with `BallotsSpent`
-    /// where the node has no ballot left, and then with 1, 2 or 3.
+    /// where the node has no ballot left, and then as `Replica` says.
     pub(crate) fn lead_at_into(
         &mut self,
         buffer: Vec<u8>,

@@ -131,7 +131,7 @@ fn restored<M: Machine>(
 #[derive(Drop)]
 pub struct Opening<M: Machine, D: Device> {
     pub replica: Replica<M, D>,
-    /// How many records count.
+    /// How many records the device holds, those above the log too.
     pub records: u64,
     /// How many bytes stood behind the records, and were cut off.
     pub cut_bytes: u64,
@@ -140,8 +140,8 @@ pub struct Opening<M: Machine, D: Device> {
 impl<M: Machine, D: Device> Replica<M, D> {
     /// Opens a device for a node of the configuration: it reads the records, cuts off what is torn
     /// behind them, skips those above the log, and runs by the others. Nothing is proposed, heard or
-    /// pending. Refused with 1 where memory ran out, after which the device may be read, cut and
-    /// synced, or with 2 where the device failed.
+    /// pending. Refused with `OutOfMemory`, after which the device may be read, cut and synced,
+    /// or with `Device` where the device failed.
     pub fn open(
         alloc: Global,
         node: NodeId,
@@ -161,6 +161,7 @@ impl<M: Machine, D: Device> Replica<M, D> {
             mut records,
             cut_bytes,
         } = Store::open(alloc, device)?;
+        let count = records.len() as u64;
         skip(&mut records, config.max_positions);
         match restored::<M>(alloc, node, config, program, &records) {
             Ok(parts) => Ok(Opening {
@@ -176,7 +177,7 @@ impl<M: Machine, D: Device> Replica<M, D> {
                     machine: parts.machine,
                     pending: parts.pending,
                 },
-                records: records.len() as u64,
+                records: count,
                 cut_bytes,
             }),
             Err(fault) => Err((fault, store.close())),

@@ -19,8 +19,8 @@ use rp_store::Device;
 use std::alloc::Global;
 
 impl<M: Machine, D: Device> Replica<M, D> {
-    /// A packet comes, as its text. Refused with 4 where the bytes are no packet's text, and
-    /// otherwise with 1, 2 or 3. A packet that is for another node, from a node or for a position
+    /// A packet comes, as its text. Refused with `BadPacket` where the bytes are no packet's text, and
+    /// otherwise as `Replica` says. A packet that is for another node, from a node or for a position
     /// beyond the configuration, or in a ballot that its sender does not own, is dropped, and nothing
     /// happens.
     #[inline(always)]

@@ -16,7 +16,7 @@ ghost use Rattle.rp_store.specs.Stored.{IsPut, IsNotPut};
 ghost use Rattle.rp_model.specs.Effect.{stop_part};
 ghost use Rattle.rp_model.specs.Parts.{is_in_log};
 ghost use Rattle.rp_model.specs.Says.{says, says_to_task, writes};
-ghost use Rattle.rp_replica.specs.Kept.{HoldsPart};
+ghost use Rattle.rp_replica.specs.Kept.{HoldsPart, HoldsItsRecords, HoldsOnly};
 ghost use Rattle.rp_replica.specs.Held.{held_after, part_of};
 ghost use Rattle.rp_replica.specs.Packets.{run_of};
 ghost use Rattle.rp_replica.specs.Tied.{IsAnswer};
@@ -37,8 +37,9 @@ use std::alloc::Global;
 use std::marker::Model;
 
 /// One node as it runs, over a device of its own (Lamport, "Paxos Made Simple", sections 2.2, 2.3 and
-/// 3). A call writes at most one record, and that before any packet of it is given out. Refused with
-/// 1, 6 or 7 it changes nothing; after 2 each call is refused with 3, until the device is opened anew.
+/// 3). A call writes at most one record, and that before any packet of it is given out. Any call may be
+/// refused with `OutOfMemory`, which changes nothing, with `Device` where the device fails while the
+/// record is written, and with `Failed` from then on, until the device is opened anew.
 ///
 /// To a contract it is its node, the configuration and the machine's start, its records, what it
 /// knows while it runs, what its device holds, and whether that has failed.
@@ -168,7 +169,7 @@ impl<M: Machine, D: Device> Replica<M, D> {
         Ok(out)
     }
 
-    /// Whether the device failed since it was opened: then each call is refused with 3.
+    /// Whether the device failed since it was opened: then each call is refused with `Failed`.
     pub fn has_failed(&self) -> bool
         ensures { result ≡ self.now.failed }
     {
@@ -210,6 +211,8 @@ impl<M: Machine, D: Device> Replica<M, D> {
         ensures disk { D.disk result ≡ self.disk }
         ensures holds { self.failed ≡ false
             → HoldsPart self.config.max_positions (D.disk result) (stop_part (part_of self)) }
+        ensures only { self.failed ≡ false → HoldsItsRecords self
+            → HoldsOnly (D.disk result) (stop_part (part_of self)) }
     {
         self.store.close()
     }

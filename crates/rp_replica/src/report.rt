@@ -20,8 +20,8 @@ use std::alloc::{AllocError, Global};
 
 impl<M: Machine, D: Device> Replica<M, D> {
     /// A report to the audit of the actions applied at the positions from `first` on, as many as
-    /// `report_len` says. It copies what it tells and no more. Refused with 1 where memory ran out,
-    /// or with 3.
+    /// `report_len` says. It copies what it tells and no more. Refused with `OutOfMemory` or
+    /// `Failed`.
     #[inline(never)]
     pub(crate) fn report_into(
         &mut self,

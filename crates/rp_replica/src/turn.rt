@@ -18,9 +18,9 @@ use std::alloc::Global;
 
 impl<M: Machine, D: Device> Replica<M, D> {
     /// One step of the node: at most one record is written, and the packets are given out once it is
-    /// stable. Refused with 4 where the bytes of a packet are none's text, with 6 or 7 where the node
-    /// cannot lead, with 1 where memory ran out: then nothing has changed. After 2 the device failed,
-    /// and each further step is refused with 3.
+    /// stable. Refused with `BadPacket` where the bytes of a packet are none's text, with `BallotsSpent`
+    /// or `LogFull` where the node cannot lead, with `OutOfMemory`: then nothing has changed. After
+    /// `Device` the device has failed, and each further step is refused with `Failed`.
     pub fn turn(&mut self, alloc: Global, input: &Input) -> Result<Sent, Fault>
         requires right { IsRightInput input.now }
         ensures ok { IfOk result (λ sent. TurnsIf
@@ -57,8 +57,8 @@ impl<M: Machine, D: Device> Replica<M, D> {
         }
     }
 
-    /// A packet comes, as its text. Refused with 4 where the bytes are no packet's text, and
-    /// otherwise with 1, 2 or 3. A packet that is for another node, from a node or for a position
+    /// A packet comes, as its text. Refused with `BadPacket` where the bytes are no packet's text, and
+    /// otherwise as `Replica` says. A packet that is for another node, from a node or for a position
     /// beyond the configuration, or in a ballot that its sender does not own, is dropped, and nothing
     /// happens.
     pub fn receive(&mut self, alloc: Global, bytes: &[u8]) -> Result<Sent, Fault>
@@ -75,7 +75,7 @@ impl<M: Machine, D: Device> Replica<M, D> {
     /// The word to lead at a position, or with none at the least position that is not learned and at
     /// which no proposal of this node runs. Where the position is learned nothing happens. It is
     /// refused with `LogFull` above the log or 64 positions above the first unlearned one, with
-    /// `BallotsSpent` where the node has no ballot left, and then with 1, 2 or 3.
+    /// `BallotsSpent` where the node has no ballot left, and then as `Replica` says.
     pub fn lead(&mut self, alloc: Global, choice: Option<Position>) -> Result<Sent, Fault>
         ensures ok { IfOk result (λ sent. TurnsIf
             (effect_of M.next M.answers self.old (inputs.NodeInput.Lead choice))
@@ -127,8 +127,8 @@ impl<M: Machine, D: Device> Replica<M, D> {
     }
 
     /// A report to the audit of the actions applied at the positions from `first` on, as many as
-    /// `report_len` says. It copies what it tells and no more. Refused with 1 where memory ran out,
-    /// or with 3.
+    /// `report_len` says. It copies what it tells and no more. Refused with `OutOfMemory` or
+    /// `Failed`.
     pub fn report(&mut self, alloc: Global, first: Position) -> Result<Sent, Fault>
         ensures ok { IfOk result (λ sent. TurnsIf
             (effect_of M.next M.answers self.old (inputs.NodeInput.Report first))

@@ -27,9 +27,9 @@ use rp_store::Device;
 use std::alloc::Global;
 
 impl<M: Machine, D: Device> Replica<M, D> {
-    /// The record that the step of an input would write, or why there would be no step: 4 where the
-    /// bytes of a packet are none's text, 6 or 7 where the node cannot lead, 1 where memory ran out, 3
-    /// after the device failed. It changes nothing.
+    /// The record that the step of an input would write, or why there would be no step: `BadPacket`
+    /// where the bytes of a packet are none's text, `BallotsSpent` or `LogFull` where the node cannot
+    /// lead, `OutOfMemory`, or `Failed` after the device failed. It changes nothing.
     pub fn record_of(&self, alloc: Global, input: &Input) -> Result<Option<Rec>, Fault>
         requires right { IsRightInput input.now }
         ensures ok { IfOk result (λ written. Ok written

@@ -97,9 +97,9 @@ impl<D: Device> Store<D> {
     ghost use Rattle.rp_store.specs.Stored.{IsPut, IsNotPut};
 
     /// Reads the records of a device, cuts off what is torn behind them, and syncs, so that all
-    /// that it read is stable. It appends nothing. Refused with 1 where memory ran out, and then
-    /// nothing has changed, or with 2 where the device failed: it holds each whole record that it
-    /// held, and behind them some beginning of what was torn.
+    /// that it read is stable. It appends nothing. Refused with `OutOfMemory`, and then nothing
+    /// has changed, or with `Device` where the device failed: it holds each whole record that it held,
+    /// and behind them some beginning of what was torn.
     pub fn open(alloc: Global, device: D) -> Result<Opened<D>, (Fault, D)>
         ensures ok { IfOk result (λ opened. IsOpened (D.disk device)
             opened.records.items opened.cut_bytes (D.disk opened.store.device)) }
@@ -123,9 +123,9 @@ impl<D: Device> Store<D> {
 
     /// Appends the record's text and syncs. It never cuts, and reads nothing. It takes no memory
     /// but the device's, and costs what the text is long, whatever the device holds. The record is
-    /// a right one: opening would cut off any other, and all records behind it. Refused with 3
-    /// where the device failed since it was opened, with 1 where memory ran out: then nothing has
-    /// changed. After 2, some beginning of the text may stand at the end.
+    /// a right one: opening would cut off any other, and all records behind it. Refused with
+    /// `Failed` where the device failed since it was opened, or with `OutOfMemory`: then nothing has
+    /// changed. After `Device`, some beginning of the text may stand at the end.
     #[inline(always)]
     pub fn put(&mut self, rec: &Rec) -> Result<(), Fault>
         requires { IsRightRecord rec.now }
@@ -141,7 +141,7 @@ impl<D: Device> Store<D> {
         result
     }
 
-    /// Whether the device failed since it was opened: then each `put` is refused with 3.
+    /// Whether the device failed since it was opened: then each `put` is refused with `Failed`.
     pub fn has_failed(&self) -> bool
         ensures { result ≡ self.now.failed }
     {

@@ -190,7 +190,7 @@ node_end_send M D P m d s t = recorded_send (NodeEnd.the_field M D P m d).row _ 
     search (crosses, sendable),
     (
       search (crosses, sendable),
-      (search (crosses, sendable), (search (crosses, sendable), (search (crosses, sendable, fault_send), tt))),
+      (search (crosses, sendable), (search (crosses, sendable), (search (crosses, sendable), (search (crosses, sendable, fault_send), tt)))),
     ),
   ),
 ))
@@ -201,7 +201,7 @@ task_call_send = search (crosses, sendable) depth 60 fits 40000
 pub task_end_send : (M P : RattleType) (m : machine.Ghosts M.Denot P.Denot) → IsSend M → IsSend (TaskEnd.the_row M P m)
 task_end_send M P m s = recorded_send (TaskEnd.the_field M P m).row _ _ (TaskEnd.the_type M P m).to_one (struct_send (shape (TaskEnd.the_type M P m)) (
   task_seat_send M P m s,
-  (search (crosses, sendable), (search (crosses, sendable, fault_send), tt)),
+  (search (crosses, sendable), (search (crosses, sendable), (search (crosses, sendable), (search (crosses, sendable, fault_send), tt)))),
 ))
 
 -- ---- what a closure captures

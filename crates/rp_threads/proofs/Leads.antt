@@ -11,8 +11,8 @@ use Rattle.rp_model.specs.Parts.{Running}
 use Rattle.rp_tasks.specs.Line.{Line}
 use Rattle.rp_boxes.specs.Parts.{Part}
 use Rattle.rp_boxes.specs.Seats.{Chair, HasApplied, IsRunning}
-use Rattle.rp_threads.specs.Loops.{is_idle, events_of, IsSameSeat}
-use Rattle.rp_threads.specs.Rounds.{HasPending, IsToLeadAt, IsLeadAnew, IsMade, IsUnmade, IsMadeOrSpent}
+use Rattle.rp_threads.specs.Loops.{is_refusal, is_idle, events_of, IsSameSeat}
+use Rattle.rp_threads.specs.Rounds.{HasPending, IsToLeadAt, IsLeadAnew, IsLedAnew, IsStoppedAnew, IsMade, IsUnmade, IsMadeOrSkipped}
 use Rattle.rp_threads.specs.Turns.{IsEventBy, IsStopBy, IsNodeTurn}
 use Rattle.rp_threads.specs.declared.turns.Turn.{Turn}
 use Rattle.rp_threads.specs.declared.turns.Turn.TheVariants.{Received, Led, Idle}
@@ -36,10 +36,10 @@ module _ {S P : Type 0} (next : S → Action → S) (answers : S → Action → 
       same_on old anew.between new (turn_same next answers begin from lead old anew.between line after anew.turned anew.first)
       (stop_same next answers begin (IsLeadAnew anew.between.part) anew.between new fault anew.stops)
 
-  pub turned_same : (made : Option Turn) → IsMadeOrSpent next answers begin from lead old new line after made → IsSameSeat old new
-  turned_same (Some turn) made = made_same turn made
-  turned_same None (inl stays) = same_seat old new stays.0
-  turned_same None (inr refused) = unmade_same refused.0 refused.2
+  pub turned_same : (passes : Bool) (made : Option Turn) → IsMadeOrSkipped next answers begin from lead old new line after passes made → IsSameSeat old new
+  turned_same passes (Some turn) made = made_same turn made.1
+  turned_same passes None (inl stays) = same_seat old new stays.1
+  turned_same passes None (inr refused) = unmade_same refused.1 refused.3
 
   -- ---- one event more, or none
 
@@ -67,10 +67,11 @@ module _ {S P : Type 0} (next : S → Action → S) (answers : S → Action → 
       ap (λ (c : Chair P). c.part.events) (stop_stays next answers begin (IsLeadAnew anew.between.part) anew.between new fault other anew.stops)
       ∙ idle_events anew.between anew.turned anew.first anew.idle
 
-  pub turned_events : (made : Option Turn) → IsMadeOrSpent next answers begin from lead old new line after made → new.part.events ≡ old.part.events + events_of made
-  turned_events (Some turn) made = made_events turn made
-  turned_events None (inl stays) = let e : new.part.events ≡ old.part.events = ap (λ (c : Chair P). c.part.events) stays.0 in omega (arith, e)
-  turned_events None (inr refused) = let e = unmade_events refused.0 (refusal_stays refused.0 refused.1) refused.2 in omega (arith, e)
+  pub turned_events : (passes : Bool) (made : Option Turn) → IsMadeOrSkipped next answers begin from lead old new line after passes made
+      → new.part.events ≡ old.part.events + events_of made
+  turned_events passes (Some turn) made = made_events turn made.1
+  turned_events passes None (inl stays) = let e : new.part.events ≡ old.part.events = ap (λ (c : Chair P). c.part.events) stays.1 in omega (arith, e)
+  turned_events passes None (inr refused) = let e = unmade_events refused.1 (refusal_stays refused.1 refused.2) refused.3 in omega (arith, e)
 
   -- ---- an idle turn was not to lead
 
@@ -78,9 +79,9 @@ module _ {S P : Type 0} (next : S → Action → S) (answers : S → Action → 
   made_idle turn (inl own) idle = turn_idle next answers begin from lead old new line after own.0 own.1 (own.2 ∙ idle)
   made_idle turn (inr anew) idle = let clash : Led ≡ Idle = sym anew.0 ∙ idle in absurd (cc)
 
-  pub turned_idle : (made : Option Turn) → IsMadeOrSpent next answers begin from lead old new line after made → made ≡ Some Idle → lead ≡ false
-  turned_idle (Some turn) made is = made_idle turn made (cc)
-  turned_idle None spent is = absurd (cc)
+  pub turned_idle : (passes : Bool) (made : Option Turn) → IsMadeOrSkipped next answers begin from lead old new line after passes made → made ≡ Some Idle → lead ≡ false
+  turned_idle passes (Some turn) made is = made_idle turn made.1 (cc)
+  turned_idle passes None skipped is = absurd (cc)
 
 -- ---- a node leads anew
 

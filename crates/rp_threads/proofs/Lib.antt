@@ -3,6 +3,9 @@ pub mod Steps
 pub mod Cuts
 pub mod Rounds
 pub mod Leads
+pub mod Stops
+pub mod Chains
 pub mod TaskSteps
+pub mod TaskChains
 pub mod Places
 mod Crossings

@@ -8,6 +8,7 @@ use Rattle.rp_base.specs.declared.fault.Fault.TheVariants.{Device}
 use Rattle.rp_base.specs.declared.reply.Answer.{Answer}
 use Rattle.rp_base.proofs.Members.{has_right}
 use Rattle.rp_codec.specs.declared.packet.Party.{Party}
+use Rattle.rp_codec.specs.declared.packet.Party.TheVariants.{Node}
 use Rattle.rp_replica.specs.declared.input.Input.{Input}
 use Rattle.rp_replica.specs.declared.sent.Sent.{Sent}
 use Rattle.rp_tasks.specs.Line.{Line}
@@ -46,13 +47,13 @@ same_on a b c ab bc = record {
 
 -- ---- a fetch is no event
 
-pub may_same : {P : Type 0} (fetched : Option (List ℕ)) (from : Party) (old new : Chair P) → MayFetch fetched from old new → IsSameSeat old new
-may_same None from old new f = same_seat old new f
-may_same (Some text) from old new f = same_part old new _ f.after
+pub may_same : {P : Type 0} (fetched : Option (List ℕ)) (from to : Party) (old new : Chair P) → MayFetch fetched from to old new → IsSameSeat old new
+may_same None from to old new f = same_seat old new f
+may_same (Some text) from to old new f = same_part old new _ f.after
 
-pub may_events : {P : Type 0} (fetched : Option (List ℕ)) (from : Party) (old new : Chair P) → MayFetch fetched from old new → new.part.events ≡ old.part.events
-may_events {P} None from old new f = ap (λ (c : Chair P). c.part.events) f
-may_events {P} (Some text) from old new f = ap (λ (c : Chair P). c.part.events) f.after
+pub may_events : {P : Type 0} (fetched : Option (List ℕ)) (from to : Party) (old new : Chair P) → MayFetch fetched from to old new → new.part.events ≡ old.part.events
+may_events {P} None from to old new f = ap (λ (c : Chair P). c.part.events) f
+may_events {P} (Some text) from to old new f = ap (λ (c : Chair P). c.part.events) f.after
 
 module _ {S P : Type 0} (next : S → Action → S) (answers : S → Action → List Answer) (begin : P → S) where
   -- ---- what a step's packets are
@@ -144,29 +145,29 @@ module _ {S P : Type 0} (next : S → Action → S) (answers : S → Action → 
   module _ (from : Party) (lead : Bool) (old new : Chair P) (line after : Line) where
     pub turn_same : (turned : Turned) → IsNodeTurn next answers begin from lead old new line after turned → IsSameSeat old new
     turn_same turned t =
-        same_on old t.between new (may_same t.brought.fetched from old t.between t.brought.fetch) (works_same (given_on t.full) lead t.between new turned.sent t.works)
+        same_on old t.between new (may_same t.brought.fetched from (Node old.number) old t.between t.brought.fetch) (works_same (given_on t.full) lead t.between new turned.sent t.works)
 
     pub turn_events : (turned : Turned) → IsNodeTurn next answers begin from lead old new line after turned → new.part.events ≡ old.part.events + events_of (Some turned.turn)
     turn_events turned t =
         works_events (given_on t.full) lead t.between new turned.sent t.works
-        ∙ ap (λ (n : ℕ). n + events_of (Some (turn_of (given_on t.full) lead))) (may_events t.brought.fetched from old t.between t.brought.fetch)
+        ∙ ap (λ (n : ℕ). n + events_of (Some (turn_of (given_on t.full) lead))) (may_events t.brought.fetched from (Node old.number) old t.between t.brought.fetch)
         ∙ ap (λ (u : Turn). old.part.events + events_of (Some u)) (sym t.turn)
 
     pub stopped_same : (fault : Fault) → IsStoppedTurn next answers begin from lead old new line after fault → IsSameSeat old new
     stopped_same fault t =
-        same_on old t.between new (may_same t.brought.fetched from old t.between t.brought.fetch) (fails_same (given_on t.full) lead t.between new fault t.fails)
+        same_on old t.between new (may_same t.brought.fetched from (Node old.number) old t.between t.brought.fetch) (fails_same (given_on t.full) lead t.between new fault t.fails)
 
     pub stopped_events : (fault : Fault) → (fault ≡ Device → ⊥) → IsStoppedTurn next answers begin from lead old new line after fault → new.part.events ≡ old.part.events
     stopped_events fault other t =
         ap (λ (c : Chair P). c.part.events) (fails_stays (given_on t.full) lead t.between new fault other t.fails)
-        ∙ may_events t.brought.fetched from old t.between t.brought.fetch
+        ∙ may_events t.brought.fetched from (Node old.number) old t.between t.brought.fetch
 
     -- a fault, of which nothing or the loss of a packet came
-    pub fault_same : (fault : Fault) → IsLost from old new line after fault ⊎ IsStoppedTurn next answers begin from lead old new line after fault → IsSameSeat old new
+    pub fault_same : (fault : Fault) → IsLost from (Node old.number) old new line after fault ⊎ IsStoppedTurn next answers begin from lead old new line after fault → IsSameSeat old new
     fault_same fault (inl lost) = same_part old new _ lost.fetch.after
     fault_same fault (inr stopped) = stopped_same fault stopped
 
-    pub fault_events : (fault : Fault) → (fault ≡ Device → ⊥) → IsLost from old new line after fault ⊎ IsStoppedTurn next answers begin from lead old new line after fault
+    pub fault_events : (fault : Fault) → (fault ≡ Device → ⊥) → IsLost from (Node old.number) old new line after fault ⊎ IsStoppedTurn next answers begin from lead old new line after fault
         → new.part.events ≡ old.part.events
     fault_events fault other (inl lost) = ap (λ (c : Chair P). c.part.events) lost.fetch.after
     fault_events fault other (inr stopped) = stopped_events fault other stopped
@@ -175,7 +176,7 @@ module _ {S P : Type 0} (next : S → Action → S) (answers : S → Action → 
     turn_idle turned t idle = idle_not_led (given_on t.full) lead turned.turn t.turn idle
 
     -- what was brought, and the work after it
-    module _ (between : Chair P) (full : Line) (brought : IsBrought from old between line full) (gives : after ≡ line_after full) where
+    module _ (between : Chair P) (full : Line) (brought : IsBrought from (Node old.number) old between line full) (gives : after ≡ line_after full) where
       pub is_turn : (result : Result Turned Fault) → IfOk result (λ turned. turned.turn ≡ turn_of (given_on full) lead)
           → IfOk result (λ turned. Works next answers begin (given_on full) lead between new turned.sent)
           → IfOk result (λ turned. IsNodeTurn next answers begin from lead old new line after turned)
@@ -183,6 +184,6 @@ module _ {S P : Type 0} (next : S → Action → S) (answers : S → Action → 
       is_turn (Err fault) turn works = tt
 
       pub is_stopped : (result : Result Turned Fault) → IfErr result (λ fault. Fails next answers begin (given_on full) lead between new fault)
-          → IfErr result (λ fault. IsLost from old new line after fault ⊎ IsStoppedTurn next answers begin from lead old new line after fault)
+          → IfErr result (λ fault. IsLost from (Node old.number) old new line after fault ⊎ IsStoppedTurn next answers begin from lead old new line after fault)
       is_stopped (Ok turned) fails = tt
       is_stopped (Err fault) fails = inr (record { between = between; full = full; brought = brought; fails = fails; gives = gives })

@@ -1,5 +1,5 @@
 -- What the steps of a task's loop do to the calls that it made.
-use Rattle.std.proofs.Common.{◌≡◌, ℕ, ◌+◌, ◌<◌, ◌≤◌, Bool, true, false, ◌&&◌, ◌||◌, not, nat_lt, nat_eq, Option, Some, None, Ok, Err, List, [], ◌∷◌, ◌++◌, length, is_some, slice_get, inl, refl, sym, ap, subst, ◌∙◌, arith, length-append, append-nil, if◌then◌else◌}
+use Rattle.std.proofs.Common.{◌≡◌, ◌⊎◌, ℕ, suc, ◌+◌, ◌<◌, ◌≤◌, Bool, true, false, ◌&&◌, ◌||◌, not, nat_lt, nat_eq, Option, Some, None, Ok, Err, List, [], ◌∷◌, ◌++◌, length, is_some, slice_get, inl, inr, refl, sym, ap, subst, ◌∙◌, arith, add-one, length-append, append-nil, if◌then◌else◌}
 use borrow.Author.Count.{below_more}
 use Rattle.std.proofs.lemmas.Grind.{common_steps}
 use Rattle.std.proofs.lemmas.Option.{slice_get_within}
@@ -8,10 +8,11 @@ use Rattle.rp_base.specs.Action.{is_right}
 use Rattle.rp_base.specs.Sets.{Has}
 use Rattle.rp_base.specs.declared.action.Action.{Action}
 use Rattle.rp_base.specs.declared.config.Config.{Config}
-use Rattle.rp_base.specs.declared.fault.Fault.TheVariants.{NumbersSpent, BadConfig}
+use Rattle.rp_base.specs.declared.fault.Fault.{Fault}
+use Rattle.rp_base.specs.declared.fault.Fault.TheVariants.{OutOfMemory, NumbersSpent, BadConfig}
 use Rattle.rp_base.specs.declared.reply.Answer.{Answer}
 use Rattle.rp_base.specs.declared.reply.Reply.{Reply}
-use Rattle.rp_base.proofs.Members.{has_left, has_right}
+use Rattle.rp_base.proofs.Members.{has_left, has_right, has_split}
 use Rattle.rp_codec.specs.Message.{Message}
 use Rattle.rp_model.specs.Effect.{Done, goes_on_as}
 use Rattle.rp_model.specs.Parts.{TaskPart, fresh_task}
@@ -23,11 +24,11 @@ use Rattle.rp_world.specs.Going.{reply_told}
 use Rattle.rp_boxes.specs.Parts.{Part, Role, OfTask, part_after, with_got, fresh_part}
 use Rattle.rp_boxes.specs.Seats.{Chair, IsSentText}
 use Rattle.rp_boxes.specs.TaskSeats.{IsTaskTurn, IsReplyTurn, told_effect}
-use Rattle.rp_boxes.proofs.TaskTurns.{tells_effect}
-use Rattle.rp_threads.specs.Tasks.{Waits, first_asked, HasMade, AreSentOnce}
+use Rattle.rp_boxes.proofs.TaskTurns.{tells_effect, told_quiet}
+use Rattle.rp_threads.specs.Tasks.{Waits, AsksForOne, call_after, first_asked, HasMade, AreSentOnce}
 use Rattle.rp_threads.specs.declared.tasks.TaskCall.{TaskCall}
 
-same_task : (role : Role) (a b : TaskPart) → role ≡ OfTask a → role ≡ OfTask b → a ≡ b
+pub same_task : (role : Role) (a b : TaskPart) → role ≡ OfTask a → role ≡ OfTask b → a ≡ b
 same_task role a b is_a is_b = let e : OfTask a ≡ OfTask b = sym is_a ∙ is_b in cc
 
 -- ---- what is taken
@@ -37,12 +38,12 @@ none_taken : (n : ℕ) → (nat_lt 0 n && nat_eq n 0) ≡ true → ⊥
 none_taken n is = grind (arith, common_steps)
 
 -- so many calls were made and it waits so, and they are as many after it was told something
-abbrev IsSame : Bool → ℕ → Done TaskPart → Type 0
-IsSame waits made done =
+abbrev IsSame : ℕ → List TaskCall → Bool → ℕ → Done TaskPart → Type 0
+IsSame task calls waits made done =
     let still = if is_some done.taken then false else waits in
-    (length done.part.replies + (if still then 1 else 0) ≡ made) × Waits still done.part.outstanding
+    (length done.part.replies + (if still then 1 else 0) ≡ made) × Waits task calls made still done.part.outstanding
 
-module _ (number n : ℕ) (reply : Reply) (replies : List Answer) (made : ℕ) where
+module _ (number n : ℕ) (reply : Reply) (replies : List Answer) (calls : List TaskCall) (made : ℕ) where
   abbrev answer : Answer
   answer = record { task = number; number = n; reply = reply }
 
@@ -53,19 +54,20 @@ module _ (number n : ℕ) (reply : Reply) (replies : List Answer) (made : ℕ) w
   told_by outstanding b =
       if b then record (goes_on_as ended) { taken = Some answer } else goes_on_as (record { outstanding = outstanding; replies = replies })
 
-  taken_same : (waits : Bool) (outstanding : Option Action) (b : Bool) → is_reply_to n outstanding ≡ b → length replies + (if waits then 1 else 0) ≡ made → Waits waits outstanding
-      → IsSame waits made (told_by outstanding b)
-  taken_same true (Some call) true is count w = (omega (arith, length-append replies (answer ∷ []), count), tt)
-  taken_same true (Some call) false is count w = (count, tt)
-  taken_same true None b is count w = absurd w
-  taken_same false (Some call) b is count w = absurd w
+  taken_same : (waits : Bool) (outstanding : Option Action) (b : Bool) → is_reply_to n outstanding ≡ b → length replies + (if waits then 1 else 0) ≡ made
+      → Waits number calls made waits outstanding → IsSame number calls waits made (told_by outstanding b)
+  taken_same true (Some call) true is count w = (omega (arith, length-append replies (answer ∷ []), count), refl)
+  taken_same true (Some call) false is count w = (count, w)
+  taken_same true None b is count w = absurd (let clash = w.4 in cc)
+  taken_same false (Some call) b is count w = absurd (cc)
   taken_same false None true is count w = absurd (none_taken n is)
-  taken_same false None false is count w = (count, tt)
+  taken_same false None false is count w = (count, w)
 
-told_same : (number : ℕ) (task : TaskPart) (told : Option (ℕ × Reply)) (made : ℕ) (waits : Bool) → length task.replies + (if waits then 1 else 0) ≡ made → Waits waits task.outstanding
-    → IsSame waits made (told_effect number task told)
-told_same number task None made waits count w = (count, w)
-told_same number task (Some told) made waits count w = taken_same number told.0 told.1 task.replies made waits task.outstanding (is_reply_to told.0 task.outstanding) refl count w
+told_same : (number : ℕ) (task : TaskPart) (told : Option (ℕ × Reply)) (calls : List TaskCall) (made : ℕ) (waits : Bool) → length task.replies + (if waits then 1 else 0) ≡ made
+    → Waits number calls made waits task.outstanding → IsSame number calls waits made (told_effect number task told)
+told_same number task None calls made waits count w = (count, w)
+told_same number task (Some told) calls made waits count w =
+    taken_same number told.0 told.1 task.replies calls made waits task.outstanding (is_reply_to told.0 task.outstanding) refl count w
 
 -- ---- what is asked
 
@@ -79,9 +81,9 @@ module _ (number node : ℕ) (task : TaskPart) (call : Action) (done : Done Task
   tested false true is = absurd (cc)
   tested false false is = cc
 
-  called : (config : Config) (outstanding : Option Action) → Waits false outstanding → calls_if number node task (may_call config node task call outstanding) ≡ Ok done
+  called : (config : Config) (outstanding : Option Action) → outstanding ≡ None → calls_if number node task (may_call config node task call outstanding) ≡ Ok done
       → done ≡ calling number node task call
-  called config (Some other) w is = absurd w
+  called config (Some other) w is = absurd (cc)
   called config None w is = tested (are_spent (length task.replies)) (nat_lt config.nodes node || not (is_right call)) is
 
 asked_part : (number node : ℕ) (task : TaskPart) (outstanding : Option Action) → (asks_again number node task outstanding).part ≡ task
@@ -89,10 +91,9 @@ asked_part number node task None = refl
 asked_part number node task (Some other) = refl
 
 asked : (number node : ℕ) (task : TaskPart) (done : Done TaskPart) (over : Bool) → (if over then Err BadConfig else Ok (asks_again number node task task.outstanding)) ≡ Ok done
-    → done.part ≡ task
+    → done ≡ asks_again number node task task.outstanding
 asked number node task done true is = absurd (cc)
-asked number node task done false is =
-    let same : asks_again number node task task.outstanding ≡ done = cc in ap (λ (d : Done TaskPart). d.part) (sym same) ∙ asked_part number node task task.outstanding
+asked number node task done false is = cc
 
 -- ---- the seat
 
@@ -104,29 +105,34 @@ module _ {P : Type 0} (calls : List TaskCall) (old new : Chair P) where
     is = ap (λ (c : Chair P). c.part.role) is ∙ h.is;
     some = h.some;
     each = λ k call less at. subst (λ (c : Chair P). Has (first_asked c.number k call) c.part.sent) (sym is) (h.each k call less at);
+    only = subst (λ (c : Chair P). (p : Message) → Has p c.part.sent → AsksForOne c.number calls made p) (sym is) h.only;
     count = h.count;
-    waiting = h.waiting;
+    waiting = subst (λ (c : Chair P). Waits c.number calls made waits h.task.outstanding) (sym is) h.waiting;
   }
 
   -- an event, after which so many were made
   module _ (task : TaskPart) (sends : List Message) (is : new ≡ record old { part = part_after old.part (OfTask task) sends }) where
     event_made : (made : ℕ) (waits : Bool) → made ≤ length calls
         → ((k : ℕ) (call : TaskCall) → k < made → slice_get calls k ≡ Some call → Has (first_asked old.number k call) (old.part.sent ++ sends))
-        → length task.replies + (if waits then 1 else 0) ≡ made → Waits waits task.outstanding → HasMade calls new made waits
-    event_made made waits some each count waiting = record {
+        → ((p : Message) → Has p (old.part.sent ++ sends) → AsksForOne old.number calls made p)
+        → length task.replies + (if waits then 1 else 0) ≡ made → Waits old.number calls made waits task.outstanding → HasMade calls new made waits
+    event_made made waits some each only count waiting = record {
       task = task;
       is = ap (λ (c : Chair P). c.part.role) is;
       some = some;
       each = λ k call less at. subst (λ (c : Chair P). Has (first_asked c.number k call) c.part.sent) (sym is) (each k call less at);
+      only = subst (λ (c : Chair P). (p : Message) → Has p c.part.sent → AsksForOne c.number calls made p) (sym is) only;
       count = count;
-      waiting = waiting;
+      waiting = subst (λ (c : Chair P). Waits c.number calls made waits task.outstanding) (sym is) waiting;
     }
 
-    -- as many as before
-    still_made : (made : ℕ) (before waits : Bool) → HasMade calls old made before → length task.replies + (if waits then 1 else 0) ≡ made → Waits waits task.outstanding
-        → HasMade calls new made waits
-    still_made made before waits h count waiting =
-        event_made made waits h.some (λ k call less at. has_left (first_asked old.number k call) old.part.sent sends (h.each k call less at)) count waiting
+    -- as many as before, where what is sent asks for one of them
+    still_made : (made : ℕ) (before waits : Bool) → HasMade calls old made before → ((p : Message) → Has p sends → AsksForOne old.number calls made p)
+        → length task.replies + (if waits then 1 else 0) ≡ made → Waits old.number calls made waits task.outstanding → HasMade calls new made waits
+    still_made made before waits h more count waiting =
+        event_made made waits h.some (λ k call less at. has_left (first_asked old.number k call) old.part.sent sends (h.each k call less at))
+        (λ p has. elim (has_split p old.part.sent sends has) [ inl there ↦ h.only p there | inr here ↦ more p here ])
+        count waiting
 
   -- a packet came to the task
   pub heard_made : (bytes : List ℕ) (taken : Option Answer) (made : ℕ) (waits : Bool) → IsReplyTurn old bytes new taken → HasMade calls old made waits
@@ -137,17 +143,33 @@ module _ {P : Type 0} (calls : List TaskCall) (old new : Chair P) where
       let hears : task_hears old.number r.task r.packet.body ≡ r.done = let e = r.comes in cc in
       let done : told_effect old.number h.task told ≡ r.done =
       ap (λ (t : TaskPart). told_effect old.number t told) (sym task) ∙ tells_effect old.number r.task r.packet.body ∙ hears in
-      let same = subst (IsSame waits made) done (told_same old.number h.task told made waits h.count h.waiting) in
+      let same = subst (IsSame old.number calls waits made) done (told_same old.number h.task told calls made waits h.count h.waiting) in
+      let quiet : r.done.sends ≡ [] = ap (λ (d : Done TaskPart). d.sends) (sym done) ∙ told_quiet old.number h.task told in
       subst (λ (a : Option Answer). HasMade calls new made (if is_some a then false else waits)) (sym r.told)
-      (still_made r.done.part r.done.sends r.after made waits (if is_some r.done.taken then false else waits) h same.0 same.1)
+      (still_made r.done.part r.done.sends r.after made waits (if is_some r.done.taken then false else waits) h
+      (λ p has. absurd (subst (λ (l : List Message). Has p l) quiet has)) same.0 same.1)
+
+  -- what is asked again asks for the last call
+  again_asks : (node made : ℕ) (waits : Bool) (task : TaskPart) (outstanding : Option Action) → Waits old.number calls made waits outstanding
+      → (p : Message) → Has p (asks_again old.number node task outstanding).sends → AsksForOne old.number calls made p
+  again_asks node made waits task None w p has = absurd has
+  again_asks node made false task (Some call) w p has = absurd (cc)
+  again_asks node made true task (Some call) w p has =
+      let last : p ≡ asks old.number node call = elim has [ inl is ↦ is | inr none ↦ absurd none ] in
+      let own : call ≡ call_after old.number w.0 w.1 = let e = w.4 in cc in
+      (w.0, w.1, node, (let e = w.2 in omega (arith, e)), w.3, last ∙ ap (λ (a : Action). asks old.number node a) own)
 
   -- the task asked again
   pub again_made : (node made : ℕ) (waits : Bool) (sent : Sent) → IsTaskTurn old (Again node) new sent → HasMade calls old made waits → HasMade calls new made waits
   again_made node made waits sent t h =
       let task : t.task ≡ h.task = same_task old.part.role t.task h.task t.was h.is in
-      let part : t.done.part ≡ h.task = asked old.number node t.task t.done (nat_lt old.config.nodes node) t.comes ∙ task in
+      let done : t.done ≡ asks_again old.number node t.task t.task.outstanding = asked old.number node t.task t.done (nat_lt old.config.nodes node) t.comes in
+      let part : t.done.part ≡ h.task = ap (λ (d : Done TaskPart). d.part) done ∙ asked_part old.number node t.task t.task.outstanding ∙ task in
+      let waiting = subst (λ (p : TaskPart). Waits old.number calls made waits p.outstanding) (sym task) h.waiting in
       still_made t.done.part t.done.sends t.after made waits waits h
-      (subst (λ (p : TaskPart). length p.replies + (if waits then 1 else 0) ≡ made) (sym part) h.count) (subst (λ (p : TaskPart). Waits waits p.outstanding) (sym part) h.waiting)
+      (subst (λ (d : Done TaskPart). (p : Message) → Has p d.sends → AsksForOne old.number calls made p) (sym done) (again_asks node made waits t.task t.task.outstanding waiting))
+      (subst (λ (p : TaskPart). length p.replies + (if waits then 1 else 0) ≡ made) (sym part) h.count)
+      (subst (λ (p : TaskPart). Waits old.number calls made waits p.outstanding) (sym part) h.waiting)
 
   -- the call at a place was asked
   abbrev Asked : List Message → ℕ → Type 0
@@ -158,23 +180,36 @@ module _ {P : Type 0} (calls : List TaskCall) (old new : Chair P) where
       let same : call ≡ other = cc in
       subst (λ (c : TaskCall). Has (first_asked old.number made c) (old.part.sent ++ sends)) same (has_right (first_asked old.number made call) old.part.sent sends packet)
 
+  one_more_asks : (made : ℕ) (p : Message) → AsksForOne old.number calls made p → AsksForOne old.number calls (made + 1) p
+  one_more_asks made p a = (a.0, a.1, a.2, (let less = a.3 in omega (arith, less)), a.4, a.5)
+
   -- the task made its next call
   pub call_made : (call : TaskCall) (made : ℕ) (sent : Sent) → IsTaskTurn old (Submit call.node call.object call.operation call.arg) new sent → slice_get calls made ≡ Some call
       → HasMade calls old made false → HasMade calls new (made + 1) true
   call_made call made sent t at h =
+      let number = old.number in
       let task : t.task ≡ h.task = same_task old.part.role t.task h.task t.was h.is in
       let replies : length t.task.replies ≡ made = ap (λ (p : TaskPart). length p.replies) task ∙ let c = h.count in omega (arith, c) in
-      let action = next_call old.number (length t.task.replies) call.object call.operation call.arg in
-      let done : t.done ≡ calling old.number call.node t.task action =
-      called old.number call.node t.task action t.done old.config t.task.outstanding (subst (λ (p : TaskPart). Waits false p.outstanding) (sym task) h.waiting) t.comes in
-      let packet : Has (first_asked old.number made call) t.done.sends =
-      subst (λ (d : Done TaskPart). Has (first_asked old.number made call) d.sends) (sym done) (inl (ap (λ (k : ℕ). first_asked old.number k call) (sym replies))) in
+      let action = next_call number (length t.task.replies) call.object call.operation call.arg in
+      let own : action ≡ call_after number made call = ap (λ (k : ℕ). call_after number k call) replies in
+      let done : t.done ≡ calling number call.node t.task action =
+      called number call.node t.task action t.done old.config t.task.outstanding (ap (λ (p : TaskPart). p.outstanding) task ∙ h.waiting) t.comes in
+      let sends : t.done.sends ≡ first_asked number made call ∷ [] =
+      ap (λ (d : Done TaskPart). d.sends) done ∙ ap (λ (a : Action). asks number call.node a ∷ []) own in
+      let packet : Has (first_asked number made call) t.done.sends = subst (λ (l : List Message). Has (first_asked number made call) l) (sym sends) (inl refl) in
       let each : (k : ℕ) → k < made + 1 → Asked t.done.sends k =
-      below_more (Asked t.done.sends) made (λ k less other there. has_left (first_asked old.number k other) old.part.sent t.done.sends (h.each k other less there))
+      below_more (Asked t.done.sends) made (λ k less other there. has_left (first_asked number k other) old.part.sent t.done.sends (h.each k other less there))
       (last_asked call made t.done.sends at packet) in
+      let new_one : (p : Message) → Has p (first_asked number made call ∷ []) → AsksForOne number calls (made + 1) p =
+      λ p has. elim has [ inl is ↦ (made, call, call.node, omega arith, at, is) | inr none ↦ absurd none ] in
       event_made t.done.part t.done.sends t.after (made + 1) true (let w = slice_get_within calls made call at in omega (arith, w)) (λ k other less there. each k less other there)
+      (λ p has. elim (has_split p old.part.sent t.done.sends has) [
+        | inl there ↦ one_more_asks made p (h.only p there)
+        | inr here ↦ new_one p (subst (λ (l : List Message). Has p l) sends here)
+      ])
       (subst (λ (d : Done TaskPart). length d.part.replies + 1 ≡ made + 1) (sym done) (ap (λ (k : ℕ). k + 1) replies))
-      (subst (λ (d : Done TaskPart). Waits true d.part.outstanding) (sym done) tt)
+      (subst (λ (d : Done TaskPart). Waits number calls (made + 1) true d.part.outstanding) (sym done)
+      (made, call, add-one made, at, ap (λ (a : Action). Some a) own))
 
 -- ---- the packets of a step
 
@@ -205,6 +240,7 @@ none_made calls seat fresh = record {
   is = ap (λ (p : Part). p.role) fresh;
   some = omega arith;
   each = λ k call less. absurd (omega (arith, less));
+  only = λ p has. absurd (subst (λ (part : Part). Has p part.sent) fresh has);
   count = refl;
-  waiting = tt;
+  waiting = refl;
 }

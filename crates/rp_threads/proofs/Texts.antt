@@ -6,7 +6,6 @@ use Rattle.rp_base.specs.declared.fault.Fault.{Fault}
 use Rattle.rp_base.proofs.Members.{has_left}
 use Rattle.rp_codec.specs.Message.{Message}
 use Rattle.rp_codec.specs.declared.packet.Party.{Party}
-use Rattle.rp_codec.specs.declared.packet.Party.TheVariants.{Node}
 use Rattle.rp_tasks.specs.Line.{Line, word_of, drawn, accepted, picked, released}
 use Rattle.rp_boxes.specs.Seats.{Chair, IsFetched}
 use Rattle.rp_threads.specs.Lines.{IsTextAmong, HoldsTextsOf, line_with, given_on, left_of, line_after}
@@ -64,10 +63,10 @@ module _ {P : Type 0} (from to : Party) (text : List ℕ) (old new : Chair P) (l
   accepted_holds after (Ok x) keeps ok err = subst (HoldsTextsOf new.part.got) (sym ok) (taken_holds keeps)
   accepted_holds after (Err e) keeps ok err = subst (HoldsTextsOf new.part.got) (sym err) fetched_holds
 
-pub is_brought : {P A : Type 0} (from : Party) (text : List ℕ) (old new : Chair P) (line after : Line) (result : Result A Fault) → IsFetched from (Node old.number) text old new
-    → OnOk result (after ≡ line_with (Some text) line) → OnOk result (IsBrought from old new line after)
-is_brought from text old new line after (Ok x) f ok = record { fetched = Some text; fetch = f; takes = ok }
-is_brought from text old new line after (Err e) f ok = tt
+pub is_brought : {P A : Type 0} (from to : Party) (text : List ℕ) (old new : Chair P) (line after : Line) (result : Result A Fault) → IsFetched from to text old new
+    → OnOk result (after ≡ line_with (Some text) line) → OnOk result (IsBrought from to old new line after)
+is_brought from to text old new line after (Ok x) f ok = record { fetched = Some text; fetch = f; takes = ok }
+is_brought from to text old new line after (Err e) f ok = tt
 
 -- ---- a packet is given on
 

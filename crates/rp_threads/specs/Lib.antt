@@ -3,4 +3,5 @@ pub mod Turns
 pub mod Loops
 pub mod Rounds
 pub mod Tasks
+pub mod TaskRounds
 pub mod Threads

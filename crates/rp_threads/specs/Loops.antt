@@ -1,4 +1,4 @@
--- What a loop of turns comes to (this project's own).
+-- How the turns of a loop are numbered and counted (this project's own).
 use Rattle.std.specs.Prelude.{◌≡◌, ℕ, zero, suc, ◌+◌, ◌%◌, ◌/◌, nat_eq, Bool, true, false, Option, Some, None, if◌then◌else◌}
 use Rattle.rp_base.specs.declared.fault.Fault.{Fault}
 use Rattle.rp_base.specs.declared.fault.Fault.TheVariants.{BallotsSpent, LogFull}
@@ -11,12 +11,16 @@ use Rattle.rp_threads.specs.declared.turns.Turn.TheVariants.{Received, Led, Idle
 
 -- ---- whose box is emptied
 
--- the boxes of the nodes 1 to so many, then that of one task, each of the tasks 1 to 8 in its turn: turn 1 is node 1's
+-- the boxes of the nodes 1 to n, then that of one task, each of the tasks 1 to 8 in its turn: turn 1 is node 1's
 abbrev pub sender_of : ℕ → ℕ → Party
 sender_of place round = if nat_eq place 0 then Task (round % 8 + 1) else Node place
 
 abbrev pub sender_at : ℕ → ℕ → Party
 sender_at nodes turn = sender_of (turn % (nodes + 1)) (turn / (nodes + 1))
+
+-- which of n nodes a task asks in a turn: each in rotation
+abbrev pub node_at : ℕ → ℕ → ℕ
+node_at nodes turn = turn % nodes + 1
 
 -- ---- how turns are counted
 
@@ -32,14 +36,18 @@ is_idle Idle = true
 is_idle Received = false
 is_idle Led = false
 
--- how many events a turn is; none where it is spent
+-- how many events a turn is; none where it is skipped
 abbrev pub events_of : Option Turn → ℕ
 events_of (Some Received) = 1
 events_of (Some Led) = 1
 events_of (Some Idle) = 0
 events_of None = 0
 
--- the counts with one turn more, which was made or spent
+-- no turn yet
+abbrev pub no_turns : Counts
+no_turns = record { received = 0; led = 0; idle = 0; spent = 0 }
+
+-- the counts with one turn more, which was made or skipped
 abbrev pub counted : Option Turn → Counts → Counts
 counted (Some Received) counts = record counts { received = counts.received + 1 }
 counted (Some Led) counts = record counts { led = counts.led + 1 }

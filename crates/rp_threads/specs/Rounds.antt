@@ -1,17 +1,21 @@
--- What a turn of a loop comes to: that of its node, and where nothing comes a second try to lead (this project's own).
-use Rattle.std.specs.Prelude.{◌≡◌, ◌⊎◌, ℕ, ◌+◌, ◌%◌, ◌<◌, nat_eq, Bool, true, false, Option, Some, None, List, length}
+-- The turns of a node's loop: each is the turn of its node, and where nothing comes a second try to lead (this project's
+-- own).
+use Rattle.std.specs.Prelude.{◌≡◌, ◌⊎◌, ℕ, zero, suc, ◌+◌, ◌%◌, ◌<◌, ◌≤◌, nat_eq, Bool, true, false, Option, Some, None, List, length}
 use Rattle.rp_base.specs.declared.action.Action.{Action}
 use Rattle.rp_base.specs.declared.fault.Fault.{Fault}
+use Rattle.rp_base.specs.declared.fault.Fault.TheVariants.{OutOfMemory, Device, Failed}
 use Rattle.rp_base.specs.declared.reply.Answer.{Answer}
 use Rattle.rp_codec.specs.declared.packet.Party.{Party}
+use Rattle.rp_codec.specs.declared.packet.Party.TheVariants.{Node}
 use Rattle.rp_model.specs.Parts.{Running}
 use Rattle.rp_replica.specs.declared.input.Input.{Input}
 use Rattle.rp_replica.specs.declared.input.Input.TheVariants.{Lead}
 use Rattle.rp_tasks.specs.Line.{Line}
 use Rattle.rp_boxes.specs.Parts.{Part}
-use Rattle.rp_boxes.specs.Seats.{Chair, HasApplied, IsRunning}
-use Rattle.rp_threads.specs.Loops.{sender_at, is_refusal, IsSameSeat}
+use Rattle.rp_boxes.specs.Seats.{Chair, HasApplied, IsRunning, IsStopped}
+use Rattle.rp_threads.specs.Loops.{sender_at, is_refusal, no_turns, counted}
 use Rattle.rp_threads.specs.Turns.{IsLost, IsEventBy, IsStopBy, IsNodeTurn, IsStoppedTurn}
+use Rattle.rp_threads.specs.declared.loops.Counts.{Counts}
 use Rattle.rp_threads.specs.declared.turns.Turn.{Turn}
 use Rattle.rp_threads.specs.declared.turns.Turn.TheVariants.{Led, Idle}
 use Rattle.rp_threads.specs.declared.turns.Turned.{Turned}
@@ -57,25 +61,61 @@ module _ {S P : Type 0} (next : S → Action → S) (answers : S → Action → 
 
     -- a fault, by which no turn was made
     abbrev pub IsUnmade : Fault → Type 0
-    IsUnmade fault = IsLost from old new line after fault
+    IsUnmade fault = IsLost from (Node old.number) old new line after fault
         ⊎ (IsStoppedTurn next answers begin from lead old new line after fault ⊎ IsStoppedAnew fault)
 
-    -- a turn that was made, or spent: by the gate, or since the node was refused to lead
-    abbrev pub IsMadeOrSpent : Option Turn → Type 0
-    IsMadeOrSpent (Some turn) = IsMade turn
-    IsMadeOrSpent None = ((new ≡ old) × (after ≡ line)) ⊎ ((fault : Fault) × (is_refusal fault ≡ true) × IsUnmade fault)
+    -- a turn that was made, or skipped: by the gate, or since the node was refused to lead
+    abbrev pub IsMadeOrSkipped : Bool → Option Turn → Type 0
+    IsMadeOrSkipped passes (Some turn) = (passes ≡ true) × IsMade turn
+    IsMadeOrSkipped passes None = ((passes ≡ false) × (new ≡ old) × (after ≡ line))
+        ⊎ ((passes ≡ true) × (fault : Fault) × (is_refusal fault ≡ true) × IsUnmade fault)
 
-  -- the turn of this number, of a node among so many
-  abbrev pub IsTurnOf : ℕ → ℕ → Chair P → Chair P → Line → Line → Option Turn → Type 0
-  IsTurnOf nodes turn old new line after made = IsMadeOrSpent (sender_at nodes turn) (nat_eq (turn % (8 + old.number)) 0) old new line after made
+-- where a node's loop is: its seat, its line, and how many turns of each kind it made
+pub record NodeAt (P : Type 0) : Type 0 where
+  pub seat : Chair P
+  pub line : Line
+  pub counts : Counts
 
-  -- A loop that began at one seat ended at another, by a fault that is no refusal to lead: its last turn was not made.
-  pub record IsEndedBy (first last : Chair P) (fault : Fault) : Type 0 where
-    pub ends : is_refusal fault ≡ false
-    pub from : Party
-    pub lead : Bool
-    pub before : Chair P
-    pub same : IsSameSeat first before
-    pub line : Line
-    pub after : Line
-    pub unmade : IsUnmade from lead before last line after fault
+-- before its first turn
+abbrev pub before_turns : {P : Type 0} → Chair P → Line → NodeAt P
+before_turns seat line = record { seat = seat; line = line; counts = no_turns }
+
+-- in the turns that are 0 modulo 8 and its number a node is to lead
+abbrev pub is_to_lead : ℕ → ℕ → Bool
+is_to_lead number turn = nat_eq (turn % (8 + number)) 0
+
+-- Why a node's loop may end before its last turn: out of memory; its device failed in that turn; or the node was stopped
+-- from the first, since its device had failed.
+abbrev pub IsNodeFault : {P : Type 0} → Chair P → Chair P → Fault → Type 0
+IsNodeFault first last OutOfMemory = Unit {0}
+IsNodeFault first last Device = first.failures < last.failures
+IsNodeFault first last Failed = IsStopped first.part
+IsNodeFault first last _ = ⊥
+
+module _ {S P : Type 0} (next : S → Action → S) (answers : S → Action → List Answer) (begin : P → S) (lets : ℕ → ℕ → Bool) (nodes : ℕ) where
+  -- the turn of this number, of a node among so many: the gate is asked about it, and the box of its sender is emptied
+  abbrev pub IsTurnOf : ℕ → Chair P → Chair P → Line → Line → Option Turn → Type 0
+  IsTurnOf turn old new line after made =
+      IsMadeOrSkipped next answers begin (sender_at nodes turn) (is_to_lead old.number turn) old new line after (lets old.number turn) made
+
+  -- One turn more, which is counted.
+  pub record IsNextTurn (turn : ℕ) (old new : NodeAt P) : Type 0 where
+    pub made : Option Turn
+    pub turns : IsTurnOf turn old.seat new.seat old.line new.line made
+    pub counts : new.counts ≡ counted made old.counts
+
+  -- the turns 1 to n, one after the other
+  abbrev pub AreTurns : NodeAt P → ℕ → NodeAt P → Type 0
+  AreTurns first zero now = now ≡ first
+  AreTurns first (suc n) now = (before : NodeAt P) × AreTurns first n before × IsNextTurn (suc n) before now
+
+  -- After some turns the next one, of at most so many, was not made, by a fault that is no refusal to lead.
+  pub record IsEndedBy (first : NodeAt P) (turns : ℕ) (last : NodeAt P) (fault : Fault) : Type 0 where
+    pub cause : IsNodeFault first.seat last.seat fault
+    pub done : ℕ
+    pub within : done < turns
+    pub before : NodeAt P
+    pub made : AreTurns first done before
+    pub passes : lets before.seat.number (suc done) ≡ true
+    pub unmade : IsUnmade next answers begin (sender_at nodes (suc done)) (is_to_lead before.seat.number (suc done)) before.seat last.seat before.line last.line fault
+    pub counts : last.counts ≡ before.counts

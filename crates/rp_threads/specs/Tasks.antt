@@ -1,5 +1,5 @@
--- What a loop of a task's turns comes to (this project's own).
-use Rattle.std.specs.Prelude.{◌≡◌, ℕ, ◌+◌, ◌<◌, ◌≤◌, Bool, true, false, Option, Some, None, List, length, slice_get, if◌then◌else◌, ℤ}
+-- The calls that a task's loop made (this project's own).
+use Rattle.std.specs.Prelude.{◌≡◌, ℕ, suc, ◌+◌, ◌<◌, ◌≤◌, Bool, true, false, Option, Some, None, List, length, slice_get, if◌then◌else◌, ℤ}
 use Rattle.rp_base.specs.Sets.{Has}
 use Rattle.rp_base.specs.declared.action.Action.{Action}
 use Rattle.rp_base.specs.declared.action.Operation.{Operation}
@@ -9,34 +9,45 @@ use Rattle.rp_model.specs.Parts.{TaskPart}
 use Rattle.rp_model.specs.Tasks.{asks}
 use Rattle.rp_replica.specs.Packets.{texts_of}
 use Rattle.rp_replica.specs.declared.sent.Sent.{Sent}
+use Rattle.rp_tasks.specs.Line.{Line}
 use Rattle.rp_boxes.specs.Parts.{Part, OfTask}
 use Rattle.rp_boxes.specs.Seats.{Chair}
+use Rattle.rp_threads.specs.declared.tasks.Calls.{Calls}
 use Rattle.rp_threads.specs.declared.tasks.TaskCall.{TaskCall}
-
--- whether a task waits for a call
-abbrev pub Waits : Bool → Option Action → Type 0
-Waits true (Some call) = Unit {0}
-Waits true None = ⊥
-Waits false (Some call) = ⊥
-Waits false None = Unit {0}
 
 -- a call of an operation of an object, and the node that is asked first
 abbrev pub called : ℕ → ℕ → Operation → ℤ → TaskCall
 called node object operation arg = record { node = node; object = object; operation = operation; arg = arg }
 
--- the packet by which a task asks for the call that it makes after so many
-abbrev pub first_asked : ℕ → ℕ → TaskCall → Message
-first_asked task made call = asks task call.node (next_call task made call.object call.operation call.arg)
+-- the call that a task makes after so many, as nodes know it
+abbrev pub call_after : ℕ → ℕ → TaskCall → Action
+call_after task made call = next_call task made call.object call.operation call.arg
 
--- The task of this seat made so many calls, all of them from the front of this list, each asked of its node, and none
--- besides; it waits for the last of them, or has all replies.
+-- the packet by which a task asks for it first
+abbrev pub first_asked : ℕ → ℕ → TaskCall → Message
+first_asked task made call = asks task call.node (call_after task made call)
+
+-- whether a task that made so many of these calls waits: then for the last of them
+abbrev pub Waits : ℕ → List TaskCall → ℕ → Bool → Option Action → Type 0
+Waits task calls made true outstanding =
+    (k : ℕ) × (call : TaskCall) × (made ≡ suc k) × (slice_get calls k ≡ Some call) × (outstanding ≡ Some (call_after task k call))
+Waits task calls made false outstanding = outstanding ≡ None
+
+-- the packet asks a node for one of the first so many of these calls
+abbrev pub AsksForOne : ℕ → List TaskCall → ℕ → Message → Type 0
+AsksForOne task calls made packet =
+    (k : ℕ) × (call : TaskCall) × (node : ℕ) × (k < made) × (slice_get calls k ≡ Some call) × (packet ≡ asks task node (call_after task k call))
+
+-- The task of this seat made so many calls, all of them from the front of this list, each asked of its node, and each
+-- packet that it sent asks for one of them; it waits for the last of them, or has all replies.
 pub record HasMade {P : Type 0} (calls : List TaskCall) (seat : Chair P) (made : ℕ) (waits : Bool) : Type 0 where
   pub task : TaskPart
   pub is : seat.part.role ≡ OfTask task
   pub some : made ≤ length calls
   pub each : (k : ℕ) (call : TaskCall) → k < made → slice_get calls k ≡ Some call → Has (first_asked seat.number k call) seat.part.sent
+  pub only : (packet : Message) → Has packet seat.part.sent → AsksForOne seat.number calls made packet
   pub count : length task.replies + (if waits then 1 else 0) ≡ made
-  pub waiting : Waits waits task.outstanding
+  pub waiting : Waits seat.number calls made waits task.outstanding
 
 -- The bytes are the texts of these packets that the actor sent.
 pub record AreSentOnce (part : Part) (sent : Sent) : Type 0 where
@@ -44,3 +55,13 @@ pub record AreSentOnce (part : Part) (sent : Sent) : Type 0 where
   pub texts : sent.bytes.items ≡ texts_of packets
   pub count : sent.packets ≡ length packets
   pub sent_all : (m : Message) → Has m packets → Has m part.sent
+
+-- where a task's loop is: its seat, its line, and how many calls it made
+pub record TaskAt (P : Type 0) : Type 0 where
+  pub seat : Chair P
+  pub line : Line
+  pub so_far : Calls
+
+-- before its first turn
+abbrev pub before_calls : {P : Type 0} → Chair P → Line → TaskAt P
+before_calls seat line = record { seat = seat; line = line; so_far = record { made = 0; waits = false } }

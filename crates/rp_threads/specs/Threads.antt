@@ -1,25 +1,64 @@
--- What becomes of a node and of a task whose loop runs in a thread: what the loop promises (this project's own).
-use Rattle.std.specs.Prelude.{◌≡◌, ℕ, ◌+◌, ◌<◌, ◌≤◌, Bool, None, IfSome, List, length}
+-- The ends of the loops of a node and of a task, whether they run in a thread or not (this project's own).
+use Rattle.std.specs.Prelude.{◌≡◌, ◌≢◌, ℕ, ◌+◌, ◌<◌, ◌≤◌, Bool, Option, Some, None, IfSome, List, length}
 use Rattle.rp_base.specs.declared.action.Action.{Action}
+use Rattle.rp_base.specs.declared.fault.Fault.{Fault}
+use Rattle.rp_base.specs.declared.fault.Fault.TheVariants.{Device}
 use Rattle.rp_base.specs.declared.reply.Answer.{Answer}
 use Rattle.rp_boxes.specs.Seats.{Chair}
+use Rattle.rp_tasks.specs.Line.{Line}
 use Rattle.rp_threads.specs.Loops.{IsSameSeat, turns_off}
-use Rattle.rp_threads.specs.Rounds.{IsEndedBy}
-use Rattle.rp_threads.specs.Tasks.{HasMade}
+use Rattle.rp_threads.specs.Rounds.{NodeAt, before_turns, AreTurns, IsEndedBy}
+use Rattle.rp_threads.specs.Tasks.{TaskAt, before_calls, HasMade}
+use Rattle.rp_threads.specs.TaskRounds.{AreTaskTurns, IsTaskEndedBy}
+use Rattle.rp_threads.specs.declared.loops.Counts.{Counts}
 use Rattle.rp_threads.specs.declared.loops.NodeEnd.{NodeEnd}
 use Rattle.rp_threads.specs.declared.tasks.TaskCall.{TaskCall}
 use Rattle.rp_threads.specs.declared.tasks.TaskEnd.{TaskEnd}
 
--- A node's loop over this seat, of so many turns, came to this end.
-pub record IsLooped {S M D P : Type 0} (next : S → Action → S) (answers : S → Action → List Answer) (begin : P → S) (seat : Chair P) (turns : ℕ) (end : NodeEnd M D P) : Type 0 where
+-- the end of a node's loop with these counts, and so many packets lost
+abbrev pub end_of : {M D P : Type 0} → Counts → Chair P → ℕ → Option Fault → NodeEnd M D P
+end_of counts seat lost fault = record {
+  seat = seat;
+  received = counts.received;
+  led = counts.led;
+  idle = counts.idle;
+  spent = counts.spent;
+  lost = lost;
+  fault = fault;
+}
+
+-- where the loop is at its end, with this line
+abbrev pub node_at_end : {M D P : Type 0} → NodeEnd M D P → Line → NodeAt P
+node_at_end end line = record {
+  seat = end.seat;
+  line = line;
+  counts = record { received = end.received; led = end.led; idle = end.idle; spent = end.spent };
+}
+
+-- A loop of so many turns, of the node of this seat among so many and over this line, had this end: without a fault all
+-- turns from 1 on were made or skipped, one after the other, else one of them was not made, by that fault.
+pub record IsLooped {S M D P : Type 0} (next : S → Action → S) (answers : S → Action → List Answer) (begin : P → S) (lets : ℕ → ℕ → Bool) (nodes turns : ℕ) (seat : Chair P) (line : Line) (end : NodeEnd M D P) : Type 0 where
   pub same : IsSameSeat seat end.seat
+  pub turned : end.fault ≡ None → (after : Line) × AreTurns next answers begin lets nodes (before_turns seat line) turns (node_at_end end after)
   pub counted : end.fault ≡ None → end.received + end.led + end.idle + end.spent ≡ turns
   pub events : end.fault ≡ None → end.seat.part.events ≡ seat.part.events + end.received + end.led
   pub idle : end.fault ≡ None → end.idle ≤ turns_off (8 + seat.number) turns
-  pub fault : IfSome end.fault (IsEndedBy next answers begin seat end.seat)
+  pub failures : end.fault ≢ Some Device → end.seat.failures ≡ seat.failures
+  pub fault : IfSome end.fault (λ fault. (after : Line) × IsEndedBy next answers begin lets nodes (before_turns seat line) turns (node_at_end end after) fault)
 
--- A task's loop over this seat, of so many turns and with these calls, came to this end.
-pub record IsTaskLooped {M P : Type 0} (seat : Chair P) (calls : List TaskCall) (turns : ℕ) (end : TaskEnd M P) : Type 0 where
+-- the end of a task's loop with so many calls made, the last reply in this turn, and so many packets lost
+abbrev pub task_end_of : {M P : Type 0} → Chair P → ℕ → ℕ → ℕ → Option Fault → TaskEnd M P
+task_end_of seat made last lost fault = record { seat = seat; made = made; last_reply = last; lost = lost; fault = fault }
+
+-- where a task's loop is at its end, with this line, whether it waits or not
+abbrev pub task_at_end : {M P : Type 0} → TaskEnd M P → Line → Bool → TaskAt P
+task_at_end end line waits = record { seat = end.seat; line = line; so_far = record { made = end.made; waits = waits } }
+
+-- A loop of so many turns, of the task of this seat with these calls among so many nodes and over this line, had this
+-- end: without a fault all turns from 1 on were made, one after the other, else one was not made, by that fault.
+pub record IsTaskLooped {M P : Type 0} (nodes turns : ℕ) (calls : List TaskCall) (seat : Chair P) (line : Line) (end : TaskEnd M P) : Type 0 where
   pub same : IsSameSeat seat end.seat
-  pub made : end.fault ≡ None → (waits : Bool) × HasMade calls end.seat end.made waits
+  pub turned : end.fault ≡ None → (after : Line) × (waits : Bool) × AreTaskTurns nodes calls (before_calls seat line) turns (task_at_end end after waits)
+  pub made : (waits : Bool) × HasMade calls end.seat end.made waits
   pub first : end.fault ≡ None → 0 < length calls → 0 < turns → 0 < end.made
+  pub fault : IfSome end.fault (λ fault. (after : Line) × (waits : Bool) × IsTaskEndedBy nodes calls (before_calls seat line) turns (task_at_end end after waits) fault)

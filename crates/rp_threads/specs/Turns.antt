@@ -23,20 +23,20 @@ use Rattle.rp_threads.specs.declared.turns.Turned.{Turned}
 -- ---- what comes in
 
 -- a packet was fetched of which this is the text, or none was
-abbrev pub MayFetch : {P : Type 0} → Option (List ℕ) → Party → Chair P → Chair P → Type 0
-MayFetch None from old new = new ≡ old
-MayFetch (Some text) from old new = IsFetched from (Node old.number) text old new
+abbrev pub MayFetch : {P : Type 0} → Option (List ℕ) → Party → Party → Chair P → Chair P → Type 0
+MayFetch None from to old new = new ≡ old
+MayFetch (Some text) from to old new = IsFetched from to text old new
 
 -- The line took what was fetched, if a packet was.
-pub record IsBrought {P : Type 0} (from : Party) (old new : Chair P) (line after : Line) : Type 0 where
+pub record IsBrought {P : Type 0} (from to : Party) (old new : Chair P) (line after : Line) : Type 0 where
   pub fetched : Option (List ℕ)
-  pub fetch : MayFetch fetched from old new
+  pub fetch : MayFetch fetched from to old new
   pub takes : after ≡ line_with fetched line
 
--- A packet was fetched, and memory was wanting for the line to take it: it is lost, and the line stays.
-pub record IsLost {P : Type 0} (from : Party) (old new : Chair P) (line after : Line) (fault : Fault) : Type 0 where
+-- A packet was fetched, and the line was out of memory to take it: it is lost, and the line stays.
+pub record IsLost {P : Type 0} (from to : Party) (old new : Chair P) (line after : Line) (fault : Fault) : Type 0 where
   pub packet : List ℕ
-  pub fetch : IsFetched from (Node old.number) packet old new
+  pub fetch : IsFetched from to packet old new
   pub memory : fault ≡ OutOfMemory
   pub stays : after ≡ line
 
@@ -98,7 +98,7 @@ module _ {S P : Type 0} (next : S → Action → S) (answers : S → Action → 
   pub record IsNodeTurn (from : Party) (lead : Bool) (old new : Chair P) (line after : Line) (turned : Turned) : Type 0 where
     pub between : Chair P
     pub full : Line
-    pub brought : IsBrought from old between line full
+    pub brought : IsBrought from (Node old.number) old between line full
     pub turn : turned.turn ≡ turn_of (given_on full) lead
     pub works : Works (given_on full) lead between new turned.sent
     pub gives : after ≡ line_after full
@@ -107,6 +107,6 @@ module _ {S P : Type 0} (next : S → Action → S) (answers : S → Action → 
   pub record IsStoppedTurn (from : Party) (lead : Bool) (old new : Chair P) (line after : Line) (fault : Fault) : Type 0 where
     pub between : Chair P
     pub full : Line
-    pub brought : IsBrought from old between line full
+    pub brought : IsBrought from (Node old.number) old between line full
     pub fails : Fails (given_on full) lead between new fault
     pub gives : after ≡ line_after full

@@ -1,12 +1,20 @@
 //! Who says when a node turns, and how fast all turn.
 
+ghost use Rattle.std.specs.Prelude.{◌≡◌};
+
 use rp_base::{NodeId, TaskId};
 
 /// Who says when a node turns, and hears of its turns. The turns of a node and of a task are counted
 /// from 1.
 pub trait Gate {
-    /// Whether the node is to make this turn; else the turn is spent.
-    fn before(&self, node: NodeId, turn: u64) -> bool;
+    ghost use Rattle.std.specs.Prelude.{ℕ, Bool};
+
+    /// Whether the node of a number makes the turn of a number.
+    ghost lets: { ℕ → ℕ → Bool };
+
+    /// Whether the node is to make this turn; else the turn is skipped.
+    fn before(&self, node: NodeId, turn: u64) -> bool
+        ensures { result ≡ lets node turn };
 
     /// The node made this turn, in which it sent so many packets; none where the turn was refused.
     fn after(&self, node: NodeId, turn: u64, sent: u32);
@@ -20,6 +28,10 @@ pub trait Gate {
 pub struct Open;
 
 impl Gate for Open {
+    ghost use Rattle.std.specs.Prelude.{true};
+
+    ghost lets = { λ node turn. true };
+
     fn before(&self, _node: NodeId, _turn: u64) -> bool {
         true
     }

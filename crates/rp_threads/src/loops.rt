@@ -1,9 +1,10 @@
 //! A node's turns, one after the other.
 
-ghost use Rattle.std.specs.Prelude.{◌≡◌, ◌+◌, ◌%◌, ◌^◌, ◌<◌, ◌≤◌, nat_eq, false, [], IfOk, IfErr, IfSome, None};
+ghost use Rattle.std.specs.Prelude.{◌≡◌, ℕ, ◌+◌, ◌^◌, ◌<◌, ◌≤◌, false, true, [], IfOk, IfErr, IfSome};
 ghost use Rattle.rp_threads.specs.Lines.{HoldsTextsOf};
-ghost use Rattle.rp_threads.specs.Loops.{IsSameSeat, is_refusal, is_idle, sender_at, counted, total_of, turns_off};
-ghost use Rattle.rp_threads.specs.Rounds.{IsToLeadAt, IsLeadAnew, IsMade, IsUnmade, IsTurnOf, IsEndedBy};
+ghost use Rattle.rp_threads.specs.Loops.{is_refusal, is_idle, sender_at, counted, total_of};
+ghost use Rattle.rp_threads.specs.Rounds.{IsToLeadAt, IsLeadAnew, IsMade, IsUnmade, IsTurnOf, is_to_lead};
+ghost use Rattle.rp_threads.specs.Threads.{IsLooped, end_of};
 ghost use Rattle.rp_threads.specs.Turns.{IsEventBy, IsStopBy};
 
 use crate::gate::Gate;
@@ -28,6 +29,8 @@ pub struct NodeEnd<M: Machine, D: Device> {
     pub led: u64,
     pub idle: u64,
     pub spent: u64,
+    /// How many packets were lost on its line and at boxes that were not empty.
+    pub lost: u64,
     /// Why the node stopped before its last turn.
     pub fault: Option<Fault>,
 }
@@ -52,29 +55,6 @@ impl Counts {
             Some(Turn::Led) => self.led += 1,
             Some(Turn::Idle) => self.idle += 1,
             None => self.spent += 1,
-        }
-    }
-
-    /// The end of a loop with these counts.
-    fn ended<M: Machine, D: Device>(
-        self,
-        seat: NodeSeat<M, D>,
-        fault: Option<Fault>,
-    ) -> NodeEnd<M, D>
-        ensures seat { result.seat ≡ seat }
-        ensures received { result.received ≡ self.received }
-        ensures led { result.led ≡ self.led }
-        ensures idle { result.idle ≡ self.idle }
-        ensures spent { result.spent ≡ self.spent }
-        ensures fault { result.fault ≡ fault }
-    {
-        NodeEnd {
-            seat,
-            received: self.received,
-            led: self.led,
-            idle: self.idle,
-            spent: self.spent,
-            fault,
         }
     }
 }
@@ -173,6 +153,22 @@ impl<M: Machine, D: Device> Worker<M, D> {
         }
     }
 
+    /// The end of a loop with these counts.
+    fn ended(self, counts: Counts, fault: Option<Fault>) -> NodeEnd<M, D>
+        ensures { (lost : ℕ) × (result ≡ end_of counts self.seat lost fault) }
+    {
+        let lost = self.seat.lost().saturating_add(self.line.lost());
+        NodeEnd {
+            seat: self.seat,
+            received: counts.received,
+            led: counts.led,
+            idle: counts.idle,
+            spent: counts.spent,
+            lost,
+            fault,
+        }
+    }
+
     /// One turn of a loop. `None` where it is spent.
     fn turn<G: Gate>(
         &mut self,
@@ -184,11 +180,12 @@ impl<M: Machine, D: Device> Worker<M, D> {
         requires nodes { nodes ≤ 7 }
         requires held { HoldsTextsOf self.old.seat.part.got self.old.line }
         ensures held { HoldsTextsOf self.new.seat.part.got self.new.line }
-        ensures ok { IfOk result (IsTurnOf M.next M.answers M.begin nodes turn
+        ensures ok { IfOk result (IsTurnOf M.next M.answers M.begin G.lets nodes turn
             self.old.seat self.new.seat self.old.line self.new.line) }
         ensures err { IfErr result (λ fault. (is_refusal fault ≡ false)
+            × (G.lets self.old.seat.number turn ≡ true)
             × IsUnmade M.next M.answers M.begin (sender_at nodes turn)
-            (nat_eq (turn % (8 + self.old.seat.number)) 0)
+            (is_to_lead self.old.seat.number turn)
             self.old.seat self.new.seat self.old.line self.new.line fault) }
     {
         let node = self.seat.number();
@@ -214,7 +211,8 @@ impl<M: Machine, D: Device> Worker<M, D> {
 /// rotation. The node is to lead in the turns whose number is 0 modulo 8 and its own number; and where
 /// a turn is idle while something is pending, it leads anew at the first position that it has not
 /// applied, once it has waited for so long (`Patience`). A fault ends the loop, but where it only
-/// refuses that the node leads. It waits for nobody, unless the gate does.
+/// refuses that the node leads: `OutOfMemory`, `Device` where its device failed, or `Failed` where it
+/// had failed before the first turn. It waits for nobody, unless the gate does.
 pub fn node_loop<M: Machine, D: Device, G: Gate>(
     seat: NodeSeat<M, D>,
     line: FaultLine,
@@ -225,13 +223,7 @@ pub fn node_loop<M: Machine, D: Device, G: Gate>(
 ) -> NodeEnd<M, D>
     requires nodes { nodes ≤ 7 }
     requires line { line.held ≡ [] }
-    ensures seat { IsSameSeat seat result.seat }
-    ensures counted { result.fault ≡ None
-        → result.received + result.led + result.idle + result.spent ≡ turns }
-    ensures events { result.fault ≡ None
-        → result.seat.part.events ≡ seat.part.events + result.received + result.led }
-    ensures idle { result.fault ≡ None → result.idle ≤ turns_off (8 + seat.number) turns }
-    ensures fault { IfSome result.fault (IsEndedBy M.next M.answers M.begin seat result.seat) }
+    ensures { IsLooped M.next M.answers M.begin G.lets nodes turns seat line result }
 {
     let mut worker = Worker {
         seat,
@@ -247,8 +239,8 @@ pub fn node_loop<M: Machine, D: Device, G: Gate>(
     for done in 0..turns {
         match worker.turn(alloc, nodes, gate, done + 1) {
             Ok(made) => counts.count(made),
-            Err(fault) => return counts.ended(worker.seat, Some(fault)),
+            Err(fault) => return worker.ended(counts, Some(fault)),
         }
     }
-    counts.ended(worker.seat, None)
+    worker.ended(counts, None)
 }

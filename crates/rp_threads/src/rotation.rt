@@ -1,7 +1,7 @@
 //! Whose box a loop empties.
 
 ghost use Rattle.std.specs.Prelude.{◌≡◌, ◌+◌, ◌%◌, ◌≤◌};
-ghost use Rattle.rp_threads.specs.Loops.{sender_at};
+ghost use Rattle.rp_threads.specs.Loops.{sender_at, node_at};
 
 use rp_base::{NodeId, TaskId};
 use rp_codec::Party;
@@ -28,7 +28,7 @@ pub(crate) fn sender(nodes: u8, turn: u64) -> Party
 /// Which of the nodes a task turns to in a turn: each in rotation.
 pub(crate) fn node_in_turn(nodes: u8, turn: u64) -> NodeId
     requires { (1 ≤ nodes) × (nodes ≤ 7) }
-    ensures { result ≡ turn % nodes + 1 }
+    ensures { result ≡ node_at nodes turn }
 {
     let place = (turn % u64::from(nodes)) as u8;
     NodeId::new(place + 1).unwrap()

@@ -13,14 +13,24 @@ use rp_machine::Machine;
 use rp_store::Device;
 use std::alloc::Global;
 
-/// Puts a packet that the node sent into its box. It is lost where the box is full, or where memory
-/// is wanting.
+/// Puts a packet that the node sent into its box. Where the box is not empty it is lost, and counted.
+fn put_text<M: Machine, D: Device>(seat: &mut NodeSeat<M, D>, packet: Vec<u8>)
+    requires { IsSentText seat.old.part packet.items }
+    ensures { seat.new ≡ seat.old }
+{
+    if seat.put(packet).is_err() {
+        seat.lose();
+    }
+}
+
+/// Puts a copy of a packet that the node sent into its box. It is lost where there is no memory for
+/// the copy.
 fn put_one<M: Machine, D: Device>(seat: &mut NodeSeat<M, D>, alloc: Global, text: &[u8])
     requires { IsSentText seat.old.part text.now }
     ensures { seat.new ≡ seat.old }
 {
     if let Ok(packet) = Vec::from_slice(alloc, text) {
-        let _lost = seat.put(packet);
+        put_text(seat, packet);
     }
 }
 
@@ -48,7 +58,7 @@ pub(crate) fn put_all<M: Machine, D: Device>(
 {
     seat.sends_packets();
     if is_one_text(texts.as_slice()) {
-        let _lost = seat.put(texts);
+        put_text(seat, texts);
     } else {
         put_each(seat, alloc, texts.as_slice(), count);
         seat.lend(texts);

@@ -13,6 +13,7 @@ use rp_machine::Machine;
 use rp_store::Device;
 use rp_tasks::FaultLine;
 use std::alloc::{AllocError, Global};
+use std::marker::PhantomData;
 use std::snapshot::Snapshot;
 use std::thread::{Promise, PromisedHandle, Scope};
 
@@ -32,31 +33,40 @@ pub struct TaskStart<M: Machine> {
     pub line: FaultLine,
 }
 
-/// The thread of a node owes what `node_loop` promises of its seat and so many turns.
+/// The thread of a node owes what `node_loop` promises of its seat and line, of so many nodes and so
+/// many turns.
 #[derive(Drop)]
-pub(crate) struct NodeOwes<M: Machine, D: Device> {
+pub(crate) struct NodeOwes<M: Machine, D: Device, G: Gate> {
     pub(crate) seat: Snapshot<NodeSeat<M, D>>,
+    pub(crate) line: Snapshot<FaultLine>,
+    pub(crate) gate: PhantomData<G>,
+    pub(crate) nodes: u8,
     pub(crate) turns: u64,
 }
 
-impl<M: Machine, D: Device> Promise<NodeEnd<M, D>> for NodeOwes<M, D> {
+impl<M: Machine, D: Device, G: Gate> Promise<NodeEnd<M, D>> for NodeOwes<M, D, G> {
     ghost use Rattle.rp_threads.specs.Threads.{IsLooped};
 
-    ghost kept_by = { λ owes end. IsLooped M.next M.answers M.begin owes.seat.value owes.turns end };
+    ghost kept_by = { λ owes end. IsLooped M.next M.answers M.begin G.lets
+        owes.nodes owes.turns owes.seat.value owes.line.value end };
 }
 
-/// The thread of a task owes what `task_loop` promises of its seat, its calls and so many turns.
+/// The thread of a task owes what `task_loop` promises of its seat, calls and line, of so many nodes
+/// and so many turns.
 #[derive(Drop)]
 pub(crate) struct TaskOwes<M: Machine> {
     pub(crate) seat: Snapshot<TaskSeat<M>>,
     pub(crate) calls: Snapshot<Vec<TaskCall>>,
+    pub(crate) line: Snapshot<FaultLine>,
+    pub(crate) nodes: u8,
     pub(crate) turns: u64,
 }
 
 impl<M: Machine> Promise<TaskEnd<M>> for TaskOwes<M> {
     ghost use Rattle.rp_threads.specs.Threads.{IsTaskLooped};
 
-    ghost kept_by = { λ owes end. IsTaskLooped owes.seat.value owes.calls.value.items owes.turns end };
+    ghost kept_by = { λ owes end. IsTaskLooped owes.nodes owes.turns
+        owes.calls.value.items owes.seat.value owes.line.value end };
 }
 
 /// Starts a node's loop in a thread. Refused where no thread can be made; the seat is dropped then.
@@ -67,24 +77,29 @@ pub(crate) fn start_node<'s, E, M: Machine + Send + 's, D: Device + Send + 's, G
     nodes: u8,
     gate: &'s G,
     turns: u64,
-) -> Result<PromisedHandle<NodeEnd<M, D>, NodeOwes<M, D>>, AllocError>
+) -> Result<PromisedHandle<NodeEnd<M, D>, NodeOwes<M, D, G>>, AllocError>
 where
     M::Program: Send,
     requires nodes { nodes ≤ 7 }
     requires line { start.line.held ≡ [] }
     ensures seat { IfOk result (λ handle. handle.promise.seat.value ≡ start.seat) }
+    ensures line { IfOk result (λ handle. handle.promise.line.value ≡ start.line) }
+    ensures nodes { IfOk result (λ handle. handle.promise.nodes ≡ nodes) }
     ensures turns { IfOk result (λ handle. handle.promise.turns ≡ turns) }
 {
     let NodeStart { seat, line } = start;
     let owes = NodeOwes {
         seat: Snapshot::of(&seat),
+        line: Snapshot::of(&line),
+        gate: PhantomData::<G>,
+        nodes,
         turns,
     };
     let handle = scope.spawn_with(
         owes,
         move || -> NodeEnd<M, D>
             requires { (nodes ≤ 7) × (line.held ≡ []) }
-            ensures { IsLooped M.next M.answers M.begin seat turns result }
+            ensures { IsLooped M.next M.answers M.begin G.lets nodes turns seat line result }
         { node_loop(seat, line, alloc, nodes, gate, turns) },
     )?;
     Ok(handle)
@@ -106,12 +121,16 @@ where
     requires fresh { start.seat.part ≡ fresh_part (OfTask fresh_task) }
     ensures seat { IfOk result (λ handle. handle.promise.seat.value ≡ start.seat) }
     ensures calls { IfOk result (λ handle. handle.promise.calls.value ≡ start.calls) }
+    ensures line { IfOk result (λ handle. handle.promise.line.value ≡ start.line) }
+    ensures nodes { IfOk result (λ handle. handle.promise.nodes ≡ nodes) }
     ensures turns { IfOk result (λ handle. handle.promise.turns ≡ turns) }
 {
     let TaskStart { seat, calls, line } = start;
     let owes = TaskOwes {
         seat: Snapshot::of(&seat),
         calls: Snapshot::of(&calls),
+        line: Snapshot::of(&line),
+        nodes,
         turns,
     };
     let handle = scope.spawn_with(
@@ -120,7 +139,7 @@ where
             requires nodes { (1 ≤ nodes) × (nodes ≤ 7) }
             requires line { line.held ≡ [] }
             requires fresh { seat.part ≡ fresh_part (OfTask fresh_task) }
-            ensures { IsTaskLooped seat calls.items turns result }
+            ensures { IsTaskLooped nodes turns calls.items seat line result }
         { task_loop(seat, calls.as_slice(), line, alloc, nodes, gate, turns) },
     )?;
     Ok(handle)

@@ -1,12 +1,17 @@
 //! A task's calls, one after the other.
 
-ghost use Rattle.std.specs.Prelude.{◌≡◌, ℕ, ◌+◌, ◌<◌, ◌≤◌, Bool, true, false, [], List, length, slice_get, Some, None, IfOk, OnOk, if◌then◌else◌};
+ghost use Rattle.std.specs.Prelude.{◌≡◌, ◌≤◌, ℕ, [], Some, IfOk, IfErr, OnOk};
+ghost use Rattle.rp_base.specs.declared.fault.Fault.TheVariants.{OutOfMemory};
 ghost use Rattle.rp_boxes.specs.Parts.{fresh_part, OfTask};
+ghost use Rattle.rp_boxes.specs.Seats.{IsSentText};
+ghost use Rattle.rp_codec.specs.declared.packet.Party.TheVariants as parties;
 ghost use Rattle.rp_model.specs.Parts.{fresh_task};
-ghost use Rattle.rp_threads.specs.Lines.{HoldsTextsOf};
-ghost use Rattle.rp_threads.specs.Loops.{IsSameSeat};
-ghost use Rattle.rp_threads.specs.Tasks.{HasMade, AreSentOnce, called};
-ghost use Rattle.rp_threads.specs.declared.tasks.TaskCall.{TaskCall};
+ghost use Rattle.rp_model.specs.Tasks.{Again};
+ghost use Rattle.rp_threads.specs.Lines.{HoldsTextsOf, given_on, line_after};
+ghost use Rattle.rp_threads.specs.Tasks.{AreSentOnce, called};
+ghost use Rattle.rp_threads.specs.TaskRounds.{Hears, Asks, IsRefused, IsTaskTurnOf, IsUnmadeTurn, asked_in, asked_for, heard_by, submitted};
+ghost use Rattle.rp_threads.specs.Threads.{IsTaskLooped, task_end_of};
+ghost use Rattle.rp_threads.specs.Turns.{IsBrought, IsLost};
 
 use crate::gate::Gate;
 use crate::rotation::node_in_turn;
@@ -35,6 +40,10 @@ pub struct TaskCall {
 pub struct TaskEnd<M: Machine> {
     pub seat: TaskSeat<M>,
     pub made: usize,
+    /// The turn in which its last reply came, or 0.
+    pub last_reply: u64,
+    /// How many packets were lost on its line and at boxes that were not empty.
+    pub lost: u64,
     /// Why the task stopped before its last turn.
     pub fault: Option<Fault>,
 }
@@ -46,6 +55,33 @@ struct Calls {
     waits: bool,
 }
 
+impl Calls {
+    /// Once a call has its reply, the task waits for none.
+    fn hear(&mut self, answered: bool)
+        ensures { self.new ≡ heard_by answered self.old }
+    {
+        if answered {
+            self.waits = false;
+        }
+    }
+}
+
+/// A reply that came in this turn is the last one so far.
+fn note_reply(last: &mut u64, answered: bool, turn: u64) {
+    if answered {
+        *last = turn;
+    }
+}
+
+/// A task at its work: its seat, the line that its packets come through, and its calls so far.
+#[derive(Drop)]
+struct Caller<M: Machine> {
+    seat: TaskSeat<M>,
+    line: FaultLine,
+    so_far: Calls,
+    last_reply: u64,
+}
+
 /// The line takes the packet in the box from a node, if there is one.
 fn bring<M: Machine>(
     seat: &mut TaskSeat<M>,
@@ -55,9 +91,10 @@ fn bring<M: Machine>(
 ) -> Result<(), Fault>
     requires held { HoldsTextsOf seat.old.part.got line.old }
     ensures held { HoldsTextsOf seat.new.part.got line.new }
-    ensures seat { IsSameSeat seat.old seat.new }
-    ensures kept { (calls : List TaskCall) (made : ℕ) (waits : Bool)
-        → HasMade calls seat.old made waits → HasMade calls seat.new made waits }
+    ensures ok { OnOk result (IsBrought (parties.Node from) (parties.Task seat.old.number)
+        seat.old seat.new line.old line.new) }
+    ensures err { IfErr result (IsLost (parties.Node from) (parties.Task seat.old.number)
+        seat.old seat.new line.old line.new) }
 {
     gives_what_it_took();
     match seat.fetch(Party::Node(from)) {
@@ -74,10 +111,9 @@ fn hear<M: Machine>(
 ) -> Result<bool, Fault>
     requires held { HoldsTextsOf seat.old.part.got line.old }
     ensures held { HoldsTextsOf seat.new.part.got line.new }
-    ensures seat { IsSameSeat seat.old seat.new }
-    ensures heard { IfOk result (λ answered. (calls : List TaskCall) (made : ℕ) (waits : Bool)
-        → HasMade calls seat.old made waits
-        → HasMade calls seat.new made (if answered then false else waits)) }
+    ensures line { line.new ≡ line_after line.old }
+    ensures ok { IfOk result (Hears (given_on line.old) seat.old seat.new) }
+    ensures err { IfErr result (λ fault. (fault ≡ OutOfMemory) × (seat.new ≡ seat.old)) }
 {
     gives_what_it_took();
     match line.release() {
@@ -89,13 +125,23 @@ fn hear<M: Machine>(
     }
 }
 
-/// Puts the packet of a step into its box, if it has one. It is lost where the box is full.
+/// Puts a packet that the task sent into its box. Where the box is not empty it is lost, and counted.
+fn put_text<M: Machine>(seat: &mut TaskSeat<M>, packet: Vec<u8>)
+    requires { IsSentText seat.old.part packet.items }
+    ensures { seat.new ≡ seat.old }
+{
+    if seat.put(packet).is_err() {
+        seat.lose();
+    }
+}
+
+/// Puts the packet of a step into its box, if it has one.
 fn put_sent<M: Machine>(seat: &mut TaskSeat<M>, sent: Sent)
     requires { AreSentOnce seat.old.part sent }
     ensures { seat.new ≡ seat.old }
 {
     if sent.packets == 1 {
-        let _lost = seat.put(sent.bytes);
+        put_text(seat, sent.bytes);
     }
 }
 
@@ -109,10 +155,10 @@ fn make<M: Machine>(
     arg: i64,
 ) -> Result<(), Fault>
     ensures got { seat.new.part.got ≡ seat.old.part.got }
-    ensures seat { IsSameSeat seat.old seat.new }
-    ensures made { OnOk result ((calls : List TaskCall) (made : ℕ)
-        → slice_get calls made ≡ Some (called node object operation arg)
-        → HasMade calls seat.old made false → HasMade calls seat.new (made + 1) true) }
+    ensures ok { OnOk result (Asks (submitted (Some (called node object operation arg)))
+        seat.old seat.new) }
+    ensures err { IfErr result (IsRefused (submitted (Some (called node object operation arg)))
+        seat.old seat.new) }
 {
     let sent = seat.call(alloc, node, object, operation, arg)?;
     put_sent(seat, sent);
@@ -122,9 +168,8 @@ fn make<M: Machine>(
 /// The task asks a node once more, for the call that it waits for.
 fn ask_again<M: Machine>(seat: &mut TaskSeat<M>, alloc: Global, node: NodeId) -> Result<(), Fault>
     ensures got { seat.new.part.got ≡ seat.old.part.got }
-    ensures seat { IsSameSeat seat.old seat.new }
-    ensures kept { (calls : List TaskCall) (made : ℕ) (waits : Bool)
-        → HasMade calls seat.old made waits → HasMade calls seat.new made waits }
+    ensures ok { OnOk result (Asks (Some (Again node)) seat.old seat.new) }
+    ensures err { IfErr result (IsRefused (Some (Again node)) seat.old seat.new) }
 {
     let sent = seat.retry(alloc, node)?;
     put_sent(seat, sent);
@@ -142,11 +187,11 @@ fn ask<M: Machine>(
     turn: u64,
 ) -> Result<(), Fault>
     requires nodes { (1 ≤ nodes) × (nodes ≤ 7) }
-    requires made { HasMade calls.now seat.old so_far.old.made so_far.old.waits }
     ensures got { seat.new.part.got ≡ seat.old.part.got }
-    ensures seat { IsSameSeat seat.old seat.new }
-    ensures made { OnOk result (HasMade calls.now seat.new so_far.new.made so_far.new.waits) }
-    ensures first { OnOk result (0 < length calls.now → 0 < so_far.new.made) }
+    ensures ok { OnOk result (Asks (asked_in nodes calls.now turn so_far.old) seat.old seat.new) }
+    ensures made { OnOk result (so_far.new ≡ asked_for calls.now so_far.old) }
+    ensures err { IfErr result (λ fault. (so_far.new ≡ so_far.old)
+        × IsRefused (asked_in nodes calls.now turn so_far.old) seat.old seat.new fault) }
 {
     if so_far.waits {
         if turn % PATIENCE == 0 {
@@ -167,36 +212,54 @@ fn ask<M: Machine>(
     Ok(())
 }
 
-/// A turn of a task: it fetches from a node through its line, takes what is given on, and then asks.
-fn turn_once<M: Machine>(
-    seat: &mut TaskSeat<M>,
-    line: &mut FaultLine,
-    alloc: Global,
-    nodes: u8,
-    calls: &[TaskCall],
-    so_far: &mut Calls,
-    turn: u64,
-) -> Result<(), Fault>
-    requires nodes { (1 ≤ nodes) × (nodes ≤ 7) }
-    requires held { HoldsTextsOf seat.old.part.got line.old }
-    requires made { HasMade calls.now seat.old so_far.old.made so_far.old.waits }
-    ensures held { HoldsTextsOf seat.new.part.got line.new }
-    ensures seat { IsSameSeat seat.old seat.new }
-    ensures made { OnOk result (HasMade calls.now seat.new so_far.new.made so_far.new.waits) }
-    ensures first { OnOk result (0 < length calls.now → 0 < so_far.new.made) }
-{
-    bring(seat, line, alloc, node_in_turn(nodes, turn))?;
-    if hear(seat, line, alloc)? {
-        so_far.waits = false;
+impl<M: Machine> Caller<M> {
+    /// The end of a loop.
+    fn ended(self, fault: Option<Fault>) -> TaskEnd<M>
+        ensures { (last lost : ℕ) × (result
+            ≡ task_end_of self.seat self.so_far.made last lost fault) }
+    {
+        let lost = self.seat.lost().saturating_add(self.line.lost());
+        TaskEnd {
+            seat: self.seat,
+            made: self.so_far.made,
+            last_reply: self.last_reply,
+            lost,
+            fault,
+        }
     }
-    ask(seat, alloc, nodes, calls, so_far, turn)
+
+    /// A turn of a task: it fetches from a node through its line, takes what is given on, and then
+    /// asks.
+    fn turn(&mut self, alloc: Global, nodes: u8, calls: &[TaskCall], turn: u64) -> Result<(), Fault>
+        requires nodes { (1 ≤ nodes) × (nodes ≤ 7) }
+        requires held { HoldsTextsOf self.old.seat.part.got self.old.line }
+        ensures held { HoldsTextsOf self.new.seat.part.got self.new.line }
+        ensures ok { OnOk result (IsTaskTurnOf nodes calls.now turn
+            (record { seat = self.old.seat; line = self.old.line; so_far = self.old.so_far })
+            (record { seat = self.new.seat; line = self.new.line; so_far = self.new.so_far })) }
+        ensures err { IfErr result (IsUnmadeTurn nodes calls.now turn
+            (record { seat = self.old.seat; line = self.old.line; so_far = self.old.so_far })
+            (record { seat = self.new.seat; line = self.new.line; so_far = self.new.so_far })) }
+    {
+        bring(
+            &mut self.seat,
+            &mut self.line,
+            alloc,
+            node_in_turn(nodes, turn),
+        )?;
+        let answered = hear(&mut self.seat, &mut self.line, alloc)?;
+        self.so_far.hear(answered);
+        note_reply(&mut self.last_reply, answered, turn);
+        ask(&mut self.seat, alloc, nodes, calls, &mut self.so_far, turn)
+    }
 }
 
 /// So many turns of a task. In each it fetches from one of the nodes 1 to `nodes`, in rotation,
 /// through its line, and takes the reply that the line may give on. It makes its calls in order, the
 /// first in the first turn and each other once the one before has its reply; while it waits it asks
-/// the next node again in every 16th turn. A fault ends the loop. It waits for nobody, unless the
-/// gate does.
+/// the next node again in every 16th turn. A fault ends the loop: `OutOfMemory`, `NumbersSpent` where
+/// no number is left for the next call, or `BadConfig` where that is not right or asks a node above
+/// the last. It waits for nobody, unless the gate does.
 pub fn task_loop<M: Machine, G: Gate>(
     seat: TaskSeat<M>,
     calls: &[TaskCall],
@@ -209,38 +272,22 @@ pub fn task_loop<M: Machine, G: Gate>(
     requires nodes { (1 ≤ nodes) × (nodes ≤ 7) }
     requires line { line.held ≡ [] }
     requires fresh { seat.part ≡ fresh_part (OfTask fresh_task) }
-    ensures seat { IsSameSeat seat result.seat }
-    ensures made { result.fault ≡ None
-        → (waits : Bool) × HasMade calls.now result.seat result.made waits }
-    ensures first { result.fault ≡ None → 0 < length calls.now → 0 < turns → 0 < result.made }
+    ensures { IsTaskLooped nodes turns calls.now seat line result }
 {
-    let mut seat = seat;
-    let mut line = line;
-    let mut so_far = Calls {
-        made: 0,
-        waits: false,
+    let mut caller = Caller {
+        seat,
+        line,
+        so_far: Calls {
+            made: 0,
+            waits: false,
+        },
+        last_reply: 0,
     };
     for done in 0..turns {
-        gate.before_task(seat.number(), done + 1);
-        if let Err(fault) = turn_once(
-            &mut seat,
-            &mut line,
-            alloc,
-            nodes,
-            calls,
-            &mut so_far,
-            done + 1,
-        ) {
-            return TaskEnd {
-                seat,
-                made: so_far.made,
-                fault: Some(fault),
-            };
+        gate.before_task(caller.seat.number(), done + 1);
+        if let Err(fault) = caller.turn(alloc, nodes, calls, done + 1) {
+            return caller.ended(Some(fault));
         }
     }
-    TaskEnd {
-        seat,
-        made: so_far.made,
-        fault: None,
-    }
+    caller.ended(None)
 }

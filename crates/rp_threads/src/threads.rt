@@ -25,13 +25,14 @@ fn start_nodes<'s, E, M: Machine + Send + 's, D: Device + Send + 's, G: Gate + S
     nodes: u8,
     gate: &'s G,
     turns: u64,
-) -> Result<Vec<PromisedHandle<NodeEnd<M, D>, NodeOwes<M, D>>>, AllocError>
+) -> Result<Vec<PromisedHandle<NodeEnd<M, D>, NodeOwes<M, D, G>>>, AllocError>
 where
     M::Program: Send,
     requires nodes { nodes ≤ 7 }
     requires lines { All (λ start. start.line.held ≡ []) starts.items }
     ensures { IfOk result (λ handles. AllZip (λ start handle.
-        (handle.promise.seat.value ≡ start.seat) × (handle.promise.turns ≡ turns))
+        (handle.promise.seat.value ≡ start.seat) × (handle.promise.line.value ≡ start.line)
+        × (handle.promise.nodes ≡ nodes) × (handle.promise.turns ≡ turns))
         starts.items handles.items) }
 {
     let mut handles = Vec::new(alloc);
@@ -57,6 +58,7 @@ where
     requires fresh { All (λ start. start.seat.part ≡ fresh_part (OfTask fresh_task)) starts.items }
     ensures { IfOk result (λ handles. AllZip (λ start handle.
         (handle.promise.seat.value ≡ start.seat) × (handle.promise.calls.value ≡ start.calls)
+        × (handle.promise.line.value ≡ start.line) × (handle.promise.nodes ≡ nodes)
         × (handle.promise.turns ≡ turns)) starts.items handles.items) }
 {
     let mut handles = Vec::new(alloc);
@@ -67,13 +69,13 @@ where
 }
 
 /// Joins the threads of nodes.
-fn join_nodes<R: Threads, M: Machine, D: Device>(
+fn join_nodes<R: Threads, M: Machine, D: Device, G: Gate>(
     rt: &R,
-    handles: Vec<PromisedHandle<NodeEnd<M, D>, NodeOwes<M, D>>>,
+    handles: Vec<PromisedHandle<NodeEnd<M, D>, NodeOwes<M, D, G>>>,
 ) -> Result<Vec<NodeEnd<M, D>>, AllocError>
     ensures { IfOk result (λ ends. AllZip (λ handle end.
-        IsLooped M.next M.answers M.begin handle.promise.seat.value handle.promise.turns end)
-        handles.items ends.items) }
+        IsLooped M.next M.answers M.begin G.lets handle.promise.nodes handle.promise.turns
+        handle.promise.seat.value handle.promise.line.value end) handles.items ends.items) }
 {
     let ends = thread::join_promised(rt, handles)?;
     Ok(ends)
@@ -84,8 +86,9 @@ fn join_tasks<R: Threads, M: Machine>(
     rt: &R,
     handles: Vec<PromisedHandle<TaskEnd<M>, TaskOwes<M>>>,
 ) -> Result<Vec<TaskEnd<M>>, AllocError>
-    ensures { IfOk result (λ ends. AllZip (λ handle end. IsTaskLooped handle.promise.seat.value
-        handle.promise.calls.value.items handle.promise.turns end) handles.items ends.items) }
+    ensures { IfOk result (λ ends. AllZip (λ handle end. IsTaskLooped
+        handle.promise.nodes handle.promise.turns handle.promise.calls.value.items
+        handle.promise.seat.value handle.promise.line.value end) handles.items ends.items) }
 {
     let ends = thread::join_promised(rt, handles)?;
     Ok(ends)
@@ -108,14 +111,16 @@ where
     requires task_lines { All (λ start. start.line.held ≡ []) tasks.items }
     requires fresh { All (λ start. start.seat.part ≡ fresh_part (OfTask fresh_task)) tasks.items }
     ensures nodes { IfOk result (λ ends. AllZip (λ start end.
-        IsLooped M.next M.answers M.begin start.seat turns end) nodes.items ends.0.items) }
+        IsLooped M.next M.answers M.begin G.lets (length nodes.items) turns
+        start.seat start.line end) nodes.items ends.0.items) }
     ensures tasks { IfOk result (λ ends. AllZip (λ start end.
-        IsTaskLooped start.seat start.calls.items turns end) tasks.items ends.1.items) }
+        IsTaskLooped (length nodes.items) turns start.calls.items
+        start.seat start.line end) tasks.items ends.1.items) }
 {
     let count = nodes.len() as u8;
     let nodes = start_nodes(scope, alloc, nodes, count, gate, turns)?;
     let tasks = start_tasks(scope, alloc, tasks, count, gate, turns)?;
-    let nodes = join_nodes(rt, nodes)?;
+    let nodes = join_nodes::<R, M, D, G>(rt, nodes)?;
     let tasks = join_tasks(rt, tasks)?;
     Ok((nodes, tasks))
 }
@@ -140,9 +145,11 @@ where
     requires task_lines { All (λ start. start.line.held ≡ []) tasks.items }
     requires fresh { All (λ start. start.seat.part ≡ fresh_part (OfTask fresh_task)) tasks.items }
     ensures nodes { IfOk result (λ ends. AllZip (λ start end.
-        IsLooped M.next M.answers M.begin start.seat turns end) nodes.items ends.0.items) }
+        IsLooped M.next M.answers M.begin G.lets (length nodes.items) turns
+        start.seat start.line end) nodes.items ends.0.items) }
     ensures tasks { IfOk result (λ ends. AllZip (λ start end.
-        IsTaskLooped start.seat start.calls.items turns end) tasks.items ends.1.items) }
+        IsTaskLooped (length nodes.items) turns start.calls.items
+        start.seat start.line end) tasks.items ends.1.items) }
 {
     thread::scope(
         thread::scope_env(),
@@ -154,10 +161,11 @@ where
             requires fresh { All (λ start.
                 start.seat.part ≡ fresh_part (OfTask fresh_task)) tasks.items }
             ensures nodes { IfOk result (λ ends. AllZip (λ start end.
-                IsLooped M.next M.answers M.begin start.seat turns end)
-                nodes.items ends.0.items) }
+                IsLooped M.next M.answers M.begin G.lets (length nodes.items) turns
+                start.seat start.line end) nodes.items ends.0.items) }
             ensures tasks { IfOk result (λ ends. AllZip (λ start end.
-                IsTaskLooped start.seat start.calls.items turns end) tasks.items ends.1.items) }
+                IsTaskLooped (length nodes.items) turns start.calls.items
+                start.seat start.line end) tasks.items ends.1.items) }
         { run_within(scope, rt, alloc, nodes, tasks, gate, turns) },
     )
 }

@@ -1,6 +1,7 @@
 //! A node's turn.
 
 ghost use Rattle.std.specs.Prelude.{◌≡◌, ◌⊎◌, IfOk, OnOk, IfErr, OnErr, Bool};
+ghost use Rattle.rp_codec.specs.declared.packet.Party.TheVariants.{Node};
 ghost use Rattle.rp_replica.specs.Inputs.{IsRightInput};
 ghost use Rattle.rp_boxes.specs.Seats.{IsGot, IsTurn, IsCutTurn, IsNoTurn};
 ghost use Rattle.rp_threads.specs.Lines.{HoldsTextsOf, given_on, line_after};
@@ -44,8 +45,10 @@ fn bring<M: Machine, D: Device>(
 ) -> Result<(), Fault>
     requires held { HoldsTextsOf seat.old.part.got line.old }
     ensures held { HoldsTextsOf seat.new.part.got line.new }
-    ensures ok { OnOk result (IsBrought from seat.old seat.new line.old line.new) }
-    ensures err { IfErr result (λ fault. IsLost from seat.old seat.new line.old line.new fault) }
+    ensures ok { OnOk result (IsBrought from (Node seat.old.number)
+        seat.old seat.new line.old line.new) }
+    ensures err { IfErr result (IsLost from (Node seat.old.number)
+        seat.old seat.new line.old line.new) }
 {
     gives_what_it_took();
     match seat.fetch(from) {
@@ -132,7 +135,8 @@ pub fn node_turn<M: Machine, D: Device>(
     ensures held { HoldsTextsOf seat.new.part.got line.new }
     ensures ok { IfOk result (λ turned. IsNodeTurn M.next M.answers M.begin
         from lead seat.old seat.new line.old line.new turned) }
-    ensures err { IfErr result (λ fault. IsLost from seat.old seat.new line.old line.new fault
+    ensures err { IfErr result (λ fault. IsLost from (Node seat.old.number)
+        seat.old seat.new line.old line.new fault
         ⊎ IsStoppedTurn M.next M.answers M.begin
         from lead seat.old seat.new line.old line.new fault) }
 {

@@ -59,6 +59,10 @@ impl InStep {
 }
 
 impl Gate for InStep {
+    ghost use Rattle.std.specs.Prelude.{true};
+
+    ghost lets = { λ node turn. true };
+
     fn before(&self, node: NodeId, _turn: u64) -> bool {
         if node.get() != 1 {
             self.look_for(&self.led);

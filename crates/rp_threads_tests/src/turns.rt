@@ -3,9 +3,10 @@ use rp_base::{Fault, NodeId, Operation, TaskId};
 use rp_boxes::{AllSeats, seats};
 use rp_codec::Party;
 use rp_machine::{Machine, Tally, TallyProgram};
+use rp_replica::Input;
 use rp_store::{Device, MemDevice};
 use rp_tasks::FaultLine;
-use rp_threads::{Open, TaskCall, Turn, node_turn, task_loop};
+use rp_threads::{Open, TaskCall, Turn, node_step, node_turn, task_loop};
 use std::alloc::Global;
 use std::test::Fail;
 
@@ -58,6 +59,42 @@ fn calls<M: Machine, D: Device>(
         made: end.made,
         packet: node.fetch(from),
     })
+}
+
+/// How many packets a node sent in a step, and how many of them are then in boxes.
+#[derive(Clone, Copy, Debug, PartialEq, Eq)]
+struct Delivered {
+    sent: usize,
+    boxed: usize,
+}
+
+/// Node 1 leads in one step, and each node looks into its box from node 1.
+fn delivers<M: Machine, D: Device>(
+    alloc: Global,
+    program: &M::Program,
+    devices: Vec<D>,
+) -> Result<Delivered, Fault> {
+    let mut all: AllSeats<M, D> = seats(alloc, CONFIG, program, devices)?;
+    let leader = all.nodes.first_mut().ok_or(Fault::BadConfig)?;
+    let sent = node_step(leader, alloc, &Input::Lead(None))?;
+    let from = Party::Node(NodeId::new(1).ok_or(Fault::BadConfig)?);
+    let mut boxed: usize = 0;
+    for seat in all.nodes.iter_mut() {
+        if seat.fetch(from).is_some() {
+            boxed = boxed.saturating_add(1);
+        }
+    }
+    Ok(Delivered { sent, boxed })
+}
+
+#[test]
+fn each_packet_of_a_step_comes_into_its_box(rt: HostRuntime) -> Result<(), Fail> {
+    let alloc = rt.alloc();
+    let program = TallyProgram::new(1).ok_or("one object")?;
+    let devices = devices(alloc)?;
+    let delivered = delivers::<Tally, MemDevice>(alloc, &program, devices)?;
+    assert_eq!(rt; delivered, Delivered { sent: 3, boxed: 3 });
+    Ok(())
 }
 
 #[test]

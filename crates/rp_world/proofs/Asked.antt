@@ -1,6 +1,6 @@
 -- What a question about one node is told.
 use Rattle.std.specs.Borrow.{Bor}
-use Rattle.std.proofs.Common.{◌≡◌, ℕ, suc, Option, Some, None, Result, Ok, Err, List, slice_get, refl, sym, subst, ok_or}
+use Rattle.std.proofs.Common.{◌≡◌, ℕ, suc, Option, Some, None, Result, Ok, Err, List, slice_get, refl, sym, ap, subst, ok_or}
 use Rattle.std.specs.Prelude.{IfSome, IfNone, IsSome}
 use Rattle.rp_base.specs.declared.config.Config.{Config}
 use Rattle.rp_base.specs.declared.fault.Fault.{Fault}
@@ -12,7 +12,7 @@ use Rattle.rp_model.specs.World.{part_at}
 use Rattle.rp_replica.specs.Held.{Held}
 use Rattle.rp_world.specs.Callers.{Caller}
 use Rattle.rp_world.specs.Messages.{Sending}
-use Rattle.rp_world.specs.Nodes.{Member, member_of, RunsAs, StandsFor, IsLengthOf}
+use Rattle.rp_world.specs.Nodes.{Member, member_of, RunsAs, StandsFor, stored_length}
 use Rattle.rp_world.specs.Shape.{part_by, world_of, IsWorld}
 use Rattle.rp_world.specs.Steps.{IsToldOf, IsToldOfRunning, Runs, IsReplicaOf, IsStored}
 use Rattle.rp_world.specs.declared.node.Node.{Node}
@@ -66,6 +66,6 @@ module _ {S D P : Type 0} (disk : D → Disk) (config : Config) (begin : S) (nod
       (subst (λ (r : Result (Bor (Held S)) Fault). IsReplicaOf config begin r (Some part)) (sym is_answer) (told disk member n part stands found runs rests))
 
   -- how many bytes its device holds
-  pub stored_of : (len : ℕ) → ((m : Member S) (p : NodePart) → StandsFor disk m n p → IsLengthOf m.config.max_positions p len)
-      → IsStored config.max_positions (let r : Result ℕ Fault = Ok len in r) (part_at (world_of disk config.max_positions nodes tasks messages).nodes me)
-  stored_of len tells = subst (IsStored config.max_positions (let r : Result ℕ Fault = Ok len in r)) (sym here_is) (tells member part stands)
+  pub stored_of : (len : ℕ) → ((m : Member S) (p : NodePart) → StandsFor disk m n p → len ≡ stored_length p)
+      → IsStored (let r : Result ℕ Fault = Ok len in r) (part_at (world_of disk config.max_positions nodes tasks messages).nodes me)
+  stored_of len tells = subst (IsStored (let r : Result ℕ Fault = Ok len in r)) (sym here_is) (ap Ok (tells member part stands))

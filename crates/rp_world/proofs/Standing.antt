@@ -1,6 +1,6 @@
 -- What stands for a node's part once it stops or starts again.
 use Rattle.std.proofs.Common.{◌≡◌, ℕ, min, Bool, true, false, Result, Ok, Err, Option, Some, List, [], ◌∷◌, ◌++◌, length, take, inl, inr, refl, sym, ap, subst, ◌∙◌, arith}
-use Rattle.std.proofs.lemmas.List.{append-nil, length-append, length-take}
+use Rattle.std.proofs.lemmas.List.{length-append, length-take}
 use Rattle.rp_base.specs.declared.config.Config.{Config}
 use Rattle.rp_base.specs.declared.fault.Fault.{Fault}
 use Rattle.rp_base.specs.declared.fault.Fault.TheVariants.{OutOfMemory, Device}
@@ -8,18 +8,17 @@ use Rattle.rp_base.specs.declared.record.Rec.{Rec}
 use Rattle.rp_codec.specs.Record.{record_text}
 use Rattle.rp_store.specs.Disk.{Disk}
 use Rattle.rp_store.specs.Records.{records_text, AreRecordsOf}
-use Rattle.rp_store.proofs.Whole.{record_long, same_reading, only_records}
+use Rattle.rp_store.proofs.Whole.{record_long, same_reading}
 use Rattle.rp_model.specs.Parts.{NodePart}
 use Rattle.rp_model.specs.Parts.{Running as Known}
 use Rattle.rp_model.specs.Effect.{goes_on_as, stop_part, stops_while, stop_effect, restart_while, restart_part}
 use Rattle.rp_model.specs.Parts.{fresh_running, fresh_node, records_in_log}
-use Rattle.rp_replica.specs.Held.{Held}
+use Rattle.rp_replica.specs.Held.{Held, part_of}
 use Rattle.rp_replica.specs.Opening.{Opens, IsRefusedOpening}
-use Rattle.rp_replica.specs.Kept.{HoldsPart}
-use Rattle.rp_replica.specs.Tied.{IsOnDisk}
+use Rattle.rp_replica.specs.Kept.{HoldsPart, HoldsOnly, HoldsItsRecords}
 use Rattle.std.specs.Prelude.{IfOk, IfErr}
 use Rattle.rp_world.specs.declared.node.Node.{Node}
-use Rattle.rp_world.specs.Nodes.{Member, RunsAs, RestsAs, StandsWhile, StandsFor, GoesBy, IsLeftTorn, IsLengthOf, TellsOpened}
+use Rattle.rp_world.specs.Nodes.{Member, RunsAs, RestsAs, StandsWhile, StandsFor, GoesBy, IsLeftTorn, TellsOpened, stored_length}
 
 -- ---- a replica that runs, or has failed
 
@@ -41,6 +40,11 @@ pub if_err : {A : Type 0} {So : Type 0} (answer : Result A Fault) → So → IfE
 if_err (Ok told) so = tt
 if_err (Err fault) so = so
 
+-- how many bytes a device holds that rests
+pub resting_length : (most : ℕ) (disk : Disk) (part : NodePart) → RestsAs most disk part → length disk.contents ≡ stored_length part
+resting_length most disk part rests =
+    omega (arith, ap length rests.only.found.whole, length-append (records_text part.records) rests.only.torn, rests.only.bytes)
+
 no_records : (all : List Rec) (torn : List ℕ) → [] ≡ records_text all ++ torn → all ≡ []
 no_records [] torn is = refl
 no_records (r ∷ rs) torn is =
@@ -48,23 +52,24 @@ no_records (r ∷ rs) torn is =
     absurd (omega (arith, long, length-append (record_text r) (records_text rs), record_long r))
 
 module _ {S : Type 0} (member : Member S) (old : Disk) (held : Held S) (count cut_bytes : ℕ) (opens : Opens member.me member.config member.begin old held count cut_bytes) where
-  -- a replica that was opened is this part
-  runs : (records : List Rec) → records ≡ records_in_log member.config.max_positions opens.all
+  -- a replica that was opened is this part, where the device held no other records
+  runs : (records : List Rec) → records ≡ records_in_log member.config.max_positions opens.all → records ≡ opens.all
       → RunsAs member held (let part : NodePart = record { records = records; torn = 0; running = Some fresh_running } in part)
-  runs records is = record {
+  runs records is only = record {
     node = ap (λ (h : Held S). h.me) opens.starts;
     config = ap (λ (h : Held S). h.config) opens.starts;
     begin = ap (λ (h : Held S). h.begin) opens.starts;
     working = ap (λ (h : Held S). h.failed) opens.starts;
     known = ap (λ (rs : List Rec). let part : NodePart = record { records = rs; torn = 0; running = Some fresh_running } in part) (is ∙ sym (ap (λ (h : Held S). h.records) opens.starts))
         ∙ ap (λ (known : Known). let part : NodePart = record { records = held.records; torn = 0; running = Some known } in part) (sym (ap (λ (h : Held S). h.running) opens.starts));
+    only = opens.opened.contents ∙ ap records_text (sym only ∙ is ∙ sym (ap (λ (h : Held S). h.records) opens.starts));
   }
 
   -- over an empty device, a fresh one
   pub runs_fresh : old.contents ≡ [] → RunsAs member held fresh_node
   runs_fresh empty =
       let none = no_records opens.all opens.opened.found.0 (sym empty ∙ opens.opened.found.1.whole) in
-      runs [] (ap (records_in_log member.config.max_positions) (sym none))
+      runs [] (ap (records_in_log member.config.max_positions) (sym none)) (sym none)
 
   -- over a device that rests, the part that starts again, and the numbers are its own
   pub starts_again : (part : NodePart) → RestsAs member.config.max_positions old part
@@ -72,18 +77,23 @@ module _ {S : Type 0} (member : Member S) (old : Disk) (held : Held S) (count cu
   starts_again part rests =
       let same = same_reading old.contents rests.holds.torn opens.opened.found.0 rests.holds.all opens.all rests.holds.found opens.opened.found.1 in
       let records : part.records ≡ records_in_log member.config.max_positions opens.all = rests.holds.records ∙ ap (records_in_log member.config.max_positions) same.0 in
-      let counted : count ≡ length part.records = opens.counted ∙ ap (λ (h : Held S). length h.records) opens.starts ∙ ap length (sym records) in
+      let only : part.records ≡ opens.all = (same_reading old.contents rests.only.torn opens.opened.found.0 part.records opens.all rests.only.found opens.opened.found.1).0 in
+      let counted : count ≡ length part.records = opens.counted ∙ ap length (sym only) in
       let cut : cut_bytes ≡ part.torn = opens.opened.found.2 ∙ ap length (sym same.1) ∙ sym rests.holds.bytes in (
-        subst (λ (o : Option Known). RunsAs member held (restart_while part o).part) (sym rests.stopped) (runs part.records records),
+        subst (λ (o : Option Known). RunsAs member held (restart_while part o).part) (sym rests.stopped) (runs part.records records only),
         subst (λ (o : Option Known). let opened : Option (ℕ × ℕ) = Some (count, cut_bytes) in opened ≡ (restart_while part o).opened) (sym rests.stopped)
             (ap (λ (n : ℕ). let opened : Option (ℕ × ℕ) = Some (n, cut_bytes) in opened) counted ∙ ap (λ (n : ℕ). let opened : Option (ℕ × ℕ) = Some (length part.records, n) in opened) cut),
       )
 
 -- a device that could not be opened
 module _ (most : ℕ) (old new : Disk) (part : NodePart) (rests : RestsAs most old part) where
+  same : part.records ≡ rests.holds.all
+  same = (same_reading old.contents rests.only.torn rests.holds.torn part.records rests.holds.all rests.only.found rests.holds.found).0
+
   left : (kept : ℕ) (torn : List ℕ) → AreRecordsOf new.contents rests.holds.all torn → min kept part.torn ≡ length torn → RestsAs most new (record part { torn = min kept part.torn })
   left kept torn found size = record {
     holds = record { all = rests.holds.all; torn = torn; found = found; records = rests.holds.records; bytes = size };
+    only = record { torn = torn; found = subst (λ (rs : List Rec). AreRecordsOf new.contents rs torn) (sym same) found; bytes = size };
     stopped = rests.stopped;
   }
 
@@ -105,48 +115,31 @@ module _ (most : ℕ) (old new : Disk) (part : NodePart) (rests : RestsAs most o
       (kept.0, left kept.0 (take kept.0 rests.holds.torn) kept.1 e)
   refused _ why = absurd why
 
--- what its device holds
-pub device_of : {S : Type 0} (member : Member S) (held : Held S) (part : NodePart) → RunsAs member held part → IsOnDisk held.config.max_positions held.disk held.failed held.records
-    → HoldsPart member.config.max_positions held.disk part
-device_of {S = S} member held part runs is_on =
-    let contents : held.disk.contents ≡ records_text is_on.all = is_on.contents ∙ ap (λ (l : List ℕ). records_text is_on.all ++ l) (is_on.whole runs.working) ∙ append-nil (records_text is_on.all) in
-    record {
-      all = is_on.all;
-      torn = [];
-      found = subst (λ (l : List ℕ). AreRecordsOf l is_on.all []) (sym contents) (only_records is_on.all is_on.each);
-      records = ap (λ (p : NodePart). p.records) runs.known ∙ is_on.counted ∙ ap (λ (c : Config). records_in_log c.max_positions is_on.all) runs.config;
-      bytes = ap (λ (p : NodePart). p.torn) runs.known;
-    }
+length_while : {S : Type 0} (member : Member S) (held : Held S) (part : NodePart) (failed : Bool) → StandsWhile member held part failed → length held.disk.contents ≡ stored_length part
+length_while member held part true rests = resting_length member.config.max_positions held.disk part rests
+length_while member held part false runs =
+    let records : held.records ≡ part.records = ap (λ (p : NodePart). p.records) (sym runs.known) in
+    let torn : part.torn ≡ 0 = ap (λ (p : NodePart). p.torn) runs.known in
+    omega (arith, ap length runs.only, ap (λ (rs : List Rec). length (records_text rs)) records, torn)
 
-length_while : {S : Type 0} (member : Member S) (held : Held S) (part : NodePart) (len : ℕ) → IsOnDisk held.config.max_positions held.disk held.failed held.records → len ≡ length held.disk.contents
-    → (failed : Bool) → held.failed ≡ failed → StandsWhile member held part failed → IsLengthOf member.config.max_positions part len
-length_while member held part len is_on is true failed rests = (held.disk, rests.holds, is)
-length_while member held part len is_on is false working runs = (held.disk, device_of member held part runs is_on, is)
-
--- and how long that is
-pub length_of : {S : Type 0} (member : Member S) (held : Held S) (part : NodePart) (len : ℕ) → IsOnDisk held.config.max_positions held.disk held.failed held.records → len ≡ length held.disk.contents
-    → StandsWhile member held part held.failed → IsLengthOf member.config.max_positions part len
-length_of member held part len is_on is so = length_while member held part len is_on is held.failed refl so
+-- how many bytes it holds
+pub length_of : {S : Type 0} (member : Member S) (held : Held S) (part : NodePart) → StandsWhile member held part held.failed → length held.disk.contents ≡ stored_length part
+length_of member held part so = length_while member held part held.failed so
 
 -- a replica that is closed
-pub stops_as : {S : Type 0} (member : Member S) (held : Held S) (disk : Disk) (part : NodePart) → RunsAs member held part → IsOnDisk held.config.max_positions held.disk held.failed held.records
-    → disk ≡ held.disk → (stop_effect part ≡ Ok (goes_on_as (stop_part part))) × RestsAs member.config.max_positions disk (stop_part part)
-stops_as {S = S} member held disk part runs stands is =
-    let none = stands.whole runs.working in
-    let contents : disk.contents ≡ records_text stands.all =
-    ap (λ (d : Disk). d.contents) is ∙ stands.contents ∙ ap (λ (l : List ℕ). records_text stands.all ++ l) none ∙ append-nil (records_text stands.all) in (
-      ap (stops_while part) (ap (λ (p : NodePart). p.running) runs.known),
-      record {
-        holds = record {
-          all = stands.all;
-          torn = [];
-          found = subst (λ (l : List ℕ). AreRecordsOf l stands.all []) (sym contents) (only_records stands.all stands.each);
-          records = ap (λ (p : NodePart). p.records) runs.known ∙ stands.counted ∙ ap (λ (c : Config). records_in_log c.max_positions stands.all) runs.config;
-          bytes = ap (λ (p : NodePart). p.torn) runs.known;
-        };
-        stopped = refl;
-      },
-    )
+pub stops_as : {S : Type 0} (member : Member S) (held : Held S) (disk : Disk) (part : NodePart) → RunsAs member held part
+    → (held.failed ≡ false → HoldsPart held.config.max_positions disk (stop_part (part_of held)))
+    → (held.failed ≡ false → HoldsItsRecords held → HoldsOnly disk (stop_part (part_of held)))
+    → (stop_effect part ≡ Ok (goes_on_as (stop_part part))) × RestsAs member.config.max_positions disk (stop_part part)
+stops_as {S = S} member held disk part runs holds only = (
+  ap (stops_while part) (ap (λ (p : NodePart). p.running) runs.known),
+  record {
+    holds = subst (λ (p : NodePart). HoldsPart member.config.max_positions disk (stop_part p)) (sym runs.known)
+        (subst (λ (c : Config). HoldsPart c.max_positions disk (stop_part (part_of held))) runs.config (holds runs.working));
+    only = subst (λ (p : NodePart). HoldsOnly disk (stop_part p)) (sym runs.known) (only runs.working runs.only);
+    stopped = refl;
+  },
+)
 
 -- a replica that runs goes on
 pub goes_on_running : {S : Type 0} (member : Member S) (held : Held S) (part : NodePart) → RunsAs member held part → restart_part part ≡ goes_on_as part

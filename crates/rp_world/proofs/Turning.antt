@@ -9,12 +9,14 @@ use Rattle.rp_base.specs.declared.record.Rec.{Rec}
 use Rattle.rp_base.specs.declared.reply.Answer.{Answer}
 use Rattle.rp_codec.specs.Record.{record_text}
 use Rattle.rp_store.specs.Disk.{Disk}
+use Rattle.rp_store.specs.Records.{records_text}
+use Rattle.rp_store.proofs.Whole.{text-end}
 use Rattle.rp_model.specs.Parts.{NodePart}
-use Rattle.rp_model.specs.Parts.{Turn}
+use Rattle.rp_model.specs.Parts.{Turn, with_record}
 use Rattle.rp_model.specs.Effect.{Setting, Done, NodeInput, running_effect, turned, turned_if, node_effect, cut_part, stop_part}
 use Rattle.rp_replica.specs.declared.sent.Sent.{Sent}
-use Rattle.rp_replica.specs.Held.{Held, part_of, setting_of}
-use Rattle.rp_replica.specs.Kept.{HoldsPart}
+use Rattle.rp_replica.specs.Held.{Held, part_of, setting_of, with_text}
+use Rattle.rp_replica.specs.Kept.{HoldsPart, HoldsOnly, HoldsItsRecords, HoldsCut}
 use Rattle.rp_replica.specs.declared.input.Input.{Input}
 use Rattle.rp_replica.specs.Inputs.{given_by, effect_if_given, input_effect}
 use Rattle.rp_replica.specs.Turning.{Turns, TurnsIf, FailsAt, Stops, StopsIf, IsRefused, effect_of}
@@ -38,6 +40,11 @@ cut_stopped kept part (Some rec) =
       | false ↦ refl
     ]
 
+-- the texts of the records with one more behind them
+holds_more : (disk : Disk) (records : List Rec) (written : Option Rec) → disk.contents ≡ records_text records → (with_text disk written).contents ≡ records_text (with_record records written)
+holds_more disk records None only = only
+holds_more disk records (Some rec) only = ap (λ (l : List ℕ). l ++ record_text rec) only ∙ sym (text-end records rec)
+
 module _ {S : Type 0} (next : S → Action → S) (answers : S → Action → List Answer) (member : Member S) (old : Held S) (part : NodePart) (runs : RunsAs member old part) where
   -- an input comes to the same for the part and for the replica
   pub same_effect : (input : NodeInput) → node_effect (setting_at next answers member) member.me part input ≡ turned_if part (effect_of next answers old input)
@@ -58,6 +65,7 @@ module _ {S : Type 0} (next : S → Action → S) (answers : S → Action → Li
       begin = ap (λ (h : Held S). h.begin) turns.goes ∙ runs.begin;
       working = ap (λ (h : Held S). h.failed) turns.goes ∙ runs.working;
       known = ap (λ (p : NodePart). (turned p turn).part) runs.known ∙ sym (ap part_of turns.goes);
+      only = subst HoldsItsRecords (sym turns.goes) (holds_more old.disk old.records turn.written runs.only);
     },
     record { bytes = turns.bytes; packets = turns.packets; dropped = turns.dropped; nothing = (refl, refl) },
   )
@@ -67,11 +75,12 @@ module _ {S : Type 0} (next : S → Action → S) (answers : S → Action → Li
   stays new same = subst (λ (h : Held S). RunsAs member h part) (sym same) runs
 
   -- what its device holds where the node stopped within a turn
-  pub is_cut : (kept : ℕ) (written : Option Rec) (disk : Disk) → HoldsPart old.config.max_positions disk (cut_part kept (part_of old) written)
+  pub is_cut : (kept : ℕ) (written : Option Rec) (disk : Disk) → HoldsCut kept old disk written
       → RestsAs member.config.max_positions disk (cut_part kept part written)
   is_cut kept written disk holds = record {
     holds = subst (λ (p : NodePart). HoldsPart member.config.max_positions disk (cut_part kept p written)) (sym runs.known)
-        (subst (λ (c : Config). HoldsPart c.max_positions disk (cut_part kept (part_of old) written)) runs.config holds);
+        (subst (λ (c : Config). HoldsPart c.max_positions disk (cut_part kept (part_of old) written)) runs.config holds.left);
+    only = subst (λ (p : NodePart). HoldsOnly disk (cut_part kept p written)) (sym runs.known) (holds.only runs.only);
     stopped = cut_stopped kept part written;
   }
 
@@ -112,7 +121,7 @@ module _ {S : Type 0} (D P : Type 0) (next : S → Action → S) (answers : S �
     coming turn came = same_effect next answers member old part runs input ∙ ap (turned_if part) came
 
     -- what some cut of the turn leaves on the device
-    pub rests_cut : (turn : Turn) (kept : ℕ) (d : Disk) → HoldsPart old.config.max_positions d (cut_part kept (part_of old) turn.written)
+    pub rests_cut : (turn : Turn) (kept : ℕ) (d : Disk) → HoldsCut kept old d turn.written
         → RestsAs member.config.max_positions d (cut_part kept part (turned part turn).written)
     rests_cut turn kept d holds = is_cut next answers member old part runs kept turn.written d holds
 

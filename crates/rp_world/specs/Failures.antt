@@ -3,6 +3,11 @@ use Rattle.std.specs.Prelude.{◌≡◌, ℕ, ◌<◌, Option, Some, None, Resul
 use Rattle.rp_base.specs.declared.fault.Fault.{Fault}
 use Rattle.rp_base.specs.declared.fault.Fault.TheVariants.{Device}
 use Rattle.rp_model.specs.World.{part_at, with_part}
+use Rattle.rp_store.specs.Disk.{Disk}
+
+-- some device of this kind has counted a failure
+abbrev pub SomeHasFailed : {D : Type 0} → (D → Disk) → Type 0
+SomeHasFailed {D = D} disk = (device : D) × (0 < (disk device).failures)
 
 -- the count of this node's device is higher than before, and no other has changed
 pub record RisesAt (me : ℕ) (old new : List ℕ) : Type 0 where

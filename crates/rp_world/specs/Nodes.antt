@@ -1,6 +1,6 @@
 -- A node of a cluster: a replica that runs, or a device that rests. A replica whose device failed rests too
 -- (this project's own).
-use Rattle.std.specs.Prelude.{◌≡◌, ◌⊎◌, ℕ, ◌<◌, min, Bool, true, false, Option, None, IsSome, Result, Ok, Err, List, length}
+use Rattle.std.specs.Prelude.{◌≡◌, ◌⊎◌, ℕ, ◌+◌, ◌<◌, min, Bool, true, false, Option, None, IsSome, Result, Ok, Err, List, length}
 use Rattle.rp_base.specs.declared.action.Action.{Action}
 use Rattle.rp_base.specs.declared.reply.Answer.{Answer}
 use Rattle.rp_base.specs.declared.fault.Fault.TheVariants.{OutOfMemory, Device}
@@ -9,10 +9,11 @@ use Rattle.rp_replica.specs.Packets.{texts_of}
 use Rattle.rp_base.specs.declared.config.Config.{Config}
 use Rattle.rp_base.specs.declared.fault.Fault.{Fault}
 use Rattle.rp_store.specs.Disk.{Disk}
+use Rattle.rp_store.specs.Records.{records_text}
 use Rattle.rp_model.specs.Parts.{NodePart}
 use Rattle.rp_model.specs.Effect.{Setting, Done, NodeInput, node_effect, cut_part}
 use Rattle.rp_replica.specs.Held.{Held, part_of}
-use Rattle.rp_replica.specs.Kept.{HoldsPart}
+use Rattle.rp_replica.specs.Kept.{HoldsPart, HoldsOnly, HoldsItsRecords}
 use Rattle.rp_world.specs.declared.node.Node.{Node}
 use Rattle.rp_world.specs.declared.node.Node.TheVariants.{Running, Stopped}
 
@@ -26,17 +27,19 @@ pub record Member (S : Type 0) : Type 0 where
 abbrev pub member_of : {S : Type 0} → ℕ → Config → S → Member S
 member_of me config begin = record { me = me; config = config; begin = begin }
 
--- a replica that runs is the part of the member
+-- a replica that runs is the part of the member, and its device holds nothing but its records
 pub record RunsAs {S : Type 0} (member : Member S) (held : Held S) (part : NodePart) : Type 0 where
   pub node : held.me ≡ member.me
   pub config : held.config ≡ member.config
   pub begin : held.begin ≡ member.begin
   pub working : held.failed ≡ false
   pub known : part ≡ part_of held
+  pub only : HoldsItsRecords held
 
--- a device that rests is the part of a node that is stopped
+-- a device that rests is the part of a node that is stopped, and holds no other records
 pub record RestsAs (most : ℕ) (disk : Disk) (part : NodePart) : Type 0 where
   pub holds : HoldsPart most disk part
+  pub only : HoldsOnly disk part
   pub stopped : part.running ≡ None
 
 -- what all nodes of its cluster share
@@ -96,9 +99,9 @@ module _ {S D P : Type 0} (disk : D → Disk) (member : Member S) (old new : Nod
       ⊎ (((fault ≡ OutOfMemory) × IsComing (effect part) × StandsFor disk member new part)
       ⊎ ((fault ≡ Device) × (kept : ℕ) × (done : Done NodePart) × (effect part ≡ Ok done) × StandsFor disk member new (cut_part kept part done.written) × IsSome done.written))
 
--- so many bytes are what some device holds that keeps the part
-abbrev pub IsLengthOf : ℕ → NodePart → ℕ → Type 0
-IsLengthOf most part len = (disk : Disk) × HoldsPart most disk part × (len ≡ length disk.contents)
+-- how many bytes a device holds that keeps the part: the texts of its records, and the torn bytes
+abbrev pub stored_length : NodePart → ℕ
+stored_length part = length (records_text part.records) + part.torn
 
 -- how often the device of a node has failed
 abbrev pub failures_in : {S D P : Type 0} → (D → Disk) → Node S D P → ℕ

@@ -1,6 +1,6 @@
 -- A cluster as one value, and what a step of it answers.
 use Rattle.std.specs.Borrow.{Bor}
-use Rattle.std.specs.Prelude.{◌≡◌, ◌⊎◌, Result, Err, ℕ, Option, Some, None, List, IsOkAnd, IsSome}
+use Rattle.std.specs.Prelude.{◌≡◌, ◌⊎◌, Result, Ok, Err, ℕ, Option, Some, None, List, IsOkAnd, IsSome}
 use Rattle.rp_base.specs.declared.action.Action.{Action}
 use Rattle.rp_base.specs.declared.config.Config.{Config}
 use Rattle.rp_base.specs.declared.fault.Fault.{Fault}
@@ -17,7 +17,7 @@ use Rattle.rp_model.specs.World.{World, node_of}
 use Rattle.rp_model.specs.Answers.{Steps}
 use Rattle.rp_replica.specs.Held.{Held}
 use Rattle.rp_world.specs.Failures.{AreCounted}
-use Rattle.rp_world.specs.Nodes.{IsLengthOf}
+use Rattle.rp_world.specs.Nodes.{stored_length}
 
 -- a cluster: its configuration, the program that its nodes run, its world, and how often the device of each
 -- node has failed, in order of nodes
@@ -65,9 +65,9 @@ abbrev pub IsToldUnlessMemory : {A : Type 0} → Result A Fault → (A → List 
 IsToldUnlessMemory answer tells part = ((answer ≡ Err OutOfMemory) × Runs part) ⊎ IsToldOf answer tells part
 
 -- how many bytes a node's device holds: BadConfig where there is no such node
-abbrev pub IsStored : ℕ → Result ℕ Fault → Option NodePart → Type 0
-IsStored most answer None = answer ≡ Err BadConfig
-IsStored most answer (Some part) = IsOkAnd answer (λ len. IsLengthOf most part len)
+abbrev pub IsStored : Result ℕ Fault → Option NodePart → Type 0
+IsStored answer None = answer ≡ Err BadConfig
+IsStored answer (Some part) = answer ≡ Ok (stored_length part)
 
 -- the replica of a node that runs: refused by NotRunning at a stopped one, and by BadConfig where there is none
 abbrev pub IsReplicaOf : {S : Type 0} → Config → S → Result (Bor (Held S)) Fault → Option NodePart → Type 0

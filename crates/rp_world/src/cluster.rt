@@ -18,6 +18,7 @@ ghost use Rattle.rp_agreement.specs.Order.{AllSent, Begins};
 ghost use Rattle.rp_agreement.specs.Told.{Says};
 ghost use Rattle.rp_agreement.specs.Worlds.{node_in};
 ghost use Rattle.rp_world.specs.Agreeing.{Agree, HasWritten, IsOrdered};
+ghost use Rattle.rp_world.specs.Failures.{SomeHasFailed};
 ghost use Rattle.rp_world.specs.Runs.{IsRun};
 ghost use Rattle.rp_world.specs.Shape.{IsCluster};
 ghost use Rattle.rp_world.specs.Steps.{IsStep, IsStored, IsToldOf, IsToldUnlessMemory, setting_of};
@@ -85,6 +86,7 @@ impl<M: Machine, D: CutDevice> Cluster<M, D> {
             × All (λ device. (D.disk device).contents ≡ []) devices.items)) }
         ensures only { IfErr result (λ fault. (fault ≡ Fault.BadConfig) ⊎ ((fault
             ≡ Fault.OutOfMemory) ⊎ (fault ≡ Fault.Device))) }
+        ensures cause { IsErrOf result Fault.Device → SomeHasFailed D.disk }
     {
         if !config.is_right()
             || devices.len() != usize::from(config.nodes)
@@ -258,8 +260,7 @@ impl<M: Machine, D: CutDevice> Cluster<M, D> {
 
     /// How many bytes a node's device holds. `BadConfig` above the last node.
     pub fn stored(&self, node: NodeId) -> Result<u64, Fault>
-        ensures { IsStored self.now.config.max_positions result
-            (part_at self.now.world.nodes node) }
+        ensures { IsStored result (part_at self.now.world.nodes node) }
     {
         self.world.stored(node)
     }

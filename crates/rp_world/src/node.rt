@@ -1,13 +1,14 @@
 //! A node: a replica that runs, or a device that rests.
 
-ghost use Rattle.std.specs.Prelude.{◌≡◌, ◌≢◌, ◌⊎◌, ◌≤◌, ℕ, [], false, min, Ok, Some, None, IfOk, IfErr, IfSome, IfNone, IsSome, IsTrue};
+ghost use Rattle.std.specs.Prelude.{◌≡◌, ◌≢◌, ◌⊎◌, ◌≤◌, ℕ, [], false, min, Ok, Some, None, IfOk, IfErr, IfSome, IfNone, IsErrOf, IsSome, IsTrue};
 ghost use Rattle.rp_base.specs.Config.{IsRightConfig};
 ghost use Rattle.rp_replica.specs.Inputs.{IsRightInput, given_by};
 ghost use Rattle.rp_base.specs.declared.fault.Fault.TheVariants as faults;
 ghost use Rattle.rp_model.specs.Effect.{NodeInput, stop_effect, restart_part};
 ghost use Rattle.rp_model.specs.Parts.{fresh_node};
 ghost use Rattle.rp_model.specs.Parts.{NodePart};
-ghost use Rattle.rp_world.specs.Nodes.{Member, member_of, RunsAs, RestsAs, StandsFor, GoesBy, IsCutBy, IsCounted, IsResting, RefusedBy, IsLeftTorn, IsLengthOf, NotTaken, TellsNothing, TellsOpened, TellsSent, failures_in, node_step};
+ghost use Rattle.rp_world.specs.Failures.{SomeHasFailed};
+ghost use Rattle.rp_world.specs.Nodes.{Member, member_of, RunsAs, RestsAs, StandsFor, GoesBy, IsCutBy, IsCounted, IsResting, RefusedBy, IsLeftTorn, NotTaken, TellsNothing, TellsOpened, TellsSent, failures_in, node_step, stored_length};
 
 use rp_base::{Config, Fault, NodeId};
 use rp_machine::Machine;
@@ -40,6 +41,7 @@ impl<M: Machine, D: CutDevice> Node<M, D> {
             ≡ (D.disk device).failures) }
         ensures only { IfErr result (λ fault. (fault ≡ faults.OutOfMemory) ⊎ (fault
             ≡ faults.Device)) }
+        ensures cause { IsErrOf result faults.Device → SomeHasFailed D.disk }
     {
         match Replica::open(alloc, me, config, program, device) {
             Ok(opening) => Ok(Node::Running(opening.replica)),
@@ -82,13 +84,10 @@ impl<M: Machine, D: CutDevice> Node<M, D> {
     /// How many bytes the node's device holds.
     pub(crate) fn stored(&self) -> u64
         ensures { (member : Member M) (part : NodePart) → StandsFor D.disk member self.now part
-            → IsLengthOf member.config.max_positions part result }
+            → result ≡ stored_length part }
     {
         match self {
-            Node::Running(replica) => {
-                replica.keeps_records();
-                replica.stored()
-            }
+            Node::Running(replica) => replica.stored(),
             Node::Stopped(device) => device.len(),
         }
     }
@@ -106,7 +105,6 @@ impl<M: Machine, D: CutDevice> Node<M, D> {
                 if replica.has_failed() {
                     return (Node::Running(replica), Err(Fault::NotRunning));
                 }
-                replica.keeps_records();
                 (Node::Stopped(replica.close()), Ok(()))
             }
             Node::Stopped(device) => (Node::Stopped(device), Err(Fault::NotRunning)),

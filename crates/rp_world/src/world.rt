@@ -1,10 +1,11 @@
 //! A world as it lies in memory: the nodes, the tasks, and the messages.
 
-ghost use Rattle.std.specs.Prelude.{◌≡◌, ℕ, slice_get, ◌<◌, ◌≤◌, ◌⊎◌, ◌-◌, ◌^◌, min, length, map, All, [], IfOk, IfErr, IfSome, insert, option_copied, option_map, vec_len, vec_capacity};
+ghost use Rattle.std.specs.Prelude.{◌≡◌, ℕ, slice_get, ◌<◌, ◌≤◌, ◌⊎◌, ◌-◌, ◌^◌, min, length, map, All, [], IfOk, IfErr, IfSome, IsErrOf, insert, option_copied, option_map, vec_len, vec_capacity};
 ghost use Rattle.rp_base.specs.Config.{IsRightConfig};
 ghost use Rattle.rp_base.specs.declared.fault.Fault.TheVariants as faults;
 ghost use Rattle.rp_codec.specs.Text.{text_of};
 ghost use Rattle.rp_model.specs.World.{opening_world, part_at};
+ghost use Rattle.rp_world.specs.Failures.{SomeHasFailed};
 ghost use Rattle.rp_world.specs.Nodes.{failures_in};
 ghost use Rattle.rp_world.specs.Shape.{AreFresh, AreFreshTasks};
 ghost use Rattle.rp_world.specs.Steps.{IsStored, IsToldOf, IsToldUnlessMemory, IsReplicaOf};
@@ -64,6 +65,7 @@ fn opened<M: Machine, D: CutDevice>(
         ≡ map (λ device. (D.disk device).failures) devices.items) }
     ensures only { IfErr result (λ fault. (fault ≡ faults.OutOfMemory) ⊎ (fault
         ≡ faults.Device)) }
+    ensures cause { IsErrOf result faults.Device → SomeHasFailed D.disk }
 {
     let mut nodes = Vec::new(alloc);
     for device in devices {
@@ -117,6 +119,7 @@ impl<M: Machine, D: CutDevice> World<M, D> {
         }) }
         ensures only { IfErr result (λ fault. (fault ≡ faults.OutOfMemory) ⊎ (fault
             ≡ faults.Device)) }
+        ensures cause { IsErrOf result faults.Device → SomeHasFailed D.disk }
     {
         let nodes = opened(alloc, config, &program, devices)?;
         let tasks = fresh_tasks(alloc)?;
@@ -185,8 +188,7 @@ impl<M: Machine, D: CutDevice> World<M, D> {
 
     /// How many bytes a node's device holds. `BadConfig` above the last node.
     pub(crate) fn stored(&self, node: NodeId) -> Result<u64, Fault>
-        ensures { IsStored self.now.config.max_positions result
-            (part_at self.now.world.nodes node) }
+        ensures { IsStored result (part_at self.now.world.nodes node) }
     {
         match self.nodes.get(usize::from(node.get()) - 1) {
             Some(node) => Ok(node.stored()),

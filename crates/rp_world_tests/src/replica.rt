@@ -274,7 +274,7 @@ fn a_replica_opens_over_what_its_device_holds(rt: HostRuntime) -> Result<(), Fai
         (
             "above the log",
             b"\x01\x04\0\x02\x00\x01\x04\0\x01\x00",
-            1,
+            2,
             0,
         ),
         ("two votes in a ballot", &VOTES, 2, 0),

@@ -1,11 +1,12 @@
 -- One line more, or the end.
 use Rattle.std.proofs.Common.{◌≡◌, ◌+◌, ◌<◌, ◌≤◌, List, [], ◌∷◌, length, drop, arith, sym, ap, ◌∙◌}
 use Rattle.std.proofs.lemmas.List.{drop_more, drop_all}
+use Rattle.rp_console.specs.Faults.{IsRunFault}
 use Rattle.rp_console.specs.Output.{Play, opening_play, command_said, script_said}
 use Rattle.rp_console.specs.Runs.{opening_setup, run_setting}
 use Rattle.rp_deck.specs.declared.deck.Line.{Line}
 use Rattle.rp_console.proofs.Saying.{sets_out, goes_on, fails, ends, script_ends, script_more}
-use Rattle.rp_console.proofs.Stepping.{same_setting, same_trans, opening_parts}
+use Rattle.rp_console.proofs.Stepping.{faulted, same_setting, same_trans, opening_parts, never_rises}
 use Rattle.rp_console.proofs.Writing.{writes_nothing, writes_failed}
 use Rattle.rp_console.proofs.run.run_lines.Goals as goal
 
@@ -26,8 +27,8 @@ loop-line-init g c =
           (record { world_is = ap (λ k. k.world) opened; settled_are = c.new-2.ensures });
     }
 
-pub returns-in_err-take-clause-output : goal.returns-in_err-take-clause-output
-returns-in_err-take-clause-output g c =
+pub returns-in_err-taken-clause-output : goal.returns-in_err-taken-clause-output
+returns-in_err-taken-clause-output g c =
     let m = g.M.Machine in
     let options = c.args.options.now in
     let opening = opening_setup options.config c.args.program in
@@ -42,14 +43,19 @@ returns-in_err-take-clause-output g c =
     let so_far = c.loop-line.invariant.so_far in
     let now = so_far.said.play in
     let same = same_setting m.next m.answers m.begin m.image options opening run.cluster c.loop-line.invariant.setup in
-    let said = c.in_err-take.ensures.said now so_far.follows in
-    writes_failed _ _ _ c.from_residual-in_err-take.result c.from_residual-in_err-take.ensures.0
-    (fails run.cluster.world c.take.new.self.cluster.world run.settled c.take.new.self.settled
-    (g.W.Write.contents c.args.writer.now) (g.W.Write.contents c.loop-line.writer) (g.W.Write.contents c.take.new.writer)
+    let said = c.in_err-taken.ensures.said now so_far.follows in
+    writes_failed _ _ _ c.from_residual-in_err-taken.result c.from_residual-in_err-taken.ensures.0
+    (fails run.cluster.world c.take-taken.new.self.cluster.world run.settled c.take-taken.new.self.settled
+    (g.W.Write.contents c.args.writer.now) (g.W.Write.contents c.loop-line.writer) (g.W.Write.contents c.take-taken.new.writer)
     (script_said s most (opening_play s) lines) (λ (p : Play). script_said s most p (drop i lines)) so_far
     (command_said s most line.number now line.command) (λ (p : Play). script_said s most p (drop (i + 1) lines))
     (ap (λ (rest : List Line). script_said s most now rest) here ∙ script_more s most now line (drop (i + 1) lines))
     (rw same at said))
+
+pub returns-in_err-taken-clause-fault : goal.returns-in_err-taken-clause-fault
+returns-in_err-taken-clause-fault g c =
+    faulted IsRunFault _ c.from_residual-in_err-taken.result c.from_residual-in_err-taken.ensures.1
+    (never_rises c.loop-line.run.cluster.failures c.take-taken.new.self.cluster.failures _ c.never_failed.ensures c.in_err-taken.ensures.fault)
 
 pub loop-line-preserved : goal.loop-line-preserved
 loop-line-preserved g c =
@@ -67,13 +73,13 @@ loop-line-preserved g c =
     let so_far = c.loop-line.invariant.so_far in
     let now = so_far.said.play in
     let same = same_setting m.next m.answers m.begin m.image options opening run.cluster c.loop-line.invariant.setup in
-    let said = c.in_ok-take.ensures.said now so_far.follows in
+    let said = c.in_ok-taken.ensures.said now so_far.follows in
     let came = rw same at said in
     record {
-      parts = c.in_ok-take.ensures.parts;
-      setup = same_trans opening run.cluster c.take.new.self.cluster c.loop-line.invariant.setup c.take.ensures.setup;
-      so_far = goes_on run.cluster.world c.take.new.self.cluster.world run.settled c.take.new.self.settled
-          (g.W.Write.contents c.args.writer.now) (g.W.Write.contents c.loop-line.writer) (g.W.Write.contents c.take.new.writer)
+      parts = c.in_ok-taken.ensures.parts;
+      setup = same_trans opening run.cluster c.take-taken.new.self.cluster c.loop-line.invariant.setup c.take-taken.ensures.setup;
+      so_far = goes_on run.cluster.world c.take-taken.new.self.cluster.world run.settled c.take-taken.new.self.settled
+          (g.W.Write.contents c.args.writer.now) (g.W.Write.contents c.loop-line.writer) (g.W.Write.contents c.take-taken.new.writer)
           (script_said s most (opening_play s) lines) (λ (p : Play). script_said s most p (drop i lines)) so_far
           (command_said s most line.number now line.command) (λ (p : Play). script_said s most p (drop (i + 1) lines))
           (ap (λ (rest : List Line). script_said s most now rest) here ∙ script_more s most now line (drop (i + 1) lines))

@@ -1,8 +1,18 @@
--- The node goes on running.
-use Rattle.rp_live.proofs.Running.{note_runs}
+-- The node goes on running; it refuses the note only where memory ran out.
+use Rattle.rp_live.proofs.Running.{note_memory, note_runs, note_turn}
 use Rattle.rp_live.proofs.notes.note_one.Goals as goal
 
-pub returns-clause-runs : goal.returns-clause-runs
-returns-clause-runs g c =
+pub returns-in-Ok-clause-ok : goal.returns-in-Ok-clause-ok
+returns-in-Ok-clause-ok g c =
     let m = g.M.Machine in
-    note_runs m.next m.answers m.begin c.args.seat.now c.node_step.new.seat c.args.input.now c.in_ok-node_step.field-0 c.in_ok-node_step.ensures.ok
+    note_turn m.next m.answers m.begin c.args.seat.now c.node_step.new.seat c.args.input.now _ c.in-Ok.ensures.ok
+
+pub returns-in-Ok-clause-runs : goal.returns-in-Ok-clause-runs
+returns-in-Ok-clause-runs g c =
+    let m = g.M.Machine in
+    note_runs m.next m.answers m.begin c.args.seat.now c.node_step.new.seat c.args.input.now _ c.in-Ok.ensures.ok
+
+pub returns-in-Err-clause-only : goal.returns-in-Err-clause-only
+returns-in-Err-clause-only g c =
+    let m = g.M.Machine in
+    note_memory m.next m.answers m.begin c.args.seat.now c.node_step.new.seat c.args.input.now c.in-Err.fault c.requires.note c.requires.runs c.never_failed.ensures c.in-Err.ensures.err

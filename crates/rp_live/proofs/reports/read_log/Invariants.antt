@@ -1,11 +1,19 @@
--- The node has applied what it has applied, and the audit knows more each time.
-use Rattle.std.proofs.Common.{◌-◌}
+-- The node has only reported, and this is what the audit knows of it.
+use Rattle.std.proofs.Common.{◌≡◌, ◌-◌, length}
+use Rattle.rp_boxes.specs.Audits.{known_of}
 use Rattle.rp_boxes.specs.Seats.{HasApplied}
 use Rattle.rp_threads.specs.Loops.{IsSameSeat}
+use Rattle.rp_live.specs.Seats.{HasOnlyReported, KnowsMore}
 use Rattle.rp_live.proofs.reports.read_log.Given as goal
 
 abbrev pub invariant-loop-known : goal.invariant-loop-known
-invariant-loop-known g l = record { same : IsSameSeat l.fn.audit.seat l.audit.seat; applied : HasApplied l.seat.part l.applied }
+invariant-loop-known g l = record {
+  same : IsSameSeat l.fn.audit.seat l.audit.seat;
+  reported : HasOnlyReported l.fn.seat l.seat;
+  more : KnowsMore l.fn.audit.known l.audit.known;
+  applied : HasApplied l.seat.part l.applied;
+  known : l.known ≡ length (known_of l.audit.known l.seat.number);
+}
 
 abbrev pub decreases-loop-known : goal.decreases-loop-known
 decreases-loop-known g l = l.applied - l.known

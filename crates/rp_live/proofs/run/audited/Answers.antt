@@ -1,23 +1,49 @@
--- What the audit knows, and what the tasks were told.
-use Rattle.std.proofs.Common.{◌≡◌, ◌↔◌, ℕ, true, List, length, ap, subst, ◌∙◌}
+-- What was told of nodes and tasks, and the look at the table.
+use Rattle.std.proofs.Common.{◌≡◌, ◌↔◌, ℕ, true, All, List, length, ap, arith, sym, subst, ◌∙◌}
 use Rattle.rp_boxes.specs.Audits.{Audited}
-use Rattle.rp_boxes.specs.Meeting.{AreOfOneOrder}
-use Rattle.rp_live.specs.Lived.{AreReplies, KnowsAll}
+use Rattle.rp_boxes.specs.Seats.{Chair, HasApplied}
+use Rattle.rp_boxes.specs.Together.{AreTogether}
+use Rattle.rp_threads.specs.Loops.{IsSameSeat}
+use Rattle.rp_live.specs.Lived.{KnowsAll}
+use Rattle.rp_live.specs.Seats.{HasOnlyReported}
+use Rattle.rp_live.proofs.Seating.{zip_length}
+use Rattle.rp_live.proofs.Zips.{all_unmapped, zip_all}
 use Rattle.rp_live.proofs.run.audited.Goals as goal
 
-pub returns-clause-lived : goal.returns-clause-lived
-returns-clause-lived g c =
+pub knows_all-agree-requires : goal.knows_all-agree-requires
+knows_all-agree-requires g c =
+    let told = c.in_ok-nodes.ensures in
+    let counts = zip_length (λ seat count. HasApplied seat.part count) c.in_ok-nodes.nodes.items c.in_ok-nodes.applied.items told.applied in
+    let seats = zip_length (λ end seat. HasOnlyReported end.seat seat) c.args.nodes.items c.in_ok-nodes.nodes.items told.reported in
+    let slice = ap length c.as_slice-3.ensures.value in
+    let few = c.requires.few in
+    omega (arith, counts, seats, slice, few)
+
+pub look_together-requires-clause-nodes : goal.look_together-requires-clause-nodes
+look_together-requires-clause-nodes g c =
+    let table = c.in_ok-nodes.ensures.same.table ∙ ap (λ (a : Audited g.row.M-Program.Denot). a.seat.table) c.new-audit.ensures in
+    zip_all (λ end. end.seat.table ≡ c.args.seat.table) (λ end seat. HasOnlyReported end.seat seat) (λ seat. seat.table ≡ c.read_logs.new.audit.seat.table)
+    (λ end seat here reported. reported.same.table ∙ here ∙ sym table) c.args.nodes.items c.in_ok-nodes.nodes.items c.requires.nodes c.in_ok-nodes.ensures.reported
+
+pub look_together-requires-clause-tasks : goal.look_together-requires-clause-tasks
+look_together-requires-clause-tasks g c =
+    let table = c.in_ok-nodes.ensures.same.table ∙ ap (λ (a : Audited g.row.M-Program.Denot). a.seat.table) c.new-audit.ensures in
+    subst (All (λ (s : Chair g.row.M-Program.Denot). s.table ≡ c.read_logs.new.audit.seat.table)) (sym c.in_ok-tasks.ensures.seats)
+    (all_unmapped (λ (s : Chair g.row.M-Program.Denot). s.table ≡ c.read_logs.new.audit.seat.table) (λ end. end.seat) c.args.tasks.items (λ k d within. c.requires.tasks k d within ∙ sym table))
+
+pub returns-clause-told : goal.returns-clause-told
+returns-clause-told g c =
     let m = g.M.Machine in
     let audit = c.read_logs.new.audit in
-    let replies = c.in_ok-audit.replies.items in
-    let all : c.look.new.self ≡ audit = c.look.ensures.unchanged ∙ c.in_ok-audit.ensures.same in
-    let program : audit.seat.program ≡ c.args.seat.program = c.in_ok-applied.ensures.same.program ∙ ap (λ (a : Audited g.row.M-Program.Denot). a.seat.program) c.new-audit.ensures in
-    let known = subst (λ (p : g.row.M-Program.Denot). AreReplies m.next m.answers (m.begin p) audit.known (length c.args.tasks.items) replies) program c.in_ok-audit.ensures.replies in
+    let told = c.in_ok-nodes.ensures in
     record {
-      known = audit.known;
-      one = subst (λ (a : Audited g.row.M-Program.Denot). AreOfOneOrder a.known) all c.look.ensures.one;
-      replies = subst (λ (k : ℕ). AreReplies m.next m.answers (m.begin c.args.seat.program) audit.known k replies) c.requires.eight known;
-      applied = c.in_ok-applied.ensures.size;
-      agree = subst (λ (l : List ℕ). (c.knows_all-agree.result ≡ true) ↔ KnowsAll audit.known l) c.as_slice.ensures.value
-          (subst (λ (a : Audited g.row.M-Program.Denot). (c.knows_all-agree.result ≡ true) ↔ KnowsAll a.known c.as_slice.result.now) all c.knows_all-agree.ensures);
+      last = c.in_ok-nodes.nodes.items;
+      reported = told.reported;
+      applied = told.applied;
+      asked = told.asked;
+      known = audit;
+      same = subst (λ (s : Chair g.row.M-Program.Denot). IsSameSeat s audit.seat) (ap (λ (a : Audited g.row.M-Program.Denot). a.seat) c.new-audit.ensures) told.same;
+      together = subst (AreTogether m.next m.answers m.begin audit c.in_ok-nodes.nodes.items) c.in_ok-tasks.ensures.seats c.look_together.ensures;
+      replies = c.in_ok-tasks.ensures.replies;
+      agree = subst (λ (l : List ℕ). (c.knows_all-agree.result ≡ true) ↔ KnowsAll audit.known l) c.as_slice-3.ensures.value c.knows_all-agree.ensures;
     }

@@ -1,14 +1,14 @@
--- All seats are of the one table, and those of the tasks come back.
-use Rattle.std.proofs.Common.{◌≡◌, ℕ, [], All, length, map, arith, sym, ap, subst, ◌∙◌}
+-- All seats are of the one table, and what the run left is told.
+use Rattle.std.proofs.Common.{◌≡◌, ℕ, All, length, arith, sym, ap, subst}
 use Rattle.std.proofs.lemmas.Result.{IfOk-weaker}
 use Rattle.rp_model.specs.Parts.{fresh_task}
 use Rattle.rp_boxes.specs.Parts.{OfTask, fresh_part}
 use Rattle.rp_boxes.specs.Seats.{Chair}
-use Rattle.rp_threads.specs.Threads.{IsLooped, IsTaskLooped}
+use Rattle.rp_threads.specs.Threads.{IsLooped}
 use Rattle.rp_live.specs.Events.{IsLive}
-use Rattle.rp_live.specs.Lived.{IsLived}
-use Rattle.rp_live.specs.Seats.{AreSeatsOf}
-use Rattle.rp_live.proofs.Seating.{all_mapped, all_places, first_seats, mapped_length, nodes_run, seats_still, some_then, tasks_fresh, zip_length, zip_seats}
+use Rattle.rp_live.specs.Pace.{paced}
+use Rattle.rp_live.proofs.Living.{lived, node_loops_by, nodes_ended, nodes_still, nodes_here, task_loops_by, tasks_here}
+use Rattle.rp_live.proofs.Seating.{all_mapped, mapped_length, nodes_run, tasks_fresh, zip_length}
 use Rattle.rp_live.proofs.run.live.Goals as goal
 
 pub note_all-requires-clause-live : goal.note_all-requires-clause-live
@@ -17,7 +17,7 @@ note_all-requires-clause-live g c = subst (λ (n : ℕ). All (IsLive n) c.args.e
 pub note_all-requires-clause-run : goal.note_all-requires-clause-run
 note_all-requires-clause-run g c =
     let seats = c.in_ok-nodes.ensures.seats in
-    nodes_run c.in_ok-nodes.field-0.audit.table c.args.config c.args.program.now seats.0 c.in_ok-nodes.field-0.nodes.items (let size = seats.1.size in omega (arith, size, c.requires.config.nodes.1)) seats.1.nodes_are
+    nodes_run c.in_ok-nodes.field-0.audit.table c.args.config c.args.program.now seats.0 c.in_ok-nodes.field-0.nodes.items (omega (arith, seats.1.size, c.requires.config.nodes.1)) seats.1.nodes_are
 
 pub run_threads-requires-clause-count : goal.run_threads-requires-clause-count
 run_threads-requires-clause-count g c κs within =
@@ -29,8 +29,7 @@ pub run_threads-requires-clause-node_lines : goal.run_threads-requires-clause-no
 run_threads-requires-clause-node_lines g c κs within k d less = ap (λ l. l.held) (c.in_ok-nodes-2.ensures.lines k d less)
 
 pub run_threads-requires-clause-task_lines : goal.run_threads-requires-clause-task_lines
-run_threads-requires-clause-task_lines g c κs within =
-    all_places (λ s. s.line.held ≡ []) c.in_ok-tasks.tasks.items (λ place. some_then _ (λ s. s.line.held ≡ []) (λ s is. ap (λ l. l.held) is) _ (c.in_ok-tasks.ensures.lines place))
+run_threads-requires-clause-task_lines g c κs within k d less = ap (λ l. l.held) (c.in_ok-tasks.ensures.lines k d less)
 
 pub run_threads-requires-clause-fresh : goal.run_threads-requires-clause-fresh
 run_threads-requires-clause-fresh g c κs within =
@@ -38,37 +37,110 @@ run_threads-requires-clause-fresh g c κs within =
     all_mapped (λ (s : Chair g.row.M-Program.Denot). s.part ≡ fresh_part (OfTask fresh_task)) (λ s. s.seat) c.in_ok-tasks.tasks.items
     (subst (All (λ (s : Chair g.row.M-Program.Denot). s.part ≡ fresh_part (OfTask fresh_task))) (sym c.in_ok-tasks.ensures.seats) fresh)
 
+pub audited-requires-clause-few : goal.audited-requires-clause-few
+audited-requires-clause-few g c =
+    let m = g.M.Machine in
+    let starts = c.in_ok-nodes-2.nodes.items in
+    let ready = mapped_length (λ s. s.seat) starts c.note_all.new.seats.items c.in_ok-nodes-2.ensures.seats in
+    let ran = zip_length (λ s e. IsLooped m.next m.answers m.begin paced (length starts) c.args.turns s.seat s.line e) starts c.in_ok-nodes-3.nodes.items c.in_ok-nodes-3.ensures.nodes in
+    omega (arith, ran, ready, c.note_all.ensures.size, c.in_ok-nodes.ensures.seats.1.size, c.requires.config.nodes.1)
+
+pub audited-requires-clause-ended : goal.audited-requires-clause-ended
+audited-requires-clause-ended g c =
+    let m = g.M.Machine in
+    let a = c.args in
+    let all = c.in_ok-nodes.field-0 in
+    let seats = c.in_ok-nodes.ensures.seats in
+    let noted = c.note_all.new.seats.items in
+    let starts = c.in_ok-nodes-2.nodes.items in
+    let ready = mapped_length (λ s. s.seat) starts noted c.in_ok-nodes-2.ensures.seats in
+    let count : length starts ≡ a.config.nodes = omega (arith, ready, c.note_all.ensures.size, seats.1.size) in
+    let nodes = c.in_ok-nodes-3.nodes.items in
+    let tasks = c.in_ok-nodes-3.tasks.items in
+    let node_loops = node_loops_by m.next m.answers m.begin a.config a.program.now a.events.now a.seed a.turns all.nodes.items all.tasks.items all.audit seats.0 seats.1 noted c.in_ok-note_all.ensures.ok
+    c.in_ok-note_all.ensures.run nodes tasks (λ s. s.seat) (λ s. s.line) starts (length starts) c.in_ok-nodes-2.ensures.seats c.in_ok-nodes-2.ensures.lines count c.in_ok-nodes-3.ensures.nodes in
+    let task_loops = task_loops_by m.next m.answers m.begin a.config a.program.now a.events.now a.seed a.turns all.nodes.items all.tasks.items all.audit seats.0 seats.1 noted c.in_ok-note_all.ensures.ok
+    c.in_ok-note_all.ensures.run nodes tasks (λ s. s.seat) (λ s. s.calls.items) (λ s. s.line) c.in_ok-tasks.tasks.items (length starts) c.in_ok-tasks.ensures.seats c.in_ok-tasks.ensures.calls
+    c.in_ok-tasks.ensures.lines count c.in_ok-nodes-3.ensures.tasks in
+    nodes_ended m.next m.answers m.begin a.config a.program.now a.events.now a.seed a.turns all.nodes.items all.tasks.items all.audit seats.0 seats.1 noted c.in_ok-note_all.ensures.ok
+    c.in_ok-note_all.ensures.run nodes tasks node_loops task_loops
+
+pub audited-requires-clause-still : goal.audited-requires-clause-still
+audited-requires-clause-still g c =
+    let m = g.M.Machine in
+    let a = c.args in
+    let all = c.in_ok-nodes.field-0 in
+    let seats = c.in_ok-nodes.ensures.seats in
+    let noted = c.note_all.new.seats.items in
+    let starts = c.in_ok-nodes-2.nodes.items in
+    let ready = mapped_length (λ s. s.seat) starts noted c.in_ok-nodes-2.ensures.seats in
+    let count : length starts ≡ a.config.nodes = omega (arith, ready, c.note_all.ensures.size, seats.1.size) in
+    let nodes = c.in_ok-nodes-3.nodes.items in
+    let tasks = c.in_ok-nodes-3.tasks.items in
+    let node_loops = node_loops_by m.next m.answers m.begin a.config a.program.now a.events.now a.seed a.turns all.nodes.items all.tasks.items all.audit seats.0 seats.1 noted c.in_ok-note_all.ensures.ok
+    c.in_ok-note_all.ensures.run nodes tasks (λ s. s.seat) (λ s. s.line) starts (length starts) c.in_ok-nodes-2.ensures.seats c.in_ok-nodes-2.ensures.lines count c.in_ok-nodes-3.ensures.nodes in
+    let task_loops = task_loops_by m.next m.answers m.begin a.config a.program.now a.events.now a.seed a.turns all.nodes.items all.tasks.items all.audit seats.0 seats.1 noted c.in_ok-note_all.ensures.ok
+    c.in_ok-note_all.ensures.run nodes tasks (λ s. s.seat) (λ s. s.calls.items) (λ s. s.line) c.in_ok-tasks.tasks.items (length starts) c.in_ok-tasks.ensures.seats c.in_ok-tasks.ensures.calls
+    c.in_ok-tasks.ensures.lines count c.in_ok-nodes-3.ensures.tasks in
+    nodes_still m.next m.answers m.begin a.config a.program.now a.events.now a.seed a.turns all.nodes.items all.tasks.items all.audit seats.0 seats.1 noted c.in_ok-note_all.ensures.ok
+    c.in_ok-note_all.ensures.run nodes tasks node_loops task_loops
+
 pub audited-requires-clause-nodes : goal.audited-requires-clause-nodes
 audited-requires-clause-nodes g c =
     let m = g.M.Machine in
-    let ready = mapped_length (λ s. s.seat) c.in_ok-nodes-2.nodes.items c.note_all.new.seats.items c.in_ok-nodes-2.ensures.seats in
-    let ran = zip_length (λ s e. IsLooped m.next m.answers m.begin s.seat c.args.turns e) c.in_ok-nodes-2.nodes.items c.in_ok-nodes-3.nodes.items c.in_ok-nodes-3.ensures.nodes in
-    omega (arith, ran, ready, c.note_all.ensures.size, c.in_ok-nodes.ensures.seats.1.size, c.requires.config.nodes.1)
-
-pub audited-requires-clause-eight : goal.audited-requires-clause-eight
-audited-requires-clause-eight g c =
-    zip_length (λ s e. IsTaskLooped s.seat s.calls.items c.args.turns e) c.in_ok-tasks.tasks.items c.in_ok-nodes-3.tasks.items c.in_ok-nodes-3.ensures.tasks
-    ∙ mapped_length (λ s. s.seat) c.in_ok-tasks.tasks.items c.in_ok-nodes.field-0.tasks.items c.in_ok-tasks.ensures.seats ∙ c.in_ok-nodes.ensures.seats.1.eight
-
-pub audited-requires-clause-seats : goal.audited-requires-clause-seats
-audited-requires-clause-seats g c =
-    let audit = c.in_ok-nodes.field-0.audit in
+    let a = c.args in
+    let all = c.in_ok-nodes.field-0 in
     let seats = c.in_ok-nodes.ensures.seats in
-    let table = audit.table in
-    let program = c.args.program.now in
-    let starts = c.in_ok-tasks.tasks.items in
-    let ends = c.in_ok-nodes-3.tasks.items in
-    let same = zip_seats (λ s e. IsTaskLooped s.seat s.calls.items c.args.turns e) (λ s. s.seat) (λ e. e.seat) (λ s e ran. ran.same) starts ends c.in_ok-nodes-3.ensures.tasks in
-    let first = subst (AreSeatsOf table program 1) (sym c.in_ok-tasks.ensures.seats) (first_seats table program c.args.config 8 [] c.in_ok-nodes.field-0.tasks.items seats.1.tasks_are) in
-    subst (λ (p : g.row.M-Program.Denot). AreSeatsOf table p 1 (map (λ e. e.seat) ends)) (sym (ap (λ (s : Chair g.row.M-Program.Denot). s.program) seats.1.audit_is))
-    (seats_still table program 1 (map (λ s. s.seat) starts) (map (λ e. e.seat) ends) same first)
+    let noted = c.note_all.new.seats.items in
+    let starts = c.in_ok-nodes-2.nodes.items in
+    let ready = mapped_length (λ s. s.seat) starts noted c.in_ok-nodes-2.ensures.seats in
+    let count : length starts ≡ a.config.nodes = omega (arith, ready, c.note_all.ensures.size, seats.1.size) in
+    let nodes = c.in_ok-nodes-3.nodes.items in
+    let tasks = c.in_ok-nodes-3.tasks.items in
+    let node_loops = node_loops_by m.next m.answers m.begin a.config a.program.now a.events.now a.seed a.turns all.nodes.items all.tasks.items all.audit seats.0 seats.1 noted c.in_ok-note_all.ensures.ok
+    c.in_ok-note_all.ensures.run nodes tasks (λ s. s.seat) (λ s. s.line) starts (length starts) c.in_ok-nodes-2.ensures.seats c.in_ok-nodes-2.ensures.lines count c.in_ok-nodes-3.ensures.nodes in
+    let task_loops = task_loops_by m.next m.answers m.begin a.config a.program.now a.events.now a.seed a.turns all.nodes.items all.tasks.items all.audit seats.0 seats.1 noted c.in_ok-note_all.ensures.ok
+    c.in_ok-note_all.ensures.run nodes tasks (λ s. s.seat) (λ s. s.calls.items) (λ s. s.line) c.in_ok-tasks.tasks.items (length starts) c.in_ok-tasks.ensures.seats c.in_ok-tasks.ensures.calls
+    c.in_ok-tasks.ensures.lines count c.in_ok-nodes-3.ensures.tasks in
+    nodes_here m.next m.answers m.begin a.config a.program.now a.events.now a.seed a.turns all.nodes.items all.tasks.items all.audit seats.0 seats.1 noted c.in_ok-note_all.ensures.ok
+    c.in_ok-note_all.ensures.run nodes tasks node_loops task_loops
+
+pub audited-requires-clause-tasks : goal.audited-requires-clause-tasks
+audited-requires-clause-tasks g c =
+    let m = g.M.Machine in
+    let a = c.args in
+    let all = c.in_ok-nodes.field-0 in
+    let seats = c.in_ok-nodes.ensures.seats in
+    let noted = c.note_all.new.seats.items in
+    let starts = c.in_ok-nodes-2.nodes.items in
+    let ready = mapped_length (λ s. s.seat) starts noted c.in_ok-nodes-2.ensures.seats in
+    let count : length starts ≡ a.config.nodes = omega (arith, ready, c.note_all.ensures.size, seats.1.size) in
+    let nodes = c.in_ok-nodes-3.nodes.items in
+    let tasks = c.in_ok-nodes-3.tasks.items in
+    let node_loops = node_loops_by m.next m.answers m.begin a.config a.program.now a.events.now a.seed a.turns all.nodes.items all.tasks.items all.audit seats.0 seats.1 noted c.in_ok-note_all.ensures.ok
+    c.in_ok-note_all.ensures.run nodes tasks (λ s. s.seat) (λ s. s.line) starts (length starts) c.in_ok-nodes-2.ensures.seats c.in_ok-nodes-2.ensures.lines count c.in_ok-nodes-3.ensures.nodes in
+    let task_loops = task_loops_by m.next m.answers m.begin a.config a.program.now a.events.now a.seed a.turns all.nodes.items all.tasks.items all.audit seats.0 seats.1 noted c.in_ok-note_all.ensures.ok
+    c.in_ok-note_all.ensures.run nodes tasks (λ s. s.seat) (λ s. s.calls.items) (λ s. s.line) c.in_ok-tasks.tasks.items (length starts) c.in_ok-tasks.ensures.seats c.in_ok-tasks.ensures.calls
+    c.in_ok-tasks.ensures.lines count c.in_ok-nodes-3.ensures.tasks in
+    tasks_here m.next m.answers m.begin a.config a.program.now a.events.now a.seed a.turns all.nodes.items all.tasks.items all.audit seats.0 seats.1 noted c.in_ok-note_all.ensures.ok
+    c.in_ok-note_all.ensures.run nodes tasks node_loops task_loops
 
 pub returns-clause-lived : goal.returns-clause-lived
 returns-clause-lived g c =
     let m = g.M.Machine in
-    let ready = mapped_length (λ s. s.seat) c.in_ok-nodes-2.nodes.items c.note_all.new.seats.items c.in_ok-nodes-2.ensures.seats in
-    let ran = zip_length (λ s e. IsLooped m.next m.answers m.begin s.seat c.args.turns e) c.in_ok-nodes-2.nodes.items c.in_ok-nodes-3.nodes.items c.in_ok-nodes-3.ensures.nodes in
-    let size : length c.in_ok-nodes-3.nodes.items ≡ c.args.config.nodes = ran ∙ ready ∙ c.note_all.ensures.size ∙ c.in_ok-nodes.ensures.seats.1.size in
-    let program = ap (λ (s : Chair g.row.M-Program.Denot). s.program) c.in_ok-nodes.ensures.seats.1.audit_is in
-    IfOk-weaker c.audited.result _ _ (λ lived is. subst (λ (n : ℕ). IsLived m.next m.answers (m.begin c.args.program.now) n lived) size
-    (subst (λ (p : g.row.M-Program.Denot). IsLived m.next m.answers (m.begin p) (length c.in_ok-nodes-3.nodes.items) lived) program is)) c.audited.ensures.lived
+    let a = c.args in
+    let all = c.in_ok-nodes.field-0 in
+    let seats = c.in_ok-nodes.ensures.seats in
+    let noted = c.note_all.new.seats.items in
+    let starts = c.in_ok-nodes-2.nodes.items in
+    let ready = mapped_length (λ s. s.seat) starts noted c.in_ok-nodes-2.ensures.seats in
+    let count : length starts ≡ a.config.nodes = omega (arith, ready, c.note_all.ensures.size, seats.1.size) in
+    let nodes = c.in_ok-nodes-3.nodes.items in
+    let tasks = c.in_ok-nodes-3.tasks.items in
+    let node_loops = node_loops_by m.next m.answers m.begin a.config a.program.now a.events.now a.seed a.turns all.nodes.items all.tasks.items all.audit seats.0 seats.1 noted c.in_ok-note_all.ensures.ok
+    c.in_ok-note_all.ensures.run nodes tasks (λ s. s.seat) (λ s. s.line) starts (length starts) c.in_ok-nodes-2.ensures.seats c.in_ok-nodes-2.ensures.lines count c.in_ok-nodes-3.ensures.nodes in
+    let task_loops = task_loops_by m.next m.answers m.begin a.config a.program.now a.events.now a.seed a.turns all.nodes.items all.tasks.items all.audit seats.0 seats.1 noted c.in_ok-note_all.ensures.ok
+    c.in_ok-note_all.ensures.run nodes tasks (λ s. s.seat) (λ s. s.calls.items) (λ s. s.line) c.in_ok-tasks.tasks.items (length starts) c.in_ok-tasks.ensures.seats c.in_ok-tasks.ensures.calls
+    c.in_ok-tasks.ensures.lines count c.in_ok-nodes-3.ensures.tasks in
+    IfOk-weaker c.audited.result _ _ (lived m.next m.answers m.begin a.config a.program.now a.events.now a.seed a.turns all.nodes.items all.tasks.items all.audit seats.0 seats.1 noted c.in_ok-note_all.ensures.ok
+    c.in_ok-note_all.ensures.run nodes tasks node_loops task_loops) c.audited.ensures.told

@@ -1,9 +1,8 @@
 -- One more node is ready.
-use Rattle.std.proofs.Common.{◌≡◌, ◌++◌, [], ◌∷◌, List, length, map, refl, All, arith, append-nil, sym, ap, subst, ◌∙◌}
+use Rattle.std.proofs.Common.{◌≡◌, ◌++◌, map, All, arith, append-nil, sym, ap, subst, ◌∙◌}
 use Rattle.rp_codec.specs.declared.packet.Party.TheVariants.{Node}
-use Rattle.rp_tasks.specs.Line.{line_of}
-use Rattle.rp_live.specs.Lines.{line_seed}
-use Rattle.rp_live.proofs.Seating.{all_more, one_ready}
+use Rattle.rp_live.specs.Lines.{party_line}
+use Rattle.rp_live.proofs.Seating.{all_more, none_left, one_ready}
 use Rattle.rp_live.proofs.starts.node_starts.Goals as goal
 
 pub loop-seat-preserved : goal.loop-seat-preserved
@@ -15,13 +14,9 @@ loop-seat-preserved g c =
     record {
       seats = one_ready (λ s. s.seat) starts c.push.new.self.items start c.in-Some.seat c.loop-seat.seat-iterator.rest.items c.next.new.self.rest.items c.args.seats.items
           grown ready.seat c.in-Some.ensures.steps.0 c.loop-seat.invariant.seats;
-      lines = subst (All (λ s. s.line ≡ line_of (line_seed c.args.seed (Node s.seat.number)))) (sym grown)
-          (all_more (λ s. s.line ≡ line_of (line_seed c.args.seed (Node s.seat.number))) starts start c.loop-seat.invariant.lines (ready.line ∙ ap (λ s. line_of (line_seed c.args.seed (Node s.number))) (sym ready.seat)));
+      lines = subst (All (λ s. s.line ≡ party_line c.args.seed (Node s.seat.number))) (sym grown)
+          (all_more (λ s. s.line ≡ party_line c.args.seed (Node s.seat.number)) starts start c.loop-seat.invariant.lines (ready.line ∙ ap (λ s. party_line c.args.seed (Node s.number)) (sym ready.seat)));
     }
-
-none_left : {A : Type 0} (xs : List A) → length xs ≡ 0 → xs ≡ []
-none_left [] none = refl
-none_left (x ∷ xs) none = absurd (omega (arith, none))
 
 pub returns-clause-seats : goal.returns-clause-seats
 returns-clause-seats g c =

@@ -1,12 +1,11 @@
 -- The nodes so far are ready.
 use Rattle.std.proofs.Common.{◌≡◌, ◌++◌, All, map}
 use Rattle.rp_codec.specs.declared.packet.Party.TheVariants.{Node}
-use Rattle.rp_tasks.specs.Line.{line_of}
-use Rattle.rp_live.specs.Lines.{line_seed}
+use Rattle.rp_live.specs.Lines.{party_line}
 use Rattle.rp_live.proofs.starts.node_starts.Given as goal
 
 abbrev pub invariant-loop-seat : goal.invariant-loop-seat
 invariant-loop-seat g l = record {
   seats : map (λ start. start.seat) l.starts.items ++ l.seat-iterator.rest.items ≡ l.fn.seats.items;
-  lines : All (λ start. start.line ≡ line_of (line_seed l.seed (Node start.seat.number))) l.starts.items;
+  lines : All (λ start. start.line ≡ party_line l.seed (Node start.seat.number)) l.starts.items;
 }

@@ -4,8 +4,8 @@ use Rattle.rp_boxes.specs.Seats.{IsSentText}
 use Rattle.rp_threads.specs.Turns.{AreSentTexts}
 use Rattle.rp_threads.proofs.sends.put_all.Goals as goal
 
-pub put-lost-requires : goal.put-lost-requires
-put-lost-requires g c =
+pub put_text-requires : goal.put_text-requires
+put_text-requires g c =
     let part = c.args.seat.now.part in
     let here = subst (AreSentTexts part) (sym c.as_slice.ensures.value) c.requires in
-    record { sent = subst (IsSentText part) c.as_slice.ensures.value (c.is_one_text.ensures c.if-is_one_text.true part c.sends_packets.ensures here) }
+    subst (IsSentText part) c.as_slice.ensures.value (c.is_one_text.ensures c.if-is_one_text.true part c.sends_packets.ensures here)

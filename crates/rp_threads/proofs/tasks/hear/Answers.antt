@@ -1,9 +1,10 @@
 -- What the line gives on is the text of a packet that the seat got.
-use Rattle.std.proofs.Common.{Bool, false, refl, sym, ap, subst, if◌then◌else◌}
+use Rattle.std.proofs.Common.{◌≡◌, Some, Option, Bool, false, List, ℕ, refl, sym, ap, subst}
 use Rattle.rp_boxes.specs.Seats.{Chair}
-use Rattle.rp_threads.specs.Tasks.{HasMade}
+use Rattle.rp_boxes.specs.TaskSeats.{IsReplyTurn}
+use Rattle.rp_threads.specs.Lines.{given_on}
+use Rattle.rp_threads.specs.TaskRounds.{Hears}
 use Rattle.rp_threads.proofs.Texts.{is_after, after_holds}
-use Rattle.rp_threads.proofs.TaskSteps.{heard_made}
 use Rattle.rp_threads.proofs.tasks.hear.Goals as goal
 
 pub returns-in_err-taken-in-Some-clause-held : goal.returns-in_err-taken-in-Some-clause-held
@@ -20,10 +21,13 @@ returns-in_ok-taken-in-Some-clause-held g c =
     after_holds c.args.seat.now.part.got c.reply.new.self.part.got line c.release.new.self c.gives_what_it_took.ensures.released c.requires.held is
     (ap (λ (seat : Chair g.row.M-Program.Denot). seat.part.got) c.in_ok-taken-in-Some.ensures.ok.after)
 
-pub returns-in_ok-taken-in-Some-clause-heard : goal.returns-in_ok-taken-in-Some-clause-heard
-returns-in_ok-taken-in-Some-clause-heard g c calls made waits h =
-    let all = heard_made calls c.args.seat.now c.reply.new.self c.as_slice.result.now c.in_ok-taken-in-Some.taken made waits c.in_ok-taken-in-Some.ensures.ok h in
-    subst (λ (b : Bool). HasMade calls c.reply.new.self made (if b then false else waits)) (sym c.is_some.ensures) all
+pub returns-in_ok-taken-in-Some-clause-ok : goal.returns-in_ok-taken-in-Some-clause-ok
+returns-in_ok-taken-in-Some-clause-ok g c =
+    let seat = c.args.seat.now in
+    let after = c.reply.new.self in
+    let taken = c.in_ok-taken-in-Some.taken in
+    let turn = subst (λ (text : List ℕ). IsReplyTurn seat text after taken) c.as_slice.ensures.value c.in_ok-taken-in-Some.ensures.ok in
+    subst (λ (o : Option (List ℕ)). Hears o seat after c.is_some.result) c.in-Some.ensures.packet (taken, turn, c.is_some.ensures)
 
 pub returns-in-None-clause-held : goal.returns-in-None-clause-held
 returns-in-None-clause-held g c =

@@ -1,14 +1,49 @@
--- The line is empty and the task fresh at first.
-use Rattle.std.proofs.Common.{refl, arith}
+-- The line is empty and the task fresh at first, and each turn is one more.
+use Rattle.std.proofs.Common.{◌≡◌, ℕ, suc, ◌+◌, refl, sym, subst, arith, add-one}
+use Rattle.rp_threads.specs.Tasks.{TaskAt, before_calls}
+use Rattle.rp_threads.specs.TaskRounds.{AreTaskTurns, IsTaskTurnOf, IsUnmadeTurn}
+use Rattle.rp_threads.specs.Threads.{IsTaskLooped}
+use Rattle.rp_threads.proofs.TaskChains.{task_looped, task_ended}
 use Rattle.rp_threads.proofs.Texts.{empty_holds}
-use Rattle.rp_threads.proofs.Steps.{same_seat}
-use Rattle.rp_threads.proofs.TaskSteps.{none_made}
 use Rattle.rp_threads.proofs.tasks.task_loop.Goals as goal
 
 pub loop-done-init : goal.loop-done-init
-loop-done-init g c = record {
-  held = empty_holds c.args.seat.part.got c.args.line c.requires.line;
-  same = same_seat c.args.seat c.args.seat refl;
-  made = none_made c.args.calls.now c.args.seat c.requires.fresh;
-  first = λ some. absurd (omega (arith, some));
-}
+loop-done-init g c = record { held = empty_holds c.args.seat.part.got c.args.line c.requires.line; turns = refl }
+
+pub loop-done-preserved : goal.loop-done-preserved
+loop-done-preserved g c =
+    let a = c.args in
+    let done = c.loop-done.done in
+    let caller = c.loop-done.caller in
+    let after = c.turn.new.self in
+    let before : TaskAt g.row.M-Program.Denot = record { seat = caller.seat; line = caller.line; so_far = caller.so_far } in
+    let now : TaskAt g.row.M-Program.Denot = record { seat = after.seat; line = after.line; so_far = after.so_far } in
+    let one = add-one done in
+    record {
+      held = c.turn.ensures.held;
+      turns = subst (λ (n : ℕ). AreTaskTurns a.nodes a.calls.now (before_calls a.seat a.line) n now) (sym one)
+          (before, c.loop-done.invariant.turns, subst (λ (n : ℕ). IsTaskTurnOf a.nodes a.calls.now n before now) one c.in_default.ensures.ok);
+    }
+
+pub returns-in-Err : goal.returns-in-Err
+returns-in-Err g c =
+    let a = c.args in
+    let done = c.loop-done.done in
+    let caller = c.loop-done.caller in
+    let after = c.turn.new.self in
+    let before : TaskAt g.row.M-Program.Denot = record { seat = caller.seat; line = caller.line; so_far = caller.so_far } in
+    let last : TaskAt g.row.M-Program.Denot = record { seat = after.seat; line = after.line; so_far = after.so_far } in
+    let unmade = subst (λ (n : ℕ). IsUnmadeTurn a.nodes a.calls.now n before last c.in-Err.fault) (add-one done) c.in-Err.ensures.err in
+    subst (IsTaskLooped a.nodes a.turns a.calls.now a.seat a.line) (sym c.ended.ensures.2)
+    (task_ended a.calls.now a.nodes a.turns a.seat a.line c.requires.fresh c.ended.ensures.0 c.ended.ensures.1 done before last c.in-Err.fault c.requires.nodes.0 c.loop-done.invariant.turns
+    (omega (arith, c.loop-done-test.true)) unmade)
+
+pub returns : goal.returns
+returns g c =
+    let a = c.args in
+    let caller = c.loop-done.caller in
+    let now : TaskAt g.row.M-Program.Denot = record { seat = caller.seat; line = caller.line; so_far = caller.so_far } in
+    let all : c.loop-done.done ≡ a.turns = omega (arith, c.loop-done-test.false, c.loop-done.auto.done-end) in
+    let turns = subst (λ (n : ℕ). AreTaskTurns a.nodes a.calls.now (before_calls a.seat a.line) n now) all c.loop-done.invariant.turns in
+    subst (IsTaskLooped a.nodes a.turns a.calls.now a.seat a.line) (sym c.ended-2.ensures.2)
+    (task_looped a.calls.now a.nodes a.turns a.seat a.line c.requires.fresh c.ended-2.ensures.0 c.ended-2.ensures.1 now turns)

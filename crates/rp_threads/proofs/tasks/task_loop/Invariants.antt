@@ -1,14 +1,12 @@
--- A beginning of the calls was made so far.
-use Rattle.std.proofs.Common.{◌<◌, length}
+-- The turns so far were made, one after the other.
 use Rattle.rp_threads.specs.Lines.{HoldsTextsOf}
-use Rattle.rp_threads.specs.Loops.{IsSameSeat}
-use Rattle.rp_threads.specs.Tasks.{HasMade}
+use Rattle.rp_threads.specs.Tasks.{before_calls}
+use Rattle.rp_threads.specs.TaskRounds.{AreTaskTurns}
 use Rattle.rp_threads.proofs.tasks.task_loop.Given as goal
 
 abbrev pub invariant-loop-done : goal.invariant-loop-done
 invariant-loop-done g l = record {
-  held : HoldsTextsOf l.seat.part.got l.line;
-  same : IsSameSeat l.fn.seat l.seat;
-  made : HasMade l.calls l.seat l.so_far.made l.so_far.waits;
-  first : 0 < l.done → 0 < length l.calls → 0 < l.so_far.made;
+  held : HoldsTextsOf l.caller.seat.part.got l.caller.line;
+  turns : AreTaskTurns l.nodes l.calls (before_calls l.fn.seat l.fn.line) l.done
+      (record { seat = l.caller.seat; line = l.caller.line; so_far = l.caller.so_far });
 }

@@ -1,5 +1,5 @@
 -- Each end is that of the seat at its place.
-use Rattle.std.proofs.Common.{◌≡◌, subst}
+use Rattle.std.proofs.Common.{◌≡◌, ◌∙◌, ℕ, length, subst, arith}
 use Rattle.rp_threads.specs.Threads.{IsLooped, IsTaskLooped}
 use Rattle.rp_threads.proofs.Places.{zip_on}
 use Rattle.rp_threads.proofs.threads.run_within.Goals as goal
@@ -7,17 +7,32 @@ use Rattle.rp_threads.proofs.threads.run_within.Goals as goal
 pub returns-clause-nodes : goal.returns-clause-nodes
 returns-clause-nodes g c =
     let m = g.M.Machine in
-    zip_on (λ start handle. (handle.promise.seat.value ≡ start.seat) × (handle.promise.turns ≡ c.args.turns))
-    (λ handle end. IsLooped m.next m.answers m.begin handle.promise.seat.value handle.promise.turns end) (λ start end. IsLooped m.next m.answers m.begin start.seat c.args.turns end)
-    (λ start handle end owed kept. subst (λ n. IsLooped m.next m.answers m.begin start.seat n end) owed.1 (subst (λ s. IsLooped m.next m.answers m.begin s handle.promise.turns end) owed.0 kept))
-    c.args.nodes.items _ _ c.in_ok-nodes.ensures c.in_ok-nodes-2.ensures
+    let lets = g.G.Gate.lets in
+    let starts = c.args.nodes.items in
+    let turns = c.args.turns in
+    let count : c.len-count.result ≡ length c.args.nodes.items = omega (arith, c.len-count.ensures, c.args.nodes.ok.0) in
+    zip_on (λ start handle. (handle.promise.seat.value ≡ start.seat) × (handle.promise.line.value ≡ start.line) × (handle.promise.nodes ≡ c.len-count.result) × (handle.promise.turns ≡ turns))
+    (λ handle end. IsLooped m.next m.answers m.begin lets handle.promise.nodes handle.promise.turns handle.promise.seat.value handle.promise.line.value end)
+    (λ start end. IsLooped m.next m.answers m.begin lets (length starts) turns start.seat start.line end)
+    (λ start handle end owed kept.
+    subst (λ (n : ℕ). IsLooped m.next m.answers m.begin lets n turns start.seat start.line end) (owed.2 ∙ count)
+    (subst (λ (n : ℕ). IsLooped m.next m.answers m.begin lets handle.promise.nodes n start.seat start.line end) owed.3
+    (subst (λ l. IsLooped m.next m.answers m.begin lets handle.promise.nodes handle.promise.turns start.seat l end) owed.1
+    (subst (λ s. IsLooped m.next m.answers m.begin lets handle.promise.nodes handle.promise.turns s handle.promise.line.value end) owed.0 kept))))
+    starts _ _ c.in_ok-nodes.ensures c.in_ok-nodes-2.ensures
 
 pub returns-clause-tasks : goal.returns-clause-tasks
 returns-clause-tasks g c =
-    zip_on (λ start handle. (handle.promise.seat.value ≡ start.seat) × (handle.promise.calls.value ≡ start.calls) × (handle.promise.turns ≡ c.args.turns))
-    (λ handle end. IsTaskLooped handle.promise.seat.value handle.promise.calls.value.items handle.promise.turns end)
-    (λ start end. IsTaskLooped start.seat start.calls.items c.args.turns end)
-    (λ start handle end owed kept. subst (λ n. IsTaskLooped start.seat start.calls.items n end) owed.2
-    (subst (λ v. IsTaskLooped start.seat v.items handle.promise.turns end) owed.1
-    (subst (λ s. IsTaskLooped s handle.promise.calls.value.items handle.promise.turns end) owed.0 kept)))
+    let turns = c.args.turns in
+    let count : c.len-count.result ≡ length c.args.nodes.items = omega (arith, c.len-count.ensures, c.args.nodes.ok.0) in
+    let nodes = length c.args.nodes.items in
+    zip_on (λ start handle. (handle.promise.seat.value ≡ start.seat) × (handle.promise.calls.value ≡ start.calls) × (handle.promise.line.value ≡ start.line) × (handle.promise.nodes ≡ c.len-count.result) × (handle.promise.turns ≡ turns))
+    (λ handle end. IsTaskLooped handle.promise.nodes handle.promise.turns handle.promise.calls.value.items handle.promise.seat.value handle.promise.line.value end)
+    (λ start end. IsTaskLooped nodes turns start.calls.items start.seat start.line end)
+    (λ start handle end owed kept.
+    subst (λ (n : ℕ). IsTaskLooped n turns start.calls.items start.seat start.line end) (owed.3 ∙ count)
+    (subst (λ (n : ℕ). IsTaskLooped handle.promise.nodes n start.calls.items start.seat start.line end) owed.4
+    (subst (λ l. IsTaskLooped handle.promise.nodes handle.promise.turns start.calls.items start.seat l end) owed.2
+    (subst (λ v. IsTaskLooped handle.promise.nodes handle.promise.turns v.items start.seat handle.promise.line.value end) owed.1
+    (subst (λ s. IsTaskLooped handle.promise.nodes handle.promise.turns handle.promise.calls.value.items s handle.promise.line.value end) owed.0 kept)))))
     c.args.tasks.items c.in_ok-tasks.tasks.items c.in_ok-tasks-2.tasks.items c.in_ok-tasks.ensures c.in_ok-tasks-2.ensures

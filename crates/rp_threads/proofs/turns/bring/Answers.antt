@@ -13,5 +13,4 @@ returns-in-Some-clause-held g c =
 pub returns-in-Some-clause-ok : goal.returns-in-Some-clause-ok
 returns-in-Some-clause-ok g c =
     let seat = c.args.seat.now in
-    let fetched = c.in-Some.ensures.some in
-    is_brought c.args.from c.in-Some.packet.items seat c.fetch.new.self c.args.line.now c.take.new.self c.take.result fetched c.take.ensures.ok
+    is_brought c.args.from (Node seat.number) c.in-Some.packet.items seat c.fetch.new.self c.args.line.now c.take.new.self c.take.result c.in-Some.ensures.some c.take.ensures.ok

@@ -1,5 +1,5 @@
 -- One delivery more, or the end.
-use Rattle.std.proofs.Common.{◌≡◌, ℕ, ◌+◌, ◌-◌, ◌<◌, ◌≤◌, length, arith, refl, subst}
+use Rattle.std.proofs.Common.{◌≡◌, ℕ, ◌+◌, ◌-◌, ◌<◌, ◌≤◌, length, arith, refl, subst, ◌∙◌}
 use Rattle.rp_model.specs.declared.event.Event.TheVariants.{Node as NodeStep}
 use Rattle.rp_model.specs.declared.event.Step.TheVariants.{Deliver}
 use Rattle.rp_console.specs.Output.{Play, line_said, event_said, drained}
@@ -20,6 +20,7 @@ loop-delivered-init g c =
     record {
       parts = c.requires.parts;
       setup = record { config = refl; program = refl };
+      counts = refl;
       so_far = λ play follows.
           subst (λ (n : ℕ). Underway c.args.self.now.cluster.world c.args.self.now.settled start start (drained s c.args.line most play) (λ (now : Play). drained s c.args.line n now)) all
           (sets_out c.args.self.now.cluster.world c.args.self.now.settled start play (λ (now : Play). drained s c.args.line most now) follows);
@@ -80,6 +81,7 @@ loop-delivered-preserved g c =
     record {
       parts = c.in_ok-step.ensures.parts;
       setup = same_trans c.args.self.now.cluster run.cluster c.step.new.self.cluster c.loop-delivered.invariant.setup c.step.ensures.setup;
+      counts = c.in_ok-step.ensures.counts ∙ c.loop-delivered.invariant.counts;
       so_far = λ play follows.
           let so_far = c.loop-delivered.invariant.so_far play follows in
           let now = so_far.said.play in

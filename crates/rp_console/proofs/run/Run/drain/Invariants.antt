@@ -1,4 +1,4 @@
-use Rattle.std.proofs.Common.{◌-◌}
+use Rattle.std.proofs.Common.{◌≡◌, ◌-◌}
 use Rattle.rp_world.specs.Steps.{IsSameSetup}
 use Rattle.rp_console.specs.Output.{Play, drained}
 use Rattle.rp_console.specs.Runs.{HasParts, Follows, run_setting}
@@ -13,6 +13,7 @@ invariant-loop-delivered g l =
     record {
       parts : HasParts l.options.config.nodes l.self.cluster;
       setup : IsSameSetup l.fn.self.cluster l.self.cluster;
+      counts : l.self.cluster.failures ≡ l.fn.self.cluster.failures;
       so_far : (play : Play) → Follows l.fn.self.cluster.world l.fn.self.settled play
           → Underway l.self.cluster.world l.self.settled (g.W.Write.contents l.fn.writer) (g.W.Write.contents l.writer) (drained s l.line l.options.most play)
           (λ now. drained s l.line (l.options.most - l.delivered) now);

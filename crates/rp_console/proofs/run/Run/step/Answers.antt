@@ -5,7 +5,7 @@ use Rattle.rp_model.specs.Events.{event_of}
 use Rattle.rp_console.specs.Output.{event_said}
 use Rattle.rp_console.specs.Runs.{run_setting}
 use Rattle.rp_console.proofs.Saying.{happened, was_refused, says_failed}
-use Rattle.rp_console.proofs.Stepping.{always_ok, parts_stay, parts_left, ends_with, refused_of}
+use Rattle.rp_console.proofs.Stepping.{always_ok, parts_stay, parts_left, ends_with, ends_over, refused_counts, refused_of}
 use Rattle.rp_console.proofs.Writing.{begins_nothing}
 use Rattle.rp_console.proofs.run.Run.step.Goals as goal
 
@@ -60,3 +60,15 @@ returns-in-Err-2-clause-fault g c =
     ends_with m.next m.answers m.begin c.args.options.now.config.nodes c.args.self.now.cluster c.step.new.self c.args.event.now
     c.requires.parts c.requires.event c.in-Err.fault c.in-Err.ensures.step.world
     (λ numbered. let is : c.is_refusal.result ≡ true = c.is_refusal.ensures.1 numbered in absurd (cc (is, c.if-is_refusal.false)))
+    c.in-Err.ensures.step.failures
+
+pub returns-in_ok-settle_by-in-Ok-clause-counts : goal.returns-in_ok-settle_by-in-Ok-clause-counts
+returns-in_ok-settle_by-in-Ok-clause-counts g c = always_ok c.tell_effect.result c.in-Ok.ensures.step.failures
+
+pub returns-in_ok-settle_by-in-Ok-clause-fault : goal.returns-in_ok-settle_by-in-Ok-clause-fault
+returns-in_ok-settle_by-in-Ok-clause-fault g c = ends_over _ _ c.tell_effect.result c.tell_effect.ensures.fault
+
+pub returns-in-Err-clause-counts : goal.returns-in-Err-clause-counts
+returns-in-Err-clause-counts g c =
+    always_ok c.print.result (refused_counts _ c.args.self.now.cluster.failures c.step.new.self.failures c.in-Err.fault
+    ((c.is_refusal.ensures.0 c.if-is_refusal.true).0) c.in-Err.ensures.step.failures)

@@ -9,7 +9,7 @@ pub returns-else-has_failed-clause-ok : goal.returns-else-has_failed-clause-ok
 returns-else-has_failed-clause-ok g c = λ member part is.
     let disk = g.D.Device.disk in
     let runs = as_running member c.in-Running.replica part (sym c.has_failed.ensures ∙ c.if-has_failed.false) (subst (λ n. StandsFor disk member n part) c.in-Running.is is) in
-    let stopped = stops_as member c.in-Running.replica (disk c.close.result) part runs c.keeps_records.ensures c.close.ensures.disk in
+    let stopped = stops_as member c.in-Running.replica (disk c.close.result) part runs c.close.ensures.holds c.close.ensures.only in
     (goes_on_as (stop_part part), stopped.0, stopped.1, tt)
 
 pub returns-else-has_failed-clause-failures : goal.returns-else-has_failed-clause-failures

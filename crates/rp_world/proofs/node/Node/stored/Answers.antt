@@ -1,4 +1,4 @@
-use Rattle.std.proofs.Common.{subst}
+use Rattle.std.proofs.Common.{subst, ◌∙◌}
 use Rattle.rp_world.specs.Nodes.{StandsFor}
 use Rattle.rp_world.proofs.Standing.{length_of}
 use Rattle.rp_world.proofs.node.Node.stored.Goals as goal
@@ -6,4 +6,4 @@ use Rattle.rp_world.proofs.node.Node.stored.Goals as goal
 pub returns-in-Running : goal.returns-in-Running
 returns-in-Running g c = λ member part is.
     let disk = g.D.Device.disk in
-    length_of member c.in-Running.replica part c.stored.result c.keeps_records.ensures c.stored.ensures (subst (λ n. StandsFor disk member n part) c.in-Running.is is)
+    c.stored.ensures ∙ length_of member c.in-Running.replica part (subst (λ n. StandsFor disk member n part) c.in-Running.is is)

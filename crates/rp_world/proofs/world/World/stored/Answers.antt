@@ -19,7 +19,7 @@ returns-in-Some g c =
     let placed : suc i ≡ me = omega (arith, c.get.ensures.value, c.get.ensures.in_range.0, c.from.ensures) in
     let within = ltb-true i (length c.deref.result.now) (sym c.in-Some.ensures.lookup.0) in
     let here : slice_get nodes i ≡ Some n = ap (λ l. slice_get l i) (sym c.deref.ensures.value) ∙ here_of c.deref.result.now i n within c.in-Some.ensures.lookup.1 in
-    subst (λ v. IsStored v.config.max_positions (let r : Result ℕ Fault = Ok c.stored.result in r) (part_at v.world.nodes me)) c.self.view_is
+    subst (λ v. IsStored (let r : Result ℕ Fault = Ok c.stored.result in r) (part_at v.world.nodes me)) c.self.view_is
     (stored_of g.D.Device.disk inside.config (g.M.Machine.begin inside.program) nodes inside.tasks.items inside.messages c.self.invariant i me placed n here c.stored.result c.stored.ensures)
 
 pub returns-in-None : goal.returns-in-None
@@ -31,5 +31,5 @@ returns-in-None g c =
     let placed : suc i ≡ me = omega (arith, c.get.ensures.value, c.get.ensures.in_range.0, c.from.ensures) in
     let past : length nodes ≤ i = subst (λ l. length l ≤ i) c.deref.ensures.value (ltb-false i (length c.deref.result.now) (sym c.in-None.ensures.lookup.0)) in
     let none = none_here g.D.Device.disk inside.config (g.M.Machine.begin inside.program) nodes inside.tasks.items inside.messages i me placed past in
-    subst (λ v. IsStored v.config.max_positions (let r : Result ℕ Fault = Err BadConfig in r) (part_at v.world.nodes me)) c.self.view_is
-    (subst (IsStored inside.config.max_positions (let r : Result ℕ Fault = Err BadConfig in r)) (sym none) refl)
+    subst (λ v. IsStored (let r : Result ℕ Fault = Err BadConfig in r) (part_at v.world.nodes me)) c.self.view_is
+    (subst (IsStored (let r : Result ℕ Fault = Err BadConfig in r)) (sym none) refl)

@@ -1,0 +1,67 @@
+-- What the program does with the words of the command line, and how it ends.
+use Rattle.std.specs.Prelude.{◌≡◌, ◌≢◌, ◌⊎◌, ℕ, true, false, Option, Some, None, Result, Ok, Err, List, [], codes, option_map, IsSome, IfOk, OnOk, IfErr}
+use Rattle.std.specs.Io.KnownBytes.{Appends}
+use Rattle.clap.specs.Kinds.{IsAmong}
+use Rattle.clap.specs.Words.{Text, fault_of, subcommand_of}
+use Rattle.clap.specs.declared.error.kind.ErrorKind.{ErrorKind}
+use Rattle.clap.specs.declared.error.kind.ErrorKind.TheVariants.{DisplayHelp, DisplayVersion, OutOfMemory}
+use Rattle.rp_base.specs.declared.fault.Fault.{Fault}
+use Rattle.rp_base.specs.declared.fault.Fault.TheVariants as faults
+use Rattle.rp_console.specs.Agreeing.{ScriptPrints}
+use Rattle.rp_console.specs.CommandLine.{console, name_of, seed_of, trace_of, turns_of, ReadsAs, words_status_of}
+use Rattle.rp_console.specs.Faults.{IsBadDeck, IsProgramFault}
+use Rattle.rp_console.specs.Figures.{figures_line_of}
+use Rattle.rp_console.specs.LiveRun.{LivePrints}
+use Rattle.rp_console.specs.Status.{fault_line_of, status_after, with_line_feed}
+use Rattle.rp_console.specs.declared.args.Args.{Args}
+use Rattle.rp_console.specs.declared.args.Args.TheVariants.{Script, Live}
+use Rattle.rp_console.specs.declared.console.Ending.{Ending}
+use Rattle.rp_console.specs.declared.figures.FiguresLine.{FiguresLine}
+
+-- these words ask for this
+pub record AsksFor (words : List Text) (args : Args) : Type 0 where
+  pub right : fault_of console words ≡ []
+  pub named : option_map (λ found. found.0) (subcommand_of console words) ≡ Some (name_of args)
+  pub traced : trace_of words ≡ Some (codes "true") → args ≡ Script true
+  pub quiet : trace_of words ≡ Some (codes "false") → args ≡ Script false
+  pub live : (seed turns : ℕ) → ReadsAs (seed_of words) seed → ReadsAs (turns_of words) turns → args ≡ Live seed turns
+
+-- what a run without a fault prints
+abbrev pub Prints : Args → Option (List ℕ) → Option (List ℕ) → Type 0
+Prints (Script traced) old new = ScriptPrints traced old new
+Prints (Live seed turns) old new = LivePrints seed turns old new
+
+-- a run in threads has figures to report, and a script has none
+abbrev pub HasFiguresFor : Args → Option FiguresLine → Type 0
+HasFiguresFor (Script traced) figures = figures ≡ None
+HasFiguresFor (Live seed turns) figures = IsSome figures
+
+-- what is reported of a run: the line of its figures or of its fault, if it has any
+abbrev pub report_of : Result (Option FiguresLine) Fault → List ℕ
+report_of (Ok None) = []
+report_of (Ok (Some figures)) = with_line_feed (figures_line_of figures)
+report_of (Err fault) = with_line_feed (fault_line_of fault)
+
+-- What the words ask for was run. It printed what such a run prints, or ended by a fault; a bad deck prints nothing.
+-- The status is 0 where it had no fault, and else that of the fault, which is reported; so are a live run's figures.
+pub record RunsAs (args : Args) (output output_after errors errors_after : Option (List ℕ)) (ending : Ending) : Type 0 where
+  pub ran : Result (Option FiguresLine) Fault
+  pub printed : OnOk ran (Prints args output output_after)
+  pub bad : IfErr ran (λ fault. IsBadDeck fault → output_after ≡ output)
+  pub figures : IfOk ran (HasFiguresFor args)
+  pub fault : IfErr ran IsProgramFault
+  pub status : ending.status ≡ status_after ran
+  pub reported : OnOk ending.reported (Appends errors errors_after (report_of ran))
+
+-- Wrong words were reported, and help alone was printed. The status is the one of this kind of mistake.
+pub record RefusesAs (kind : ErrorKind) (output output_after errors errors_after : Option (List ℕ)) (ending : Ending) : Type 0 where
+  pub status : ending.status ≡ words_status_of kind
+  pub output_kept : kind ≢ DisplayHelp → kind ≢ DisplayVersion → output_after ≡ output
+  pub errors_kept : kind ≡ DisplayHelp → errors_after ≡ errors
+  pub memory : kind ≡ OutOfMemory → OnOk ending.reported (Appends errors errors_after (report_of (Err faults.OutOfMemory)))
+
+-- The words ask for a run, which ran; or they are wrong, or memory ran out, which was reported.
+abbrev pub FollowsWords : List Text → Option (List ℕ) → Option (List ℕ) → Option (List ℕ) → Option (List ℕ) → Ending → Type 0
+FollowsWords words output output_after errors errors_after ending =
+    ((args : Args) × AsksFor words args × RunsAs args output output_after errors errors_after ending)
+    ⊎ ((kind : ErrorKind) × ((kind ≡ OutOfMemory) ⊎ IsAmong kind (fault_of console words)) × RefusesAs kind output output_after errors errors_after ending)

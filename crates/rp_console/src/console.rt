@@ -1,0 +1,143 @@
+//! Does what the words of the command line ask for, and reports its faults.
+
+ghost use Rattle.std.specs.Prelude.{◌≡◌, IfErr, IfOk, OnOk, map};
+ghost use Rattle.std.specs.Io.KnownBytes.{Appends};
+ghost use Rattle.clap.specs.Values.{kind_of};
+ghost use Rattle.rp_console.specs.Console.{FollowsWords, HasFiguresFor, Prints, RefusesAs, report_of};
+ghost use Rattle.rp_console.specs.Faults.{IsBadDeck, IsProgramFault};
+ghost use Rattle.rp_console.specs.Status.{fault_line_of, status_after, status_of, with_line_feed};
+
+use crate::args::{Args, read_args, words_status};
+use crate::deck_run::run_script;
+use crate::figures::FiguresLine;
+use crate::live_run::run_live;
+use crate::status::{status, tell};
+use clap::Error;
+use clap::error::ErrorKind;
+use rp_base::Fault;
+use std::alloc::Global;
+use std::convert::AsStr;
+use std::io;
+use std::io::{Read, Write};
+use std::sync::Wait;
+use std::thread::Threads;
+use std::time::Clock;
+
+/// Where the program reads its deck, prints, and reports its faults.
+#[derive(Drop)]
+pub struct Streams<R: Drop, W: Drop, E: Drop> {
+    pub reader: R,
+    pub writer: W,
+    pub errors: E,
+}
+
+/// How the program ends.
+#[derive(Drop)]
+pub struct Ending {
+    /// The status that it ends with.
+    pub status: u8,
+    /// Whether what it had to report was written.
+    pub reported: io::Result<()>,
+}
+
+/// Runs what the words ask for and reports its fault, or reports why the words are wrong.
+pub fn obey<T: Threads + Wait + Clock, S: AsStr, R: Read + Drop, W: Write + Drop, E: Write + Drop>(
+    rt: &T,
+    alloc: Global,
+    words: &[S],
+    streams: &mut Streams<R, W, E>,
+) -> Ending
+    ensures obeyed { FollowsWords (map S.text words.now)
+        (W.contents streams.old.writer) (W.contents streams.new.writer)
+        (E.contents streams.old.errors) (E.contents streams.new.errors) result }
+{
+    match read_args(alloc, words) {
+        Ok(args) => {
+            let ran = run_as(rt, alloc, args, &mut streams.reader, &mut streams.writer);
+            end(&mut streams.errors, ran)
+        }
+        Err(error) => refuse(&error, streams),
+    }
+}
+
+/// Runs the deck that the reader holds, in its script's order or in threads. A run in threads has
+/// figures to report.
+fn run_as<T: Threads + Wait + Clock, R: Read, W: Write>(
+    rt: &T,
+    alloc: Global,
+    args: Args,
+    reader: &mut R,
+    writer: &mut W,
+) -> Result<Option<FiguresLine>, Fault>
+    ensures output { OnOk result (Prints args (W.contents writer.old) (W.contents writer.new)) }
+    ensures bad { IfErr result (λ fault. IsBadDeck fault
+        → W.contents writer.new ≡ W.contents writer.old) }
+    ensures figures { IfOk result (HasFiguresFor args) }
+    ensures fault { IfErr result IsProgramFault }
+{
+    match args {
+        Args::Script { traced } => match run_script(alloc, reader, traced, writer) {
+            Ok(()) => Ok(None),
+            Err(fault) => Err(fault),
+        },
+        Args::Live { seed, turns } => match run_live(rt, alloc, reader, seed, turns, writer) {
+            Ok(figures) => Ok(Some(figures)),
+            Err(fault) => Err(fault),
+        },
+    }
+}
+
+/// Reports why the words are wrong, or prints the help that they ask for.
+fn refuse<R: Read + Drop, W: Write + Drop, E: Write + Drop>(
+    error: &Error,
+    streams: &mut Streams<R, W, E>,
+) -> Ending
+    ensures refused { RefusesAs (kind_of error.now)
+        (W.contents streams.old.writer) (W.contents streams.new.writer)
+        (E.contents streams.old.errors) (E.contents streams.new.errors) result }
+{
+    if error.kind() == ErrorKind::OutOfMemory {
+        return fail(&mut streams.errors, Fault::OutOfMemory);
+    }
+    let reported = if error.use_stderr() {
+        write!(streams.errors, "{error}")
+    } else {
+        write!(streams.writer, "{error}")
+    };
+    Ending {
+        status: words_status(error),
+        reported,
+    }
+}
+
+/// Reports a run's figures or its fault, if it has any.
+fn end<E: Write>(errors: &mut E, ran: Result<Option<FiguresLine>, Fault>) -> Ending
+    ensures status { result.status ≡ status_after ran }
+    ensures reported { OnOk result.reported
+        (Appends (E.contents errors.old) (E.contents errors.new) (report_of ran)) }
+{
+    match ran {
+        Ok(None) => Ending {
+            status: 0,
+            reported: Ok(()),
+        },
+        Ok(Some(figures)) => Ending {
+            status: 0,
+            reported: writeln!(errors, "{figures}"),
+        },
+        Err(fault) => fail(errors, fault),
+    }
+}
+
+/// Reports a fault.
+pub fn fail<E: Write>(errors: &mut E, fault: Fault) -> Ending
+    ensures status { result.status ≡ status_of fault }
+    ensures reported { OnOk result.reported (Appends (E.contents errors.old)
+        (E.contents errors.new) (with_line_feed (fault_line_of fault))) }
+{
+    let reported = tell(&fault, errors);
+    Ending {
+        status: status(&fault),
+        reported,
+    }
+}

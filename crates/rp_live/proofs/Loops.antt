@@ -1,0 +1,65 @@
+-- A node that runs goes on to run through the turns of its loop.
+use Rattle.std.proofs.Common.{◌≡◌, ℕ, zero, suc, Bool, true, false, Option, Some, None, List, inl, inr, sym, ap, subst, ◌∙◌}
+use Rattle.rp_base.specs.declared.action.Action.{Action}
+use Rattle.rp_base.specs.declared.fault.Fault.{Fault}
+use Rattle.rp_base.specs.declared.reply.Answer.{Answer}
+use Rattle.rp_codec.specs.declared.packet.Party.{Party}
+use Rattle.rp_codec.specs.declared.packet.Party.TheVariants.{Node}
+use Rattle.rp_tasks.specs.Line.{Line}
+use Rattle.rp_boxes.specs.Seats.{Chair}
+use Rattle.rp_threads.specs.Lines.{given_on}
+use Rattle.rp_threads.specs.Loops.{is_refusal, sender_at}
+use Rattle.rp_threads.specs.Rounds.{AreTurns, IsLeadAnew, IsMade, IsMadeOrSkipped, IsUnmade, NodeAt, is_to_lead}
+use Rattle.rp_threads.specs.Turns.{IsNodeTurn, MayFetch, Works}
+use Rattle.rp_threads.specs.declared.turns.Turn as declared
+use Rattle.rp_threads.specs.declared.turns.Turned.{Turned}
+use Rattle.rp_threads.proofs.Rounds.{refusal_stays}
+use Rattle.rp_threads.proofs.Steps.{fails_stays, stop_stays}
+use Rattle.rp_live.specs.Seats.{Runs}
+use Rattle.rp_live.proofs.Running.{turn_runs}
+
+same_runs : {P : Type 0} (old new : Chair P) → new ≡ old → Runs old.part → Runs new.part
+same_runs {P} old new same runs = subst (λ (c : Chair P). Runs c.part) (sym same) runs
+
+fetch_runs : {P : Type 0} (fetched : Option (List ℕ)) (from to : Party) (old new : Chair P) → MayFetch fetched from to old new → Runs old.part → Runs new.part
+fetch_runs None from to old new f runs = same_runs old new f runs
+fetch_runs {P} (Some text) from to old new f runs = (runs.0, ap (λ (c : Chair P). c.part.role) f.after ∙ runs.1, runs.2)
+
+module _ {S P : Type 0} (next : S → Action → S) (answers : S → Action → List Answer) (begin : P → S) where
+  works_runs : (given : Option (List ℕ)) (lead : Bool) (old new : Chair P) (count : ℕ) → Works next answers begin given lead old new count → Runs old.part → Runs new.part
+  works_runs (Some text) lead old new count w runs = turn_runs next answers begin old new w.input w.sent w.turn
+  works_runs None true old new count w runs = turn_runs next answers begin old new w.input w.sent w.turn
+  works_runs None false old new count w runs = same_runs old new w.0 runs
+
+  module _ (from : Party) (lead : Bool) (old new : Chair P) (line after : Line) where
+    own_runs : (between : Chair P) (turned : Turned) → IsNodeTurn next answers begin from lead old between line after turned → Runs old.part → Runs between.part
+    own_runs between turned t runs =
+        works_runs (given_on t.full) lead t.between between turned.sent t.works (fetch_runs t.brought.fetched from (Node old.number) old t.between t.brought.fetch runs)
+
+    made_runs : (turn : declared.Turn) → IsMade next answers begin from lead old new line after turn → Runs old.part → Runs new.part
+    made_runs turn (inl own) runs = own_runs new own.0 own.1 runs
+    made_runs turn (inr anew) runs = let led = anew.1 in turn_runs next answers begin led.between new led.leads.input led.leads.sent led.leads.turn
+
+    refused_runs : (fault : Fault) → is_refusal fault ≡ true → IsUnmade next answers begin from lead old new line after fault → Runs old.part → Runs new.part
+    refused_runs fault refusal (inl lost) runs = fetch_runs (Some lost.packet) from (Node old.number) old new lost.fetch runs
+    refused_runs fault refusal (inr (inl stopped)) runs =
+        let between = stopped.between in
+        let stays = fails_stays next answers begin (given_on stopped.full) lead between new fault (refusal_stays fault refusal) stopped.fails in
+        same_runs between new stays (fetch_runs stopped.brought.fetched from (Node old.number) old between stopped.brought.fetch runs)
+    refused_runs fault refusal (inr (inr anew)) runs =
+        let between = anew.between in
+        let stays = stop_stays next answers begin (IsLeadAnew between.part) between new fault (refusal_stays fault refusal) anew.stops in
+        same_runs between new stays (own_runs between anew.turned anew.first runs)
+
+    one_runs : (passes : Bool) (made : Option declared.Turn) → IsMadeOrSkipped next answers begin from lead old new line after passes made → Runs old.part → Runs new.part
+    one_runs passes (Some turn) made runs = made_runs turn made.1 runs
+    one_runs passes None (inl skipped) runs = same_runs old new skipped.1 runs
+    one_runs passes None (inr refused) runs = refused_runs refused.1 refused.2 refused.3 runs
+
+  pub turns_run : (lets : ℕ → ℕ → Bool) (nodes : ℕ) (first : NodeAt P) (n : ℕ) (now : NodeAt P) → AreTurns next answers begin lets nodes first n now
+      → Runs first.seat.part → Runs now.seat.part
+  turns_run lets nodes first zero now are runs = subst (λ (at : NodeAt P). Runs at.seat.part) (sym are) runs
+  turns_run lets nodes first (suc n) now are runs =
+      let before = are.0 in
+      one_runs (sender_at nodes (suc n)) (is_to_lead before.seat.number (suc n)) before.seat now.seat before.line now.line (lets before.seat.number (suc n)) are.2.made are.2.turns
+      (turns_run lets nodes first n before are.1 runs)

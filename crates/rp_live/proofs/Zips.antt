@@ -1,0 +1,75 @@
+-- What is so of two lists, place by place.
+use Rattle.std.proofs.Common.{◌≡◌, zero, suc, List, [], ◌∷◌, ◌++◌, length, map, sym, ap, subst, ◌∙◌, arith, append_assoc, append-nil}
+use Rattle.std.specs.List.{AllZip}
+use Rattle.std.specs.Prelude.{All, flat_map}
+use Rattle.rp_threads.proofs.Places.{one_more}
+
+-- all but the first
+all_rest : {A : Type 0} (Q : A → Type 0) (x : A) (xs : List A) → All Q (x ∷ xs) → All Q xs
+all_rest Q x xs all k d within = all (suc k) d (omega (arith, within))
+
+all_one : {A : Type 0} (Q : A → Type 0) (x : A) (xs : List A) → Q x → All Q xs → All Q (x ∷ xs)
+all_one Q x xs is all zero d within = is
+all_one Q x xs is all (suc k) d within = all k d (omega (arith, within))
+
+all_none : {A : Type 0} (Q : A → Type 0) → All Q []
+all_none Q k d within = absurd (omega (arith, within))
+
+-- what is so of the first list is carried to the second
+pub zip_all : {A B : Type 0} (Q : A → Type 0) (R : A → B → Type 0) (T : B → Type 0) → ((x : A) (y : B) → Q x → R x y → T y)
+    → (xs : List A) (ys : List B) → All Q xs → AllZip R xs ys → All T ys
+zip_all Q R T so [] [] all zip = all_none T
+zip_all Q R T so [] (y ∷ ys) all zip = absurd zip
+zip_all Q R T so (x ∷ xs) [] all zip = absurd zip
+zip_all Q R T so (x ∷ xs) (y ∷ ys) all zip =
+    all_one T y ys (so x y (all 0 x (omega arith)) zip.0) (zip_all Q R T so xs ys (all_rest Q x xs all) zip.1)
+
+-- each of the first list is of one kind, and what is so of both is so by that kind
+pub zip_kinds : {A B L C : Type 0} (f : A → B) (g : A → L) (h : B → L) (R : B → L → C → Type 0) (xs : List A) (ys : List C)
+    → All (λ x. g x ≡ h (f x)) xs → AllZip (λ x y. R (f x) (g x) y) xs ys → AllZip (λ z y. R z (h z) y) (map f xs) ys
+zip_kinds f g h R [] [] all zip = tt
+zip_kinds f g h R [] (y ∷ ys) all zip = absurd zip
+zip_kinds f g h R (x ∷ xs) [] all zip = absurd zip
+zip_kinds f g h R (x ∷ xs) (y ∷ ys) all zip =
+    (subst (λ l. R (f x) l y) (all 0 x (omega arith)) zip.0, zip_kinds f g h R xs ys (all_rest (λ a. g a ≡ h (f a)) x xs all) zip.1)
+
+-- what is so of a mapped list
+pub all_unmapped : {A B : Type 0} (Q : B → Type 0) (f : A → B) (xs : List A) → All (λ x. Q (f x)) xs → All Q (map f xs)
+all_unmapped Q f [] all = all_none Q
+all_unmapped Q f (x ∷ xs) all = all_one Q (f x) (map f xs) (all 0 x (omega arith)) (all_unmapped Q f xs (all_rest (λ a. Q (f a)) x xs all))
+
+pub all_both : {A : Type 0} (Q R T : A → Type 0) → ((x : A) → Q x → R x → T x) → (xs : List A) → All Q xs → All R xs → All T xs
+all_both Q R T so [] q r = all_none T
+all_both Q R T so (x ∷ xs) q r = all_one T x xs (so x (q 0 x (omega arith)) (r 0 x (omega arith))) (all_both Q R T so xs (all_rest Q x xs q) (all_rest R x xs r))
+
+-- ---- lists that are made of another, one item more at a time
+
+pub one_listed : {A B : Type 0} (f : A → B) (seen grown whole : List B) (x : A) (y : B) (rest left : List A) → grown ≡ seen ++ y ∷ [] → y ≡ f x → rest ≡ x ∷ left
+    → seen ++ map f rest ≡ whole → grown ++ map f left ≡ whole
+one_listed {B = B} f seen grown whole x y rest left is same steps so_far =
+    ap (λ (l : List B). l ++ map f left) (is ∙ ap (λ (z : B). seen ++ z ∷ []) same) ∙ append_assoc seen (f x ∷ []) (map f left)
+    ∙ ap (λ l. seen ++ map f l) (sym steps) ∙ so_far
+
+pub one_joined : {A B : Type 0} (f : A → List B) (seen grown more whole : List B) (x : A) (rest left : List A) → grown ≡ seen ++ more → more ≡ f x → rest ≡ x ∷ left
+    → seen ++ flat_map f rest ≡ whole → grown ++ flat_map f left ≡ whole
+one_joined {B = B} f seen grown more whole x rest left is same steps so_far =
+    ap (λ (l : List B). l ++ flat_map f left) (is ∙ ap (λ (l : List B). seen ++ l) same) ∙ append_assoc seen (f x) (flat_map f left)
+    ∙ ap (λ l. seen ++ flat_map f l) (sym steps) ∙ so_far
+
+pub all_listed : {A B : Type 0} (f : A → B) (seen whole : List B) (rest : List A) → length rest ≡ 0 → seen ++ map f rest ≡ whole → seen ≡ whole
+all_listed f seen whole [] none so_far = sym (append-nil seen) ∙ so_far
+all_listed f seen whole (x ∷ rest) none so_far = absurd (omega (arith, none))
+
+pub all_joined : {A B : Type 0} (f : A → List B) (seen whole : List B) (rest : List A) → length rest ≡ 0 → seen ++ flat_map f rest ≡ whole → seen ≡ whole
+all_joined f seen whole [] none so_far = sym (append-nil seen) ∙ so_far
+all_joined f seen whole (x ∷ rest) none so_far = absurd (omega (arith, none))
+
+-- ---- two lists that grow together
+
+pub none_zip : {A B : Type 0} (R : A → B → Type 0) (xs : List A) (ys : List B) → xs ≡ [] → ys ≡ [] → AllZip R xs ys
+none_zip R xs ys none_x none_y = subst (λ l. AllZip R l ys) (sym none_x) (subst (AllZip R []) (sym none_y) tt)
+
+pub grown_zip : {A B : Type 0} (R : A → B → Type 0) (xs xs' : List A) (ys ys' : List B) (x : A) (y : B) → xs' ≡ xs ++ x ∷ [] → ys' ≡ ys ++ y ∷ [] → AllZip R xs ys → R x y
+    → AllZip R xs' ys'
+grown_zip R xs xs' ys ys' x y more_x more_y all fits =
+    subst (λ l. AllZip R l ys') (sym more_x) (subst (AllZip R (xs ++ x ∷ [])) (sym more_y) (one_more R xs ys x y all fits))

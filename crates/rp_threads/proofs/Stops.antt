@@ -1,0 +1,191 @@
+-- Why a turn is not made, and what other turns leave of the device and of a stopped node.
+use Rattle.std.proofs.Common.{◌≡◌, ◌⊎◌, ℕ, ◌<◌, ◌^◌, Bool, true, false, Option, Some, None, Result, Ok, Err, List, inl, inr, refl, sym, ap, subst, ◌∙◌, nat_le, is_some, if◌then◌else◌}
+use Rattle.rp_base.specs.Ballot.{next_ballot, round_of}
+use Rattle.rp_base.specs.Records.{learned_at}
+use Rattle.rp_base.specs.declared.action.Action.{Action}
+use Rattle.rp_base.specs.declared.fault.Fault.{Fault}
+use Rattle.rp_base.specs.declared.fault.Fault.TheVariants.{BallotsSpent, Device, Failed, LogFull, OutOfMemory}
+use Rattle.rp_base.specs.declared.reply.Answer.{Answer}
+use Rattle.rp_codec.specs.declared.packet.Party.{Party}
+use Rattle.rp_codec.specs.declared.packet.Party.TheVariants.{Node}
+use Rattle.rp_model.specs.Effect.{Setting, Done, NodeInput, Receive, Lead, Interrupt, Tick, Report, turned, turned_if, effect_while, running_effect}
+use Rattle.rp_model.specs.Leader.{chosen_position, is_out_of_reach, begins, starts_above}
+use Rattle.rp_model.specs.Parts.{NodePart, Running, Turn}
+use Rattle.rp_model.specs.Says.{notes}
+use Rattle.rp_replica.specs.declared.input.Input.{Input}
+use Rattle.rp_replica.specs.declared.sent.Sent.{Sent}
+use Rattle.rp_tasks.specs.Line.{Line}
+use Rattle.rp_boxes.specs.Parts.{Part, Role, OfNode}
+use Rattle.rp_boxes.specs.Seats.{Chair, IsReason, IsStopped, IsTurn, IsNoTurn, setting_at}
+use Rattle.rp_threads.specs.Lines.{given_on}
+use Rattle.rp_threads.specs.Loops.{is_refusal}
+use Rattle.rp_threads.specs.Rounds.{IsLeadAnew, IsMade, IsUnmade, IsMadeOrSkipped}
+use Rattle.rp_threads.specs.Turns.{MayFetch, IsBrought, IsReceipt, IsLead, IsEventBy, IsStopBy, Works, Fails, IsNodeTurn}
+use Rattle.rp_threads.specs.declared.turns.Turn as declared
+use Rattle.rp_threads.specs.declared.turns.Turned.{Turned}
+use Rattle.rp_threads.proofs.Rounds.{refusal_stays}
+
+same_node : (role : Role) (a b : NodePart) → role ≡ OfNode a → role ≡ OfNode b → a ≡ b
+same_node role a b is_a is_b = let e : OfNode a ≡ OfNode b = sym is_a ∙ is_b in cc
+
+-- the same role is stopped as before
+same_stopped : (old new : Part) → new.role ≡ old.role → IsStopped new → IsStopped old
+same_stopped old new same stopped = (stopped.0, sym same ∙ stopped.1, stopped.2)
+
+-- ---- a node that made a step runs
+
+turned_runs : (node : NodePart) (turn : Result Turn Fault) (done : Done NodePart) → turned_if node turn ≡ Ok done → done.part.running ≡ None → ⊥
+turned_runs node (Ok turn) done is none =
+    let e : turned node turn ≡ done = cc in
+    let some : Some turn.running ≡ None = ap (λ (d : Done NodePart). d.part.running) e ∙ none in
+    cc
+turned_runs node (Err fault) done is none = cc
+
+module _ {S : Type 0} (s : Setting S) (me : ℕ) (node : NodePart) (input : NodeInput) where
+  while_runs : (running : Option Running) (done : Done NodePart) → effect_while s me node input running ≡ Ok done → done.part.running ≡ None → ⊥
+  while_runs None done is none = cc
+  while_runs (Some running) done is none = turned_runs node (running_effect s me node.records running input) done is none
+
+-- ---- what refuses a step only refuses that the node leads
+
+led_or_refused : (learned out over : Bool) (noted begun : Turn) (fault : Fault)
+    → (if learned then Ok noted else if out then Err LogFull else if over then Err BallotsSpent else Ok begun) ≡ Err fault → is_refusal fault ≡ true
+led_or_refused true out over noted begun fault is = absurd (cc)
+led_or_refused false true over noted begun fault is = let e : LogFull ≡ fault = cc in subst (λ (f : Fault). is_refusal f ≡ true) e refl
+led_or_refused false false true noted begun fault is = let e : BallotsSpent ≡ fault = cc in subst (λ (f : Fault). is_refusal f ≡ true) e refl
+led_or_refused false false false noted begun fault is = absurd (cc)
+
+turned_refused : (node : NodePart) (turn : Result Turn Fault) (fault : Fault) → turned_if node turn ≡ Err fault → turn ≡ Err fault
+turned_refused node (Ok turn) fault is = absurd (cc)
+turned_refused node (Err other) fault is = cc
+
+module _ {S : Type 0} (s : Setting S) (me : ℕ) (node : NodePart) where
+  running_refused : (input : NodeInput) (running : Running) (fault : Fault) → running_effect s me node.records running input ≡ Err fault → is_refusal fault ≡ true
+  running_refused (Receive message) running fault is = absurd (cc)
+  running_refused (Lead choice) running fault is =
+      let i = chosen_position node.records running choice in
+      let b = next_ballot me (starts_above node.records running) in
+      led_or_refused (is_some (learned_at node.records i)) (is_out_of_reach s.config.max_positions node.records i) (nat_le (2 ^ 32) (round_of b))
+      (notes running) (begins s.next s.answers s.begin s.config.nodes me node.records running i b) fault is
+  running_refused (Interrupt source occurrence) running fault is = absurd (cc)
+  running_refused (Tick now) running fault is = absurd (cc)
+  running_refused (Report first) running fault is = absurd (cc)
+
+  -- a step that is not made: the node is stopped, memory ran out, or it only refuses that the node leads
+  reason : (input : NodeInput) (running : Option Running) (fault : Fault) → IsReason running (effect_while s me node input running) fault
+      → ((fault ≡ Failed) × (running ≡ None)) ⊎ ((fault ≡ OutOfMemory) ⊎ (is_refusal fault ≡ true))
+  reason input None fault why = inl (why, refl)
+  reason input (Some running) fault why =
+      let told : (effect : Result (Done NodePart) Fault) → effect_while s me node input (Some running) ≡ effect → IsReason (Some running) effect fault
+      → (fault ≡ OutOfMemory) ⊎ (is_refusal fault ≡ true) =
+      λ effect. elim effect as (λ (e : Result (Done NodePart) Fault). effect_while s me node input (Some running) ≡ e → IsReason (Some running) e fault → (fault ≡ OutOfMemory) ⊎ (is_refusal fault ≡ true)) [
+        | Ok done ↦ λ is why. inl why
+        | Err refusal ↦ λ is why. inr (subst (λ (f : Fault). is_refusal f ≡ true) (sym why)
+            (running_refused input running refusal (turned_refused node (running_effect s me node.records running input) refusal is)))
+      ] in
+      inr (told (effect_while s me node input (Some running)) refl why)
+
+-- ---- the seat
+
+-- why a step is not made at a seat
+abbrev pub IsCause : {P : Type 0} → Chair P → Fault → Type 0
+IsCause old fault = ((fault ≡ Failed) × IsStopped old.part) ⊎ ((fault ≡ OutOfMemory) ⊎ (is_refusal fault ≡ true))
+
+-- As many calls of the device have failed as before, and the node is stopped only if it was.
+pub record IsSound {P : Type 0} (old new : Chair P) : Type 0 where
+  pub failures : new.failures ≡ old.failures
+  pub stopped : IsStopped new.part → IsStopped old.part
+
+-- the device failed, or else the seat is sound and there is another cause
+abbrev pub IsLeft : {P : Type 0} → Chair P → Chair P → Fault → Type 0
+IsLeft old new fault = ((fault ≡ Device) × (old.failures < new.failures)) ⊎ (IsSound old new × IsCause old fault)
+
+module _ {P : Type 0} where
+  pub sound_same : (old new : Chair P) → new ≡ old → IsSound old new
+  sound_same old new is = record { failures = ap (λ (c : Chair P). c.failures) is; stopped = subst (λ (c : Chair P). IsStopped c.part) is }
+
+  pub sound_on : (a b c : Chair P) → IsSound a b → IsSound b c → IsSound a c
+  sound_on a b c ab bc = record { failures = bc.failures ∙ ab.failures; stopped = λ stopped. ab.stopped (bc.stopped stopped) }
+
+  may_sound : (fetched : Option (List ℕ)) (from to : Party) (old new : Chair P) → MayFetch fetched from to old new → IsSound old new
+  may_sound None from to old new f = sound_same old new f
+  may_sound (Some text) from to old new f = record {
+    failures = ap (λ (c : Chair P). c.failures) f.after;
+    stopped = same_stopped old.part new.part (ap (λ (c : Chair P). c.part.role) f.after);
+  }
+
+  -- one step after what is sound
+  left_on : (old between new : Chair P) (fault : Fault) → IsSound old between → IsLeft between new fault → IsLeft old new fault
+  left_on old between new fault sound (inl device) = inl (device.0, subst (λ (n : ℕ). n < new.failures) sound.failures device.1)
+  left_on old between new fault sound (inr left) = inr (
+    sound_on old between new sound left.0,
+    elim left.1 [ inl failed ↦ inl (failed.0, sound.stopped failed.1) | inr other ↦ inr other ],
+  )
+
+  sound_left : (old new : Chair P) (fault : Fault) → (fault ≡ Device → ⊥) → IsLeft old new fault → IsSound old new
+  sound_left old new fault other (inl device) = absurd (other device.0)
+  sound_left old new fault other (inr left) = left.0
+
+module _ {S P : Type 0} (next : S → Action → S) (answers : S → Action → List Answer) (begin : P → S) where
+  turn_runs : (old new : Chair P) (input : Input) (sent : Sent) → IsTurn next answers begin old input new sent → IsStopped new.part → ⊥
+  turn_runs old new input sent t stopped =
+      let role : new.part.role ≡ OfNode t.done.part = ap (λ (c : Chair P). c.part.role) t.after in
+      let same : t.done.part ≡ stopped.0 = same_node new.part.role t.done.part stopped.0 role stopped.1 in
+      while_runs (setting_at next answers begin old) old.number t.node t.given t.node.running t.done t.comes (ap (λ (n : NodePart). n.running) same ∙ stopped.2)
+
+  event_sound : (old new : Chair P) (input : Input) (sent : Sent) → IsTurn next answers begin old input new sent → IsSound old new
+  event_sound old new input sent t = record {
+    failures = ap (λ (c : Chair P). c.failures) t.after;
+    stopped = λ stopped. absurd (turn_runs old new input sent t stopped);
+  }
+
+  no_turn : (old new : Chair P) (input : Input) (fault : Fault) → IsNoTurn next answers begin old input new fault → IsCause old fault
+  no_turn old new input fault none =
+      elim (reason (setting_at next answers begin old) old.number none.node none.given none.node.running fault none.why) [
+        | inl failed ↦ inl (failed.0, (none.node, none.was, failed.1))
+        | inr other ↦ inr other
+      ]
+
+  pub stop_left : (Is : Input → Type 0) (old new : Chair P) (fault : Fault) → IsStopBy next answers begin Is old new fault → IsLeft old new fault
+  stop_left Is old new fault s = elim s.why [
+    | inl cut ↦ inl (cut.device, cut.failed)
+    | inr none ↦ inr (sound_same old new none.unchanged, no_turn old new s.input fault none)
+  ]
+
+  works_sound : (given : Option (List ℕ)) (lead : Bool) (old new : Chair P) (count : ℕ) → Works next answers begin given lead old new count → IsSound old new
+  works_sound (Some text) lead old new count w = event_sound old new w.input w.sent w.turn
+  works_sound None true old new count w = event_sound old new w.input w.sent w.turn
+  works_sound None false old new count w = sound_same old new w.0
+
+  fails_left : (given : Option (List ℕ)) (lead : Bool) (old new : Chair P) (fault : Fault) → Fails next answers begin given lead old new fault → IsLeft old new fault
+  fails_left (Some text) lead old new fault f = stop_left (IsReceipt text) old new fault f
+  fails_left None true old new fault f = stop_left IsLead old new fault f
+  fails_left None false old new fault f = absurd f
+
+  module _ (from : Party) (lead : Bool) (old new : Chair P) (line after : Line) where
+    brought_sound : (between : Chair P) (full : Line) → IsBrought from (Node old.number) old between line full → IsSound old between
+    brought_sound between full b = may_sound b.fetched from (Node old.number) old between b.fetch
+
+    turn_sound : (between : Chair P) (turned : Turned) → IsNodeTurn next answers begin from lead old between line after turned → IsSound old between
+    turn_sound between turned t =
+        sound_on old t.between between (brought_sound t.between t.full t.brought) (works_sound (given_on t.full) lead t.between between turned.sent t.works)
+
+    made_sound : (turn : declared.Turn) → IsMade next answers begin from lead old new line after turn → IsSound old new
+    made_sound turn (inl own) = turn_sound new own.0 own.1
+    made_sound turn (inr anew) =
+        let led = anew.1 in
+        sound_on old led.between new (turn_sound led.between led.turned led.first) (event_sound led.between new led.leads.input led.leads.sent led.leads.turn)
+
+    pub unmade_left : (fault : Fault) → IsUnmade next answers begin from lead old new line after fault → IsLeft old new fault
+    unmade_left fault (inl lost) = inr (may_sound (Some lost.packet) from (Node old.number) old new lost.fetch, inr (inl lost.memory))
+    unmade_left fault (inr (inl stopped)) =
+        left_on old stopped.between new fault (brought_sound stopped.between stopped.full stopped.brought)
+        (fails_left (given_on stopped.full) lead stopped.between new fault stopped.fails)
+    unmade_left fault (inr (inr anew)) =
+        left_on old anew.between new fault (turn_sound anew.between anew.turned anew.first) (stop_left (IsLeadAnew anew.between.part) anew.between new fault anew.stops)
+
+    -- a turn that is made or skipped
+    pub turned_sound : (passes : Bool) (made : Option declared.Turn) → IsMadeOrSkipped next answers begin from lead old new line after passes made → IsSound old new
+    turned_sound passes (Some turn) made = made_sound turn made.1
+    turned_sound passes None (inl skipped) = sound_same old new skipped.1
+    turned_sound passes None (inr refused) = sound_left old new refused.1 (refusal_stays refused.1 refused.2) (unmade_left refused.1 refused.3)

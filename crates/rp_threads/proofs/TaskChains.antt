@@ -1,0 +1,305 @@
+-- The turns of a task's loop, one after the other: what calls they made, and why one is not made.
+use Rattle.std.proofs.Common.{◌≡◌, ◌⊎◌, ℕ, zero, suc, ◌+◌, ◌%◌, ◌/◌, ◌<◌, ◌≤◌, ◌||◌, not, nat_eq, nat_lt, Bool, true, false, Option, Some, None, Result, Ok, Err, List, [], ◌∷◌, length, is_some, slice_get, inl, inr, refl, sym, ap, subst, ◌∙◌, arith, if◌then◌else◌}
+use Rattle.std.proofs.lemmas.Grind.{common_steps}
+use Rattle.std.proofs.lemmas.Nat.{mod_below}
+use Rattle.std.proofs.lemmas.Option.{slice_get_within, slice_get_past}
+use Rattle.std.specs.Prelude.{IfErr, IfOk, OnOk}
+use Rattle.rp_base.specs.Action.{is_right}
+use Rattle.rp_base.specs.Calls.{are_spent, next_call}
+use Rattle.rp_base.specs.declared.action.Action.{Action}
+use Rattle.rp_base.specs.declared.config.Config.{Config}
+use Rattle.rp_base.specs.declared.fault.Fault.{Fault}
+use Rattle.rp_base.specs.declared.fault.Fault.TheVariants.{OutOfMemory, NumbersSpent, BadConfig}
+use Rattle.rp_base.specs.declared.reply.Answer.{Answer}
+use Rattle.rp_codec.specs.declared.packet.Party.{Party}
+use Rattle.rp_codec.specs.declared.packet.Party.TheVariants.{Node, Task}
+use Rattle.rp_model.specs.Effect.{Done}
+use Rattle.rp_model.specs.Parts.{TaskPart, fresh_task}
+use Rattle.rp_model.specs.Tasks.{TaskInput, Submit, Again, asks_again, calls_if, may_call}
+use Rattle.rp_tasks.specs.Line.{Line}
+use Rattle.rp_boxes.specs.Parts.{Part, Role, OfTask, fresh_part}
+use Rattle.rp_boxes.specs.Seats.{Chair}
+use Rattle.rp_boxes.specs.TaskSeats.{IsNoTaskTurn}
+use Rattle.rp_threads.specs.Lines.{given_on, line_after}
+use Rattle.rp_threads.specs.Loops.{IsSameSeat, node_at}
+use Rattle.rp_threads.specs.Tasks.{HasMade, TaskAt, Waits, before_calls, call_after}
+use Rattle.rp_threads.specs.TaskRounds.{AreTaskTurns, Asks, Hears, IsBadCall, IsHeard, IsRefused, IsTaskEndedBy, IsTaskFault, IsTaskTurnOf, IsUnasked, IsUnheard, IsUnmadeTurn, asked_by, asked_for, asked_in, heard_by, made_by, submitted, with_call}
+use Rattle.rp_threads.specs.Threads.{IsTaskLooped, task_end_of}
+use Rattle.rp_threads.specs.Turns.{IsBrought, IsLost, MayFetch}
+use Rattle.rp_threads.specs.declared.tasks.Calls.{Calls}
+use Rattle.rp_threads.specs.declared.tasks.TaskCall.{TaskCall}
+use Rattle.rp_threads.specs.declared.tasks.TaskEnd.{TaskEnd}
+use Rattle.rp_threads.proofs.Steps.{may_same, same_part, same_seat, same_on}
+use Rattle.rp_threads.proofs.TaskSteps.{again_made, call_made, fetched_made, heard_made, none_made, same_task}
+
+no_first : (xs : List TaskCall) → 0 < length xs → slice_get xs 0 ≡ None → ⊥
+no_first [] some none = omega (arith, some)
+no_first (x ∷ xs) some none = cc
+
+past_first : (calls : List TaskCall) (made : ℕ) → slice_get calls made ≡ None → 0 < length calls → 0 < made
+past_first calls zero none some = absurd (no_first calls some none)
+past_first calls (suc n) none some = omega arith
+
+-- a task that has calls and waits for none has made one, once it asked
+with_some : (calls : List TaskCall) (call : Option TaskCall) (made : ℕ) → slice_get calls made ≡ call → 0 < length calls → 0 < (with_call call made).made
+with_some calls None made none some = past_first calls made none some
+with_some calls (Some call) made at some = omega arith
+
+less_of : (m n : ℕ) → nat_lt m n ≡ true → m < n
+less_of m n is = grind (arith, common_steps)
+
+-- ---- what is heard
+
+module _ {P : Type 0} (calls : List TaskCall) where
+  -- the same seat, with so many calls made
+  abbrev pub IsMadeOn : Chair P → Chair P → Calls → Calls → Type 0
+  IsMadeOn old new before after = IsSameSeat old new × (HasMade calls old before.made before.waits → HasMade calls new after.made after.waits)
+
+  fetch_made : (fetched : Option (List ℕ)) (from to : Party) (old new : Chair P) (so_far : Calls) → MayFetch fetched from to old new → IsMadeOn old new so_far so_far
+  fetch_made None from to old new so_far f =
+      (same_seat old new f, λ h. subst (λ (c : Chair P). HasMade calls c so_far.made so_far.waits) (sym f) h)
+  fetch_made (Some text) from to old new so_far f =
+      (same_part old new _ f.after, fetched_made calls old new f.packet so_far.made so_far.waits f.after)
+
+  heard_on : (given : Option (List ℕ)) (old new : Chair P) (answered : Bool) (so_far : Calls) → Hears given old new answered → IsMadeOn old new so_far (heard_by answered so_far)
+  heard_on None old new answered so_far h =
+      subst (λ (b : Bool). IsMadeOn old new so_far (heard_by b so_far)) (sym h.1)
+      (same_seat old new h.0, λ made. subst (λ (c : Chair P). HasMade calls c so_far.made so_far.waits) (sym h.0) made)
+  heard_on (Some text) old new answered so_far h =
+      subst (λ (b : Bool). IsMadeOn old new so_far (heard_by b so_far)) (sym h.2)
+      (same_part old new _ h.1.after, λ made. heard_if (is_some h.0) (heard_made calls old new text h.0 so_far.made so_far.waits h.1 made))
+    where
+      heard_if : (b : Bool) → HasMade calls new so_far.made (if b then false else so_far.waits) → HasMade calls new (heard_by b so_far).made (heard_by b so_far).waits
+      heard_if true made = made
+      heard_if false made = made
+
+  made_then : (a b c : Chair P) (x y z : Calls) → IsMadeOn a b x y → IsMadeOn b c y z → IsMadeOn a c x z
+  made_then a b c x y z ab bc = (same_on a b c ab.0 bc.0, λ made. bc.1 (ab.1 made))
+
+  module _ (nodes : ℕ) where
+    hears_on : (turn : ℕ) (old : TaskAt P) (new : Chair P) (line : Line) (so_far : Calls) → IsHeard nodes calls turn old new line so_far
+        → IsMadeOn old.seat new old.so_far so_far
+    hears_on turn old new line so_far h =
+        subst (λ (c : Calls). IsMadeOn old.seat new old.so_far c) (sym h.counts)
+        (made_then old.seat h.between new old.so_far old.so_far (heard_by h.answered old.so_far)
+        (fetch_made h.brought.fetched (Node (node_at nodes turn)) (Task old.seat.number) old.seat h.between old.so_far h.brought.fetch)
+        (heard_on (given_on h.full) h.between new h.answered old.so_far h.hears))
+
+    -- ---- what is asked
+
+    submit_on : (call : Option TaskCall) (old new : Chair P) (made : ℕ) → slice_get calls made ≡ call → Asks (submitted call) old new
+        → IsMadeOn old new (record { made = made; waits = false }) (with_call call made)
+    submit_on None old new made at a = (same_seat old new a, λ h. subst (λ (c : Chair P). HasMade calls c made false) (sym a) h)
+    submit_on (Some call) old new made at a = (same_part old new _ a.1.after, λ h. call_made calls old new call made a.0 a.1 at h)
+
+    again_on : (due : Bool) (node : ℕ) (old new : Chair P) (made : ℕ) → Asks (if due then Some (Again node) else None) old new
+        → IsMadeOn old new (record { made = made; waits = true }) (record { made = made; waits = true })
+    again_on true node old new made a = (same_part old new _ a.1.after, λ h. again_made calls old new node made true a.0 a.1 h)
+    again_on false node old new made a = (same_seat old new a, λ h. subst (λ (c : Chair P). HasMade calls c made true) (sym a) h)
+
+    asked_on : (waits : Bool) (turn : ℕ) (old new : Chair P) (made : ℕ) → Asks (asked_by waits nodes calls made turn) old new
+        → IsMadeOn old new (record { made = made; waits = waits }) (made_by waits calls made)
+    asked_on true turn old new made a = again_on (nat_eq (turn % 16) 0) (node_at nodes (turn / 16)) old new made a
+    asked_on false turn old new made a = submit_on (slice_get calls made) old new made refl a
+
+    turn_on : (turn : ℕ) (old new : TaskAt P) → IsTaskTurnOf nodes calls turn old new → IsMadeOn old.seat new.seat old.so_far new.so_far
+    turn_on turn old new t =
+        subst (λ (c : Calls). IsMadeOn old.seat new.seat old.so_far c) (sym t.counts)
+        (made_then old.seat t.heard new.seat old.so_far t.so_far (asked_for calls t.so_far)
+        (hears_on turn old t.heard new.line t.so_far t.hears) (asked_on t.so_far.waits turn t.heard new.seat t.so_far.made t.asks))
+
+    turns_on : (first : TaskAt P) (n : ℕ) (now : TaskAt P) → AreTaskTurns nodes calls first n now → IsMadeOn first.seat now.seat first.so_far now.so_far
+    turns_on first zero now are = subst (λ (at : TaskAt P). IsMadeOn first.seat at.seat first.so_far at.so_far) (sym are) (same_seat first.seat first.seat refl, λ h. h)
+    turns_on first (suc n) now are =
+        made_then first.seat are.0.seat now.seat first.so_far are.0.so_far now.so_far (turns_on first n are.0 are.1) (turn_on (suc n) are.0 now are.2)
+
+    -- ---- what is refused
+
+    module _ (seat : Chair P) (task : TaskPart) (made : ℕ) (replies : length task.replies ≡ made) (call : TaskCall) (at : slice_get calls made ≡ Some call) where
+      abbrev own : Action
+      own = next_call seat.number (length task.replies) call.object call.operation call.arg
+
+      tested_fault : (spent over : Bool) (fault : Fault) → are_spent (length task.replies) ≡ spent → (nat_lt seat.config.nodes call.node || not (is_right own)) ≡ over
+          → calls_if seat.number call.node task (if spent then Err NumbersSpent else if over then Err BadConfig else Ok own) ≡ Err fault
+          → IsTaskFault nodes calls seat made fault
+      tested_fault true over fault spent bad is =
+          let e : NumbersSpent ≡ fault = cc in
+          subst (IsTaskFault nodes calls seat made) e (subst (λ (k : ℕ). are_spent k ≡ true) replies spent)
+      tested_fault false true fault spent bad is =
+          let e : BadConfig ≡ fault = cc in
+          subst (IsTaskFault nodes calls seat made) e (inr (
+            call,
+            at,
+            subst (λ (k : ℕ). (nat_lt seat.config.nodes call.node || not (is_right (call_after seat.number k call))) ≡ true) replies bad,
+          ))
+      tested_fault false false fault spent bad is = absurd (cc)
+
+      call_fault : (outstanding : Option Action) (fault : Fault) → outstanding ≡ None → calls_if seat.number call.node task (may_call seat.config call.node task own outstanding) ≡ Err fault
+          → IsTaskFault nodes calls seat made fault
+      call_fault (Some waits) fault none is = absurd (cc)
+      call_fault None fault none is =
+          tested_fault (are_spent (length task.replies)) (nat_lt seat.config.nodes call.node || not (is_right own)) fault refl refl is
+
+    again_fault : (seat : Chair P) (made turn : ℕ) (task : TaskPart) (over : Bool) (fault : Fault) → 1 ≤ nodes → nat_lt seat.config.nodes (node_at nodes turn) ≡ over
+        → (if over then Err BadConfig else Ok (asks_again seat.number (node_at nodes turn) task task.outstanding)) ≡ Err fault → IsTaskFault nodes calls seat made fault
+    again_fault seat made turn task true fault some above is =
+        let e : BadConfig ≡ fault = cc in
+        let below = mod_below turn nodes (omega (arith, some)) in
+        let over = less_of seat.config.nodes (node_at nodes turn) above in
+        subst (IsTaskFault nodes calls seat made) e (inl (omega (arith, below, over)))
+    again_fault seat made turn task false fault some above is = absurd (cc)
+
+    memory_fault : (seat : Chair P) (made : ℕ) (fault : Fault) → fault ≡ OutOfMemory → IsTaskFault nodes calls seat made fault
+    memory_fault seat made fault is = subst (IsTaskFault nodes calls seat made) (sym is) tt
+
+    submit_fault : (call : Option TaskCall) (old new : Chair P) (made : ℕ) (fault : Fault) → slice_get calls made ≡ call → HasMade calls old made false
+        → IsRefused (submitted call) old new fault → IsTaskFault nodes calls old made fault
+    submit_fault None old new made fault at h r = absurd r
+    submit_fault (Some call) old new made fault at h r = elim r.why [
+      | inl memory ↦ memory_fault old made fault memory.0
+      | inr refused ↦
+          let task : r.task ≡ h.task = same_task old.part.role r.task h.task r.was h.is in
+          let count = h.count in
+          let replies : length r.task.replies ≡ made = ap (λ (p : TaskPart). length p.replies) task ∙ omega (arith, count) in
+          call_fault old r.task made replies call at r.task.outstanding fault (ap (λ (p : TaskPart). p.outstanding) task ∙ h.waiting) refused
+    ]
+
+    retry_fault : (due : Bool) (turn : ℕ) (old new : Chair P) (made : ℕ) (fault : Fault) → 1 ≤ nodes
+        → IsRefused (if due then Some (Again (node_at nodes turn)) else None) old new fault → IsTaskFault nodes calls old made fault
+    retry_fault true turn old new made fault some r = elim r.why [
+      | inl memory ↦ memory_fault old made fault memory.0
+      | inr refused ↦ again_fault old made turn r.task (nat_lt old.config.nodes (node_at nodes turn)) fault some refl refused
+    ]
+    retry_fault false turn old new made fault some r = absurd r
+
+    asked_fault : (waits : Bool) (turn : ℕ) (old new : Chair P) (made : ℕ) (fault : Fault) → 1 ≤ nodes → HasMade calls old made waits
+        → IsRefused (asked_by waits nodes calls made turn) old new fault → IsTaskFault nodes calls old made fault
+    asked_fault true turn old new made fault some h r = retry_fault (nat_eq (turn % 16) 0) (turn / 16) old new made fault some r
+    asked_fault false turn old new made fault some h r = submit_fault (slice_get calls made) old new made fault refl h r
+
+    -- the seat of a fault is the first one
+    at_first : (first old : Chair P) (made : ℕ) (fault : Fault) → IsSameSeat first old → IsTaskFault nodes calls old made fault → IsTaskFault nodes calls first made fault
+    at_first first old made OutOfMemory same f = tt
+    at_first first old made NumbersSpent same f = f
+    at_first first old made BadConfig same f = elim f [
+      | inl few ↦ inl (subst (λ (c : Config). c.nodes < nodes) same.config few)
+      | inr bad ↦ inr (
+        bad.0,
+        bad.1,
+        subst (λ (c : Config). (nat_lt c.nodes bad.0.node || not (is_right (call_after first.number made bad.0))) ≡ true) same.config
+            (subst (λ (k : ℕ). (nat_lt old.config.nodes bad.0.node || not (is_right (call_after k made bad.0))) ≡ true) same.number bad.2),
+      )
+    ]
+    at_first first old made _ same f = absurd f
+
+    refused_same : (asked : Option TaskInput) (old new : Chair P) (fault : Fault) → IsRefused asked old new fault → new ≡ old
+    refused_same None old new fault r = absurd r
+    refused_same (Some input) old new fault r = r.unchanged
+
+    -- a turn that was not made: as many calls are made as before, and why
+    pub unmade_on : (turn : ℕ) (first : Chair P) (old new : TaskAt P) (fault : Fault) → 1 ≤ nodes → IsSameSeat first old.seat → HasMade calls old.seat old.so_far.made old.so_far.waits
+        → IsUnmadeTurn nodes calls turn old new fault
+        → IsSameSeat first new.seat × HasMade calls new.seat new.so_far.made new.so_far.waits × IsTaskFault nodes calls first new.so_far.made fault
+    unmade_on turn first old new fault some same h (inl lost) =
+        let on = fetch_made (Some lost.0.packet) (Node (node_at nodes turn)) (Task old.seat.number) old.seat new.seat old.so_far lost.0.fetch in (
+          same_on first old.seat new.seat same on.0,
+          subst (λ (c : Calls). HasMade calls new.seat c.made c.waits) (sym lost.1) (on.1 h),
+          memory_fault first new.so_far.made fault lost.0.memory,
+        )
+    unmade_on turn first old new fault some same h (inr (inl u)) =
+        let on = fetch_made u.brought.fetched (Node (node_at nodes turn)) (Task old.seat.number) old.seat new.seat old.so_far u.brought.fetch in (
+          same_on first old.seat new.seat same on.0,
+          subst (λ (c : Calls). HasMade calls new.seat c.made c.waits) (sym u.counts) (on.1 h),
+          memory_fault first new.so_far.made fault u.memory,
+        )
+    unmade_on turn first old new fault some same h (inr (inr u)) =
+        let on = hears_on turn old u.heard new.line new.so_far u.hears in
+        let made = on.1 h in
+        let stays = refused_same (asked_in nodes calls turn new.so_far) u.heard new.seat fault u.refused in
+        let now = same_on first old.seat u.heard same on.0 in (
+          same_on first u.heard new.seat now (same_seat u.heard new.seat stays),
+          subst (λ (c : Chair P). HasMade calls c new.so_far.made new.so_far.waits) (sym stays) made,
+          at_first first u.heard new.so_far.made fault now (asked_fault new.so_far.waits turn u.heard new.seat new.so_far.made fault some made u.refused),
+        )
+
+    -- ---- the first call is made in the first turn
+
+    some_made : (waits : Bool) (made : ℕ) (seat : Chair P) → HasMade calls seat made waits → 0 < length calls → 0 < (made_by waits calls made).made
+    some_made true made seat h some = let e = h.waiting.2 in omega (arith, e)
+    some_made false made seat h some = with_some calls (slice_get calls made) made refl some
+
+    first_made : (first : TaskAt P) (n : ℕ) (now : TaskAt P) → HasMade calls first.seat first.so_far.made first.so_far.waits → AreTaskTurns nodes calls first n now
+        → 0 < length calls → 0 < n → 0 < now.so_far.made
+    first_made first zero now h are some more = absurd (omega (arith, more))
+    first_made first (suc n) now h are some more =
+        let t = are.2 in
+        let made = (hears_on (suc n) are.0 t.heard now.line t.so_far t.hears).1 ((turns_on first n are.0 are.1).1 h) in
+        subst (λ (c : Calls). 0 < c.made) (sym t.counts) (some_made t.so_far.waits t.so_far.made t.heard made some)
+
+    -- ---- ends of loops
+
+    module _ {M : Type 0} (turns : ℕ) (seat : Chair P) (line : Line) (fresh : seat.part ≡ fresh_part (OfTask fresh_task)) (last_reply lost : ℕ) where
+      abbrev IsEnd : TaskEnd M P → Type 0
+      IsEnd end = IsTaskLooped nodes turns calls seat line end
+
+      pub task_looped : (now : TaskAt P) → AreTaskTurns nodes calls (before_calls seat line) turns now → IsEnd (task_end_of now.seat now.so_far.made last_reply lost None)
+      task_looped now are =
+          let on = turns_on (before_calls seat line) turns now are in
+          let none = none_made calls seat fresh in
+          record {
+            same = on.0;
+            turned = λ ended. (now.line, now.so_far.waits, are);
+            made = (now.so_far.waits, on.1 none);
+            first = λ ended some more. first_made (before_calls seat line) turns now none are some more;
+            fault = tt;
+          }
+
+      pub task_ended : (done : ℕ) (before last : TaskAt P) (fault : Fault) → 1 ≤ nodes → AreTaskTurns nodes calls (before_calls seat line) done before → done < turns
+          → IsUnmadeTurn nodes calls (suc done) before last fault → IsEnd (task_end_of last.seat last.so_far.made last_reply lost (Some fault))
+      task_ended done before last fault some are within unmade =
+          let on = turns_on (before_calls seat line) done before are in
+          let left = unmade_on (suc done) seat before last fault some on.0 (on.1 (none_made calls seat fresh)) unmade in
+          record {
+            same = left.0;
+            turned = λ none. absurd (some_fault fault none);
+            made = (last.so_far.waits, left.1);
+            first = λ none. absurd (some_fault fault none);
+            fault = (last.line, last.so_far.waits, record { cause = left.2; done = done; within = within; before = before; made = are; unmade = unmade });
+          }
+        where
+          some_fault : (f : Fault) → Some f ≡ None → ⊥
+          some_fault f is = cc
+
+-- ---- one turn, by its steps
+
+module _ {P : Type 0} (nodes : ℕ) (calls : List TaskCall) (turn : ℕ) (old new : TaskAt P) (between : Chair P) (full : Line)
+    (brought : IsBrought (Node (node_at nodes turn)) (Task old.seat.number) old.seat between old.line full) where
+  -- what the line gave on was heard, or memory ran out
+  pub unheard : (fault : Fault) → fault ≡ OutOfMemory → new.seat ≡ between → new.line ≡ line_after full → new.so_far ≡ old.so_far → IsUnmadeTurn nodes calls turn old new fault
+  unheard fault memory stays gives counts = inr (inl (record {
+    full = full;
+    brought = subst (λ (c : Chair P). IsBrought (Node (node_at nodes turn)) (Task old.seat.number) old.seat c old.line full) (sym stays) brought;
+    gives = gives;
+    memory = memory;
+    counts = counts;
+  }))
+
+  module _ (heard : Chair P) (so_far : Calls) (answered : Bool) (hears : Hears (given_on full) between heard answered) (gives : new.line ≡ line_after full)
+      (counts : so_far ≡ heard_by answered old.so_far) where
+    abbrev is_heard : IsHeard nodes calls turn old heard new.line so_far
+    is_heard = record { between = between; full = full; brought = brought; answered = answered; hears = hears; gives = gives; counts = counts }
+
+    pub turn_made : {A : Type 0} (result : Result A Fault) → OnOk result (Asks (asked_in nodes calls turn so_far) heard new.seat) → OnOk result (new.so_far ≡ asked_for calls so_far)
+        → OnOk result (IsTaskTurnOf nodes calls turn old new)
+    turn_made (Ok x) asks made = record { heard = heard; so_far = so_far; hears = is_heard; asks = asks; counts = made }
+    turn_made (Err fault) asks made = tt
+
+    pub turn_unmade : {A : Type 0} (result : Result A Fault)
+        → IfErr result (λ fault. (new.so_far ≡ so_far) × IsRefused (asked_in nodes calls turn so_far) heard new.seat fault)
+        → IfErr result (IsUnmadeTurn nodes calls turn old new)
+    turn_unmade (Ok x) err = tt
+    turn_unmade (Err fault) err = inr (inr (record {
+      heard = heard;
+      hears = subst (λ (c : Calls). IsHeard nodes calls turn old heard new.line c) (sym err.0) is_heard;
+      refused = subst (λ (c : Calls). IsRefused (asked_in nodes calls turn c) heard new.seat fault) (sym err.0) err.1;
+    }))

@@ -1,0 +1,78 @@
+-- What is asked, as the branch has it.
+use Rattle.std.proofs.Common.{rules, ℤ, w64, FitsSigned, ◌≡◌, ◌+◌, ◌%◌, ◌/◌, ℕ, Some, None, Option, Bool, true, false, nat_eq, length, refl, sym, subst, if◌then◌else◌}
+use Rattle.std.proofs.lemmas.Int.{to_z-of_z}
+use Rattle.std.proofs.lemmas.Option.{slice_get_read, slice_get_past}
+use Rattle.rp_base.specs.declared.fault.Fault.{Fault}
+use Rattle.rp_boxes.proofs.TaskTurns.{at_fault}
+use Rattle.rp_boxes.specs.TaskSeats.{IsNoTaskTurn}
+use Rattle.rp_model.specs.Tasks.{Again, Submit}
+use Rattle.rp_threads.specs.TaskRounds.{Asks, IsRefused, asked_by, made_by, with_call, submitted}
+use Rattle.rp_threads.specs.Loops.{node_at}
+use Rattle.rp_threads.specs.declared.tasks.Calls.{Calls}
+use Rattle.rp_threads.specs.declared.tasks.TaskCall.{TaskCall}
+use Rattle.rp_threads.proofs.tasks.ask.Goals as goal
+
+abbrev at : ℕ → Bool → Calls
+at made waits = record { made = made; waits = waits }
+
+pub returns-in_err-make-clause-err : goal.returns-in_err-make-clause-err
+returns-in_err-make-clause-err g c =
+    let a = c.args in
+    let now = c.make.new.seat in
+    let made = a.so_far.now.made in
+    let fault = c.in_err-make.field-0.0 in
+    let found = c.in-Some.ensures.lookup in
+    let here = slice_get_read a.calls.now (length a.calls.now) made c.in-Some.call.now refl found.3.0 found.1 in
+    let call = c.in-Some.call.now in
+    let fits : FitsSigned w64 call.arg = search rules in
+    let told = subst (λ (z : ℤ). IsNoTaskTurn a.seat.now (Submit call.node call.object call.operation z) now fault) (to_z-of_z w64 call.arg fits) c.in_err-make.ensures.err in
+    let refused = subst (λ (o : Option TaskCall). IsRefused (submitted o) a.seat.now now fault) (sym here) told in
+    let asked = subst (λ (b : Bool). IsRefused (asked_by b a.nodes a.calls.now made a.turn) a.seat.now now fault) (sym c.if-so_far.false) refused in
+    at_fault (λ (e : Fault). (a.so_far.now ≡ a.so_far.now) × IsRefused (asked_by a.so_far.now.waits a.nodes a.calls.now made a.turn) a.seat.now now e) fault
+    c.from_residual-in_err-make.result c.from_residual-in_err-make.ensures.1 (refl, asked)
+
+pub returns-in_ok-ask_again-clause-ok : goal.returns-in_ok-ask_again-clause-ok
+returns-in_ok-ask_again-clause-ok g c =
+    let a = c.args in
+    let now = c.ask_again.new.seat in
+    let asks = subst (λ (n : ℕ). Asks (Some (Again n)) a.seat.now now) c.node_in_turn.ensures c.in_ok-ask_again.ensures.ok in
+    let due = subst (λ (r : ℕ). Asks (if nat_eq r 0 then Some (Again (node_at a.nodes (a.turn / 16))) else None) a.seat.now now) (sym c.if-turn-eq0.true) asks in
+    subst (λ (b : Bool). Asks (asked_by b a.nodes a.calls.now a.so_far.now.made a.turn) a.seat.now now) (sym c.if-so_far.true) due
+
+pub returns-in_ok-make-clause-ok : goal.returns-in_ok-make-clause-ok
+returns-in_ok-make-clause-ok g c =
+    let a = c.args in
+    let now = c.make.new.seat in
+    let made = a.so_far.now.made in
+    let found = c.in-Some.ensures.lookup in
+    let here = slice_get_read a.calls.now (length a.calls.now) made c.in-Some.call.now refl found.3.0 found.1 in
+    let call = c.in-Some.call.now in
+    let fits : FitsSigned w64 call.arg = search rules in
+    let told = subst (λ (z : ℤ). Asks (Some (Submit call.node call.object call.operation z)) a.seat.now now) (to_z-of_z w64 call.arg fits) c.in_ok-make.ensures.ok in
+    let asks = subst (λ (o : Option TaskCall). Asks (submitted o) a.seat.now now) (sym here) told in
+    subst (λ (b : Bool). Asks (asked_by b a.nodes a.calls.now made a.turn) a.seat.now now) (sym c.if-so_far.false) asks
+
+pub returns-in_ok-make-clause-made : goal.returns-in_ok-make-clause-made
+returns-in_ok-make-clause-made g c =
+    let a = c.args in
+    let made = a.so_far.now.made in
+    let found = c.in-Some.ensures.lookup in
+    let here = slice_get_read a.calls.now (length a.calls.now) made c.in-Some.call.now refl found.3.0 found.1 in
+    let counts = subst (λ (o : Option TaskCall). at (made + 1) true ≡ with_call o made) (sym here) refl in
+    subst (λ (b : Bool). at (made + 1) true ≡ made_by b a.calls.now made) (sym c.if-so_far.false) counts
+
+pub returns-in_default-clause-ok : goal.returns-in_default-clause-ok
+returns-in_default-clause-ok g c =
+    let a = c.args in
+    let made = a.so_far.now.made in
+    let none = slice_get_past a.calls.now made c.in_default.ensures.lookup.3 in
+    let asks = subst (λ (o : Option TaskCall). Asks (submitted o) a.seat.now a.seat.now) (sym none) refl in
+    subst (λ (b : Bool). Asks (asked_by b a.nodes a.calls.now made a.turn) a.seat.now a.seat.now) (sym c.if-so_far.false) asks
+
+pub returns-in_default-clause-made : goal.returns-in_default-clause-made
+returns-in_default-clause-made g c =
+    let a = c.args in
+    let made = a.so_far.now.made in
+    let none = slice_get_past a.calls.now made c.in_default.ensures.lookup.3 in
+    let stays = subst (λ (o : Option TaskCall). at made false ≡ with_call o made) (sym none) refl in
+    subst (λ (b : Bool). at made b ≡ made_by b a.calls.now made) (sym c.if-so_far.false) stays

@@ -1,0 +1,136 @@
+-- The turns of a task's loop: it fetches from one node, takes what its line gives on, and asks (this project's own).
+use Rattle.std.specs.Prelude.{◌≡◌, ◌⊎◌, ℕ, zero, suc, ◌+◌, ◌%◌, ◌/◌, ◌<◌, ◌||◌, not, nat_eq, nat_lt, Bool, true, false, is_some, Option, Some, None, List, slice_get, if◌then◌else◌}
+use Rattle.rp_base.specs.Action.{is_right}
+use Rattle.rp_base.specs.Calls.{are_spent}
+use Rattle.rp_base.specs.declared.config.Config.{Config}
+use Rattle.rp_base.specs.declared.fault.Fault.{Fault}
+use Rattle.rp_base.specs.declared.fault.Fault.TheVariants.{OutOfMemory, NumbersSpent, BadConfig}
+use Rattle.rp_base.specs.declared.reply.Answer.{Answer}
+use Rattle.rp_codec.specs.declared.packet.Party.TheVariants.{Node, Task}
+use Rattle.rp_model.specs.Tasks.{TaskInput, Submit, Again}
+use Rattle.rp_replica.specs.declared.sent.Sent.{Sent}
+use Rattle.rp_tasks.specs.Line.{Line}
+use Rattle.rp_boxes.specs.Seats.{Chair}
+use Rattle.rp_boxes.specs.TaskSeats.{IsTaskTurn, IsNoTaskTurn, IsReplyTurn}
+use Rattle.rp_threads.specs.Lines.{given_on, line_after}
+use Rattle.rp_threads.specs.Loops.{node_at}
+use Rattle.rp_threads.specs.Tasks.{TaskAt, call_after}
+use Rattle.rp_threads.specs.Turns.{IsBrought, IsLost}
+use Rattle.rp_threads.specs.declared.tasks.Calls.{Calls}
+use Rattle.rp_threads.specs.declared.tasks.TaskCall.{TaskCall}
+
+-- ---- a reply
+
+-- the task takes what the line gives on, if it gives something: whether a call has its reply now
+abbrev pub Hears : {P : Type 0} → Option (List ℕ) → Chair P → Chair P → Bool → Type 0
+Hears None old new answered = (new ≡ old) × (answered ≡ false)
+Hears (Some text) old new answered = (taken : Option Answer) × IsReplyTurn old text new taken × (answered ≡ is_some taken)
+
+-- once a call has its reply, the task waits for none
+abbrev pub heard_by : Bool → Calls → Calls
+heard_by answered so_far = if answered then record so_far { waits = false } else so_far
+
+-- ---- what is asked
+
+-- the call, asked of its node
+abbrev pub submitted : Option TaskCall → Option TaskInput
+submitted None = None
+submitted (Some call) = Some (Submit call.node call.object call.operation call.arg)
+
+-- what a task asks in a turn: while it waits, in each 16th turn the next of n nodes again; else its next call, if there is one
+abbrev pub asked_by : Bool → ℕ → List TaskCall → ℕ → ℕ → Option TaskInput
+asked_by true nodes calls made turn = if nat_eq (turn % 16) 0 then Some (Again (node_at nodes (turn / 16))) else None
+asked_by false nodes calls made turn = submitted (slice_get calls made)
+
+abbrev pub asked_in : ℕ → List TaskCall → ℕ → Calls → Option TaskInput
+asked_in nodes calls turn so_far = asked_by so_far.waits nodes calls so_far.made turn
+
+-- the seat once that is asked
+abbrev pub Asks : {P : Type 0} → Option TaskInput → Chair P → Chair P → Type 0
+Asks None old new = new ≡ old
+Asks (Some input) old new = (sent : Sent) × IsTaskTurn old input new sent
+
+-- it is refused
+abbrev pub IsRefused : {P : Type 0} → Option TaskInput → Chair P → Chair P → Fault → Type 0
+IsRefused None old new fault = ⊥
+IsRefused (Some input) old new fault = IsNoTaskTurn old input new fault
+
+-- how many calls are made then, and whether the task waits: a task that waits goes on to wait, and else waits for its
+-- next call, if there is one
+abbrev pub with_call : Option TaskCall → ℕ → Calls
+with_call None made = record { made = made; waits = false }
+with_call (Some call) made = record { made = made + 1; waits = true }
+
+abbrev pub made_by : Bool → List TaskCall → ℕ → Calls
+made_by true calls made = record { made = made; waits = true }
+made_by false calls made = with_call (slice_get calls made) made
+
+abbrev pub asked_for : List TaskCall → Calls → Calls
+asked_for calls so_far = made_by so_far.waits calls so_far.made
+
+-- ---- turns
+
+-- Why a task's loop may end before its last turn: out of memory; no number is left for its next call; or the task asks a
+-- node above the last, or its next call is not right.
+abbrev pub IsBadCall : Config → ℕ → List TaskCall → ℕ → Type 0
+IsBadCall config task calls made =
+    (call : TaskCall) × (slice_get calls made ≡ Some call) × ((nat_lt config.nodes call.node || not (is_right (call_after task made call))) ≡ true)
+
+abbrev pub IsTaskFault : {P : Type 0} → ℕ → List TaskCall → Chair P → ℕ → Fault → Type 0
+IsTaskFault nodes calls seat made OutOfMemory = Unit {0}
+IsTaskFault nodes calls seat made NumbersSpent = are_spent made ≡ true
+IsTaskFault nodes calls seat made BadConfig = (seat.config.nodes < nodes) ⊎ IsBadCall seat.config seat.number calls made
+IsTaskFault nodes calls seat made _ = ⊥
+
+module _ {P : Type 0} (nodes : ℕ) (calls : List TaskCall) where
+  -- What a task brings and hears in a turn: it fetches from the next node in rotation.
+  pub record IsHeard (turn : ℕ) (old : TaskAt P) (new : Chair P) (line : Line) (so_far : Calls) : Type 0 where
+    pub between : Chair P
+    pub full : Line
+    pub brought : IsBrought (Node (node_at nodes turn)) (Task old.seat.number) old.seat between old.line full
+    pub answered : Bool
+    pub hears : Hears (given_on full) between new answered
+    pub gives : line ≡ line_after full
+    pub counts : so_far ≡ heard_by answered old.so_far
+
+  -- The turn of this number.
+  pub record IsTaskTurnOf (turn : ℕ) (old new : TaskAt P) : Type 0 where
+    pub heard : Chair P
+    pub so_far : Calls
+    pub hears : IsHeard turn old heard new.line so_far
+    pub asks : Asks (asked_in nodes calls turn so_far) heard new.seat
+    pub counts : new.so_far ≡ asked_for calls so_far
+
+  -- The turn was not made: what the line gave on is lost, since memory ran out.
+  pub record IsUnheard (turn : ℕ) (old new : TaskAt P) (fault : Fault) : Type 0 where
+    pub full : Line
+    pub brought : IsBrought (Node (node_at nodes turn)) (Task old.seat.number) old.seat new.seat old.line full
+    pub gives : new.line ≡ line_after full
+    pub memory : fault ≡ OutOfMemory
+    pub counts : new.so_far ≡ old.so_far
+
+  -- The turn was not made: what the task asks is refused.
+  pub record IsUnasked (turn : ℕ) (old new : TaskAt P) (fault : Fault) : Type 0 where
+    pub heard : Chair P
+    pub hears : IsHeard turn old heard new.line new.so_far
+    pub refused : IsRefused (asked_in nodes calls turn new.so_far) heard new.seat fault
+
+  -- a fault, by which the turn was not made
+  abbrev pub IsUnmadeTurn : ℕ → TaskAt P → TaskAt P → Fault → Type 0
+  IsUnmadeTurn turn old new fault =
+      (IsLost (Node (node_at nodes turn)) (Task old.seat.number) old.seat new.seat old.line new.line fault × (new.so_far ≡ old.so_far))
+      ⊎ (IsUnheard turn old new fault ⊎ IsUnasked turn old new fault)
+
+  -- the turns 1 to n, one after the other
+  abbrev pub AreTaskTurns : TaskAt P → ℕ → TaskAt P → Type 0
+  AreTaskTurns first zero now = now ≡ first
+  AreTaskTurns first (suc n) now = (before : TaskAt P) × AreTaskTurns first n before × IsTaskTurnOf (suc n) before now
+
+  -- After some turns the next one, of at most so many, was not made.
+  pub record IsTaskEndedBy (first : TaskAt P) (turns : ℕ) (last : TaskAt P) (fault : Fault) : Type 0 where
+    pub cause : IsTaskFault nodes calls first.seat last.so_far.made fault
+    pub done : ℕ
+    pub within : done < turns
+    pub before : TaskAt P
+    pub made : AreTaskTurns first done before
+    pub unmade : IsUnmadeTurn (suc done) before last fault

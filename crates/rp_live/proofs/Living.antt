@@ -44,7 +44,7 @@ module _ {S P : Type 0} (next : S → Action → S) (answers : S → Action → 
   calls_at number = filter_map (call_by number) events
 
   abbrev IsTaskLoop : Chair P → TaskEnd S P → Type 0
-  IsTaskLoop seat end = IsTaskLooped config.nodes turns (calls_at seat.number) seat (party_line seed (Task seat.number)) end
+  IsTaskLoop seat end = IsTaskLooped next answers begin config.nodes turns (calls_at seat.number) seat (party_line seed (Task seat.number)) end
 
   -- the loops of what was ready to run
   pub node_loops_by : {A : Type 0} (f : A → Chair P) (g : A → Line) (starts : List A) (count : ℕ) → map f starts ≡ noted → All (λ s. g s ≡ party_line seed (Node (f s).number)) starts
@@ -56,14 +56,14 @@ module _ {S P : Type 0} (next : S → Action → S) (answers : S → Action → 
 
   pub task_loops_by : {A : Type 0} (f : A → Chair P) (h : A → List TaskCall) (g : A → Line) (starts : List A) (count : ℕ) → map f starts ≡ first_tasks
       → All (λ s. h s ≡ calls_at (f s).number) starts → All (λ s. g s ≡ party_line seed (Task (f s).number)) starts → count ≡ config.nodes
-      → AllZip (λ s end. IsTaskLooped count turns (h s) (f s) (g s) end) starts tasks → AllZip IsTaskLoop first_tasks tasks
+      → AllZip (λ s end. IsTaskLooped next answers begin count turns (h s) (f s) (g s) end) starts tasks → AllZip IsTaskLoop first_tasks tasks
   task_loops_by {A} f h g starts count is calls lines same zip =
       let kind : A → List TaskCall × Line = λ s. (h s, g s) in
       let by : Chair P → List TaskCall × Line = λ seat. (calls_at seat.number, party_line seed (Task seat.number)) in
       let both = all_both (λ s. h s ≡ calls_at (f s).number) (λ s. g s ≡ party_line seed (Task (f s).number)) (λ s. kind s ≡ by (f s)) (λ s c l. λ i. (c i, l i)) starts calls lines in
       subst (λ (l : List (Chair P)). AllZip IsTaskLoop l tasks) is
-      (zip_kinds f kind by (λ seat k end. IsTaskLooped config.nodes turns k.0 seat k.1 end) starts tasks both
-      (subst (λ (n : ℕ). AllZip (λ s end. IsTaskLooped n turns (h s) (f s) (g s) end) starts tasks) same zip))
+      (zip_kinds f kind by (λ seat k end. IsTaskLooped next answers begin config.nodes turns k.0 seat k.1 end) starts tasks both
+      (subst (λ (n : ℕ). AllZip (λ s end. IsTaskLooped next answers begin n turns (h s) (f s) (g s) end) starts tasks) same zip))
 
   module _ (node_loops : AllZip IsNodeLoop noted nodes) (task_loops : AllZip IsTaskLoop first_tasks tasks) where
     abbrev IsHere : Chair P → Type 0

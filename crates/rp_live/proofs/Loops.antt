@@ -13,7 +13,6 @@ use Rattle.rp_threads.specs.Rounds.{AreTurns, IsLeadAnew, IsMade, IsMadeOrSkippe
 use Rattle.rp_threads.specs.Turns.{IsNodeTurn, MayFetch, Works}
 use Rattle.rp_threads.specs.declared.turns.Turn as declared
 use Rattle.rp_threads.specs.declared.turns.Turned.{Turned}
-use Rattle.rp_threads.proofs.Rounds.{refusal_stays}
 use Rattle.rp_threads.proofs.Steps.{fails_stays, stop_stays}
 use Rattle.rp_live.specs.Seats.{Runs}
 use Rattle.rp_live.proofs.Running.{turn_runs}
@@ -44,11 +43,11 @@ module _ {S P : Type 0} (next : S → Action → S) (answers : S → Action → 
     refused_runs fault refusal (inl lost) runs = fetch_runs (Some lost.packet) from (Node old.number) old new lost.fetch runs
     refused_runs fault refusal (inr (inl stopped)) runs =
         let between = stopped.between in
-        let stays = fails_stays next answers begin (given_on stopped.full) lead between new fault (refusal_stays fault refusal) stopped.fails in
+        let stays = fails_stays next answers begin (given_on stopped.full) lead between new fault refusal stopped.fails in
         same_runs between new stays (fetch_runs stopped.brought.fetched from (Node old.number) old between stopped.brought.fetch runs)
     refused_runs fault refusal (inr (inr anew)) runs =
         let between = anew.between in
-        let stays = stop_stays next answers begin (IsLeadAnew between.part) between new fault (refusal_stays fault refusal) anew.stops in
+        let stays = stop_stays next answers begin (IsLeadAnew between.part) between new fault refusal anew.stops in
         same_runs between new stays (own_runs between anew.turned anew.first runs)
 
     one_runs : (passes : Bool) (made : Option declared.Turn) → IsMadeOrSkipped next answers begin from lead old new line after passes made → Runs old.part → Runs new.part

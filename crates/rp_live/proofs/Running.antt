@@ -95,7 +95,11 @@ module _ {S P : Type 0} (next : S → Action → S) (answers : S → Action → 
   pub note_memory : (input : Input) (fault : Fault) → IsNote input → Runs old.part → new.failures ≡ 0 → IsStopBy next answers begin (λ given. given ≡ input) old new fault
       → fault ≡ OutOfMemory
   note_memory input fault note runs never stop =
-      stops_memory stop.input fault (λ given is. note_taken stop.input given (subst IsNote (sym stop.is) note) is) runs never stop.why
+      let taken = λ given is. note_taken stop.input given (subst IsNote (sym stop.is) note) is in
+      elim stop.why [
+        | inl cut ↦ stops_memory stop.input fault taken runs never (inl cut)
+        | inr other ↦ elim other [ inl none ↦ stops_memory stop.input fault taken runs never (inr none) | inr unsent ↦ unsent.memory ]
+      ]
 
   pub note_turn : (input : Input) (count : ℕ) → IsEventBy next answers begin (λ given. given ≡ input) old new count → (sent : Sent) × IsTurn next answers begin old input new sent
   note_turn input count event = (event.sent, subst (λ (i : Input). IsTurn next answers begin old i new event.sent) event.is event.turn)

@@ -48,7 +48,7 @@ module _ {S P : Type 0} (next : S → Action → S) (answers : S → Action → 
     pub node_loops : AllZip (λ seat end.
         IsLooped next answers begin paced config.nodes turns seat (party_line seed (Node seat.number)) end) noted nodes
     pub task_loops : AllZip (λ seat end.
-        IsTaskLooped config.nodes turns (filter_map (call_by seat.number) events) seat (party_line seed (Task seat.number)) end) first_tasks tasks
+        IsTaskLooped next answers begin config.nodes turns (filter_map (call_by seat.number) events) seat (party_line seed (Task seat.number)) end) first_tasks tasks
 
   -- What was told of the nodes and tasks of these ends: the nodes reported to the audit; then all looked at the table as
   -- one. So many actions each node has applied, and these are the replies of all tasks. The nodes agree where of each all

@@ -174,68 +174,19 @@ fn a_put_refused_for_memory_writes_nothing(rt: HostRuntime) -> Result<(), Fail> 
     Ok(())
 }
 
-/// A device in memory whose next sync fails once no more are granted. It counts those that did not.
-#[derive(Drop)]
-struct LimitedDevice {
-    inner: MemDevice,
-    granted: u32,
-    syncs: u32,
-    failures: Count,
-}
-
-impl Device for LimitedDevice {
-    ghost use Rattle.rp_store.specs.Disk.{disk_of};
-
-    ghost disk = { λ d. record (disk_of d.inner) { failures = d.failures } };
-
-    fn append(&mut self, bytes: &[u8]) -> Result<(), Fault> {
-        self.inner.append(bytes)
-    }
-
-    fn sync(&mut self) -> Result<(), Fault> {
-        if self.granted == 0 {
-            self.failures.raise();
-            return Err(Fault::Device);
-        }
-        self.granted -= 1;
-        self.syncs = self.syncs.saturating_add(1);
-        self.inner.sync()
-    }
-
-    fn read(&mut self, alloc: Global) -> Result<Vec<u8>, Fault> {
-        self.inner.read(alloc)
-    }
-
-    fn len(&self) -> u64 {
-        self.inner.len()
-    }
-
-    fn cut(&mut self, len: u64) -> Result<(), Fault> {
-        self.inner.cut(len)
-    }
-}
-
-impl LimitedDevice {
-    /// It holds these bytes, none of them stable.
-    fn holding(alloc: Global, bytes: &[u8], granted: u32) -> Result<Self, Fail> {
-        let mut inner = MemDevice::new(alloc);
-        appends(&mut inner, bytes)?;
-        Ok(LimitedDevice {
-            inner,
-            granted,
-            syncs: 0,
-            failures: Count::new(),
-        })
-    }
+/// A device in memory that holds these bytes, none of them stable, and whose sync of this number fails.
+fn failing(alloc: Global, bytes: &[u8], sync: u64) -> Result<FailDevice<MemDevice>, Fail> {
+    let mut device = FailDevice::new(MemDevice::new(alloc), DeviceCall::Sync, sync, 0);
+    appends(&mut device, bytes)?;
+    Ok(device)
 }
 
 #[test]
 fn an_opening_syncs_once_whatever_the_device_holds(rt: HostRuntime) -> Result<(), Fail> {
     let cases: [&[u8]; 4] = [&[], &STARTED, &TORN, &WRONG];
     for bytes in &cases {
-        let device = LimitedDevice::holding(rt.alloc(), bytes, 9)?;
-        let opened = opened(&rt, rt.alloc(), device)?;
-        assert_eq!(rt; opened.store.close().syncs, 1);
+        let mut store = opened(&rt, rt.alloc(), failing(rt.alloc(), bytes, 2)?)?.store;
+        assert_eq!(rt; vote_fault(&mut store)?, Some(Fault::Device));
     }
     Ok(())
 }
@@ -249,22 +200,27 @@ fn vote_fault<D: Device>(store: &mut Store<D>) -> Result<Option<Fault>, Fail> {
     }
 }
 
-/// The device, where opening it fails.
+/// The device, where opening it fails. It is tried once more where memory was refused.
 fn not_opened<D: Device>(alloc: Global, device: D) -> Result<D, Fail> {
-    match Store::open(alloc, device) {
-        Ok(_) => Err("it opens")?,
-        Err((_, device)) => Ok(device),
-    }
+    let answer = match Store::open(alloc, device) {
+        Err((Fault::OutOfMemory, device)) => Store::open(alloc, device),
+        answer => answer,
+    };
+    Ok(answer.err().ok_or("it opens")?.1)
 }
 
 #[test]
-fn a_failed_sync_is_told_and_the_store_writes_no_more(rt: HostRuntime) -> Result<(), Fail> {
-    let device = LimitedDevice::holding(rt.alloc(), &STARTED, 1)?;
-    let mut store = opened(&rt, rt.alloc(), device)?.store;
+fn a_failed_sync_is_reported_and_the_store_writes_no_more(rt: HostRuntime) -> Result<(), Fail> {
+    let mut store = opened(&rt, rt.alloc(), failing(rt.alloc(), &STARTED, 2)?)?.store;
     assert_eq!(rt; vote_fault(&mut store)?, Some(Fault::Device));
     assert_eq!(rt; vote_fault(&mut store)?, Some(Fault::Failed));
     assert!(rt; store.has_failed());
-    let device = not_opened(rt.alloc(), store.close())?;
-    assert_eq!(rt; device.len(), 39);
-    opens(&rt, rt.alloc(), device.inner, &[started()?, voted()?], 0)
+    opens(&rt, rt.alloc(), store.close(), &[started()?, voted()?], 0)
+}
+
+#[test]
+fn an_opening_whose_sync_fails_keeps_the_records(rt: HostRuntime) -> Result<(), Fail> {
+    let device = not_opened(rt.alloc(), failing(rt.alloc(), &TORN, 1)?)?;
+    assert_eq!(rt; device.len(), 10);
+    opens(&rt, rt.alloc(), device, &[started()?], 0)
 }

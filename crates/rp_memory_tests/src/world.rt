@@ -7,7 +7,7 @@ use std::alloc::Global;
 use std::test::Fail;
 
 /// A step, taken once more where memory was refused and no message was sent.
-fn step<M: Machine, D: CutDevice>(
+pub(crate) fn step<M: Machine, D: CutDevice>(
     cluster: &mut Cluster<M, D>,
     alloc: Global,
     event: &Event,

@@ -4,7 +4,6 @@ use Rattle.std.proofs.lemmas.Grind.{common_steps}
 use Rattle.std.specs.Prelude.{IfOk, IfErr, IfSome, IsSome}
 use Rattle.rp_base.specs.declared.action.Action.{Action}
 use Rattle.rp_base.specs.declared.fault.Fault.{Fault}
-use Rattle.rp_base.specs.declared.fault.Fault.TheVariants.{Device}
 use Rattle.rp_base.specs.declared.reply.Answer.{Answer}
 use Rattle.rp_codec.specs.declared.packet.Party.{Party}
 use Rattle.rp_model.specs.Parts.{Running}
@@ -18,7 +17,6 @@ use Rattle.rp_threads.specs.declared.turns.Turn.{Turn}
 use Rattle.rp_threads.specs.declared.turns.Turn.TheVariants.{Received, Led, Idle}
 use Rattle.rp_threads.specs.declared.turns.Turned.{Turned}
 use Rattle.rp_threads.proofs.Steps.{same_part, same_seat, same_on, stop_same, stop_stays, turn_same, turn_events, turn_idle, fault_same, fault_events}
-use Rattle.rp_threads.proofs.Rounds.{refusal_stays}
 
 module _ {S P : Type 0} (next : S → Action → S) (answers : S → Action → List Answer) (begin : P → S) (from : Party) (lead : Bool) (old new : Chair P) (line after : Line) where
   -- ---- it stays the same seat
@@ -60,18 +58,18 @@ module _ {S P : Type 0} (next : S → Action → S) (answers : S → Action → 
       let one : events_of (Some turn) ≡ 1 = ap (λ (u : Turn). events_of (Some u)) anew.0 in
       omega (arith, first, more, one)
 
-  unmade_events : (fault : Fault) → (fault ≡ Device → ⊥) → IsUnmade next answers begin from lead old new line after fault → new.part.events ≡ old.part.events
-  unmade_events fault other (inl lost) = fault_events next answers begin from lead old new line after fault other (inl lost)
-  unmade_events fault other (inr (inl stopped)) = fault_events next answers begin from lead old new line after fault other (inr stopped)
-  unmade_events fault other (inr (inr anew)) =
-      ap (λ (c : Chair P). c.part.events) (stop_stays next answers begin (IsLeadAnew anew.between.part) anew.between new fault other anew.stops)
+  unmade_events : (fault : Fault) → is_refusal fault ≡ true → IsUnmade next answers begin from lead old new line after fault → new.part.events ≡ old.part.events
+  unmade_events fault refuses (inl lost) = fault_events next answers begin from lead old new line after fault refuses (inl lost)
+  unmade_events fault refuses (inr (inl stopped)) = fault_events next answers begin from lead old new line after fault refuses (inr stopped)
+  unmade_events fault refuses (inr (inr anew)) =
+      ap (λ (c : Chair P). c.part.events) (stop_stays next answers begin (IsLeadAnew anew.between.part) anew.between new fault refuses anew.stops)
       ∙ idle_events anew.between anew.turned anew.first anew.idle
 
   pub turned_events : (passes : Bool) (made : Option Turn) → IsMadeOrSkipped next answers begin from lead old new line after passes made
       → new.part.events ≡ old.part.events + events_of made
   turned_events passes (Some turn) made = made_events turn made.1
   turned_events passes None (inl stays) = let e : new.part.events ≡ old.part.events = ap (λ (c : Chair P). c.part.events) stays.1 in omega (arith, e)
-  turned_events passes None (inr refused) = let e = unmade_events refused.1 (refusal_stays refused.1 refused.2) refused.3 in omega (arith, e)
+  turned_events passes None (inr refused) = let e = unmade_events refused.1 refused.2 refused.3 in omega (arith, e)
 
   -- ---- an idle turn was not to lead
 

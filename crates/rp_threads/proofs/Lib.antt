@@ -7,5 +7,6 @@ pub mod Stops
 pub mod Chains
 pub mod TaskSteps
 pub mod TaskChains
+pub mod Offers
 pub mod Places
 mod Crossings

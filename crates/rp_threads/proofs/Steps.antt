@@ -4,7 +4,6 @@ use Rattle.std.specs.Prelude.{IfOk, IfErr}
 use Rattle.rp_base.specs.Sets.{Has}
 use Rattle.rp_base.specs.declared.action.Action.{Action}
 use Rattle.rp_base.specs.declared.fault.Fault.{Fault}
-use Rattle.rp_base.specs.declared.fault.Fault.TheVariants.{Device}
 use Rattle.rp_base.specs.declared.reply.Answer.{Answer}
 use Rattle.rp_base.proofs.Members.{has_right}
 use Rattle.rp_codec.specs.declared.packet.Party.{Party}
@@ -14,8 +13,8 @@ use Rattle.rp_replica.specs.declared.sent.Sent.{Sent}
 use Rattle.rp_tasks.specs.Line.{Line}
 use Rattle.rp_boxes.specs.Parts.{Part}
 use Rattle.rp_boxes.specs.Seats.{Chair, IsTurn}
-use Rattle.rp_threads.specs.Turns.{MayFetch, IsBrought, IsLost, turn_of, IsReceipt, IsLead, AreSentTexts, IsEventBy, IsStopBy, Works, Fails, IsNodeTurn, IsStoppedTurn}
-use Rattle.rp_threads.specs.Loops.{IsSameSeat, events_of}
+use Rattle.rp_threads.specs.Turns.{MayFetch, IsBrought, IsLost, turn_of, IsReceipt, IsLead, AreSent, IsAllOffered, IsEventBy, IsStopBy, Works, Fails, IsNodeTurn, IsStoppedTurn}
+use Rattle.rp_threads.specs.Loops.{IsSameSeat, events_of, is_refusal}
 use Rattle.rp_threads.specs.Lines.{given_on, line_after}
 use Rattle.rp_threads.specs.declared.turns.Turn.{Turn}
 use Rattle.rp_threads.specs.declared.turns.Turn.TheVariants.{Received, Led, Idle}
@@ -58,28 +57,53 @@ may_events {P} (Some text) from to old new f = ap (λ (c : Chair P). c.part.even
 module _ {S P : Type 0} (next : S → Action → S) (answers : S → Action → List Answer) (begin : P → S) where
   -- ---- what a step's packets are
 
-  pub sent_texts : (old new : Chair P) (input : Input) (sent : Sent) (texts : List ℕ) → IsTurn next answers begin old input new sent → texts ≡ sent.bytes.items
-      → AreSentTexts new.part texts
-  sent_texts old new input sent texts t same = record {
+  pub sent_by : (old new : Chair P) (input : Input) (sent : Sent) → IsTurn next answers begin old input new sent → AreSent new.part sent
+  sent_by old new input sent t = record {
     packets = t.done.sends;
-    texts = same ∙ t.tells.bytes;
-    sent = (λ m has. subst (λ (c : Chair P). Has m c.part.sent) (sym t.after) (has_right m old.part.sent t.done.sends has));
+    texts = t.tells.bytes;
+    count = t.tells.count;
+    sent_all = λ m has. subst (λ (c : Chair P). Has m c.part.sent) (sym t.after) (has_right m old.part.sent t.done.sends has);
   }
 
   -- ---- an event
+
+  -- by this input, once its packets were offered
+  pub event_by : (old new : Chair P) (input : Input) (sent : Sent) (turn : IsTurn next answers begin old input new sent) → IsAllOffered next answers begin (Node new.number) new sent
+      → IsEventBy next answers begin (λ given. given ≡ input) old new sent.packets
+  event_by old new input sent turn offered = record {
+    input = input;
+    is = refl;
+    sent = sent;
+    turn = turn;
+    told = refl;
+    offered = offered turn.done.sends turn.tells.bytes turn.tells.count
+        (λ m has. subst (λ (c : Chair P). Has m c.part.sent) (sym turn.after) (has_right m old.part.sent turn.done.sends has));
+  }
 
   pub event_got : (old new : Chair P) (input : Input) (sent : Sent) → IsTurn next answers begin old input new sent → new.part.got ≡ old.part.got
   event_got old new input sent t = ap (λ (c : Chair P). c.part.got) t.after
 
   pub stop_got : (Is : Input → Type 0) (old new : Chair P) (fault : Fault) → IsStopBy next answers begin Is old new fault → new.part.got ≡ old.part.got
-  stop_got Is old new fault s = elim s.why [ inl cut ↦ ap (λ (c : Chair P). c.part.got) cut.after | inr none ↦ ap (λ (c : Chair P). c.part.got) none.unchanged ]
+  stop_got Is old new fault s = elim s.why [
+    | inl cut ↦ ap (λ (c : Chair P). c.part.got) cut.after
+    | inr other ↦ elim other [
+      | inl none ↦ ap (λ (c : Chair P). c.part.got) none.unchanged
+      | inr unsent ↦ event_got old new s.input unsent.sent unsent.turn
+    ]
+  ]
 
   pub stop_same : (Is : Input → Type 0) (old new : Chair P) (fault : Fault) → IsStopBy next answers begin Is old new fault → IsSameSeat old new
-  stop_same Is old new fault s = elim s.why [ inl cut ↦ same_but old new new.failures _ cut.after | inr none ↦ same_seat old new none.unchanged ]
+  stop_same Is old new fault s = elim s.why [
+    | inl cut ↦ same_but old new new.failures _ cut.after
+    | inr other ↦ elim other [ inl none ↦ same_seat old new none.unchanged | inr unsent ↦ same_part old new _ unsent.turn.after ]
+  ]
 
-  -- a refusal that is not the device's leaves the seat as it is
-  pub stop_stays : (Is : Input → Type 0) (old new : Chair P) (fault : Fault) → (fault ≡ Device → ⊥) → IsStopBy next answers begin Is old new fault → new ≡ old
-  stop_stays Is old new fault other s = elim s.why [ inl cut ↦ absurd (other cut.device) | inr none ↦ none.unchanged ]
+  -- a refusal to lead leaves the seat as it is
+  pub stop_stays : (Is : Input → Type 0) (old new : Chair P) (fault : Fault) → is_refusal fault ≡ true → IsStopBy next answers begin Is old new fault → new ≡ old
+  stop_stays Is old new fault refuses s = elim s.why [
+    | inl cut ↦ let clash : false ≡ true = ap is_refusal (sym cut.device) ∙ refuses in absurd (cc)
+    | inr other ↦ elim other [ inl none ↦ none.unchanged | inr unsent ↦ let clash : false ≡ true = ap is_refusal (sym unsent.memory) ∙ refuses in absurd (cc) ]
+  ]
 
   -- ---- the work of a turn
 
@@ -99,17 +123,17 @@ module _ {S P : Type 0} (next : S → Action → S) (answers : S → Action → 
   fails_same None true old new fault f = stop_same IsLead old new fault f
   fails_same None false old new fault f = absurd f
 
-  pub fails_stays : (given : Option (List ℕ)) (lead : Bool) (old new : Chair P) (fault : Fault) → (fault ≡ Device → ⊥) → Fails next answers begin given lead old new fault → new ≡ old
-  fails_stays (Some text) lead old new fault other f = stop_stays (IsReceipt text) old new fault other f
-  fails_stays None true old new fault other f = stop_stays IsLead old new fault other f
-  fails_stays None false old new fault other f = absurd f
+  pub fails_stays : (given : Option (List ℕ)) (lead : Bool) (old new : Chair P) (fault : Fault) → is_refusal fault ≡ true → Fails next answers begin given lead old new fault → new ≡ old
+  fails_stays (Some text) lead old new fault refuses f = stop_stays (IsReceipt text) old new fault refuses f
+  fails_stays None true old new fault refuses f = stop_stays IsLead old new fault refuses f
+  fails_stays None false old new fault refuses f = absurd f
 
   -- the node receives what is given on
   pub received : (given : Option (List ℕ)) (text : List ℕ) (lead : Bool) (input : Input) (old new : Chair P) (count : ℕ) → given ≡ Some text → IsReceipt text input
       → IsEventBy next answers begin (λ i. i ≡ input) old new count → Works next answers begin given lead old new count
   received given text lead input old new count is receipt e =
       subst (λ (o : Option (List ℕ)). Works next answers begin o lead old new count) (sym is)
-      (record { input = e.input; is = subst (IsReceipt text) (sym e.is) receipt; sent = e.sent; turn = e.turn; told = e.told })
+      (record { input = e.input; is = subst (IsReceipt text) (sym e.is) receipt; sent = e.sent; turn = e.turn; told = e.told; offered = e.offered })
 
   pub receipt_stopped : (given : Option (List ℕ)) (text : List ℕ) (lead : Bool) (input : Input) (old new : Chair P) (fault : Fault) → given ≡ Some text → IsReceipt text input
       → IsStopBy next answers begin (λ i. i ≡ input) old new fault → Fails next answers begin given lead old new fault
@@ -157,9 +181,9 @@ module _ {S P : Type 0} (next : S → Action → S) (answers : S → Action → 
     stopped_same fault t =
         same_on old t.between new (may_same t.brought.fetched from (Node old.number) old t.between t.brought.fetch) (fails_same (given_on t.full) lead t.between new fault t.fails)
 
-    pub stopped_events : (fault : Fault) → (fault ≡ Device → ⊥) → IsStoppedTurn next answers begin from lead old new line after fault → new.part.events ≡ old.part.events
-    stopped_events fault other t =
-        ap (λ (c : Chair P). c.part.events) (fails_stays (given_on t.full) lead t.between new fault other t.fails)
+    pub stopped_events : (fault : Fault) → is_refusal fault ≡ true → IsStoppedTurn next answers begin from lead old new line after fault → new.part.events ≡ old.part.events
+    stopped_events fault refuses t =
+        ap (λ (c : Chair P). c.part.events) (fails_stays (given_on t.full) lead t.between new fault refuses t.fails)
         ∙ may_events t.brought.fetched from (Node old.number) old t.between t.brought.fetch
 
     -- a fault, of which nothing or the loss of a packet came
@@ -167,10 +191,10 @@ module _ {S P : Type 0} (next : S → Action → S) (answers : S → Action → 
     fault_same fault (inl lost) = same_part old new _ lost.fetch.after
     fault_same fault (inr stopped) = stopped_same fault stopped
 
-    pub fault_events : (fault : Fault) → (fault ≡ Device → ⊥) → IsLost from (Node old.number) old new line after fault ⊎ IsStoppedTurn next answers begin from lead old new line after fault
+    pub fault_events : (fault : Fault) → is_refusal fault ≡ true → IsLost from (Node old.number) old new line after fault ⊎ IsStoppedTurn next answers begin from lead old new line after fault
         → new.part.events ≡ old.part.events
-    fault_events fault other (inl lost) = ap (λ (c : Chair P). c.part.events) lost.fetch.after
-    fault_events fault other (inr stopped) = stopped_events fault other stopped
+    fault_events fault refuses (inl lost) = ap (λ (c : Chair P). c.part.events) lost.fetch.after
+    fault_events fault refuses (inr stopped) = stopped_events fault refuses stopped
 
     pub turn_idle : (turned : Turned) → IsNodeTurn next answers begin from lead old new line after turned → turned.turn ≡ Idle → lead ≡ false
     turn_idle turned t idle = idle_not_led (given_on t.full) lead turned.turn t.turn idle

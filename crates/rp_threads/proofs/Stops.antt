@@ -149,7 +149,10 @@ module _ {S P : Type 0} (next : S → Action → S) (answers : S → Action → 
   pub stop_left : (Is : Input → Type 0) (old new : Chair P) (fault : Fault) → IsStopBy next answers begin Is old new fault → IsLeft old new fault
   stop_left Is old new fault s = elim s.why [
     | inl cut ↦ inl (cut.device, cut.failed)
-    | inr none ↦ inr (sound_same old new none.unchanged, no_turn old new s.input fault none)
+    | inr other ↦ elim other [
+      | inl none ↦ inr (sound_same old new none.unchanged, no_turn old new s.input fault none)
+      | inr unsent ↦ inr (event_sound old new s.input unsent.sent unsent.turn, inr (inl unsent.memory))
+    ]
   ]
 
   works_sound : (given : Option (List ℕ)) (lead : Bool) (old new : Chair P) (count : ℕ) → Works next answers begin given lead old new count → IsSound old new

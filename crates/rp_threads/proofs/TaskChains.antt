@@ -50,7 +50,7 @@ less_of m n is = grind (arith, common_steps)
 
 -- ---- what is heard
 
-module _ {P : Type 0} (calls : List TaskCall) where
+module _ {S P : Type 0} (next : S → Action → S) (answers : S → Action → List Answer) (begin : P → S) (calls : List TaskCall) where
   -- the same seat, with so many calls made
   abbrev pub IsMadeOn : Chair P → Chair P → Calls → Calls → Type 0
   IsMadeOn old new before after = IsSameSeat old new × (HasMade calls old before.made before.waits → HasMade calls new after.made after.waits)
@@ -87,28 +87,28 @@ module _ {P : Type 0} (calls : List TaskCall) where
 
     -- ---- what is asked
 
-    submit_on : (call : Option TaskCall) (old new : Chair P) (made : ℕ) → slice_get calls made ≡ call → Asks (submitted call) old new
+    submit_on : (call : Option TaskCall) (old new : Chair P) (made : ℕ) → slice_get calls made ≡ call → Asks next answers begin (submitted call) old new
         → IsMadeOn old new (record { made = made; waits = false }) (with_call call made)
     submit_on None old new made at a = (same_seat old new a, λ h. subst (λ (c : Chair P). HasMade calls c made false) (sym a) h)
-    submit_on (Some call) old new made at a = (same_part old new _ a.1.after, λ h. call_made calls old new call made a.0 a.1 at h)
+    submit_on (Some call) old new made at a = (same_part old new _ a.turn.after, λ h. call_made calls old new call made a.sent a.turn at h)
 
-    again_on : (due : Bool) (node : ℕ) (old new : Chair P) (made : ℕ) → Asks (if due then Some (Again node) else None) old new
+    again_on : (due : Bool) (node : ℕ) (old new : Chair P) (made : ℕ) → Asks next answers begin (if due then Some (Again node) else None) old new
         → IsMadeOn old new (record { made = made; waits = true }) (record { made = made; waits = true })
-    again_on true node old new made a = (same_part old new _ a.1.after, λ h. again_made calls old new node made true a.0 a.1 h)
+    again_on true node old new made a = (same_part old new _ a.turn.after, λ h. again_made calls old new node made true a.sent a.turn h)
     again_on false node old new made a = (same_seat old new a, λ h. subst (λ (c : Chair P). HasMade calls c made true) (sym a) h)
 
-    asked_on : (waits : Bool) (turn : ℕ) (old new : Chair P) (made : ℕ) → Asks (asked_by waits nodes calls made turn) old new
+    asked_on : (waits : Bool) (turn : ℕ) (old new : Chair P) (made : ℕ) → Asks next answers begin (asked_by waits nodes calls made turn) old new
         → IsMadeOn old new (record { made = made; waits = waits }) (made_by waits calls made)
     asked_on true turn old new made a = again_on (nat_eq (turn % 16) 0) (node_at nodes (turn / 16)) old new made a
     asked_on false turn old new made a = submit_on (slice_get calls made) old new made refl a
 
-    turn_on : (turn : ℕ) (old new : TaskAt P) → IsTaskTurnOf nodes calls turn old new → IsMadeOn old.seat new.seat old.so_far new.so_far
+    turn_on : (turn : ℕ) (old new : TaskAt P) → IsTaskTurnOf next answers begin nodes calls turn old new → IsMadeOn old.seat new.seat old.so_far new.so_far
     turn_on turn old new t =
         subst (λ (c : Calls). IsMadeOn old.seat new.seat old.so_far c) (sym t.counts)
         (made_then old.seat t.heard new.seat old.so_far t.so_far (asked_for calls t.so_far)
         (hears_on turn old t.heard new.line t.so_far t.hears) (asked_on t.so_far.waits turn t.heard new.seat t.so_far.made t.asks))
 
-    turns_on : (first : TaskAt P) (n : ℕ) (now : TaskAt P) → AreTaskTurns nodes calls first n now → IsMadeOn first.seat now.seat first.so_far now.so_far
+    turns_on : (first : TaskAt P) (n : ℕ) (now : TaskAt P) → AreTaskTurns next answers begin nodes calls first n now → IsMadeOn first.seat now.seat first.so_far now.so_far
     turns_on first zero now are = subst (λ (at : TaskAt P). IsMadeOn first.seat at.seat first.so_far at.so_far) (sym are) (same_seat first.seat first.seat refl, λ h. h)
     turns_on first (suc n) now are =
         made_then first.seat are.0.seat now.seat first.so_far are.0.so_far now.so_far (turns_on first n are.0 are.1) (turn_on (suc n) are.0 now are.2)
@@ -228,7 +228,7 @@ module _ {P : Type 0} (calls : List TaskCall) where
     some_made true made seat h some = let e = h.waiting.2 in omega (arith, e)
     some_made false made seat h some = with_some calls (slice_get calls made) made refl some
 
-    first_made : (first : TaskAt P) (n : ℕ) (now : TaskAt P) → HasMade calls first.seat first.so_far.made first.so_far.waits → AreTaskTurns nodes calls first n now
+    first_made : (first : TaskAt P) (n : ℕ) (now : TaskAt P) → HasMade calls first.seat first.so_far.made first.so_far.waits → AreTaskTurns next answers begin nodes calls first n now
         → 0 < length calls → 0 < n → 0 < now.so_far.made
     first_made first zero now h are some more = absurd (omega (arith, more))
     first_made first (suc n) now h are some more =
@@ -240,9 +240,9 @@ module _ {P : Type 0} (calls : List TaskCall) where
 
     module _ {M : Type 0} (turns : ℕ) (seat : Chair P) (line : Line) (fresh : seat.part ≡ fresh_part (OfTask fresh_task)) (last_reply lost : ℕ) where
       abbrev IsEnd : TaskEnd M P → Type 0
-      IsEnd end = IsTaskLooped nodes turns calls seat line end
+      IsEnd end = IsTaskLooped next answers begin nodes turns calls seat line end
 
-      pub task_looped : (now : TaskAt P) → AreTaskTurns nodes calls (before_calls seat line) turns now → IsEnd (task_end_of now.seat now.so_far.made last_reply lost None)
+      pub task_looped : (now : TaskAt P) → AreTaskTurns next answers begin nodes calls (before_calls seat line) turns now → IsEnd (task_end_of now.seat now.so_far.made last_reply lost None)
       task_looped now are =
           let on = turns_on (before_calls seat line) turns now are in
           let none = none_made calls seat fresh in
@@ -254,7 +254,7 @@ module _ {P : Type 0} (calls : List TaskCall) where
             fault = tt;
           }
 
-      pub task_ended : (done : ℕ) (before last : TaskAt P) (fault : Fault) → 1 ≤ nodes → AreTaskTurns nodes calls (before_calls seat line) done before → done < turns
+      pub task_ended : (done : ℕ) (before last : TaskAt P) (fault : Fault) → 1 ≤ nodes → AreTaskTurns next answers begin nodes calls (before_calls seat line) done before → done < turns
           → IsUnmadeTurn nodes calls (suc done) before last fault → IsEnd (task_end_of last.seat last.so_far.made last_reply lost (Some fault))
       task_ended done before last fault some are within unmade =
           let on = turns_on (before_calls seat line) done before are in
@@ -272,7 +272,7 @@ module _ {P : Type 0} (calls : List TaskCall) where
 
 -- ---- one turn, by its steps
 
-module _ {P : Type 0} (nodes : ℕ) (calls : List TaskCall) (turn : ℕ) (old new : TaskAt P) (between : Chair P) (full : Line)
+module _ {S P : Type 0} (next : S → Action → S) (answers : S → Action → List Answer) (begin : P → S) (nodes : ℕ) (calls : List TaskCall) (turn : ℕ) (old new : TaskAt P) (between : Chair P) (full : Line)
     (brought : IsBrought (Node (node_at nodes turn)) (Task old.seat.number) old.seat between old.line full) where
   -- what the line gave on was heard, or memory ran out
   pub unheard : (fault : Fault) → fault ≡ OutOfMemory → new.seat ≡ between → new.line ≡ line_after full → new.so_far ≡ old.so_far → IsUnmadeTurn nodes calls turn old new fault
@@ -289,8 +289,8 @@ module _ {P : Type 0} (nodes : ℕ) (calls : List TaskCall) (turn : ℕ) (old ne
     abbrev is_heard : IsHeard nodes calls turn old heard new.line so_far
     is_heard = record { between = between; full = full; brought = brought; answered = answered; hears = hears; gives = gives; counts = counts }
 
-    pub turn_made : {A : Type 0} (result : Result A Fault) → OnOk result (Asks (asked_in nodes calls turn so_far) heard new.seat) → OnOk result (new.so_far ≡ asked_for calls so_far)
-        → OnOk result (IsTaskTurnOf nodes calls turn old new)
+    pub turn_made : {A : Type 0} (result : Result A Fault) → OnOk result (Asks next answers begin (asked_in nodes calls turn so_far) heard new.seat) → OnOk result (new.so_far ≡ asked_for calls so_far)
+        → OnOk result (IsTaskTurnOf next answers begin nodes calls turn old new)
     turn_made (Ok x) asks made = record { heard = heard; so_far = so_far; hears = is_heard; asks = asks; counts = made }
     turn_made (Err fault) asks made = tt
 

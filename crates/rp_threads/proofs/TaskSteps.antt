@@ -1,5 +1,5 @@
 -- What the steps of a task's loop do to the calls that it made.
-use Rattle.std.proofs.Common.{◌≡◌, ◌⊎◌, ℕ, suc, ◌+◌, ◌<◌, ◌≤◌, Bool, true, false, ◌&&◌, ◌||◌, not, nat_lt, nat_eq, Option, Some, None, Ok, Err, List, [], ◌∷◌, ◌++◌, length, is_some, slice_get, inl, inr, refl, sym, ap, subst, ◌∙◌, arith, add-one, length-append, append-nil, if◌then◌else◌}
+use Rattle.std.proofs.Common.{◌≡◌, ◌⊎◌, ℕ, suc, ◌+◌, ◌<◌, ◌≤◌, Bool, true, false, ◌&&◌, ◌||◌, not, nat_lt, nat_eq, Option, Some, None, Result, Ok, Err, List, ℤ, [], ◌∷◌, ◌++◌, length, is_some, slice_get, inl, inr, refl, sym, ap, subst, ◌∙◌, arith, add-one, length-append, append-nil, if◌then◌else◌}
 use borrow.Author.Count.{below_more}
 use Rattle.std.proofs.lemmas.Grind.{common_steps}
 use Rattle.std.proofs.lemmas.Option.{slice_get_within}
@@ -7,6 +7,7 @@ use Rattle.rp_base.specs.Calls.{are_spent, is_reply_to, next_call}
 use Rattle.rp_base.specs.Action.{is_right}
 use Rattle.rp_base.specs.Sets.{Has}
 use Rattle.rp_base.specs.declared.action.Action.{Action}
+use Rattle.rp_base.specs.declared.action.Operation.{Operation}
 use Rattle.rp_base.specs.declared.config.Config.{Config}
 use Rattle.rp_base.specs.declared.fault.Fault.{Fault}
 use Rattle.rp_base.specs.declared.fault.Fault.TheVariants.{OutOfMemory, NumbersSpent, BadConfig}
@@ -14,6 +15,7 @@ use Rattle.rp_base.specs.declared.reply.Answer.{Answer}
 use Rattle.rp_base.specs.declared.reply.Reply.{Reply}
 use Rattle.rp_base.proofs.Members.{has_left, has_right, has_split}
 use Rattle.rp_codec.specs.Message.{Message}
+use Rattle.rp_codec.specs.declared.packet.Party.TheVariants.{Task}
 use Rattle.rp_model.specs.Effect.{Done, goes_on_as}
 use Rattle.rp_model.specs.Parts.{TaskPart, fresh_task}
 use Rattle.rp_model.specs.Tasks.{TaskInput, Submit, Again, asks, may_call, calls_if, asks_again, task_hears}
@@ -25,7 +27,9 @@ use Rattle.rp_boxes.specs.Parts.{Part, Role, OfTask, part_after, with_got, fresh
 use Rattle.rp_boxes.specs.Seats.{Chair, IsSentText}
 use Rattle.rp_boxes.specs.TaskSeats.{IsTaskTurn, IsReplyTurn, told_effect}
 use Rattle.rp_boxes.proofs.TaskTurns.{tells_effect, told_quiet}
-use Rattle.rp_threads.specs.Tasks.{Waits, AsksForOne, call_after, first_asked, HasMade, AreSentOnce}
+use Rattle.rp_threads.specs.Tasks.{Waits, AsksForOne, call_after, first_asked, HasMade}
+use Rattle.rp_threads.specs.TaskRounds.{IsAskedBy}
+use Rattle.rp_threads.specs.Turns.{AreSent, IsAllOffered}
 use Rattle.rp_threads.specs.declared.tasks.TaskCall.{TaskCall}
 
 pub same_task : (role : Role) (a b : TaskPart) → role ≡ OfTask a → role ≡ OfTask b → a ≡ b
@@ -213,7 +217,7 @@ module _ {P : Type 0} (calls : List TaskCall) (old new : Chair P) where
 
 -- ---- the packets of a step
 
-pub sent_once : {P : Type 0} (old new : Chair P) (input : TaskInput) (sent : Sent) → IsTaskTurn old input new sent → AreSentOnce new.part sent
+pub sent_once : {P : Type 0} (old new : Chair P) (input : TaskInput) (sent : Sent) → IsTaskTurn old input new sent → AreSent new.part sent
 sent_once {P} old new input sent t = record {
   packets = t.done.sends;
   texts = t.tells.bytes;
@@ -221,15 +225,37 @@ sent_once {P} old new input sent t = record {
   sent_all = λ m has. subst (λ (c : Chair P). Has m c.part.sent) (sym t.after) (has_right m old.part.sent t.done.sends has);
 }
 
-one_among : (part : Part) (bytes : List ℕ) (packets : List Message) → bytes ≡ texts_of packets → 1 ≡ length packets → ((m : Message) → Has m packets → Has m part.sent)
-    → IsSentText part bytes
-one_among part bytes [] texts one all = absurd (omega (arith, one))
-one_among part bytes (m ∷ []) texts one all = (m, all m (inl refl), texts ∙ append-nil (text_of m))
-one_among part bytes (m ∷ other ∷ rest) texts one all = absurd (omega (arith, one))
+few_submitted : (number node : ℕ) (task : TaskPart) (call : Result Action Fault) (done : Done TaskPart) → calls_if number node task call ≡ Ok done → length done.sends ≤ 1
+few_submitted number node task (Ok call) done is = let e : calling number node task call ≡ done = cc in subst (λ (d : Done TaskPart). length d.sends ≤ 1) e (omega arith)
+few_submitted number node task (Err fault) done is = absurd (cc)
 
--- the bytes are the text of the packet, where there is one
-pub one_text : (part : Part) (sent : Sent) → AreSentOnce part sent → sent.packets ≡ 1 → IsSentText part sent.bytes.items
-one_text part sent a one = one_among part sent.bytes.items a.packets a.texts (sym one ∙ a.count) a.sent_all
+few_again : (number node : ℕ) (task : TaskPart) (outstanding : Option Action) → length (asks_again number node task outstanding).sends ≤ 1
+few_again number node task None = omega arith
+few_again number node task (Some call) = omega arith
+
+module _ {P : Type 0} (old new : Chair P) (sent : Sent) where
+  -- a call is asked by one packet at most
+  pub few_of_call : (node object : ℕ) (operation : Operation) (arg : ℤ) → IsTaskTurn old (Submit node object operation arg) new sent → sent.packets ≤ 1
+  few_of_call node object operation arg t =
+      let call = next_call old.number (length t.task.replies) object operation arg in
+      let few = few_submitted old.number node t.task (may_call old.config node t.task call t.task.outstanding) t.done t.comes in
+      omega (arith, few, t.tells.count)
+
+  pub few_of_again : (node : ℕ) → IsTaskTurn old (Again node) new sent → sent.packets ≤ 1
+  few_of_again node t =
+      let done : t.done ≡ asks_again old.number node t.task t.task.outstanding = asked old.number node t.task t.done (nat_lt old.config.nodes node) t.comes in
+      let few : length t.done.sends ≤ 1 = subst (λ (d : Done TaskPart). length d.sends ≤ 1) (sym done) (few_again old.number node t.task t.task.outstanding) in
+      omega (arith, few, t.tells.count)
+
+  -- what is asked, once its packet was offered
+  pub asked_by_turn : {S : Type 0} (next : S → Action → S) (answers : S → Action → List Answer) (begin : P → S) (input : TaskInput) (turn : IsTaskTurn old input new sent)
+      → IsAllOffered next answers begin (Task new.number) new sent → IsAskedBy next answers begin input old new
+  asked_by_turn next answers begin input turn offered = record {
+    sent = sent;
+    turn = turn;
+    offered = offered turn.done.sends turn.tells.bytes turn.tells.count
+        (λ m has. subst (λ (c : Chair P). Has m c.part.sent) (sym turn.after) (has_right m old.part.sent turn.done.sends has));
+  }
 
 -- ---- at first
 

@@ -1,11 +1,15 @@
 -- The turns of a task's loop: it fetches from one node, takes what its line gives on, and asks (this project's own).
 use Rattle.std.specs.Prelude.{◌≡◌, ◌⊎◌, ℕ, zero, suc, ◌+◌, ◌%◌, ◌/◌, ◌<◌, ◌||◌, not, nat_eq, nat_lt, Bool, true, false, is_some, Option, Some, None, List, slice_get, if◌then◌else◌}
 use Rattle.rp_base.specs.Action.{is_right}
+use Rattle.rp_base.specs.Sets.{Has}
+use Rattle.rp_base.specs.declared.action.Action.{Action}
 use Rattle.rp_base.specs.Calls.{are_spent}
 use Rattle.rp_base.specs.declared.config.Config.{Config}
 use Rattle.rp_base.specs.declared.fault.Fault.{Fault}
 use Rattle.rp_base.specs.declared.fault.Fault.TheVariants.{OutOfMemory, NumbersSpent, BadConfig}
 use Rattle.rp_base.specs.declared.reply.Answer.{Answer}
+use Rattle.rp_codec.specs.Message.{Message}
+use Rattle.rp_codec.specs.Text.{text_of}
 use Rattle.rp_codec.specs.declared.packet.Party.TheVariants.{Node, Task}
 use Rattle.rp_model.specs.Tasks.{TaskInput, Submit, Again}
 use Rattle.rp_replica.specs.declared.sent.Sent.{Sent}
@@ -15,7 +19,7 @@ use Rattle.rp_boxes.specs.TaskSeats.{IsTaskTurn, IsNoTaskTurn, IsReplyTurn}
 use Rattle.rp_threads.specs.Lines.{given_on, line_after}
 use Rattle.rp_threads.specs.Loops.{node_at}
 use Rattle.rp_threads.specs.Tasks.{TaskAt, call_after}
-use Rattle.rp_threads.specs.Turns.{IsBrought, IsLost}
+use Rattle.rp_threads.specs.Turns.{IsBrought, IsLost, IsOffered}
 use Rattle.rp_threads.specs.declared.tasks.Calls.{Calls}
 use Rattle.rp_threads.specs.declared.tasks.TaskCall.{TaskCall}
 
@@ -45,10 +49,17 @@ asked_by false nodes calls made turn = submitted (slice_get calls made)
 abbrev pub asked_in : ℕ → List TaskCall → ℕ → Calls → Option TaskInput
 asked_in nodes calls turn so_far = asked_by so_far.waits nodes calls so_far.made turn
 
--- the seat once that is asked
-abbrev pub Asks : {P : Type 0} → Option TaskInput → Chair P → Chair P → Type 0
-Asks None old new = new ≡ old
-Asks (Some input) old new = (sent : Sent) × IsTaskTurn old input new sent
+module _ {S P : Type 0} (next : S → Action → S) (answers : S → Action → List Answer) (begin : P → S) where
+  -- One event, by this input; its packet, if it sends one, was offered to its box.
+  pub record IsAskedBy (input : TaskInput) (old new : Chair P) : Type 0 where
+    pub sent : Sent
+    pub turn : IsTaskTurn old input new sent
+    pub offered : (m : Message) → Has m turn.done.sends → IsOffered next answers begin (Task new.number) new (text_of m)
+
+  -- the seat once that is asked
+  abbrev pub Asks : Option TaskInput → Chair P → Chair P → Type 0
+  Asks None old new = new ≡ old
+  Asks (Some input) old new = IsAskedBy input old new
 
 -- it is refused
 abbrev pub IsRefused : {P : Type 0} → Option TaskInput → Chair P → Chair P → Fault → Type 0
@@ -93,14 +104,6 @@ module _ {P : Type 0} (nodes : ℕ) (calls : List TaskCall) where
     pub gives : line ≡ line_after full
     pub counts : so_far ≡ heard_by answered old.so_far
 
-  -- The turn of this number.
-  pub record IsTaskTurnOf (turn : ℕ) (old new : TaskAt P) : Type 0 where
-    pub heard : Chair P
-    pub so_far : Calls
-    pub hears : IsHeard turn old heard new.line so_far
-    pub asks : Asks (asked_in nodes calls turn so_far) heard new.seat
-    pub counts : new.so_far ≡ asked_for calls so_far
-
   -- The turn was not made: what the line gave on is lost, since memory ran out.
   pub record IsUnheard (turn : ℕ) (old new : TaskAt P) (fault : Fault) : Type 0 where
     pub full : Line
@@ -121,6 +124,15 @@ module _ {P : Type 0} (nodes : ℕ) (calls : List TaskCall) where
       (IsLost (Node (node_at nodes turn)) (Task old.seat.number) old.seat new.seat old.line new.line fault × (new.so_far ≡ old.so_far))
       ⊎ (IsUnheard turn old new fault ⊎ IsUnasked turn old new fault)
 
+module _ {S P : Type 0} (next : S → Action → S) (answers : S → Action → List Answer) (begin : P → S) (nodes : ℕ) (calls : List TaskCall) where
+  -- The turn of this number.
+  pub record IsTaskTurnOf (turn : ℕ) (old new : TaskAt P) : Type 0 where
+    pub heard : Chair P
+    pub so_far : Calls
+    pub hears : IsHeard nodes calls turn old heard new.line so_far
+    pub asks : Asks next answers begin (asked_in nodes calls turn so_far) heard new.seat
+    pub counts : new.so_far ≡ asked_for calls so_far
+
   -- the turns 1 to n, one after the other
   abbrev pub AreTaskTurns : TaskAt P → ℕ → TaskAt P → Type 0
   AreTaskTurns first zero now = now ≡ first
@@ -133,4 +145,4 @@ module _ {P : Type 0} (nodes : ℕ) (calls : List TaskCall) where
     pub within : done < turns
     pub before : TaskAt P
     pub made : AreTaskTurns first done before
-    pub unmade : IsUnmadeTurn (suc done) before last fault
+    pub unmade : IsUnmadeTurn nodes calls (suc done) before last fault

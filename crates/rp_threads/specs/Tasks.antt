@@ -49,13 +49,6 @@ pub record HasMade {P : Type 0} (calls : List TaskCall) (seat : Chair P) (made :
   pub count : length task.replies + (if waits then 1 else 0) ≡ made
   pub waiting : Waits seat.number calls made waits task.outstanding
 
--- The bytes are the texts of these packets that the actor sent.
-pub record AreSentOnce (part : Part) (sent : Sent) : Type 0 where
-  pub packets : List Message
-  pub texts : sent.bytes.items ≡ texts_of packets
-  pub count : sent.packets ≡ length packets
-  pub sent_all : (m : Message) → Has m packets → Has m part.sent
-
 -- where a task's loop is: its seat, its line, and how many calls it made
 pub record TaskAt (P : Type 0) : Type 0 where
   pub seat : Chair P

@@ -56,9 +56,9 @@ task_at_end end line waits = record { seat = end.seat; line = line; so_far = rec
 
 -- A loop of so many turns, of the task of this seat with these calls among so many nodes and over this line, had this
 -- end: without a fault all turns from 1 on were made, one after the other, else one was not made, by that fault.
-pub record IsTaskLooped {M P : Type 0} (nodes turns : ℕ) (calls : List TaskCall) (seat : Chair P) (line : Line) (end : TaskEnd M P) : Type 0 where
+pub record IsTaskLooped {S M P : Type 0} (next : S → Action → S) (answers : S → Action → List Answer) (begin : P → S) (nodes turns : ℕ) (calls : List TaskCall) (seat : Chair P) (line : Line) (end : TaskEnd M P) : Type 0 where
   pub same : IsSameSeat seat end.seat
-  pub turned : end.fault ≡ None → (after : Line) × (waits : Bool) × AreTaskTurns nodes calls (before_calls seat line) turns (task_at_end end after waits)
+  pub turned : end.fault ≡ None → (after : Line) × (waits : Bool) × AreTaskTurns next answers begin nodes calls (before_calls seat line) turns (task_at_end end after waits)
   pub made : (waits : Bool) × HasMade calls end.seat end.made waits
   pub first : end.fault ≡ None → 0 < length calls → 0 < turns → 0 < end.made
-  pub fault : IfSome end.fault (λ fault. (after : Line) × (waits : Bool) × IsTaskEndedBy nodes calls (before_calls seat line) turns (task_at_end end after waits) fault)
+  pub fault : IfSome end.fault (λ fault. (after : Line) × (waits : Bool) × IsTaskEndedBy next answers begin nodes calls (before_calls seat line) turns (task_at_end end after waits) fault)

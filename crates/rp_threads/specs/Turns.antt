@@ -1,11 +1,12 @@
 -- What a turn of a node comes to (this project's own).
-use Rattle.std.specs.Prelude.{◌≡◌, ◌⊎◌, ℕ, Bool, true, false, Option, Some, None, List}
+use Rattle.std.specs.Prelude.{◌≡◌, ◌⊎◌, ℕ, Bool, true, false, Option, Some, None, List, length}
 use Rattle.rp_base.specs.declared.action.Action.{Action}
 use Rattle.rp_base.specs.declared.fault.Fault.{Fault}
 use Rattle.rp_base.specs.declared.fault.Fault.TheVariants.{OutOfMemory}
 use Rattle.rp_base.specs.declared.reply.Answer.{Answer}
 use Rattle.rp_base.specs.Sets.{Has}
 use Rattle.rp_codec.specs.Message.{Message}
+use Rattle.rp_codec.specs.Text.{text_of}
 use Rattle.rp_codec.specs.declared.packet.Party.{Party}
 use Rattle.rp_codec.specs.declared.packet.Party.TheVariants.{Node}
 use Rattle.rp_replica.specs.Packets.{texts_of}
@@ -13,6 +14,7 @@ use Rattle.rp_replica.specs.declared.input.Input.{Input}
 use Rattle.rp_replica.specs.declared.input.Input.TheVariants.{Receive, Lead, Interrupt, Tick, Report}
 use Rattle.rp_replica.specs.declared.sent.Sent.{Sent}
 use Rattle.rp_tasks.specs.Line.{Line}
+use Rattle.rp_boxes.specs.Moments.{WasPut, WasInUse}
 use Rattle.rp_boxes.specs.Parts.{Part}
 use Rattle.rp_boxes.specs.Seats.{Chair, IsFetched, IsTurn, IsCutTurn, IsNoTurn}
 use Rattle.rp_threads.specs.Lines.{line_with, given_on, line_after}
@@ -60,26 +62,56 @@ IsReceipt text (Report first) = ⊥
 abbrev pub IsLead : Input → Type 0
 IsLead input = input ≡ Lead None
 
--- The bytes are the texts of packets that the actor sent, one behind the other.
+-- The bytes are the texts of packets that the actor sent, one after the other.
 pub record AreSentTexts (part : Part) (bytes : List ℕ) : Type 0 where
   pub packets : List Message
   pub texts : bytes ≡ texts_of packets
   pub sent : (m : Message) → Has m packets → Has m part.sent
 
+-- So are those that a step gives out, and it says how many packets they are.
+pub record AreSent (part : Part) (sent : Sent) : Type 0 where
+  pub packets : List Message
+  pub texts : sent.bytes.items ≡ texts_of packets
+  pub count : sent.packets ≡ length packets
+  pub sent_all : (m : Message) → Has m packets → Has m part.sent
+
 module _ {S P : Type 0} (next : S → Action → S) (answers : S → Action → List Answer) (begin : P → S) where
-  -- One event, by such an input; so many packets were sent.
+  -- the packet of this text went from the seat of a party into its box, or that box was not empty
+  abbrev pub IsOffered : Party → Chair P → List ℕ → Type 0
+  IsOffered from seat text = WasPut next answers begin from text seat ⊎ WasInUse next answers begin from text seat
+
+  -- The bytes are the texts of packets that the party sent, and each of these was offered to its box.
+  pub record AreOffered (from : Party) (seat : Chair P) (bytes : List ℕ) : Type 0 where
+    pub are : AreSentTexts seat.part bytes
+    pub each : (m : Message) → Has m are.packets → IsOffered from seat (text_of m)
+
+  -- each packet that a step gives out was offered to its box
+  abbrev pub IsAllOffered : Party → Chair P → Sent → Type 0
+  IsAllOffered from seat sent =
+      (packets : List Message) → sent.bytes.items ≡ texts_of packets → sent.packets ≡ length packets
+      → ((m : Message) → Has m packets → Has m seat.part.sent) → (m : Message) → Has m packets → IsOffered from seat (text_of m)
+
+  -- One event, by such an input; so many packets were sent, each of which was offered to its box.
   pub record IsEventBy (Is : Input → Type 0) (old new : Chair P) (packets : ℕ) : Type 0 where
     pub input : Input
     pub is : Is input
     pub sent : Sent
     pub turn : IsTurn next answers begin old input new sent
     pub told : packets ≡ sent.packets
+    pub offered : (m : Message) → Has m turn.done.sends → IsOffered (Node new.number) new (text_of m)
 
-  -- The step by such an input was cut, or was none.
+  -- One event, but memory ran out before each of its packets was offered to its box.
+  pub record IsUnsent (old : Chair P) (input : Input) (new : Chair P) (fault : Fault) : Type 0 where
+    pub memory : fault ≡ OutOfMemory
+    pub sent : Sent
+    pub turn : IsTurn next answers begin old input new sent
+
+  -- The step by such an input was cut, or was none, or not all of its packets were offered.
   pub record IsStopBy (Is : Input → Type 0) (old new : Chair P) (fault : Fault) : Type 0 where
     pub input : Input
     pub is : Is input
-    pub why : IsCutTurn next answers begin old input new fault ⊎ IsNoTurn next answers begin old input new fault
+    pub why : IsCutTurn next answers begin old input new fault
+        ⊎ (IsNoTurn next answers begin old input new fault ⊎ IsUnsent old input new fault)
 
   -- what the turn does to the seat, by what the line gives on and whether the node is to lead
   abbrev pub Works : Option (List ℕ) → Bool → Chair P → Chair P → ℕ → Type 0

@@ -65,7 +65,7 @@ pub(crate) struct TaskOwes<M: Machine> {
 impl<M: Machine> Promise<TaskEnd<M>> for TaskOwes<M> {
     ghost use Rattle.rp_threads.specs.Threads.{IsTaskLooped};
 
-    ghost kept_by = { λ owes end. IsTaskLooped owes.nodes owes.turns
+    ghost kept_by = { λ owes end. IsTaskLooped M.next M.answers M.begin owes.nodes owes.turns
         owes.calls.value.items owes.seat.value owes.line.value end };
 }
 
@@ -139,7 +139,7 @@ where
             requires nodes { (1 ≤ nodes) × (nodes ≤ 7) }
             requires line { line.held ≡ [] }
             requires fresh { seat.part ≡ fresh_part (OfTask fresh_task) }
-            ensures { IsTaskLooped nodes turns calls.items seat line result }
+            ensures { IsTaskLooped M.next M.answers M.begin nodes turns calls.items seat line result }
         { task_loop(seat, calls.as_slice(), line, alloc, nodes, gate, turns) },
     )?;
     Ok(handle)

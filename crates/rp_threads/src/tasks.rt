@@ -8,10 +8,10 @@ ghost use Rattle.rp_codec.specs.declared.packet.Party.TheVariants as parties;
 ghost use Rattle.rp_model.specs.Parts.{fresh_task};
 ghost use Rattle.rp_model.specs.Tasks.{Again};
 ghost use Rattle.rp_threads.specs.Lines.{HoldsTextsOf, given_on, line_after};
-ghost use Rattle.rp_threads.specs.Tasks.{AreSentOnce, called};
+ghost use Rattle.rp_threads.specs.Tasks.{called};
 ghost use Rattle.rp_threads.specs.TaskRounds.{Hears, Asks, IsRefused, IsTaskTurnOf, IsUnmadeTurn, asked_in, asked_for, heard_by, submitted};
 ghost use Rattle.rp_threads.specs.Threads.{IsTaskLooped, task_end_of};
-ghost use Rattle.rp_threads.specs.Turns.{IsBrought, IsLost};
+ghost use Rattle.rp_threads.specs.Turns.{AreSent, IsAllOffered, IsBrought, IsLost, IsOffered};
 
 use crate::gate::Gate;
 use crate::rotation::node_in_turn;
@@ -128,17 +128,23 @@ fn hear<M: Machine>(
 /// Puts a packet that the task sent into its box. Where the box is not empty it is lost, and counted.
 fn put_text<M: Machine>(seat: &mut TaskSeat<M>, packet: Vec<u8>)
     requires { IsSentText seat.old.part packet.items }
-    ensures { seat.new ≡ seat.old }
+    ensures unchanged { seat.new ≡ seat.old }
+    ensures offered { IsOffered M.next M.answers M.begin (parties.Task seat.new.number)
+        seat.new packet.items }
 {
-    if seat.put(packet).is_err() {
-        seat.lose();
+    match seat.put(packet) {
+        Ok(()) => {}
+        Err(_) => seat.lose(),
     }
 }
 
 /// Puts the packet of a step into its box, if it has one.
 fn put_sent<M: Machine>(seat: &mut TaskSeat<M>, sent: Sent)
-    requires { AreSentOnce seat.old.part sent }
-    ensures { seat.new ≡ seat.old }
+    requires sent { AreSent seat.old.part sent }
+    requires few { sent.packets ≤ 1 }
+    ensures unchanged { seat.new ≡ seat.old }
+    ensures offered { IsAllOffered M.next M.answers M.begin (parties.Task seat.new.number)
+        seat.new sent }
 {
     if sent.packets == 1 {
         put_text(seat, sent.bytes);
@@ -155,7 +161,7 @@ fn make<M: Machine>(
     arg: i64,
 ) -> Result<(), Fault>
     ensures got { seat.new.part.got ≡ seat.old.part.got }
-    ensures ok { OnOk result (Asks (submitted (Some (called node object operation arg)))
+    ensures ok { OnOk result (Asks M.next M.answers M.begin (submitted (Some (called node object operation arg)))
         seat.old seat.new) }
     ensures err { IfErr result (IsRefused (submitted (Some (called node object operation arg)))
         seat.old seat.new) }
@@ -168,7 +174,7 @@ fn make<M: Machine>(
 /// The task asks a node once more, for the call that it waits for.
 fn ask_again<M: Machine>(seat: &mut TaskSeat<M>, alloc: Global, node: NodeId) -> Result<(), Fault>
     ensures got { seat.new.part.got ≡ seat.old.part.got }
-    ensures ok { OnOk result (Asks (Some (Again node)) seat.old seat.new) }
+    ensures ok { OnOk result (Asks M.next M.answers M.begin (Some (Again node)) seat.old seat.new) }
     ensures err { IfErr result (IsRefused (Some (Again node)) seat.old seat.new) }
 {
     let sent = seat.retry(alloc, node)?;
@@ -188,7 +194,7 @@ fn ask<M: Machine>(
 ) -> Result<(), Fault>
     requires nodes { (1 ≤ nodes) × (nodes ≤ 7) }
     ensures got { seat.new.part.got ≡ seat.old.part.got }
-    ensures ok { OnOk result (Asks (asked_in nodes calls.now turn so_far.old) seat.old seat.new) }
+    ensures ok { OnOk result (Asks M.next M.answers M.begin (asked_in nodes calls.now turn so_far.old) seat.old seat.new) }
     ensures made { OnOk result (so_far.new ≡ asked_for calls.now so_far.old) }
     ensures err { IfErr result (λ fault. (so_far.new ≡ so_far.old)
         × IsRefused (asked_in nodes calls.now turn so_far.old) seat.old seat.new fault) }
@@ -234,7 +240,7 @@ impl<M: Machine> Caller<M> {
         requires nodes { (1 ≤ nodes) × (nodes ≤ 7) }
         requires held { HoldsTextsOf self.old.seat.part.got self.old.line }
         ensures held { HoldsTextsOf self.new.seat.part.got self.new.line }
-        ensures ok { OnOk result (IsTaskTurnOf nodes calls.now turn
+        ensures ok { OnOk result (IsTaskTurnOf M.next M.answers M.begin nodes calls.now turn
             (record { seat = self.old.seat; line = self.old.line; so_far = self.old.so_far })
             (record { seat = self.new.seat; line = self.new.line; so_far = self.new.so_far })) }
         ensures err { IfErr result (IsUnmadeTurn nodes calls.now turn
@@ -272,7 +278,7 @@ pub fn task_loop<M: Machine, G: Gate>(
     requires nodes { (1 ≤ nodes) × (nodes ≤ 7) }
     requires line { line.held ≡ [] }
     requires fresh { seat.part ≡ fresh_part (OfTask fresh_task) }
-    ensures { IsTaskLooped nodes turns calls.now seat line result }
+    ensures { IsTaskLooped M.next M.answers M.begin nodes turns calls.now seat line result }
 {
     let mut caller = Caller {
         seat,

@@ -86,7 +86,7 @@ fn join_tasks<R: Threads, M: Machine>(
     rt: &R,
     handles: Vec<PromisedHandle<TaskEnd<M>, TaskOwes<M>>>,
 ) -> Result<Vec<TaskEnd<M>>, AllocError>
-    ensures { IfOk result (λ ends. AllZip (λ handle end. IsTaskLooped
+    ensures { IfOk result (λ ends. AllZip (λ handle end. IsTaskLooped M.next M.answers M.begin
         handle.promise.nodes handle.promise.turns handle.promise.calls.value.items
         handle.promise.seat.value handle.promise.line.value end) handles.items ends.items) }
 {
@@ -114,7 +114,7 @@ where
         IsLooped M.next M.answers M.begin G.lets (length nodes.items) turns
         start.seat start.line end) nodes.items ends.0.items) }
     ensures tasks { IfOk result (λ ends. AllZip (λ start end.
-        IsTaskLooped (length nodes.items) turns start.calls.items
+        IsTaskLooped M.next M.answers M.begin (length nodes.items) turns start.calls.items
         start.seat start.line end) tasks.items ends.1.items) }
 {
     let count = nodes.len() as u8;
@@ -148,7 +148,7 @@ where
         IsLooped M.next M.answers M.begin G.lets (length nodes.items) turns
         start.seat start.line end) nodes.items ends.0.items) }
     ensures tasks { IfOk result (λ ends. AllZip (λ start end.
-        IsTaskLooped (length nodes.items) turns start.calls.items
+        IsTaskLooped M.next M.answers M.begin (length nodes.items) turns start.calls.items
         start.seat start.line end) tasks.items ends.1.items) }
 {
     thread::scope(
@@ -164,7 +164,7 @@ where
                 IsLooped M.next M.answers M.begin G.lets (length nodes.items) turns
                 start.seat start.line end) nodes.items ends.0.items) }
             ensures tasks { IfOk result (λ ends. AllZip (λ start end.
-                IsTaskLooped (length nodes.items) turns start.calls.items
+                IsTaskLooped M.next M.answers M.begin (length nodes.items) turns start.calls.items
                 start.seat start.line end) tasks.items ends.1.items) }
         { run_within(scope, rt, alloc, nodes, tasks, gate, turns) },
     )

@@ -58,8 +58,9 @@ fn bring<M: Machine, D: Device>(
 }
 
 /// One step of a node, of a packet that its seat got or of another input, whose packets go into their
-/// boxes: one whose box is full, or for which memory is wanting, is lost. How many were sent. Refused
-/// as `NodeSeat::turn` is, which says what that leaves.
+/// boxes: one whose box is not empty is lost. How many were sent. Refused as `NodeSeat::turn` is, which
+/// says what that leaves; and with `OutOfMemory` where memory runs out for the copy of a packet: then
+/// the step was made, and that packet and those after it are lost.
 pub fn node_step<M: Machine, D: Device>(
     seat: &mut NodeSeat<M, D>,
     alloc: Global,
@@ -75,7 +76,7 @@ pub fn node_step<M: Machine, D: Device>(
 {
     let sent = seat.turn(alloc, input)?;
     let packets = sent.packets;
-    put_all(seat, alloc, sent.bytes, packets);
+    put_all(seat, alloc, sent)?;
     Ok(packets)
 }
 
@@ -121,9 +122,9 @@ fn work<M: Machine, D: Device>(
 
 /// A turn of a node: the line takes the packet in the box from a party, if there is one, and the
 /// node receives what the line then gives on. Where the line holds nothing, the node leads if it is
-/// to, and is else idle. The packets that it sends go into their boxes; one whose box is full, or
-/// for which memory is wanting, is lost. At a fault the packet that was fetched is lost if memory was
-/// wanting for it, and else the one that the line gave on.
+/// to, and is else idle. The packets that it sends go into their boxes; one whose box is not empty is
+/// lost. At a fault the packet that was fetched is lost if memory ran out for it, and else the one that
+/// the line gave on; where memory ran out for the copy of a packet that was sent, the step was made.
 pub fn node_turn<M: Machine, D: Device>(
     seat: &mut NodeSeat<M, D>,
     line: &mut FaultLine,

@@ -1,7 +1,18 @@
--- The seat stays as it is, and what is left are texts of packets that it sent.
-use Rattle.std.proofs.Common.{◌≡◌}
+-- The seat stays as it is; what is left are texts of packets that it sent, and those up to there were offered.
+use Rattle.std.proofs.Common.{◌≡◌, length}
+use Rattle.rp_codec.specs.declared.packet.Party.TheVariants.{Node}
 use Rattle.rp_threads.specs.Turns.{AreSentTexts}
+use Rattle.rp_threads.proofs.Offers.{IsPartOffered}
 use Rattle.rp_threads.proofs.sends.put_each.Given as goal
 
-abbrev pub invariant-loop : goal.invariant-loop
-invariant-loop g l = record { same : l.seat ≡ l.fn.seat; texts : AreSentTexts l.fn.seat.part l.rest }
+abbrev pub invariant-loop-len : goal.invariant-loop-len
+invariant-loop-len g l =
+    let m = g.M.Machine in
+    record {
+      same : l.seat ≡ l.fn.seat;
+      texts : AreSentTexts l.fn.seat.part l.rest;
+      offered : IsPartOffered m.next m.answers m.begin (Node l.fn.seat.number) l.fn.seat l.texts l.rest;
+    }
+
+abbrev pub decreases-loop-len : goal.decreases-loop-len
+decreases-loop-len g l = length l.rest

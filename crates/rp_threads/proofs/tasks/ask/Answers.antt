@@ -33,14 +33,16 @@ returns-in_err-make-clause-err g c =
 
 pub returns-in_ok-ask_again-clause-ok : goal.returns-in_ok-ask_again-clause-ok
 returns-in_ok-ask_again-clause-ok g c =
+    let m = g.M.Machine in
     let a = c.args in
     let now = c.ask_again.new.seat in
-    let asks = subst (λ (n : ℕ). Asks (Some (Again n)) a.seat.now now) c.node_in_turn.ensures c.in_ok-ask_again.ensures.ok in
-    let due = subst (λ (r : ℕ). Asks (if nat_eq r 0 then Some (Again (node_at a.nodes (a.turn / 16))) else None) a.seat.now now) (sym c.if-turn-eq0.true) asks in
-    subst (λ (b : Bool). Asks (asked_by b a.nodes a.calls.now a.so_far.now.made a.turn) a.seat.now now) (sym c.if-so_far.true) due
+    let asks = subst (λ (n : ℕ). Asks m.next m.answers m.begin (Some (Again n)) a.seat.now now) c.node_in_turn.ensures c.in_ok-ask_again.ensures.ok in
+    let due = subst (λ (r : ℕ). Asks m.next m.answers m.begin (if nat_eq r 0 then Some (Again (node_at a.nodes (a.turn / 16))) else None) a.seat.now now) (sym c.if-turn-eq0.true) asks in
+    subst (λ (b : Bool). Asks m.next m.answers m.begin (asked_by b a.nodes a.calls.now a.so_far.now.made a.turn) a.seat.now now) (sym c.if-so_far.true) due
 
 pub returns-in_ok-make-clause-ok : goal.returns-in_ok-make-clause-ok
 returns-in_ok-make-clause-ok g c =
+    let m = g.M.Machine in
     let a = c.args in
     let now = c.make.new.seat in
     let made = a.so_far.now.made in
@@ -48,9 +50,9 @@ returns-in_ok-make-clause-ok g c =
     let here = slice_get_read a.calls.now (length a.calls.now) made c.in-Some.call.now refl found.3.0 found.1 in
     let call = c.in-Some.call.now in
     let fits : FitsSigned w64 call.arg = search rules in
-    let told = subst (λ (z : ℤ). Asks (Some (Submit call.node call.object call.operation z)) a.seat.now now) (to_z-of_z w64 call.arg fits) c.in_ok-make.ensures.ok in
-    let asks = subst (λ (o : Option TaskCall). Asks (submitted o) a.seat.now now) (sym here) told in
-    subst (λ (b : Bool). Asks (asked_by b a.nodes a.calls.now made a.turn) a.seat.now now) (sym c.if-so_far.false) asks
+    let told = subst (λ (z : ℤ). Asks m.next m.answers m.begin (Some (Submit call.node call.object call.operation z)) a.seat.now now) (to_z-of_z w64 call.arg fits) c.in_ok-make.ensures.ok in
+    let asks = subst (λ (o : Option TaskCall). Asks m.next m.answers m.begin (submitted o) a.seat.now now) (sym here) told in
+    subst (λ (b : Bool). Asks m.next m.answers m.begin (asked_by b a.nodes a.calls.now made a.turn) a.seat.now now) (sym c.if-so_far.false) asks
 
 pub returns-in_ok-make-clause-made : goal.returns-in_ok-make-clause-made
 returns-in_ok-make-clause-made g c =
@@ -63,11 +65,12 @@ returns-in_ok-make-clause-made g c =
 
 pub returns-in_default-clause-ok : goal.returns-in_default-clause-ok
 returns-in_default-clause-ok g c =
+    let m = g.M.Machine in
     let a = c.args in
     let made = a.so_far.now.made in
     let none = slice_get_past a.calls.now made c.in_default.ensures.lookup.3 in
-    let asks = subst (λ (o : Option TaskCall). Asks (submitted o) a.seat.now a.seat.now) (sym none) refl in
-    subst (λ (b : Bool). Asks (asked_by b a.nodes a.calls.now made a.turn) a.seat.now a.seat.now) (sym c.if-so_far.false) asks
+    let asks = subst (λ (o : Option TaskCall). Asks m.next m.answers m.begin (submitted o) a.seat.now a.seat.now) (sym none) refl in
+    subst (λ (b : Bool). Asks m.next m.answers m.begin (asked_by b a.nodes a.calls.now made a.turn) a.seat.now a.seat.now) (sym c.if-so_far.false) asks
 
 pub returns-in_default-clause-made : goal.returns-in_default-clause-made
 returns-in_default-clause-made g c =

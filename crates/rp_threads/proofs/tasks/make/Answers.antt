@@ -4,19 +4,25 @@ use Rattle.std.proofs.lemmas.Int.{to_z-of_z}
 use Rattle.rp_boxes.specs.TaskSeats.{IsTaskTurn}
 use Rattle.rp_boxes.specs.Seats.{Chair}
 use Rattle.rp_model.specs.Tasks.{Submit}
-use Rattle.rp_replica.specs.declared.sent.Sent.{Sent}
-use Rattle.rp_threads.proofs.TaskSteps.{sent_once}
+use Rattle.rp_threads.proofs.TaskSteps.{sent_once, few_of_call, asked_by_turn}
 use Rattle.rp_threads.proofs.tasks.make.Goals as goal
 
-pub put_sent-requires : goal.put_sent-requires
-put_sent-requires g c =
+pub put_sent-requires-clause-sent : goal.put_sent-requires-clause-sent
+put_sent-requires-clause-sent g c =
     let a = c.args in
     sent_once c.args.seat.now c.call.new.self (Submit a.node a.object a.operation _) c.in_ok-sent.sent c.in_ok-sent.ensures.ok
 
+pub put_sent-requires-clause-few : goal.put_sent-requires-clause-few
+put_sent-requires-clause-few g c =
+    let a = c.args in
+    few_of_call c.args.seat.now c.call.new.self c.in_ok-sent.sent a.node a.object a.operation _ c.in_ok-sent.ensures.ok
+
 pub returns-clause-ok : goal.returns-clause-ok
 returns-clause-ok g c =
+    let m = g.M.Machine in
     let a = c.args in
-    let turn = subst (λ (z : ℤ). IsTaskTurn c.args.seat.now (Submit a.node a.object a.operation z) c.call.new.self c.in_ok-sent.sent) (to_z-of_z w64 a.arg c.ranges.arg)
-    c.in_ok-sent.ensures.ok in
-    subst (λ (seat : Chair g.row.M-Program.Denot). (sent : Sent) × IsTaskTurn c.args.seat.now (Submit a.node a.object a.operation a.arg) seat sent) (sym c.put_sent.ensures)
-    (c.in_ok-sent.sent, turn)
+    let sent = c.in_ok-sent.sent in
+    let told = subst (λ (z : ℤ). IsTaskTurn a.seat.now (Submit a.node a.object a.operation z) c.call.new.self sent) (to_z-of_z w64 a.arg c.ranges.arg) c.in_ok-sent.ensures.ok in
+    let seat = c.put_sent.new.seat in
+    let turn = subst (λ (now : Chair g.row.M-Program.Denot). IsTaskTurn a.seat.now (Submit a.node a.object a.operation a.arg) now sent) (sym c.put_sent.ensures.unchanged) told in
+    asked_by_turn a.seat.now seat sent m.next m.answers m.begin (Submit a.node a.object a.operation a.arg) turn c.put_sent.ensures.offered

@@ -23,16 +23,17 @@ returns-clause-nodes g c =
 
 pub returns-clause-tasks : goal.returns-clause-tasks
 returns-clause-tasks g c =
+    let m = g.M.Machine in
     let turns = c.args.turns in
     let count : c.len-count.result ≡ length c.args.nodes.items = omega (arith, c.len-count.ensures, c.args.nodes.ok.0) in
     let nodes = length c.args.nodes.items in
     zip_on (λ start handle. (handle.promise.seat.value ≡ start.seat) × (handle.promise.calls.value ≡ start.calls) × (handle.promise.line.value ≡ start.line) × (handle.promise.nodes ≡ c.len-count.result) × (handle.promise.turns ≡ turns))
-    (λ handle end. IsTaskLooped handle.promise.nodes handle.promise.turns handle.promise.calls.value.items handle.promise.seat.value handle.promise.line.value end)
-    (λ start end. IsTaskLooped nodes turns start.calls.items start.seat start.line end)
+    (λ handle end. IsTaskLooped m.next m.answers m.begin handle.promise.nodes handle.promise.turns handle.promise.calls.value.items handle.promise.seat.value handle.promise.line.value end)
+    (λ start end. IsTaskLooped m.next m.answers m.begin nodes turns start.calls.items start.seat start.line end)
     (λ start handle end owed kept.
-    subst (λ (n : ℕ). IsTaskLooped n turns start.calls.items start.seat start.line end) (owed.3 ∙ count)
-    (subst (λ (n : ℕ). IsTaskLooped handle.promise.nodes n start.calls.items start.seat start.line end) owed.4
-    (subst (λ l. IsTaskLooped handle.promise.nodes handle.promise.turns start.calls.items start.seat l end) owed.2
-    (subst (λ v. IsTaskLooped handle.promise.nodes handle.promise.turns v.items start.seat handle.promise.line.value end) owed.1
-    (subst (λ s. IsTaskLooped handle.promise.nodes handle.promise.turns handle.promise.calls.value.items s handle.promise.line.value end) owed.0 kept)))))
+    subst (λ (n : ℕ). IsTaskLooped m.next m.answers m.begin n turns start.calls.items start.seat start.line end) (owed.3 ∙ count)
+    (subst (λ (n : ℕ). IsTaskLooped m.next m.answers m.begin handle.promise.nodes n start.calls.items start.seat start.line end) owed.4
+    (subst (λ l. IsTaskLooped m.next m.answers m.begin handle.promise.nodes handle.promise.turns start.calls.items start.seat l end) owed.2
+    (subst (λ v. IsTaskLooped m.next m.answers m.begin handle.promise.nodes handle.promise.turns v.items start.seat handle.promise.line.value end) owed.1
+    (subst (λ s. IsTaskLooped m.next m.answers m.begin handle.promise.nodes handle.promise.turns handle.promise.calls.value.items s handle.promise.line.value end) owed.0 kept)))))
     c.args.tasks.items c.in_ok-tasks.tasks.items c.in_ok-tasks-2.tasks.items c.in_ok-tasks.ensures c.in_ok-tasks-2.ensures

@@ -1,10 +1,12 @@
 -- What the program does with the words of the command line, and how it ends.
 use Rattle.std.specs.Prelude.{◌≡◌, ◌≢◌, ◌⊎◌, ℕ, true, false, Option, Some, None, Result, Ok, Err, List, [], codes, option_map, IsSome, IfOk, OnOk, IfErr}
 use Rattle.std.specs.Io.KnownBytes.{Appends}
+use Rattle.std_io.specs.declared.io.kind.ErrorKind as io
+use Rattle.std_io.specs.declared.io.kind.ErrorKind.TheVariants as io_kinds
 use Rattle.clap.specs.Kinds.{IsAmong}
 use Rattle.clap.specs.Words.{Text, fault_of, subcommand_of}
 use Rattle.clap.specs.declared.error.kind.ErrorKind.{ErrorKind}
-use Rattle.clap.specs.declared.error.kind.ErrorKind.TheVariants.{DisplayHelp, DisplayVersion, OutOfMemory}
+use Rattle.clap.specs.declared.error.kind.ErrorKind.TheVariants.{DisplayHelp, DisplayVersion, InvalidValue, OutOfMemory}
 use Rattle.rp_base.specs.declared.fault.Fault.{Fault}
 use Rattle.rp_base.specs.declared.fault.Fault.TheVariants as faults
 use Rattle.rp_console.specs.Agreeing.{ScriptPrints}
@@ -12,7 +14,7 @@ use Rattle.rp_console.specs.CommandLine.{console, name_of, seed_of, trace_of, tu
 use Rattle.rp_console.specs.Faults.{IsBadDeck, IsProgramFault}
 use Rattle.rp_console.specs.Figures.{figures_line_of}
 use Rattle.rp_console.specs.LiveRun.{LivePrints}
-use Rattle.rp_console.specs.Status.{fault_line_of, status_after, with_line_feed}
+use Rattle.rp_console.specs.Status.{fault_line_of, status_after, status_of, with_line_feed}
 use Rattle.rp_console.specs.declared.args.Args.{Args}
 use Rattle.rp_console.specs.declared.args.Args.TheVariants.{Script, Live}
 use Rattle.rp_console.specs.declared.console.Ending.{Ending}
@@ -53,12 +55,22 @@ pub record RunsAs (args : Args) (output output_after errors errors_after : Optio
   pub status : ending.status ≡ status_after ran
   pub reported : OnOk ending.reported (Appends errors errors_after (report_of ran))
 
--- Wrong words were reported, and help alone was printed. The status is the one of this kind of mistake.
+-- help, or the version, was asked for
+abbrev pub IsAskedFor : ErrorKind → Type 0
+IsAskedFor kind = (kind ≡ DisplayHelp) ⊎ (kind ≡ DisplayVersion)
+
+-- Wrong words were reported, and help alone was printed. The status is the one of this kind of mistake; where help could
+-- not be printed it is that of `Io`, which is reported.
 pub record RefusesAs (kind : ErrorKind) (output output_after errors errors_after : Option (List ℕ)) (ending : Ending) : Type 0 where
-  pub status : ending.status ≡ words_status_of kind
+  pub status : (ending.status ≡ words_status_of kind) ⊎ (IsAskedFor kind × (ending.status ≡ status_of faults.Io)
+      × OnOk ending.reported (Appends errors errors_after (report_of (Err faults.Io))))
   pub output_kept : kind ≢ DisplayHelp → kind ≢ DisplayVersion → output_after ≡ output
-  pub errors_kept : kind ≡ DisplayHelp → errors_after ≡ errors
+  pub errors_kept : kind ≡ DisplayHelp → ending.status ≡ words_status_of kind → errors_after ≡ errors
   pub memory : kind ≡ OutOfMemory → OnOk ending.reported (Appends errors errors_after (report_of (Err faults.OutOfMemory)))
+
+-- The words could not be read: memory ran out, or, where that was not so, one is not UTF-8.
+abbrev pub IsUnread : io.ErrorKind → ErrorKind → Type 0
+IsUnread reason kind = (kind ≡ OutOfMemory) ⊎ ((reason ≢ io_kinds.OutOfMemory) × (kind ≡ InvalidValue))
 
 -- The words ask for a run, which ran; or they are wrong, or memory ran out, which was reported.
 abbrev pub FollowsWords : List Text → Option (List ℕ) → Option (List ℕ) → Option (List ℕ) → Option (List ℕ) → Ending → Type 0

@@ -3,12 +3,14 @@
 ghost use Rattle.std.specs.Prelude.{◌≡◌, ℕ, Some, true, false, codes, IfOk, map, option_map};
 ghost use Rattle.clap.specs.Words.{app_of, kind_of, subcommand_of, fault_of, found_of, one_text, FailsBy};
 ghost use Rattle.clap.specs.declared.builder.command.Command.TheViews.{out-Command};
+ghost use Rattle.rp_console.specs.Console.{IsUnread};
 ghost use Rattle.rp_console.specs.CommandLine.{console, script, live, name_of, trace_of, seed_of, turns_of, words_status_of, ReadsAs};
 
 use clap::error::ErrorKind;
 use clap::{Arg, ArgAction, ArgMatches, Command, Error, value_parser};
 use std::alloc::{AllocError, Global};
 use std::convert::AsStr;
+use std::io;
 
 /// What the program is asked to do.
 #[derive(Clone, Copy, Debug, PartialEq, Eq, Hash)]
@@ -113,6 +115,26 @@ fn number_of(found: &ArgMatches<'_>, id: &str) -> u32
         → result ≡ number }
 {
     found.get_one::<u32>(id).unwrap_or(0)
+}
+
+/// Why words that could not be read are refused: memory ran out, or else one is not UTF-8.
+pub fn unread_words(alloc: Global, kind: io::ErrorKind) -> Error
+    ensures { IsUnread kind (kind_of result) }
+{
+    if kind == io::ErrorKind::OutOfMemory {
+        return Error::from(AllocError);
+    }
+    match not_utf8(alloc) {
+        Ok(error) => error,
+        Err(error) => Error::from(error),
+    }
+}
+
+/// A word is not UTF-8.
+fn not_utf8(alloc: Global) -> Result<Error, AllocError>
+    ensures { IfOk result (λ error. kind_of error ≡ ErrorKind.InvalidValue) }
+{
+    command(alloc)?.error(ErrorKind::InvalidValue, "a word is not UTF-8")
 }
 
 /// The status that the program ends with where its words were not read.

@@ -3,11 +3,11 @@
 ghost use Rattle.std.specs.Prelude.{◌≡◌, IfErr, IfOk, OnOk, map};
 ghost use Rattle.std.specs.Io.KnownBytes.{Appends};
 ghost use Rattle.clap.specs.Values.{kind_of};
-ghost use Rattle.rp_console.specs.Console.{FollowsWords, HasFiguresFor, Prints, RefusesAs, report_of};
+ghost use Rattle.rp_console.specs.Console.{FollowsWords, HasFiguresFor, IsUnread, Prints, RefusesAs, report_of};
 ghost use Rattle.rp_console.specs.Faults.{IsBadDeck, IsProgramFault};
 ghost use Rattle.rp_console.specs.Status.{fault_line_of, status_after, status_of, with_line_feed};
 
-use crate::args::{Args, read_args, words_status};
+use crate::args::{Args, read_args, unread_words, words_status};
 use crate::deck_run::run_script;
 use crate::figures::FiguresLine;
 use crate::live_run::run_live;
@@ -87,6 +87,19 @@ fn run_as<T: Threads + Wait + Clock, R: Read, W: Write>(
     }
 }
 
+/// Reports that the words could not be read: memory ran out for them, or else one is not UTF-8.
+pub fn refuse_unread<R: Read + Drop, W: Write + Drop, E: Write + Drop>(
+    alloc: Global,
+    kind: io::ErrorKind,
+    streams: &mut Streams<R, W, E>,
+) -> Ending
+    ensures refused { (why : ErrorKind) × IsUnread kind why × RefusesAs why
+        (W.contents streams.old.writer) (W.contents streams.new.writer)
+        (E.contents streams.old.errors) (E.contents streams.new.errors) result }
+{
+    refuse(&unread_words(alloc, kind), streams)
+}
+
 /// Reports why the words are wrong, or prints the help that they ask for.
 fn refuse<R: Read + Drop, W: Write + Drop, E: Write + Drop>(
     error: &Error,
@@ -99,14 +112,18 @@ fn refuse<R: Read + Drop, W: Write + Drop, E: Write + Drop>(
     if error.kind() == ErrorKind::OutOfMemory {
         return fail(&mut streams.errors, Fault::OutOfMemory);
     }
-    let reported = if error.use_stderr() {
-        write!(streams.errors, "{error}")
-    } else {
-        write!(streams.writer, "{error}")
-    };
-    Ending {
-        status: words_status(error),
-        reported,
+    if error.use_stderr() {
+        return Ending {
+            status: words_status(error),
+            reported: write!(streams.errors, "{error}"),
+        };
+    }
+    match write!(streams.writer, "{error}") {
+        Ok(()) => Ending {
+            status: words_status(error),
+            reported: Ok(()),
+        },
+        Err(_) => fail(&mut streams.errors, Fault::Io),
     }
 }
 
@@ -130,7 +147,7 @@ fn end<E: Write>(errors: &mut E, ran: Result<Option<FiguresLine>, Fault>) -> End
 }
 
 /// Reports a fault.
-pub fn fail<E: Write>(errors: &mut E, fault: Fault) -> Ending
+fn fail<E: Write>(errors: &mut E, fault: Fault) -> Ending
     ensures status { result.status ≡ status_of fault }
     ensures reported { OnOk result.reported (Appends (E.contents errors.old)
         (E.contents errors.new) (with_line_feed (fault_line_of fault))) }

@@ -34,9 +34,9 @@ mod status;
 mod stream;
 mod trace;
 
-use console::{Streams, fail, obey};
-use rp_base::Fault;
+use console::{Streams, obey, refuse_unread};
 use std::env;
+use std::io;
 use std::process::ExitCode;
 
 fn main(rt: HostRuntime) -> ExitCode {
@@ -47,13 +47,13 @@ fn main(rt: HostRuntime) -> ExitCode {
     };
     let ending = match given_words(&rt) {
         Ok(words) => obey(&rt, rt.alloc(), words.as_slice(), &mut streams),
-        Err(fault) => fail(&mut streams.errors, fault),
+        Err(error) => refuse_unread(rt.alloc(), error.kind(), &mut streams),
     };
     ExitCode::from(ending.status)
 }
 
 /// The words of the command line.
-fn given_words(rt: &HostRuntime) -> Result<Vec<String>, Fault> {
-    let words = env::args(rt).map_err(|_| Fault::Io)?;
+fn given_words(rt: &HostRuntime) -> io::Result<Vec<String>> {
+    let words = env::args(rt)?;
     Ok(words.collect(rt.alloc())?)
 }

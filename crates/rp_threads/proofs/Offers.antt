@@ -1,6 +1,7 @@
 -- The packets of a step, each offered to its box.
-use Rattle.std.proofs.Common.{◌≡◌, ◌⊎◌, ℕ, ◌≤◌, List, [], ◌∷◌, ◌++◌, length, take, drop, inl, inr, refl, sym, ap, subst, ◌∙◌, arith, append_assoc}
+use Rattle.std.proofs.Common.{◌≡◌, ◌⊎◌, ℕ, ◌≤◌, Result, Ok, Err, List, [], ◌∷◌, ◌++◌, length, take, drop, inl, inr, refl, sym, ap, subst, ◌∙◌, arith, append_assoc}
 use Rattle.std.proofs.lemmas.List.{append-nil, take-append-drop}
+use Rattle.std.specs.Prelude.{OnOk}
 use Rattle.rp_base.specs.Sets.{Has}
 use Rattle.rp_base.specs.declared.action.Action.{Action}
 use Rattle.rp_base.specs.declared.reply.Answer.{Answer}
@@ -47,8 +48,8 @@ module _ {S P : Type 0} (next : S → Action → S) (answers : S → Action → 
   one_offered : (seat : Chair P) (bytes : List ℕ) (m : Message) → bytes ≡ text_of m → Has m seat.part.sent → IsOffered next answers begin from seat bytes
       → AreOffered next answers begin from seat bytes
   one_offered seat bytes m text has offered = record {
-    are = record { packets = m ∷ []; texts = text ∙ sym (append-nil (text_of m)); sent = λ p is. elim is [ inl same ↦ subst (λ (q : Message). Has q seat.part.sent) (sym same) has | inr no ↦ absurd no ] };
-    each = λ p is. elim is [ inl same ↦ subst (λ (q : Message). IsOffered next answers begin from seat (text_of q)) (sym same) (subst (IsOffered next answers begin from seat) text offered) | inr no ↦ absurd no ];
+    are = record { packets = m ∷ []; texts = text ∙ sym (append-nil (text_of m)); sent = λ p is. elim is [ inl same ↦ subst (λ (q : Message). Has q seat.part.sent) (sym same) has | inr none ↦ absurd none ] };
+    each = λ p is. elim is [ inl same ↦ subst (λ (q : Message). IsOffered next answers begin from seat (text_of q)) (sym same) (subst (IsOffered next answers begin from seat) text offered) | inr none ↦ absurd none ];
   }
 
   pub offered_alone : (seat : Chair P) (bytes : List ℕ) → IsSentText seat.part bytes → IsOffered next answers begin from seat bytes → AreOffered next answers begin from seat bytes
@@ -107,7 +108,7 @@ module _ {S P : Type 0} (next : S → Action → S) (answers : S → Action → 
   alone seat bytes offered [] texts one m has = absurd has
   alone seat bytes offered (p ∷ []) texts one m has = elim has [
     | inl same ↦ subst (λ (q : Message). IsOffered next answers begin from seat (text_of q)) (sym same) (subst (IsOffered next answers begin from seat) (texts ∙ append-nil (text_of p)) offered)
-    | inr no ↦ absurd no
+    | inr none ↦ absurd none
   ]
   alone seat bytes offered (p ∷ q ∷ packets) texts one m has = absurd (omega (arith, one))
 
@@ -129,3 +130,8 @@ module _ {S P : Type 0} (next : S → Action → S) (answers : S → Action → 
   all_are_offered one seat sent right offered packets texts count all m has =
       let same = same_packets one packets offered.are.packets (λ p is. right p (all p is)) (λ p is. right p (offered.are.sent p is)) (sym texts ∙ offered.are.texts) in
       offered.each m (subst (Has m) same has)
+
+  pub all_if_offered : {T E : Type 0} → OneText → (seat : Chair P) (sent : Sent) → ((m : Message) → Has m seat.part.sent → IsPacket m) → (result : Result T E)
+      → OnOk result (AreOffered next answers begin from seat sent.bytes.items) → OnOk result (IsAllOffered next answers begin from seat sent)
+  all_if_offered one seat sent right (Ok x) offered = all_are_offered one seat sent right offered
+  all_if_offered one seat sent right (Err e) offered = tt

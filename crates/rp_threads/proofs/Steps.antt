@@ -61,7 +61,7 @@ module _ {S P : Type 0} (next : S → Action → S) (answers : S → Action → 
   sent_by old new input sent t = record {
     packets = t.done.sends;
     texts = t.tells.bytes;
-    count = t.tells.count;
+    count = t.tells.packets;
     sent_all = λ m has. subst (λ (c : Chair P). Has m c.part.sent) (sym t.after) (has_right m old.part.sent t.done.sends has);
   }
 
@@ -76,7 +76,7 @@ module _ {S P : Type 0} (next : S → Action → S) (answers : S → Action → 
     sent = sent;
     turn = turn;
     told = refl;
-    offered = offered turn.done.sends turn.tells.bytes turn.tells.count
+    offered = offered turn.done.sends turn.tells.bytes turn.tells.packets
         (λ m has. subst (λ (c : Chair P). Has m c.part.sent) (sym turn.after) (has_right m old.part.sent turn.done.sends has));
   }
 

@@ -15,7 +15,7 @@ use Rattle.rp_learner.specs.declared.place.Place.{Place}
 use Rattle.rp_learner.specs.declared.place.Place.TheVariants.{Unheard, Settled}
 use Rattle.rp_learner.specs.Learning.{Learning}
 use Rattle.rp_learner.specs.Places.{window, is_marked, opened, heard_from, settled_from}
-use Rattle.rp_learner.specs.Standings.{is_settled, IsMarkedAlike, Advances}
+use Rattle.rp_learner.specs.Standings.{is_settled, Advances}
 use Rattle.rp_learner.proofs.Placing.{votes_of, settled_of, cast_of, or_skip, heard_where, heard_there, settled_where}
 use Rattle.rp_learner.proofs.Writing.{learning_of}
 
@@ -91,7 +91,7 @@ has_place places k c has =
           absurd none
     ]
 
-module _ (nodes most first start bits : ℕ) (old : List Place) (long : length old ≡ window) (on : first ≤ start) (alike : IsMarkedAlike (learning_of nodes most first old) start bits) where
+module _ (nodes most first start bits : ℕ) (old : List Place) (long : length old ≡ window) (on : first ≤ start) where
   abbrev moved : ℕ
   moved = min (start - first) window
 
@@ -149,24 +149,29 @@ module _ (nodes most first start bits : ℕ) (old : List Place) (long : length o
         (subst (λ (o : Option Place). Has (cast_of h) (votes_of o)) (ap (slice_get old) (sym at) ∙ sym (stays j (omega (arith, lt, at)))) hit.2),
   )
 
-  settled_on : (i : ℕ) → start ≤ i → i < start + window → is_settled (learning_of nodes most start new) i ≡ is_marked bits (i - start)
-  settled_on i le lt =
+  mark_of : (i j : ℕ) → i ≡ start + j → is_settled (learning_of nodes most start new) i ≡ settled_of (slice_get new j)
+  mark_of i j at =
+      or_skip (nat_lt i start) (list_any (nat_eq i) (settled_from start new)) (le-ltb i start (omega (arith, at)))
+      ∙ settled_where new start i j at
+
+  settled_still : (i : ℕ) → start ≤ i → i < first + window → is_settled (learning_of nodes most start new) i ≡ is_settled (learning_of nodes most first old) i
+  settled_still i le lt =
       let j = i - start in
       let at : i ≡ start + j = omega (arith, le) in
-      let mark : is_settled (learning_of nodes most start new) i ≡ settled_of (slice_get new j) =
-      or_skip (nat_lt i start) (list_any (nat_eq i) (settled_from start new)) (le-ltb i start le) ∙ settled_where new start i j at in
-      elim (cases_Bool (nat_lt j (window - moved))) [
-        | inl below ↦
-            let near : j < window - moved = ltb-true j (window - moved) below in
-            let was : is_settled (learning_of nodes most first old) i ≡ settled_of (slice_get old (moved + j)) =
-            or_skip (nat_lt i first) (list_any (nat_eq i) (settled_from first old)) (le-ltb i first (omega (arith, le, on)))
-            ∙ settled_where old first i (moved + j) (omega (arith, near, on, at)) in
-            mark ∙ ap settled_of (stays j near) ∙ sym was ∙ alike i le (omega (arith, near, on, at))
-        | inr above ↦ mark ∙ ap settled_of (opens j (ltb-false j (window - moved) above) (omega (arith, lt, at))) ∙ opened_mark bits j
-      ]
+      let near : j < window - moved = omega (arith, le, lt, on) in
+      let was : is_settled (learning_of nodes most first old) i ≡ settled_of (slice_get old (moved + j)) =
+      or_skip (nat_lt i first) (list_any (nat_eq i) (settled_from first old)) (le-ltb i first (omega (arith, le, on)))
+      ∙ settled_where old first i (moved + j) (omega (arith, near, on, at)) in
+      mark_of i j at ∙ ap settled_of (stays j near) ∙ sym was
+
+  settled_by : (i : ℕ) → start ≤ i → first + window ≤ i → i < start + window → is_settled (learning_of nodes most start new) i ≡ is_marked bits (i - start)
+  settled_by i le above lt =
+      let j = i - start in
+      let at : i ≡ start + j = omega (arith, le) in
+      mark_of i j at ∙ ap settled_of (opens j (omega (arith, above, on, at)) (omega (arith, lt, at))) ∙ opened_mark bits j
 
   pub advances : (places : List Place) (by : ℕ) → by ≡ min (start - first) window → places ≡ moved_on old by bits by → Advances (learning_of nodes most first old) start bits (learning_of nodes most start places)
   advances places by same is =
       subst (λ (rest : List Place). Advances (learning_of nodes most first old) start bits (learning_of nodes most start rest))
       (sym (is ∙ ap (λ (n : ℕ). moved_on old n bits n) same))
-      (record { nodes = refl; positions = refl; begins = refl; heard = heard_on; settled = settled_on })
+      (record { nodes = refl; positions = refl; begins = refl; heard = heard_on; stays = settled_still; opens = settled_by })

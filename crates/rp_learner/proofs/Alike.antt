@@ -40,7 +40,7 @@ beyond_alike l m i same = ap (λ (first : ℕ). nat_le (first + 64) i) same.firs
 below_alike : (l m : Learning) (i : ℕ) → SameLearning l m → nat_lt i l.first ≡ nat_lt i m.first
 below_alike l m i same = ap (nat_lt i) same.first
 
-settled_alike : (l m : Learning) (i : ℕ) → SameLearning l m → is_settled l i ≡ is_settled m i
+pub settled_alike : (l m : Learning) (i : ℕ) → SameLearning l m → is_settled l i ≡ is_settled m i
 settled_alike l m i same =
     ap (λ (b : Bool). b || list_any (nat_eq i) l.settled) (below_alike l m i same)
     ∙ ap (λ (b : Bool). nat_lt i m.first || b) (same_test nat_eq Decides-eqb i l.settled m.settled same.settled)

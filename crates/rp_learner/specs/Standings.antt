@@ -86,18 +86,16 @@ NotesVote before from i vote after = SameLearning after (with_vote before from i
 abbrev pub Settles : Learning → ℕ → Learning → Type 0
 Settles before i after = SameLearning after (with_settled before i)
 
--- the bits say what is settled at the positions that stay in a window that moves on to this position
-abbrev pub IsMarkedAlike : Learning → ℕ → ℕ → Type 0
-IsMarkedAlike l first bits = (i : ℕ) → first ≤ i → i < l.first + window → is_settled l i ≡ is_marked bits (i - first)
-
--- The second is the first with its window moved on to this position: of the votes heard those within it stay,
--- and of its positions those are settled whose bits say so.
+-- The second is the first with its window moved on to this position. Of the votes heard those within it stay.
+-- Of its positions those that were in the window before stay settled or not, and of the others those are
+-- settled whose bits say so.
 pub record Advances (before : Learning) (first bits : ℕ) (after : Learning) : Type 0 where
   pub nodes : after.nodes ≡ before.nodes
   pub positions : after.max_positions ≡ before.max_positions
   pub begins : after.first ≡ first
   pub heard : SameMembers after.heard (filter (λ h. nat_le first h.1) before.heard)
-  pub settled : (i : ℕ) → first ≤ i → i < first + window → is_settled after i ≡ is_marked bits (i - first)
+  pub stays : (i : ℕ) → first ≤ i → i < before.first + window → is_settled after i ≡ is_settled before i
+  pub opens : (i : ℕ) → first ≤ i → before.first + window ≤ i → i < first + window → is_settled after i ≡ is_marked bits (i - first)
 
 -- the two are of as many nodes and positions, and of one window
 abbrev pub SameSizes : Learning → Learning → Type 0

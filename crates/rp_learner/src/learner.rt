@@ -6,7 +6,7 @@ ghost use Rattle.rp_base.specs.declared.record.Vote.{Vote};
 ghost use Rattle.rp_learner.specs.Learning.{Learning};
 ghost use Rattle.rp_learner.specs.Places.{window};
 ghost use Rattle.rp_learner.specs.declared.place.Place.TheVariants.{Unheard};
-ghost use Rattle.rp_learner.specs.Standings.{SameLearning, SameSizes, fresh, vote_for, standing_with, decision_at, with_settled, with_vote, NotesVote, Settles, IsOneMore, IsMarkedAlike, Advances};
+ghost use Rattle.rp_learner.specs.Standings.{SameLearning, SameSizes, fresh, vote_for, standing_with, decision_at, with_settled, with_vote, NotesVote, Settles, IsOneMore, Advances};
 
 use crate::place::Place;
 use circular_buffer::HeapCircularBuffer;
@@ -192,12 +192,12 @@ impl Learner {
         place.settle();
     }
 
-    /// Moves the window on to begin at `first`, 1 to 65,536. All positions below are settled then,
-    /// and position `first + j` is if bit j of `settled` is set, the lowest bit being bit 0. It takes
-    /// no memory, and time in proportion to how far the window moves, at most 64 places.
+    /// Moves the window on to begin at `first`, at most 65,536. All positions below are settled
+    /// then. Position `first + j` is settled if bit j of `settled` is set, the lowest bit being bit
+    /// 0; only the bits of positions that were above the window are looked at. It takes no memory,
+    /// and time in proportion to how far the window moves, at most 64 places.
     pub fn advance(&mut self, first: u32, settled: u64)
         requires on { self.old.first ≤ first }
-        requires alike { IsMarkedAlike self.old first settled }
         ensures { Advances self.old first settled self.new }
     {
         let moved = (first - self.first).min(WINDOW);

@@ -3,7 +3,6 @@ use Rattle.std.proofs.Common.{◌≡◌, ◌≤◌, ◌-◌, ◌+◌, ◌∙◌,
 use Rattle.circular_buffer.specs.Buffer.{keep_last}
 use Rattle.rp_learner.specs.declared.place.Place.{Place}
 use Rattle.rp_learner.specs.Places.{window}
-use Rattle.rp_learner.specs.Standings.{IsMarkedAlike}
 use Rattle.rp_learner.proofs.Advancing.{moved_on, length-moved, moves_on, advances}
 use Rattle.rp_learner.proofs.learner.Learner.advance.Goals as goal
 
@@ -46,5 +45,4 @@ returns c =
     rw (← c.self.view_is, inv.1, inv.2)
     (advances l.nodes l.max_positions l.first c.args.first c.args.settled l.places.items c.self.invariant.2
     (subst (λ v. v.first ≤ c.args.first) (sym c.self.view_is) c.requires.on)
-    (subst (λ v. IsMarkedAlike v c.args.first c.args.settled) (sym c.self.view_is) c.requires.alike)
     c.loop-offset.self-inside.places.items moved c.min-moved.ensures (inv.4 ∙ ap (λ (n : ℕ). moved_on l.places.items moved c.args.settled n) all))

@@ -14,8 +14,9 @@ use rp_base::{Action, Ballot, Fault, NodeId, Position, majority};
 use std::alloc::{AllocError, Global};
 use std::marker::Model;
 
-/// How many positions the window has.
-const WINDOW: u32 = 64;
+/// How many positions the window has: so far above the first unlearned one votes are counted, and a
+/// node may lead.
+pub const WINDOW: u32 = 64;
 
 /// What holds at a position once a vote is counted.
 #[derive(Clone, Copy, Debug, PartialEq, Eq)]

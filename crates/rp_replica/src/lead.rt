@@ -8,11 +8,9 @@ ghost use Rattle.rp_replica.specs.Turning.{TurnsIf, StopsIf, effect_of};
 use crate::replica::Replica;
 use crate::sent::Sent;
 use rp_base::{Fault, Position};
+use rp_learner::WINDOW;
 use rp_machine::Machine;
 use rp_store::Device;
-
-/// How far above the first unlearned position a node may lead.
-pub(crate) const WINDOW: u32 = 64;
 
 impl<M: Machine, D: Device> Replica<M, D> {
     /// The word to lead at a position, or with none at the least position that is not learned and at

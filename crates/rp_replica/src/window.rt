@@ -5,8 +5,8 @@ ghost use Rattle.rp_learner.specs.Places.{window, is_marked};
 ghost use Rattle.rp_log.specs.Contents.{action_at, next_to_take};
 ghost use Rattle.rp_replica.specs.Tied.{IsSettledAlike, Follows};
 
-use crate::lead::{WINDOW, position_at};
-use rp_learner::Learner;
+use crate::lead::position_at;
+use rp_learner::{Learner, WINDOW};
 use rp_log::Log;
 
 /// The bits, in which this one is clear, with it set or not.

@@ -37,7 +37,7 @@ use Rattle.rp_model.specs.Parts.{with_record}
 use Rattle.rp_model.specs.Says.{says, says_to_all, says_to_others, says_to_task, sends, notes, drops_foreign, drops_full}
 use Rattle.rp_model.specs.Acceptor.{tells_promise, tells_vote}
 use Rattle.rp_model.specs.Pending.{most_pending, adds_pending, on_numbered, on_call, is_answered_by, replies_to, is_same_call}
-use Rattle.rp_model.specs.Leader.{chosen_position, is_out_of_reach, starts_above, begins, on_lead, counts_promise, on_promise_to}
+use Rattle.rp_model.specs.Leader.{chosen_position, is_beyond, is_out_of_reach, starts_above, begins, on_lead, counts_promise, on_promise_to}
 use Rattle.rp_model.specs.Learner.{missing_position, asks_for, tells_learned, learns, on_vote, on_decision}
 use Rattle.rp_model.specs.Receiving.{is_for_node, party_number, on_body}
 use Rattle.rp_model.specs.Effect.{Setting, NodeInput, Receive, Lead, Interrupt, Tick, Report, report_of, running_effect}
@@ -194,7 +194,9 @@ module _ {S : Type 0} (s : Setting S) where
   body_answers nodes me records running from (bodies.Prepare i b) = prepare_answers me records running from i b (prepare_answer records i b)
   body_answers nodes me records running from (bodies.Promise i b last) = promise_answers nodes me records running b (from, last) (proposal_at running.proposals i)
   body_answers nodes me records running from (bodies.Accept i b v) = accept_answers me records running from i b v (accept_answer records i b v)
-  body_answers nodes me records running from (bodies.Accepted i b v) = vote_answers nodes me records running from i (record { ballot = b; action = v }) (learned_at records i)
+  body_answers nodes me records running from (bodies.Accepted i b v) =
+      choice records (is_beyond records i) _ _ (silent records running)
+      (vote_answers nodes me records running from i (record { ballot = b; action = v }) (learned_at records i))
   body_answers nodes me records running from (bodies.Decided i v) = decision_answers me records running from i v (learned_at records i)
   body_answers nodes me records running from (bodies.Ask i) = ask_answers me records running from i (learned_at records i)
   body_answers nodes me records running from (bodies.Nack i b bound) =

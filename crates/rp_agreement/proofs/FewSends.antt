@@ -32,7 +32,7 @@ use Rattle.rp_model.specs.Parts.{Turn}
 use Rattle.rp_model.specs.Parts.{with_record}
 use Rattle.rp_model.specs.Says.{says, says_to_all, says_to_others, says_to_task}
 use Rattle.rp_model.specs.Acceptor.{tells_promise, tells_vote}
-use Rattle.rp_model.specs.Leader.{chosen_position, is_out_of_reach, starts_above, on_promise_to}
+use Rattle.rp_model.specs.Leader.{chosen_position, is_beyond, is_out_of_reach, starts_above, on_promise_to}
 use Rattle.rp_model.specs.Learner.{missing_position, asks_for, tells_learned, learns, on_vote, on_decision}
 use Rattle.rp_model.specs.Pending.{adds_pending, most_pending, is_answered_by, replies_to, on_numbered, on_call, is_same_call}
 use Rattle.rp_model.specs.Receiving.{is_for_node, party_number, on_body}
@@ -158,7 +158,8 @@ module _ {S : Type 0} (next : S → Action → S) (answers : S → Action → Li
   few_body me running from (bodies.Prepare i b) = few_promise me running from i b (prepare_answer records i b)
   few_body me running from (bodies.Promise i b last) = few_counted me running b (from, last) (proposal_at running.proposals i)
   few_body me running from (bodies.Accept i b v) = few_vote me running from i b v (accept_answer records i b v)
-  few_body me running from (bodies.Accepted i b v) = few_voted me running from i (record { ballot = b; action = v }) (learned_at records i)
+  few_body me running from (bodies.Accepted i b v) =
+      few_either (is_beyond records i) _ _ (omega arith) (few_voted me running from i (record { ballot = b; action = v }) (learned_at records i))
   few_body me running from (bodies.Decided i v) = few_decided me running from i v (learned_at records i)
   few_body me running from (bodies.Ask i) = few_told me running from i (learned_at records i)
   few_body me running from (bodies.Nack i b bound) = few_either (is_in b (proposal_at running.proposals i)) _ _ (omega arith) (omega arith)

@@ -31,7 +31,7 @@ use Rattle.rp_model.specs.Parts.{Running}
 use Rattle.rp_model.specs.Parts.{Turn}
 use Rattle.rp_model.specs.Parts.{is_in_log}
 use Rattle.rp_model.specs.Acceptor.{tells_promise, tells_vote}
-use Rattle.rp_model.specs.Leader.{chosen_position, is_out_of_reach, starts_above, on_promise_to}
+use Rattle.rp_model.specs.Leader.{chosen_position, is_beyond, is_out_of_reach, starts_above, on_promise_to}
 use Rattle.rp_model.specs.Says.{drops_foreign}
 use Rattle.rp_model.specs.Learner.{tells_learned, on_vote, on_decision}
 use Rattle.rp_model.specs.Pending.{adds_pending, most_pending, on_numbered, on_call, is_same_call}
@@ -131,7 +131,7 @@ module _ {S : Type 0} (next : S → Action → S) (answers : S → Action → Li
       accept_in_log most me running from i b (bound_at records i) v (last_vote_at records i) (nat_lt b (bound_at records i))
       (not_above most i (and_parts (not (nat_lt most i)) (nat_eq (owner_of b) from) e).0)
   body_in_log most nodes me records running from (bodies.Accepted i b v) e =
-      voted_in_log most nodes me records running from i (record { ballot = b; action = v }) (learned_at records i) (not_above most i e)
+      either_in_log most (is_beyond records i) _ _ tt (voted_in_log most nodes me records running from i (record { ballot = b; action = v }) (learned_at records i) (not_above most i e))
   body_in_log most nodes me records running from (bodies.Decided i v) e = decided_in_log most me records running from i v (learned_at records i) (not_above most i e)
   body_in_log most nodes me records running from (bodies.Ask i) e = told_in_log most me running from i (learned_at records i)
   body_in_log most nodes me records running from (bodies.Nack i b bound) e = either_in_log most (is_in b (proposal_at running.proposals i)) _ _ tt tt

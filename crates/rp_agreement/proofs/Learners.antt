@@ -18,6 +18,7 @@ use Rattle.rp_machine.specs.Replay.{kept_of, replay_answers, one_to}
 use Rattle.rp_model.specs.Parts.{Running}
 use Rattle.rp_model.specs.Says.{says, says_to_others, says_to_task, notes}
 use Rattle.rp_model.specs.Pending.{is_answered_by, replies_to, stays}
+use Rattle.rp_model.specs.Leader.{is_beyond}
 use Rattle.rp_model.specs.Learner.{missing_position, asks_for, tells_learned, on_ask, learns, on_vote, on_accepted, on_decision, on_decided}
 use Rattle.rp_model.specs.Facts.{HasVoted, IsDecided}
 use Rattle.rp_agreement.specs.Sound.{IsRunning}
@@ -128,7 +129,12 @@ module _ {S : Type 0} (next : S → Action → S) (answers : S → Action → Li
   pub accepted_sound : (nodes x : ℕ) (records : List Rec) (sent : List Message) (running : Running) (from i : ℕ) (vote : Vote)
       → IsRunning sent records running → HasVoted sent from i vote.ballot vote.action
       → IsSoundTurn nodes x records sent (on_accepted next answers begin nodes x records running from i vote)
-  accepted_sound nodes x records sent running from i vote runs told = vote_sound nodes x records sent running from i vote (learned_at records i) runs told
+  accepted_sound nodes x records sent running from i vote runs told =
+      either nodes x records sent (is_beyond records i)
+      (notes running)
+      (on_vote next answers begin nodes x records running from i vote (learned_at records i))
+      (λ _. quiet nodes x records sent running runs)
+      (λ _. vote_sound nodes x records sent running from i vote (learned_at records i) runs told)
 
   decision_sound : (nodes x : ℕ) (records : List Rec) (sent : List Message) (running : Running) (from i : ℕ) (v : Action) (learned : Option Action)
       → IsRunning sent records running → IsDecided nodes sent i v

@@ -36,7 +36,7 @@ use Rattle.rp_model.specs.Parts.{Turn}
 use Rattle.rp_model.specs.Parts.{is_in_log}
 use Rattle.rp_model.specs.Says.{says_to_all, says_to_others, notes, drops_foreign}
 use Rattle.rp_model.specs.Pending.{is_free_item, own_action}
-use Rattle.rp_model.specs.Leader.{is_free_position, free_from, chosen_position, is_out_of_reach, starts_above, begins, on_lead}
+use Rattle.rp_model.specs.Leader.{is_free_position, free_from, chosen_position, is_beyond, is_out_of_reach, starts_above, begins, on_lead}
 use Rattle.rp_model.specs.Learner.{learns_above, missing_position, asks_for, learns, on_vote, on_decision}
 use Rattle.rp_model.specs.Receiving.{is_for_node, party_number, on_body, receives}
 use Rattle.rp_model.specs.Effect.{Setting, NodeInput, Receive, Lead, Interrupt, Tick, Report, report_of, running_effect}
@@ -267,7 +267,8 @@ module _ {S : Type 0} (s : Setting S) (fits : (actions : List Action) → AllRig
       vote_right b (Some vote) is = is.1
   node_body me a to (bodies.Accept i b v) records running right mine theirs ranges may all runs = accept_ranged me a i b v records running mine theirs ranges.0 ranges.1 may.1 all runs
   node_body me a to (bodies.Accepted i b v) records running right mine theirs ranges may all runs =
-      vote_ranged s.config.nodes me a i (record { ballot = b; action = v }) records running (learned_at records i) right.nodes.1 mine ranges.0 may.1 all runs
+      choice (is_beyond records i) _ _ (noted running runs)
+      (vote_ranged s.config.nodes me a i (record { ballot = b; action = v }) records running (learned_at records i) right.nodes.1 mine ranges.0 may.1 all runs)
   node_body me a to (bodies.Decided i v) records running right mine theirs ranges may all runs = decision_ranged me a i v records running (learned_at records i) mine theirs ranges may.1 all runs
   node_body me a to (bodies.Ask i) records running right mine theirs ranges may all runs =
       told_ranged me a i running (learned_at records i) mine theirs ranges (learned_right records i (learned_at records i) all refl) runs

@@ -1,109 +1,137 @@
--- What holds at a position, by its place.
-use Rattle.std.proofs.Common.{arith, cond, ◌∷◌, ◌≡◌, ℕ, zero, suc, ◌<◌, ◌≤◌, Bool, true, false, cond, Option, Some, Result, Ok, Err, OnErr, List, [], length, replicate, set, sym, refl, subst, ap, ◌∙◌, inl, inr}
-use Rattle.std.specs.Prelude.{nat_eq, nat_le, slice_get}
-use Rattle.std.proofs.lemmas.Bool.{cases_Bool, le-leb, lt-leb, cond-true, cond-false}
+-- What holds at a position of the window, by its place.
+use Rattle.std.proofs.Common.{arith, cond, ◌≡◌, ℕ, zero, suc, ◌+◌, ◌-◌, ◌<◌, ◌≤◌, Bool, true, false, ◌||◌, Option, Some, None, Result, Ok, Err, OnErr, List, [], ◌∷◌, length, set, sym, refl, subst, ap, ◌∙◌, inl, inr}
+use Rattle.std.specs.Prelude.{nat_eq, nat_le, nat_lt, slice_get, unwrap_or}
+use Rattle.std.proofs.lemmas.Bool.{cases_Bool, le-leb, lt-leb, leb-true, leb-false, le-ltb, ltb-false, cond-true, cond-false}
+use Rattle.std.proofs.lemmas.Option.{slice_get_within}
 use Rattle.rp_base.specs.declared.record.Vote.{Vote}
 use Rattle.rp_base.specs.Majority.{majority_of, nodes_among}
 use Rattle.rp_base.specs.Sets.{Has, with_member}
 use Rattle.rp_base.specs.Promises.{HeardVote, voters_of, makes_majority}
-use Rattle.rp_learner.specs.Places.{Place}
-use Rattle.rp_learner.specs.Places.Place.{Settled}
+use Rattle.rp_learner.specs.Casts.{CastVote, voters_with}
+use Rattle.rp_learner.specs.declared.place.Place.{Place}
+use Rattle.rp_learner.specs.declared.place.Place.TheVariants.{Settled}
 use Rattle.rp_learner.specs.declared.learner.Standing.{Standing}
-use Rattle.rp_learner.specs.declared.learner.Standing.TheVariants.{Counting, Learned, Known}
-use Rattle.rp_learner.specs.Places.{votes_at, votes_in, votes_of, place_at, is_settled_in, settled_of, is_settled_at, IsWithCast, heard_from, settled_from, places_from, places_of}
-use Rattle.rp_learner.specs.Standings.{is_settled, heard_with, standing_with, with_standing, with_vote, SameLearning}
-use Rattle.rp_learner.proofs.Placing.{settled_at, heard_at}
-use Rattle.rp_learner.proofs.Tallies.{alone}
-use Rattle.rp_learner.specs.Casts.{voters_with}
-use Rattle.rp_learner.proofs.Voters.{voters_at, one_more_voter}
+use Rattle.rp_learner.specs.declared.learner.Standing.TheVariants.{Counting, Learned, Known, Beyond}
+use Rattle.rp_learner.specs.declared.learner.Decision.{Decision}
+use Rattle.rp_learner.specs.declared.learner.Decision.TheVariants as decisions
+use Rattle.rp_learner.specs.Learning.{Learning}
+use Rattle.rp_learner.specs.Places.{votes_in, is_settled_in, voters_at, NotesCast, heard_from, settled_from}
+use Rattle.rp_learner.specs.Standings.{is_beyond, is_settled, heard_with, standing_with, decision_at, with_mark, with_settled, with_standing, with_vote, SameLearning, IsOneMore}
+use Rattle.rp_learner.proofs.Placing.{votes_of, settled_of, or_skip, heard_at, settled_where}
+use Rattle.rp_learner.proofs.Voters.{voters_where, one_more_voter}
 use Rattle.rp_learner.proofs.Writing.{learning_of, hears, settles, same_learning}
 
--- a learner without votes
-none_heard_from : (n k i : ℕ) → heard_from i (places_from k (replicate n false) []) ≡ []
-none_heard_from zero k i = refl
-none_heard_from (suc n) k i = none_heard_from n (suc k) (suc i)
+-- an element written where it is changes nothing
+pub kept : (places : List Place) (k : ℕ) (p : Place) → slice_get places k ≡ Some p → set places k p ≡ places
+kept [] k p at = refl
+kept (q ∷ places) zero p at = ap (λ (o : Option Place). unwrap_or o p ∷ places) (sym at)
+kept (q ∷ places) (suc k) p at = ap (λ (rest : List Place). q ∷ rest) (kept places k p at)
 
-pub none_heard : (n : ℕ) → heard_from 1 (places_of (replicate n false) []) ≡ []
-none_heard n = none_heard_from n 0 1
+module _ (nodes most first : ℕ) (places : List Place) (i k : ℕ) (p : Place) (at : i ≡ first + k) (long : length places ≡ 64) (here : slice_get places k ≡ Some p) where
+  abbrev pub l : Learning
+  l = learning_of nodes most first places
 
-none_settled_from : (n k i : ℕ) → settled_from i (places_from k (replicate n false) []) ≡ []
-none_settled_from zero k i = refl
-none_settled_from (suc n) k i = none_settled_from n (suc k) (suc i)
+  within : k < length places
+  within = slice_get_within places k p here
 
-pub none_settled : (n : ℕ) → settled_from 1 (places_of (replicate n false) []) ≡ []
-none_settled n = none_settled_from n 0 1
+  not_beyond : is_beyond l i ≡ false
+  not_beyond = lt-leb (first + 64) i (omega (arith, within, long, at))
 
-module _ (nodes : ℕ) (places : List Place) (from i : ℕ) (vote : Vote) where
-  -- a settled position is known
-  pub known_at : is_settled_at places i ≡ true → Known ≡ standing_with (learning_of nodes places) from i vote
-  known_at settled =
-      sym (cond-true (is_settled (learning_of nodes places) i) Known
-      (cond (makes_majority nodes i vote (heard_with (learning_of nodes places) from i vote)) Learned Counting) (settled_at places i ∙ settled))
+  not_below : nat_lt i first ≡ false
+  not_below = le-ltb i first (omega (arith, at))
 
-  module _ (count : ℕ) (open_place : is_settled_at places i ≡ false) (counted : count ≡ length (nodes_among nodes (voters_with (votes_at places i) from vote))) where
-    voters : count ≡ length (nodes_among nodes (voters_of i vote (heard_with (learning_of nodes places) from i vote)))
+  settled_here : is_settled l i ≡ is_settled_in p
+  settled_here = or_skip (nat_lt i first) _ not_below ∙ settled_where places first i k at ∙ ap settled_of here
+
+  -- what a decision there is
+  pub decision_here : decision_at l i ≡ cond (is_settled_in p) decisions.Known decisions.Learned
+  decision_here =
+      cond-false (is_beyond l i) decisions.Beyond (cond (is_settled l i) decisions.Known decisions.Learned) not_beyond
+      ∙ ap (λ (b : Bool). cond b decisions.Known decisions.Learned) settled_here
+
+  -- a position settled there
+  pub settles_here : SameLearning (learning_of nodes most first (set places k Settled)) (with_settled l i)
+  settles_here =
+      subst (λ (m : Learning). SameLearning (learning_of nodes most first (set places k Settled)) m)
+      (sym (cond-false (is_beyond l i || nat_lt i first) l (with_mark l i) (or_skip (is_beyond l i) (nat_lt i first) not_beyond ∙ not_below)))
+      (settles places first k i at within nodes most)
+
+  module _ (from : ℕ) (vote : Vote) where
+    abbrev pub cast : CastVote
+    cast = record { from = from; vote = vote }
+
+    by_place : standing_with l from i vote ≡ cond (is_settled_in p) Known (cond (makes_majority nodes i vote (heard_with l from i vote)) Learned Counting)
+    by_place =
+        cond-false (is_beyond l i) Beyond (cond (is_settled l i) Known (cond (makes_majority nodes i vote (heard_with l from i vote)) Learned Counting)) not_beyond
+        ∙ ap (λ (b : Bool). cond b Known (cond (makes_majority nodes i vote (heard_with l from i vote)) Learned Counting)) settled_here
+
+    voters : voters_at nodes p cast ≡ length (nodes_among nodes (voters_of i vote (heard_with l from i vote)))
     voters =
-        counted
-        ∙ ap (λ (l : List ℕ). length (nodes_among nodes (with_member nat_eq l from))) (voters_at places i vote)
-        ∙ ap (λ (l : List ℕ). length (nodes_among nodes l)) (one_more_voter i from vote (heard_from 1 places))
+        ap (λ (o : Option Place). length (nodes_among nodes (voters_with (votes_of o) from vote))) (sym here)
+        ∙ ap (λ (list : List ℕ). length (nodes_among nodes (with_member nat_eq list from))) (voters_where places first i k vote at)
+        ∙ ap (λ (list : List ℕ). length (nodes_among nodes list)) (one_more_voter i from vote (heard_from first places))
 
-    by_majority : (b : Bool) → nat_le (majority_of nodes) count ≡ b → standing_with (learning_of nodes places) from i vote ≡ cond b Learned Counting
-    by_majority b e =
-        cond-false (is_settled (learning_of nodes places) i) Known
-        (cond (makes_majority nodes i vote (heard_with (learning_of nodes places) from i vote)) Learned Counting) (settled_at places i ∙ open_place)
+    -- a settled position is known
+    pub known_here : is_settled_in p ≡ true → Known ≡ standing_with l from i vote
+    known_here settled = sym (by_place ∙ cond-true (is_settled_in p) Known (cond (makes_majority nodes i vote (heard_with l from i vote)) Learned Counting) settled)
+
+    by_majority : (b : Bool) → is_settled_in p ≡ false → nat_le (majority_of nodes) (voters_at nodes p cast) ≡ b → standing_with l from i vote ≡ cond b Learned Counting
+    by_majority b free e =
+        by_place
+        ∙ cond-false (is_settled_in p) Known (cond (makes_majority nodes i vote (heard_with l from i vote)) Learned Counting) free
         ∙ ap (λ (t : Bool). cond t Learned Counting) (sym (ap (λ (n : ℕ). nat_le (majority_of nodes) n) voters) ∙ e)
 
-    -- a majority of them learns the action
-    pub learned_at : majority_of nodes ≤ count → Learned ≡ standing_with (learning_of nodes places) from i vote
-    learned_at most = sym (by_majority true (le-leb (majority_of nodes) count most))
+    -- a majority of one vote learns the action
+    pub learned_here : is_settled_in p ≡ false → majority_of nodes ≤ voters_at nodes p cast → Learned ≡ standing_with l from i vote
+    learned_here free enough = sym (by_majority true free (le-leb (majority_of nodes) (voters_at nodes p cast) enough))
 
     -- fewer are counted
-    pub counting_at : count < majority_of nodes → Counting ≡ standing_with (learning_of nodes places) from i vote
-    counting_at few = sym (by_majority false (lt-leb (majority_of nodes) count few))
+    pub counting_here : is_settled_in p ≡ false → voters_at nodes p cast < majority_of nodes → Counting ≡ standing_with l from i vote
+    counting_here free few = sym (by_majority false free (lt-leb (majority_of nodes) (voters_at nodes p cast) few))
 
-  -- the first vote at a position is counted
-  pub first_at : 3 ≤ nodes → is_settled_at places i ≡ false → votes_at places i ≡ [] → Counting ≡ standing_with (learning_of nodes places) from i vote
-  first_at many open_place none =
-      counting_at (length (nodes_among nodes (from ∷ []))) open_place (ap (λ votes. length (nodes_among nodes (voters_with votes from vote))) (sym none))
-      (omega (arith, alone nodes from, many))
+    -- once the vote is noted in the place, it is noted
+    pub notes_here : (q : Place) → NotesCast nodes p cast q → SameLearning (learning_of nodes most first (set places k q)) (with_vote l from i vote)
+    notes_here q noted =
+        let now : Place → Learning = λ r. learning_of nodes most first (set places k r) in
+        let goes : (s : Standing) → s ≡ standing_with l from i vote → (m : Learning) → SameLearning m (with_standing l from i vote s) → SameLearning m (with_vote l from i vote) =
+        λ s e m same. subst (λ (t : Standing). SameLearning m (with_standing l from i vote t)) e same in
+        elim (cases_Bool (is_settled_in p)) [
+          | inl settled ↦
+              subst (λ (r : Place). SameLearning (now r) (with_vote l from i vote)) (sym (noted.known settled))
+              (subst (λ (rs : List Place). SameLearning (learning_of nodes most first rs) (with_vote l from i vote)) (sym (kept places k p here))
+              (goes Known (known_here settled) l (same_learning l)))
+          | inr free ↦ elim (cases_Bool (nat_le (majority_of nodes) (voters_at nodes p cast))) [
+            | inl enough ↦
+                let most_of : majority_of nodes ≤ voters_at nodes p cast = leb-true (majority_of nodes) (voters_at nodes p cast) enough in
+                subst (λ (r : Place). SameLearning (now r) (with_vote l from i vote)) (sym (noted.learned free most_of))
+                (goes Learned (learned_here free most_of) (now Settled) (settles places first k i at within nodes most))
+            | inr few ↦
+                let fewer : voters_at nodes p cast < majority_of nodes = leb-false (majority_of nodes) (voters_at nodes p cast) few in
+                let more = noted.counting free fewer in
+                goes Counting (counting_here free fewer) (now q) (hears places first k i at within nodes most cast p q here (more.0 ∙ sym free) more.1)
+          ]
+        ]
 
-  known≢counting : Known ≡ Counting → ⊥
-  known≢counting e = cc
+    -- a vote that was not heard, of one node at most, is one more of those that are counted
+    pub one_more_here : 3 ≤ nodes → is_settled_in p ≡ false → voters_at nodes p cast ≤ 1 → ¬ Has cast (votes_in p) → IsOneMore l from i vote
+    one_more_here many free few none = record {
+      counting = sym (counting_here free (omega (arith, few, many)));
+      unheard = λ h.
+          none (subst (λ (o : Option Place). Has cast (votes_of o)) here ((heard_at places first k (from, i, vote) at).0 h));
+    }
 
-  -- where votes are counted, the position is open
-  pub open_at : standing_with (learning_of nodes places) from i vote ≡ Counting → is_settled_at places i ≡ false
-  open_at counting =
-      elim (cases_Bool (is_settled_at places i)) [
-        | inl settled ↦ absurd (known≢counting (known_at settled ∙ counting))
-        | inr free ↦ free
-      ]
-
-  -- there the vote is heard
-  pub notes : (k : ℕ) (p q : Place) → i ≡ suc k → k < length places → slice_get places k ≡ Some p → standing_with (learning_of nodes places) from i vote ≡ Counting
-      → IsWithCast p (record { from = from; vote = vote }) q → SameLearning (learning_of nodes (set places k q)) (with_vote (learning_of nodes places) from i vote)
-  notes k p q at within before counting more =
-      let free : is_settled_in p ≡ false = sym (ap settled_of (ap (place_at places) at ∙ before)) ∙ open_at counting in
-      subst (λ (s : Standing). SameLearning (learning_of nodes (set places k q)) (with_standing (learning_of nodes places) from i vote s)) (sym counting)
-      (hears places k i at within nodes (record { from = from; vote = vote }) p q before free more)
-
-  -- a vote that makes a majority settles its position
-  pub notes_last : (k : ℕ) → i ≡ suc k → k < length places → standing_with (learning_of nodes places) from i vote ≡ Learned
-      → SameLearning (learning_of nodes (set places k Settled)) (with_vote (learning_of nodes places) from i vote)
-  notes_last k at within learned =
-      subst (λ (s : Standing). SameLearning (learning_of nodes (set places k Settled)) (with_standing (learning_of nodes places) from i vote s)) (sym learned)
-      (settles places k i at within nodes)
-
-  -- a vote at a settled position changes nothing
-  pub notes_none : is_settled_at places i ≡ true → SameLearning (learning_of nodes places) (with_vote (learning_of nodes places) from i vote)
-  notes_none settled =
-      subst (λ (s : Standing). SameLearning (learning_of nodes places) (with_standing (learning_of nodes places) from i vote s)) (known_at settled)
-      (same_learning (learning_of nodes places))
-
--- a vote that its place does not hold was not heard
-pub not_heard : (places : List Place) (from i : ℕ) (vote : Vote) (k : ℕ) (p : Place) → i ≡ suc k → slice_get places k ≡ Some p
-    → ¬ Has (record { from = from; vote = vote }) (votes_in p) → ¬ Has (let heard : HeardVote = (from, i, vote) in heard) (heard_from 1 places)
-not_heard places from i vote k p at before none h =
-    none (subst (λ (o : Option Place). Has (record { from = from; vote = vote }) (votes_of o)) (ap (place_at places) at ∙ before) ((heard_at places (from, i, vote)).0 h))
+-- a position's offset in the window is how far it is above the first
+pub offset_at : (first i k : ℕ) → Some k ≡ cond (nat_lt i first) None (Some (i - first)) → i ≡ first + k
+offset_at first i k e =
+    elim (cases_Bool (nat_lt i first)) [
+      | inl below ↦
+          let is : Some k ≡ None = e ∙ cond-true (nat_lt i first) None (Some (i - first)) below in
+          absurd (cc)
+      | inr above ↦
+          let is : Some k ≡ Some (i - first) = e ∙ cond-false (nat_lt i first) None (Some (i - first)) above in
+          let same : k ≡ i - first = cc in
+          omega (arith, same, ltb-false i first above)
+    ]
 
 -- what holds anyway holds after an error
 pub on_err : {T E P : Type 0} (r : Result T E) → P → OnErr r P

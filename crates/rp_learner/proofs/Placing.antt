@@ -1,14 +1,16 @@
 -- The places of a learner, and the sets of votes and positions that they stand for.
-use Rattle.std.proofs.Common.{◌≡◌, ℕ, zero, suc, ◌+◌, ◌<◌, Bool, true, false, ◌↔◌, ◌||◌, Option, Some, List, [], ◌∷◌, ◌++◌, map, set, refl, sym, ap, subst, ◌∙◌, inl, inr, arith}
+use Rattle.std.proofs.Common.{◌≡◌, ℕ, zero, suc, ◌+◌, ◌<◌, Bool, true, false, ◌↔◌, ◌||◌, Option, Some, None, List, [], ◌∷◌, ◌++◌, map, set, refl, sym, ap, subst, ◌∙◌, inl, inr, arith}
 use Rattle.std.specs.Prelude.{nat_eq, slice_get, unwrap_or}
 use Rattle.std.specs.List.{list_any}
 use Rattle.std.proofs.lemmas.Bool.{both_ways, ne_eqb, eq-eqb, or_left, or_from}
 use Rattle.rp_base.specs.Sets.{Has}
 use Rattle.rp_base.specs.Promises.{HeardVote}
 use Rattle.rp_learner.specs.Casts.{CastVote}
-use Rattle.rp_learner.specs.Places.{Place}
-use Rattle.rp_learner.specs.Places.Place.{Unheard, Heard, Settled}
-use Rattle.rp_learner.specs.Places.{votes_in, votes_of, votes_at, is_settled_in, settled_of, is_settled_at, heard_from, if_settled, settled_from}
+use Rattle.rp_learner.specs.declared.place.Place.{Place}
+use Rattle.rp_learner.specs.declared.place.Place.TheVariants.{Unheard, Heard, Settled}
+use Rattle.rp_learner.specs.Places.{votes_in, is_settled_in, heard_from, if_settled, settled_from}
+use Rattle.rp_base.proofs.Members.{found, finds}
+use Rattle.std.proofs.lemmas.Bool.Decides.{Decides-eqb}
 use Rattle.rp_base.proofs.Members.{has_split, has_left, has_right, has_mapped}
 
 -- a vote of a node, heard at a position
@@ -19,11 +21,21 @@ heard_as i c = (c.from, i, c.vote)
 abbrev pub cast_of : HeardVote → CastVote
 cast_of h = record { from = h.0; vote = h.2 }
 
+-- the votes that a place holds, if there is one
+abbrev pub votes_of : Option Place → List CastVote
+votes_of None = []
+votes_of (Some place) = votes_in place
+
+-- whether a place is settled, if there is one
+abbrev pub settled_of : Option Place → Bool
+settled_of None = false
+settled_of (Some place) = is_settled_in place
+
 -- what an `Option` holds
 some_is : {x y : Place} → Some x ≡ Some y → x ≡ y
 some_is {x} {y} e = ap (λ (o : Option Place). unwrap_or o x) e
 
-or_skip : (x y : Bool) → x ≡ false → (x || y) ≡ y
+pub or_skip : (x y : Bool) → x ≡ false → (x || y) ≡ y
 or_skip x y e = ap (λ (t : Bool). t || y) e
 
 heard_here : (i : ℕ) (h : HeardVote) (votes : List CastVote) → Has h (map (heard_as i) votes) → (h.1 ≡ i) × Has (cast_of h) votes
@@ -35,7 +47,7 @@ heard_here i h (c ∷ votes) m =
     ]
 
 -- the place that holds a vote
-heard_where : (places : List Place) (i : ℕ) (h : HeardVote) → Has h (heard_from i places) → (k : ℕ) × (h.1 ≡ i + k) × Has (cast_of h) (votes_of (slice_get places k))
+pub heard_where : (places : List Place) (i : ℕ) (h : HeardVote) → Has h (heard_from i places) → (k : ℕ) × (h.1 ≡ i + k) × Has (cast_of h) (votes_of (slice_get places k))
 heard_where [] i h m = absurd m
 heard_where (place ∷ places) i h m =
     elim (has_split h (map (heard_as i) (votes_in place)) (heard_from (suc i) places) m) [
@@ -43,7 +55,7 @@ heard_where (place ∷ places) i h m =
       | inr later ↦ let rest = heard_where places (suc i) h later in (suc rest.0, omega (arith, rest.1), rest.2)
     ]
 
-heard_there : (places : List Place) (i k : ℕ) (h : HeardVote) → h.1 ≡ i + k → Has (cast_of h) (votes_of (slice_get places k)) → Has h (heard_from i places)
+pub heard_there : (places : List Place) (i k : ℕ) (h : HeardVote) → h.1 ≡ i + k → Has (cast_of h) (votes_of (slice_get places k)) → Has h (heard_from i places)
 heard_there [] i k h e m = absurd m
 heard_there (place ∷ places) i zero h e m =
     let at : h.1 ≡ i = omega (arith, e) in
@@ -52,28 +64,24 @@ heard_there (place ∷ places) i zero h e m =
 heard_there (place ∷ places) i (suc k) h e m =
     has_right h (map (heard_as i) (votes_in place)) (heard_from (suc i) places) (heard_there places (suc i) k h (omega (arith, e)) m)
 
-heard_at_number : (places : List Place) (h : HeardVote) (i : ℕ) → h.1 ≡ i → Has (cast_of h) (votes_at places i) → Has h (heard_from 1 places)
-heard_at_number places h zero e m = absurd m
-heard_at_number places h (suc k) e m = heard_there places 1 k h (omega (arith, e)) m
-
 -- the votes heard at a position are those of its place
-pub heard_at : (places : List Place) (h : HeardVote) → Has h (heard_from 1 places) ↔ Has (cast_of h) (votes_at places h.1)
-heard_at places h = (
+pub heard_at : (places : List Place) (first k : ℕ) (h : HeardVote) → h.1 ≡ first + k → Has h (heard_from first places) ↔ Has (cast_of h) (votes_of (slice_get places k))
+heard_at places first k h at = (
   λ m.
-      let hit = heard_where places 1 h m in
-      let same : suc hit.0 ≡ h.1 = omega (arith, hit.1) in
-      subst (λ (i : ℕ). Has (cast_of h) (votes_at places i)) same hit.2,
-  heard_at_number places h h.1 refl,
+      let hit = heard_where places first h m in
+      let same : hit.0 ≡ k = omega (arith, hit.1, at) in
+      subst (λ (j : ℕ). Has (cast_of h) (votes_of (slice_get places j))) same hit.2,
+  heard_there places first k h at,
 )
 
 -- no position below the first is settled
-settled_below : (places : List Place) (i j : ℕ) → j < i → list_any (nat_eq j) (settled_from i places) ≡ false
+pub settled_below : (places : List Place) (i j : ℕ) → j < i → list_any (nat_eq j) (settled_from i places) ≡ false
 settled_below [] i j lt = refl
 settled_below (Unheard ∷ places) i j lt = settled_below places (suc i) j (omega arith)
 settled_below (Heard votes ∷ places) i j lt = settled_below places (suc i) j (omega arith)
 settled_below (Settled ∷ places) i j lt = or_from (nat_eq j i) (list_any (nat_eq j) (settled_from (suc i) places)) (ne_eqb j i (λ e. omega (arith, lt, e))) (settled_below places (suc i) j (omega arith))
 
-settled_where : (places : List Place) (i j k : ℕ) → j ≡ i + k → list_any (nat_eq j) (settled_from i places) ≡ settled_of (slice_get places k)
+pub settled_where : (places : List Place) (i j k : ℕ) → j ≡ i + k → list_any (nat_eq j) (settled_from i places) ≡ settled_of (slice_get places k)
 settled_where [] i j k e = refl
 settled_where (Unheard ∷ places) i j zero e = settled_below places (suc i) j (omega (arith, e))
 settled_where (Heard votes ∷ places) i j zero e = settled_below places (suc i) j (omega (arith, e))
@@ -84,10 +92,23 @@ settled_where (Settled ∷ places) i j (suc k) e =
     or_skip (nat_eq j i) (list_any (nat_eq j) (settled_from (suc i) places)) (ne_eqb j i (λ same. omega (arith, e, same)))
     ∙ settled_where places (suc i) j k (omega (arith, e))
 
--- a position is settled where its place is
-pub settled_at : (places : List Place) (j : ℕ) → list_any (nat_eq j) (settled_from 1 places) ≡ is_settled_at places j
-settled_at places zero = settled_below places 1 0 (omega arith)
-settled_at places (suc k) = settled_where places 1 (suc k) k (omega arith)
+-- a settled position has a settled place
+settled_first : (i j : ℕ) (place : Place) → Has j (if_settled i place) → (j ≡ i) × (is_settled_in place ≡ true)
+settled_first i j Unheard h = absurd h
+settled_first i j (Heard votes) h = absurd h
+settled_first i j Settled h = elim h [ inl e ↦ (e, refl) | inr none ↦ absurd none ]
+
+pub settled_spot : (places : List Place) (i j : ℕ) → Has j (settled_from i places) → (k : ℕ) × (j ≡ i + k) × (settled_of (slice_get places k) ≡ true)
+settled_spot [] i j m = absurd m
+settled_spot (place ∷ places) i j m =
+    elim (has_split j (if_settled i place) (settled_from (suc i) places) m) [
+      | inl here ↦ let mark = settled_first i j place here in (0, omega (arith, mark.0), mark.1)
+      | inr later ↦ let rest = settled_spot places (suc i) j later in (suc rest.0, omega (arith, rest.1), rest.2)
+    ]
+
+-- a settled place settles its position
+pub settled_there : (places : List Place) (i k j : ℕ) → j ≡ i + k → settled_of (slice_get places k) ≡ true → Has j (settled_from i places)
+settled_there places i k j at e = found nat_eq Decides-eqb j (settled_from i places) (settled_where places i j k at ∙ e)
 
 same_if_settled : (i : ℕ) (p q : Place) → is_settled_in q ≡ is_settled_in p → if_settled i q ≡ if_settled i p
 same_if_settled i Unheard Unheard e = refl

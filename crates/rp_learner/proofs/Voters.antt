@@ -10,12 +10,12 @@ use Rattle.rp_base.specs.Sets.{Has, with_member, with_members}
 use Rattle.rp_base.specs.declared.record.Vote.{Vote}
 use Rattle.rp_base.specs.Promises.{HeardVote, same_vote, same_heard, voters_of}
 use Rattle.rp_learner.specs.Casts.{CastVote}
-use Rattle.rp_learner.specs.Places.{Place}
-use Rattle.rp_learner.specs.Places.{votes_in, votes_of, votes_at, heard_from}
+use Rattle.rp_learner.specs.declared.place.Place.{Place}
+use Rattle.rp_learner.specs.Places.{votes_in, heard_from}
 use Rattle.rp_base.proofs.Sameness.{vote_same, heard_decides}
 use Rattle.rp_base.proofs.Members.{found, finds, passes, has_mapped, member_stays, with_members-append}
 use Rattle.rp_learner.proofs.Tallies.{senders_cast}
-use Rattle.rp_learner.proofs.Placing.{heard_as}
+use Rattle.rp_learner.proofs.Placing.{heard_as, votes_of}
 
 -- the senders of this vote at this position
 abbrev senders_heard : ℕ → Vote → List HeardVote → List ℕ
@@ -77,13 +77,10 @@ senders_where (place ∷ places) i j (suc k) vote e =
     ∙ ap (λ (l : List ℕ). l ++ senders_heard j vote (heard_from (suc i) places)) (none_here i j vote (votes_in place) (λ same. omega (arith, e, same)))
     ∙ senders_where places (suc i) j k vote (omega (arith, e))
 
-senders_at : (places : List Place) (j : ℕ) (vote : Vote) → senders_heard j vote (heard_from 1 places) ≡ senders_cast vote (votes_at places j)
-senders_at places zero vote = none_below places 1 0 vote (omega arith)
-senders_at places (suc k) vote = senders_where places 1 (suc k) k vote (omega arith)
-
 -- who cast a vote is who cast it at its place
-pub voters_at : (places : List Place) (j : ℕ) (vote : Vote) → with_members nat_eq [] (senders_cast vote (votes_at places j)) ≡ voters_of j vote (heard_from 1 places)
-voters_at places j vote = ap (with_members nat_eq []) (sym (senders_at places j vote))
+pub voters_where : (places : List Place) (first j k : ℕ) (vote : Vote) → j ≡ first + k
+    → with_members nat_eq [] (senders_cast vote (votes_of (slice_get places k))) ≡ voters_of j vote (heard_from first places)
+voters_where places first j k vote at = ap (with_members nat_eq []) (sym (senders_where places first j k vote at))
 
 -- its sender is one more voter
 pub one_more_voter : (i from : ℕ) (vote : Vote) (heard : List HeardVote)

@@ -1,15 +1,22 @@
 //! The learner of one node.
 
-ghost use Rattle.std.specs.Prelude.{◌≡◌, ◌≤◌, ℕ, suc, OnOk, OnErr, IfOk, IsOkUnless};
+ghost use Rattle.std.specs.Prelude.{◌≡◌, ◌≤◌, ◌-◌, ℕ, nat_lt, replicate, None, Some, if◌then◌else◌, OnOk, OnErr, IfOk, IsOkUnless};
+ghost use Rattle.circular_buffer.specs.Buffer.{buffer};
 ghost use Rattle.rp_base.specs.declared.record.Vote.{Vote};
 ghost use Rattle.rp_learner.specs.Learning.{Learning};
-ghost use Rattle.rp_learner.specs.Places.{mark_at};
-ghost use Rattle.rp_learner.specs.Standings.{SameLearning, SameSizes, fresh, vote_for, standing_with, decision_at, with_settled, with_vote, NotesVote, Settles, IsOneMore};
+ghost use Rattle.rp_learner.specs.Places.{window};
+ghost use Rattle.rp_learner.specs.declared.place.Place.TheVariants.{Unheard};
+ghost use Rattle.rp_learner.specs.Standings.{SameLearning, SameSizes, fresh, vote_for, standing_with, decision_at, with_settled, with_vote, NotesVote, Settles, IsOneMore, Advances};
 
-use crate::page::{Page, forget, hear, slot_at};
+use crate::place::Place;
+use circular_buffer::HeapCircularBuffer;
 use rp_base::{Action, Ballot, Fault, NodeId, Position, majority};
-use std::alloc::Global;
+use std::alloc::{AllocError, Global};
 use std::marker::Model;
+
+/// How many positions the window has: so far above the first unlearned one votes are counted, and a
+/// node may lead.
+pub const WINDOW: u32 = 64;
 
 /// What holds at a position once a vote is counted.
 #[derive(Clone, Copy, Debug, PartialEq, Eq)]
@@ -20,6 +27,8 @@ pub enum Standing {
     Learned,
     /// The position is settled.
     Known,
+    /// The position is above the window, where nothing is counted.
+    Beyond,
 }
 
 /// What a decision is that another node tells.
@@ -29,51 +38,67 @@ pub enum Decision {
     Learned,
     /// The position is settled.
     Known,
+    /// The position is above the window, where nothing is marked.
+    Beyond,
 }
 
 /// The votes that a node has heard and the positions that it knows to be decided (Lamport, "Paxos
-/// Made Simple", section 2.3). Counting is stricter than Lamport's: only votes of one ballot add
-/// up. Votes at a position are let go when it is settled.
+/// Made Simple", section 2.3), in a window of 64 positions in a row; all below the window are settled.
+/// Counting is stricter than Lamport's: only votes of one ballot add up. Votes at a position are let
+/// go when it is settled. The window is a ring that `new` makes, so a learner takes the same memory
+/// however many positions there are.
 #[derive(Debug, Drop)]
 pub struct Learner {
     nodes: u8,
-    marks: Vec<bool>,
-    pages: Vec<Page>,
+    max_positions: u16,
+    first: u32,
+    places: HeapCircularBuffer<Place>,
 }
 
 impl Model for Learner {
-    ghost use Rattle.std.specs.Prelude.{◌≤◌, length};
+    ghost use Rattle.std.specs.Prelude.{◌≡◌, ◌≤◌, length};
     ghost use Rattle.rp_learner.specs.Learning.{Learning};
 
     ghost Value = { Learning };
 
-    ghost use Rattle.rp_learner.specs.Places.{places_of, heard_from, settled_from};
+    ghost use Rattle.rp_learner.specs.Places.{heard_from, settled_from, window};
 
     ghost view = { λ l. record {
       nodes = l.nodes;
-      max_positions = length (places_of l.marks.items l.pages.items);
-      heard = heard_from 1 (places_of l.marks.items l.pages.items);
-      settled = settled_from 1 (places_of l.marks.items l.pages.items);
+      max_positions = l.max_positions;
+      first = l.first;
+      heard = heard_from l.first l.places.items;
+      settled = settled_from l.first l.places.items;
     } };
 
-    ghost invariant = { λ l. (3 ≤ l.nodes) × (l.nodes ≤ 7) };
+    ghost invariant = { λ l. (3 ≤ l.nodes) × (l.nodes ≤ 7) × (length l.places.items ≡ window) × (l.places.capacity ≡ window) };
+}
+
+/// The places of a window in which nothing is heard or settled.
+fn unheard_places(alloc: Global) -> Result<HeapCircularBuffer<Place>, AllocError>
+    ensures empty { IfOk result (λ places. places
+        ≡ buffer (replicate window Unheard) window) }
+{
+    let mut places = HeapCircularBuffer::with_capacity(alloc, WINDOW as usize)?;
+    for _ in 0..WINDOW {
+        places.push_back(Place::Unheard);
+    }
+    Ok(places)
 }
 
 impl Learner {
-    /// A learner of 3 to 7 nodes that has heard nothing, for positions 1 to `max_positions`. It has
-    /// the room of all their marks, so that a position can always be settled. `OutOfMemory` leaves
-    /// nothing.
+    /// A learner of 3 to 7 nodes that has heard nothing, for positions 1 to `max_positions`, with its
+    /// window from position 1 on. `OutOfMemory` leaves nothing.
     pub fn new(alloc: Global, nodes: u8, max_positions: u16) -> Result<Self, Fault>
         requires nodes { (3 ≤ nodes) × (nodes ≤ 7) }
         ensures fresh { IfOk result (λ l. l ≡ fresh nodes max_positions) }
         ensures only { IsOkUnless result Fault.OutOfMemory }
     {
-        let mut marks = Vec::new(alloc);
-        marks.resize(usize::from(max_positions), false)?;
         Ok(Learner {
             nodes,
-            marks,
-            pages: Vec::new(alloc),
+            max_positions,
+            first: 1,
+            places: unheard_places(alloc)?,
         })
     }
 
@@ -90,25 +115,27 @@ impl Learner {
         requires sender { from ≤ self.now.nodes }
         ensures { result ≡ standing_with self.now from position (vote_for ballot action.now) }
     {
-        match mark_at(&self.marks, position) {
-            Some(true) => Standing::Known,
-            Some(false) => match slot_at(&self.pages, index_of(position)) {
-                Some(tallies) => {
-                    let voters = tallies.count_with(self.nodes, from, ballot, action);
-                    if voters >= usize::from(majority(self.nodes)) {
-                        Standing::Learned
-                    } else {
-                        Standing::Counting
-                    }
+        let Some(offset) = offset_from(self.first, position) else {
+            return Standing::Known;
+        };
+        match self.places.get(offset) {
+            None => Standing::Beyond,
+            Some(Place::Settled) => Standing::Known,
+            Some(Place::Unheard) => Standing::Counting,
+            Some(Place::Heard(tallies)) => {
+                let voters = tallies.count_with(self.nodes, from, ballot, action);
+                if voters >= usize::from(majority(self.nodes)) {
+                    Standing::Learned
+                } else {
+                    Standing::Counting
                 }
-                None => Standing::Counting,
-            },
-            None => Standing::Counting,
+            }
         }
     }
 
-    /// Counts a vote of one of the nodes, at a position up to `max_positions`. Where `vote` answers
-    /// `Learned` for it, the position is settled. `OutOfMemory` leaves the learner as it was.
+    /// Counts a vote of one of the nodes. Where `vote` answers `Learned` for it, the position is
+    /// settled; where it answers `Known` or `Beyond`, nothing changes. `OutOfMemory` leaves the
+    /// learner as it was.
     #[inline(always)]
     pub fn note_vote(
         &mut self,
@@ -119,7 +146,6 @@ impl Learner {
         action: &Action,
     ) -> Result<(), Fault>
         requires sender { from ≤ self.old.nodes }
-        requires position { position ≤ self.old.max_positions }
         ensures noted { OnOk result (NotesVote self.old from position
             (vote_for ballot action.now) self.new) }
         ensures sizes { SameSizes self.new self.old }
@@ -128,23 +154,13 @@ impl Learner {
             (vote_for ballot action.now)) }
         ensures only { IsOkUnless result Fault.OutOfMemory }
     {
-        let index = index_of(position);
-        if self.marks[index] {
+        let Some(offset) = offset_from(self.first, position) else {
             return Ok(());
-        }
-        let voters = hear(
-            &mut self.pages,
-            alloc,
-            index,
-            self.nodes,
-            from,
-            ballot,
-            action,
-        )?;
-        if voters >= usize::from(majority(self.nodes)) {
-            self.marks[index] = true;
-            forget(&mut self.pages, index);
-        }
+        };
+        let Some(place) = self.places.get_mut(offset) else {
+            return Ok(());
+        };
+        place.hear(alloc, self.nodes, from, ballot, action)?;
         Ok(())
     }
 
@@ -152,39 +168,55 @@ impl Learner {
     pub fn decided(&self, position: Position) -> Decision
         ensures { result ≡ decision_at self.now position }
     {
-        match mark_at(&self.marks, position) {
-            Some(true) => Decision::Known,
-            Some(false) => Decision::Learned,
-            None => Decision::Learned,
+        let Some(offset) = offset_from(self.first, position) else {
+            return Decision::Known;
+        };
+        match self.places.get(offset) {
+            None => Decision::Beyond,
+            Some(place) if place.is_settled() => Decision::Known,
+            Some(_) => Decision::Learned,
         }
     }
 
-    /// Marks a position up to `max_positions` as settled, and lets go of the votes heard there.
+    /// Marks a position as settled, and lets go of the votes heard there. Above the window nothing
+    /// is marked.
     pub fn settled(&mut self, position: Position)
-        requires position { position ≤ self.old.max_positions }
         ensures settled { Settles self.old position self.new }
         ensures sizes { SameSizes self.new self.old }
     {
-        let index = index_of(position);
-        self.marks[index] = true;
-        forget(&mut self.pages, index);
+        let Some(offset) = offset_from(self.first, position) else {
+            return;
+        };
+        let Some(place) = self.places.get_mut(offset) else {
+            return;
+        };
+        place.settle();
+    }
+
+    /// Moves the window on to begin at `first`, at most 65,536. All positions below are settled
+    /// then. Position `first + j` is settled if bit j of `settled` is set, the lowest bit being bit
+    /// 0; only the bits of positions that were above the window are looked at. It takes no memory,
+    /// and time in proportion to how far the window moves, at most 64 places.
+    pub fn advance(&mut self, first: u32, settled: u64)
+        requires on { self.old.first ≤ first }
+        ensures { Advances self.old first settled self.new }
+    {
+        let moved = (first - self.first).min(WINDOW);
+        for offset in WINDOW - moved..WINDOW {
+            self.places.push_back(Place::opened(settled, offset));
+        }
+        self.first = first;
     }
 }
 
-/// The index of a position's mark and slot.
+/// How far above the first position of the window a position is, `None` below it.
 #[inline(always)]
-fn index_of(position: Position) -> usize
-    ensures { suc result ≡ position }
+fn offset_from(first: u32, position: Position) -> Option<usize>
+    ensures { result ≡ (if nat_lt position first then None else Some (position - first)) }
 {
-    usize::from(position.get()) - 1
-}
-
-/// The mark of a position: whether it is settled, `None` above `max_positions`.
-#[inline(always)]
-fn mark_at(marks: &[bool], position: Position) -> Option<bool>
-    ensures { result ≡ mark_at marks.now position }
-{
-    marks.get(index_of(position)).copied()
+    u32::from(position.get())
+        .checked_sub(first)
+        .map(|offset| offset as usize)
 }
 
 /// Learners that hold the same, as sets, answer alike, and hold the same once the same is noted.

@@ -1,13 +1,13 @@
 //! The learner: whether the votes that a node has heard decide a position.
 //!
 //! In reading order:
-//! - `learner`: the learner of one node
-//! - `page`: the votes heard at open positions, in pages
+//! - `learner`: the learner of one node, over a window of 64 positions
+//! - `place`: what is known of one position of the window
 //! - `tally`: the votes heard at one position
 #![tactic(auto)]
 
 mod learner;
-mod page;
+mod place;
 mod tally;
 
-pub use learner::{Decision, Learner, Standing, same_learners_answer_alike};
+pub use learner::{Decision, Learner, Standing, WINDOW, same_learners_answer_alike};

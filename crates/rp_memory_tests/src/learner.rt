@@ -1,5 +1,5 @@
 ghost use Rattle.std.specs.Prelude.{◌≡◌, ◌≤◌, IfOk};
-ghost use Rattle.rp_learner.specs.Standings.{fresh};
+ghost use Rattle.rp_learner.specs.Standings.{SameSizes, fresh};
 
 use rp_base::{Action, Ballot, NodeId, Position};
 use rp_learner::*;
@@ -126,5 +126,70 @@ fn a_settled_position_is_known_and_no_other(rt: HostRuntime) -> Result<(), Fail>
             standing
         );
     }
+    Ok(())
+}
+
+/// Notes a vote for Noop, and again where memory was refused once.
+fn note(
+    learner: &mut Learner,
+    alloc: Global,
+    from: NodeId,
+    position: Position,
+    ballot: Ballot,
+) -> Result<(), Fail>
+    requires { from ≤ learner.old.nodes }
+    ensures { SameSizes learner.new learner.old }
+{
+    if learner
+        .note_vote(alloc, from, position, ballot, &Action::Noop)
+        .is_err()
+    {
+        learner.note_vote(alloc, from, position, ballot, &Action::Noop)?;
+    }
+    Ok(())
+}
+
+#[test]
+fn votes_are_counted_in_a_window_that_moves_on(rt: HostRuntime) -> Result<(), Fail> {
+    let mut learner = new_learner(rt.alloc(), 3, 1000)?;
+    let ballot = Ballot::new(9).ok_or("ballot 9")?;
+    let one = NodeId::new(1).ok_or("node 1")?;
+    let two = NodeId::new(2).ok_or("node 2")?;
+    assert!(rt; one.get() <= 3 && two.get() <= 3);
+    let last = Position::new(64).ok_or("position 64")?;
+    let next = Position::new(65).ok_or("position 65")?;
+    let beyond = Position::new(66).ok_or("position 66")?;
+    let noop = Action::Noop;
+    assert_eq!(rt; learner.vote(one, last, ballot, &noop), Standing::Counting);
+    note(&mut learner, rt.alloc(), one, last, ballot)?;
+    assert_eq!(rt; learner.vote(one, next, ballot, &noop), Standing::Beyond);
+    note(&mut learner, rt.alloc(), one, next, ballot)?;
+    assert_eq!(rt; learner.decided(next), Decision::Beyond);
+    learner.settled(next);
+    learner.settled(Position::first());
+    learner.advance(2, 0);
+    assert_eq!(rt; learner.vote(one, next, ballot, &noop), Standing::Counting);
+    assert_eq!(rt; learner.vote(two, next, ballot, &noop), Standing::Counting);
+    assert_eq!(rt; learner.vote(two, last, ballot, &noop), Standing::Learned);
+    assert_eq!(rt;
+        learner.vote(one, Position::first(), ballot, &noop),
+        Standing::Known
+    );
+    for (position, decision) in [
+        (Position::first(), Decision::Known),
+        (last, Decision::Learned),
+        (next, Decision::Learned),
+        (beyond, Decision::Beyond),
+    ] {
+        assert_eq!(rt; learner.decided(position), decision);
+    }
+    learner.advance(3, 1 << 63);
+    assert_eq!(rt; learner.decided(next), Decision::Learned);
+    assert_eq!(rt; learner.decided(beyond), Decision::Known);
+    assert_eq!(rt; learner.vote(two, last, ballot, &noop), Standing::Learned);
+    learner.advance(200, 1);
+    let far = Position::new(200).ok_or("position 200")?;
+    assert_eq!(rt; learner.decided(beyond), Decision::Known);
+    assert_eq!(rt; learner.vote(one, far, ballot, &noop), Standing::Known);
     Ok(())
 }

@@ -37,8 +37,8 @@ use Rattle.rp_machine.specs.Replay.{kept_of, replay_answers}
 use Rattle.rp_model.specs.Says.{says, says_to_all, says_to_others, says_to_task, sends, notes, drops_foreign, drops_full}
 use Rattle.rp_model.specs.Acceptor.{tells_promise, tells_vote}
 use Rattle.rp_model.specs.Pending.{most_pending, is_same_call, adds_pending, on_numbered, on_call, on_interrupt}
-use Rattle.rp_model.specs.Leader.{chosen_position, is_out_of_reach, starts_above, begins, on_lead, counts_promise, on_promise_to, on_nack}
-use Rattle.rp_model.specs.Learner.{missing_position, asks_for, tells_learned, learns, on_vote, on_decision}
+use Rattle.rp_model.specs.Leader.{chosen_position, is_beyond, is_out_of_reach, starts_above, begins, on_lead, counts_promise, on_promise_to, on_nack}
+use Rattle.rp_model.specs.Learner.{missing_position, asks_for, tells_learned, learns, on_vote, on_accepted, on_decision}
 use Rattle.rp_model.specs.Receiving.{is_for_node, party_number, on_body, receives}
 use Rattle.rp_model.specs.Effect as inputs
 use Rattle.rp_model.specs.Effect.{Setting, NodeInput, report_of, running_effect}
@@ -305,6 +305,16 @@ module _ (grown : (records : List Rec) (rec : Rec) (i : ℕ) → learned_at (rec
       decision_alike me from i v (Some w) = nothing
       decision_alike me from i v None = learns_alike me i v [] (asks_for me from (missing_position (records ++ Learned i v ∷ [])))
 
+      accepted_alike : (nodes me from i : ℕ) (vote : Vote)
+          → AreAlikeTurns records (on_accepted next answers begin nodes me records one from i vote) (on_accepted next answers begin nodes me records other from i vote)
+      accepted_alike nodes me from i vote =
+          let learned = learned_at records i in
+          elim (is_beyond records i)
+          as (λ far. AreAlikeTurns records (if far then notes one else on_vote next answers begin nodes me records one from i vote learned) (if far then notes other else on_vote next answers begin nodes me records other from i vote learned)) [
+            | true ↦ nothing
+            | false ↦ vote_alike nodes me from i vote learned refl
+          ]
+
       body_alike : (nodes me from : ℕ) (body : Body) → AreAlikeTurns records (on_body next answers begin nodes me records one from body) (on_body next answers begin nodes me records other from body)
       body_alike nodes me from (bodies.Call action) =
           let applied = applied_of records in
@@ -312,7 +322,7 @@ module _ (grown : (records : List Rec) (rec : Rec) (i : ℕ) → learned_at (rec
       body_alike nodes me from (bodies.Prepare i b) = prepares_alike me from i b (prepare_answer records i b)
       body_alike nodes me from (bodies.Promise i b last) = promise_alike nodes me b (from, last) (proposal_at one.proposals i)
       body_alike nodes me from (bodies.Accept i b v) = votes_alike me from i b v (accept_answer records i b v)
-      body_alike nodes me from (bodies.Accepted i b v) = vote_alike nodes me from i (record { ballot = b; action = v }) (learned_at records i) refl
+      body_alike nodes me from (bodies.Accepted i b v) = accepted_alike nodes me from i (record { ballot = b; action = v })
       body_alike nodes me from (bodies.Decided i v) = decision_alike me from i v (learned_at records i)
       body_alike nodes me from (bodies.Ask i) = ask_alike me from i (learned_at records i)
       body_alike nodes me from (bodies.Nack i b bound) = nack_alike i b bound

@@ -20,7 +20,7 @@ use Rattle.rp_model.specs.Parts.{Turn}
 use Rattle.rp_model.specs.Says.{says_to_all, sends, notes, writes}
 use Rattle.rp_model.specs.Pending.{own_action}
 
--- how far above the first unlearned position a node may lead
+-- how far above the first unlearned position a node may lead, and counts votes
 abbrev pub window : ℕ
 window = 64
 
@@ -41,9 +41,13 @@ least_free records proposals = free_from records proposals (length records + len
 abbrev pub chosen_position : List Rec → Running → Option ℕ → ℕ
 chosen_position records running choice = unwrap_or choice (least_free records running.proposals)
 
+-- the position is too far above the first unlearned one
+abbrev pub is_beyond : List Rec → ℕ → Bool
+is_beyond records i = nat_le (first_unlearned records + window) i
+
 -- the position is above the log, or too far above the first unlearned one
 abbrev pub is_out_of_reach : ℕ → List Rec → ℕ → Bool
-is_out_of_reach most records i = nat_lt most i || nat_le (first_unlearned records + window) i
+is_out_of_reach most records i = nat_lt most i || is_beyond records i
 
 -- what the next ballot lies above: the greatest that the node started, and the greatest that a refusal told
 abbrev pub starts_above : List Rec → Running → ℕ

@@ -18,6 +18,7 @@ use Rattle.rp_model.specs.Parts.{Running}
 use Rattle.rp_model.specs.Parts.{Turn}
 use Rattle.rp_model.specs.Says.{says, says_to_others, sends, notes, writes}
 use Rattle.rp_model.specs.Pending.{stays, replies_to}
+use Rattle.rp_model.specs.Leader.{is_beyond}
 
 -- the record learns an action above a position
 abbrev pub learns_above : ℕ → Rec → Bool
@@ -70,9 +71,11 @@ module _ {S : Type 0} (next : S → Action → S) (answers : S → Action → Li
       then learns me records running i vote.action (says_to_others nodes me (bodies.Decided i vote.action)) []
       else notes (record running { heard = heard })
 
-  -- Accepted: a vote for an action at a position
+  -- Accepted: a vote for an action at a position. Where that is too far above the first unlearned one, it is
+  -- not noted.
   abbrev pub on_accepted : ℕ → ℕ → List Rec → Running → ℕ → ℕ → Vote → Turn
-  on_accepted nodes me records running from i vote = on_vote nodes me records running from i vote (learned_at records i)
+  on_accepted nodes me records running from i vote =
+      if is_beyond records i then notes running else on_vote nodes me records running from i vote (learned_at records i)
 
   -- a decision where the position is learned, or not
   abbrev pub on_decision : ℕ → List Rec → Running → ℕ → ℕ → Action → Option Action → Turn

@@ -15,12 +15,13 @@ use Rattle.rp_codec.specs.Message.{Message}
 use Rattle.rp_codec.specs.declared.packet.Body.{Body}
 use Rattle.rp_codec.specs.declared.packet.Body.TheVariants as bodies
 use Rattle.rp_learner.specs.declared.learner.Standing.{Standing}
-use Rattle.rp_learner.specs.declared.learner.Standing.TheVariants.{Counting, Learned, Known}
+use Rattle.rp_learner.specs.declared.learner.Standing.TheVariants.{Counting, Learned, Known, Beyond}
 use Rattle.rp_machine.specs.Replay.{one_to, replay_answers}
 use Rattle.rp_model.specs.Pending.{replies_to}
 use Rattle.rp_model.specs.declared.effect.Dropped.TheVariants.{No}
 use Rattle.rp_model.specs.Parts.{Running}
 use Rattle.rp_model.specs.Parts.{Turn}
+use Rattle.rp_model.specs.Leader.{is_beyond}
 use Rattle.rp_model.specs.Learner.{learns, on_vote, on_accepted}
 use Rattle.rp_model.specs.Says.{says, says_to_others, notes}
 use Rattle.rp_replica.specs.declared.sent.Sent.{Sent}
@@ -77,8 +78,14 @@ module _ {S : Type 0} (next : S → Action → S) (answers : S → Action → Li
   learned_is None true e = refl
   learned_is None false e = absurd (cc)
 
+  near_is : (far : Bool) (standing : Standing) (turn : Turn) → (if far then Beyond else standing) ≡ Learned → (standing ≡ Learned → turn ≡ tells) → (if far then notes running else turn) ≡ tells
+  near_is true standing turn e is = absurd (cc)
+  near_is false standing turn e is = is e
+
   pub on_learned : standing_of nodes records running.heard from i vote ≡ Learned → on_accepted next answers begin nodes me records running from i vote ≡ tells
-  on_learned e = same_turn (learned_at records i) ∙ learned_is (learned_at records i) (makes_majority nodes i vote heard) e
+  on_learned e =
+      near_is (is_beyond records i) (standing_at (learned_at records i) (makes_majority nodes i vote heard)) (on_vote next answers begin nodes me records running from i vote (learned_at records i)) e
+      (λ learned. same_turn (learned_at records i) ∙ learned_is (learned_at records i) (makes_majority nodes i vote heard) learned)
 
 -- an action is learned, and these packets stand before and behind the replies
 pub learned_turns : {S : Type 0} (next : S → Action → S) (answers : S → Action → List Answer) (old new : Held S) (i : ℕ) (v : Action) (packets behind : List Message) (start out : Run) (sent : Sent)

@@ -25,6 +25,7 @@ use Rattle.rp_model.specs.Leader.{is_out_of_reach}
 use Rattle.rp_log.proofs.Places.{front_within}
 use Rattle.rp_log.proofs.RecordedRuns.{all_taken}
 use Rattle.rp_machine.specs.Numbered.{Applied}
+use Rattle.rp_replica.proofs.Hearing.{learns_alike}
 use Rattle.rp_replica.specs.Tied.{IsOnDisk, IsProposer, IsApplied, Tied}
 use Rattle.rp_replica.proofs.Keeping.{or_none, disk_more}
 use Rattle.rp_replica.proofs.Promising.{places, same_places, put_right}
@@ -126,12 +127,7 @@ module _ {S D : Type 0} (disk : D → Disk) (me : ℕ) (config : Config) (learne
         member = t.member;
         stands = stands;
         leads = leads_started me config records (length log.taken) proposer i b own t.leads right unlearned inside;
-        learns = record {
-          nodes = t.learns.nodes;
-          positions = t.learns.positions;
-          heard = t.learns.heard;
-          settled = λ j within. t.learns.settled j within ∙ ap is_some (sym (learned_same records b j));
-        };
+        learns = learns_alike config records (records ++ Started b ∷ []) (length log.taken) learner votes (λ j. learned_same records b j) t.learns;
         applies = record {
           learned = λ j. t.applies.learned j ∙ sym (learned_same records b j);
           ordered = t.applies.ordered;
@@ -150,6 +146,10 @@ pub next_is : {S : Type 0} (records : List Rec) (log : Contents) (applied : Appl
 next_is records log applied n a is =
     let long : length log.taken ≡ length (applied_of records) = ap length (all_taken records log a.learned a.ordered a.none) in
     omega (arith, long, is)
+
+-- it is the one behind those that the log took
+pub front_is : {S : Type 0} (records : List Rec) (log : Contents) (applied : Applied S) → IsApplied records log applied → suc (length log.taken) ≡ first_unlearned records
+front_is records log applied a = next_is records log applied (suc (length log.taken)) a (omega arith)
 
 -- a position of the log is out of reach where it is far above that
 pub far_is : (most n i : ℕ) (records : List Rec) → i ≤ most → n ≡ first_unlearned records → nat_le (n + 64) i ≡ is_out_of_reach most records i

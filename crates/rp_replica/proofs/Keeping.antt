@@ -24,6 +24,7 @@ use Rattle.rp_learner.specs.Learning.{Learning}
 use Rattle.rp_log.specs.Contents.{Contents}
 use Rattle.rp_machine.specs.Numbered.{Applied}
 use Rattle.rp_model.specs.Parts.{is_in_log, records_in_log}
+use Rattle.rp_replica.proofs.Hearing.{learns_alike}
 use Rattle.rp_replica.specs.Tied.{IsOnDisk, Tied, IsAnswer}
 
 pub or_none : (o : Option Action) → or_else o None ≡ o
@@ -104,12 +105,7 @@ module _ {S : Type 0} (me : ℕ) (config : Config) (disk after : Disk) (records 
       unlearned = λ i h. learned_same records rec i answer ∙ t.leads.unlearned i h;
       right = t.leads.right;
     };
-    learns = record {
-      nodes = t.learns.nodes;
-      positions = t.learns.positions;
-      heard = t.learns.heard;
-      settled = λ i within. t.learns.settled i within ∙ ap is_some (sym (learned_same records rec i answer));
-    };
+    learns = learns_alike config records (records ++ rec ∷ []) (length log.taken) learner votes (λ i. learned_same records rec i answer) t.learns;
     applies = record {
       learned = λ i. t.applies.learned i ∙ sym (learned_same records rec i answer);
       ordered = t.applies.ordered;

@@ -1,8 +1,8 @@
 -- A replica's parts once an action is learned.
-use Rattle.std.proofs.Common.{◌≡◌, ◌≢◌, ℕ, suc, ◌+◌, ◌-◌, ◌<◌, ◌≤◌, Bool, true, false, cond, not, nat_eq, Option, Some, None, List, [], ◌∷◌, ◌++◌, length, drop, sym, ap, subst, ◌∙◌, inl, inr, arith, append-nil, eq-eqb}
-use Rattle.std.specs.Prelude.{IsSome, slice_get, filter}
+use Rattle.std.proofs.Common.{◌≡◌, ◌≢◌, ℕ, suc, ◌+◌, ◌-◌, ◌<◌, ◌≤◌, Bool, true, false, cond, not, nat_eq, is_some, Option, Some, None, List, [], ◌∷◌, ◌++◌, length, drop, sym, ap, subst, ◌∙◌, inl, inr, arith, append-nil, eq-eqb}
+use Rattle.std.specs.Prelude.{IsSome, nat_le, slice_get, filter}
 use Rattle.std.specs.List.{AllByRecursion}
-use Rattle.std.proofs.lemmas.Bool.{cases_lt, ne_eqb}
+use Rattle.std.proofs.lemmas.Bool.{cases_lt, ne_eqb, le-leb}
 use Rattle.std.proofs.Math.Seq.{drop-append_seam}
 use Rattle.rp_base.specs.declared.action.Action.{Action}
 use Rattle.rp_base.specs.declared.config.Config.{Config}
@@ -16,7 +16,7 @@ use Rattle.rp_base.specs.Sets.{Has}
 use Rattle.rp_base.specs.Promises.{HeardVote, heard_elsewhere}
 use Rattle.rp_base.specs.Proposals.{Proposal, without_proposal}
 use Rattle.rp_base.specs.Records.{or_else, learned_at, applied_of}
-use Rattle.rp_base.proofs.Members.{has_passing, mapped_has}
+use Rattle.rp_base.proofs.Members.{has_passing, passes, mapped_has}
 use Rattle.rp_base.proofs.MoreRecords.{started_push, learned_push}
 use Rattle.rp_codec.specs.Record.{record_text}
 use Rattle.rp_store.specs.Disk.{Disk}
@@ -35,7 +35,7 @@ use Rattle.rp_model.specs.Pending.{stays, replies_to}
 use Rattle.rp_replica.specs.Applying.{learns_alone, HasReplied}
 use Rattle.rp_replica.specs.Packets.{RoomyRun, with_packets}
 use Rattle.rp_replica.specs.Held.{Held, held_after}
-use Rattle.rp_replica.specs.Tied.{IsOnDisk, IsProposer, IsApplied, Tied}
+use Rattle.rp_replica.specs.Tied.{IsOnDisk, IsProposer, IsLearner, IsSettledAlike, Follows, IsApplied, Tied}
 use Rattle.rp_replica.proofs.Answering.{right_records}
 use Rattle.rp_replica.proofs.Applied.{applied_is, learned_right}
 use Rattle.rp_replica.proofs.Keeping.{or_none, disk_more}
@@ -69,7 +69,7 @@ tied_room me config disk failed records proposer learner votes log after applied
       member = t.member;
       stands = t.stands;
       leads = subst (λ (actions : List Action). IsProposer me config records (length actions) proposer) (sym (taken_same log i)) t.leads;
-      learns = t.learns;
+      learns = subst (λ (actions : List Action). IsLearner config records (length actions) learner votes) (sym (taken_same log i)) t.learns;
       applies = same_applied records log (with_room log i) applied (reserved_alike records log i t.applies.learned) (taken_same log i) t.applies;
     })
 
@@ -111,6 +111,32 @@ past_taken records log j alike ordered least unlearned =
           let never : false ≡ true = subst (λ (o : Option Action). IsSome o) missing (front_within log.taken (j - 1) lt) in
           absurd (cc)
     ]
+
+-- a learner whose window follows the log
+pub learns_on : (config : Config) (records : List Rec) (taken : ℕ) (before after : Learning) (votes : List HeardVote) (log : Contents) → LearnedAlike records log → IsTakenInOrder log → taken ≤ length log.taken
+    → Follows before log after → IsLearner config records taken before votes → IsLearner config records (length log.taken) after votes
+learns_on config records taken before after votes log alike ordered longer f l =
+    let test : HeardVote → Bool = λ h. nat_le (next_to_take log) h.1 in
+    let above : (h : HeardVote) → Has h votes → next_to_take log ≤ h.1 = λ h m.
+    let o = l.open_votes h m in
+    omega (arith, past_taken records log h.1 alike ordered o.position o.unlearned) in
+    record {
+      nodes = f.nodes ∙ l.nodes;
+      positions = f.positions ∙ l.positions;
+      first = omega (arith, f.first);
+      heard = λ h. (
+        λ m. (l.heard h).0 (has_passing test h before.heard ((f.heard h).0 m)).0,
+        λ m. (f.heard h).1 (passes test h before.heard ((l.heard h).1 m) (le-leb (next_to_take log) h.1 (above h m))),
+      );
+      open_votes = λ h m.
+          let o = l.open_votes h m in
+          record { position = o.position; within = omega (arith, o.within, f.first, l.first, longer); unlearned = o.unlearned };
+      settled = λ j low within. f.settled j low within ∙ ap is_some (alike j);
+    }
+
+-- up to the end of its window a learner settled what the log learned
+pub settled_log : (config : Config) (records : List Rec) (taken : ℕ) (learner : Learning) (votes : List HeardVote) (log : Contents) → LearnedAlike records log → IsLearner config records taken learner votes → IsSettledAlike learner log
+settled_log config records taken learner votes log alike l = λ j low within. l.settled j low within ∙ ap is_some (sym (alike j))
 
 -- where another proposal runs
 elsewhere : (ps : List Proposal) (i j : ℕ) → Has j (places (without_proposal ps i)) → j ≢ i
@@ -162,26 +188,39 @@ module _ {S D : Type 0} (next : S → Action → S) (answers : S → Action → 
   applies : IsApplied (records ++ Learned i v ∷ []) taken applying
   applies = record { learned = alike; ordered = ordered; none = none; taken = replied.applies.taken }
 
+  longer : length log.taken ≤ length taken.taken
+  longer = subst (λ (actions : List Action). length actions ≤ length taken.taken) same_taken replied.applies.longer
+
+  settling : IsLearner config (records ++ Learned i v ∷ []) (length log.taken) learning (heard_elsewhere votes i)
+  settling = learns_more config records (length log.taken) learner learning votes i v t.learns settled
+
+  -- the learner's window may follow the log
+  pub follows_on : learning.first ≤ next_to_take taken
+  follows_on = omega (arith, longer, settling.first)
+
+  pub follows_alike : IsSettledAlike learning taken
+  follows_alike = settled_log config (records ++ Learned i v ∷ []) (length log.taken) learning (heard_elsewhere votes i) taken alike settling
+
   -- they hang together
-  pub tied_learned : IsPosition i → IsRight v → is_in_log config.max_positions (Learned i v) ≡ true → Tied me config (disk new.device) new.failed after leading learning heard taken applying
-  tied_learned position right in_log =
+  pub tied_learned : (following : Learning) → Follows learning taken following → IsPosition i → IsRight v → is_in_log config.max_positions (Learned i v) ≡ true
+      → Tied me config (disk new.device) new.failed after leading following heard taken applying
+  tied_learned following followed position right in_log =
       let more = records ++ Learned i v ∷ [] in
       let stands : IsOnDisk config.max_positions (disk new.device) false more =
       disk_more config.max_positions (disk old.device) (disk new.device) records (Learned i v)
       (subst (λ (f : Bool). IsOnDisk config.max_positions (disk old.device) f records) put.worked t.stands) (record { ranges = position; right = right }) in_log put.disk_is in
-      let longer : length log.taken ≤ length taken.taken = subst (λ (actions : List Action). length actions ≤ length taken.taken) same_taken replied.applies.longer in
-      let fresh : Tied me config (disk new.device) false more (settles proposer i) learning (heard_elsewhere votes i) taken applying = record {
+      let fresh : Tied me config (disk new.device) false more (settles proposer i) following (heard_elsewhere votes i) taken applying = record {
         sizes = t.sizes;
         member = t.member;
         stands = stands;
         leads = leads_learned me config records (length log.taken) proposer taken i v t.leads longer alike ordered;
-        learns = learns_more config records learner learning votes i v t.learns settled;
+        learns = learns_on config more (length log.taken) learning following (heard_elsewhere votes i) taken alike ordered longer followed settling;
         applies = applies;
       } in
-      subst (λ (rs : List Rec). Tied me config (disk new.device) new.failed rs leading learning heard taken applying) (sym noted)
-      (subst (λ (p : ProposerPart). Tied me config (disk new.device) new.failed more p learning heard taken applying) (sym ends)
-      (subst (λ (hs : List HeardVote). Tied me config (disk new.device) new.failed more (settles proposer i) learning hs taken applying) (sym gone)
-      (subst (λ (f : Bool). Tied me config (disk new.device) f more (settles proposer i) learning (heard_elsewhere votes i) taken applying) (sym put.working) fresh)))
+      subst (λ (rs : List Rec). Tied me config (disk new.device) new.failed rs leading following heard taken applying) (sym noted)
+      (subst (λ (p : ProposerPart). Tied me config (disk new.device) new.failed more p following heard taken applying) (sym ends)
+      (subst (λ (hs : List HeardVote). Tied me config (disk new.device) new.failed more (settles proposer i) following hs taken applying) (sym gone)
+      (subst (λ (f : Bool). Tied me config (disk new.device) f more (settles proposer i) following (heard_elsewhere votes i) taken applying) (sym put.working) fresh)))
 
   -- what the machine came to
   was : outcome next answers applied ≡ replay_of next answers applied.begin (applied_of records)

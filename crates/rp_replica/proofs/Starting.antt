@@ -34,7 +34,7 @@ all_in_log most (rec ∷ rest) = in_log_more most rec (records_in_log most rest)
 -- all parts hang together
 pub tied_fresh : {S : Type 0} (me : ℕ) (config : Config) (old disk : Disk) (all : List Rec) (cut_bytes : ℕ) (records : List Rec) (proposer : ProposerPart) (learner : Learning) (log : Contents) (applied : Applied S)
     → IsRightConfig config → me ≤ config.nodes → IsOpened old all cut_bytes disk → records ≡ records_in_log config.max_positions all → proposer ≡ restored me config.nodes records
-    → IsLearner config records learner [] → IsApplied records log applied → Tied me config disk false records proposer learner [] log applied
+    → IsLearner config records (length log.taken) learner [] → IsApplied records log applied → Tied me config disk false records proposer learner [] log applied
 tied_fresh me config old disk all cut_bytes records proposer learner log applied right member opened counted fresh learns applies =
     let long : length disk.contents ≡ length (records_text all) = ap length opened.contents in
     let stable : disk.stable ≡ length disk.contents = opened.stable in

@@ -1,5 +1,5 @@
 -- How a replica's parts hang together (no public clause names it).
-use Rattle.std.specs.Prelude.{◌≡◌, ℕ, suc, ◌≤◌, Bool, true, false, is_some, None, IfSome, List, [], ◌++◌, length, map}
+use Rattle.std.specs.Prelude.{◌≡◌, ℕ, suc, ◌+◌, ◌<◌, ◌≤◌, Bool, true, false, is_some, nat_le, None, IfSome, List, [], ◌++◌, length, map, filter}
 use Rattle.std.specs.List.{AllByRecursion}
 use Rattle.rp_base.specs.declared.config.Config.{Config}
 use Rattle.rp_base.specs.declared.record.Rec.{Rec}
@@ -16,6 +16,7 @@ use Rattle.rp_store.specs.Disk.{Disk}
 use Rattle.rp_store.specs.Records.{records_text}
 use Rattle.rp_proposer.specs.Proposing.{ProposerPart, AreInWindow}
 use Rattle.rp_learner.specs.Learning.{Learning}
+use Rattle.rp_learner.specs.Places.{window}
 use Rattle.rp_learner.specs.Standings.{is_settled}
 use Rattle.rp_log.specs.Contents.{Contents, action_at, next_to_take, IsTakenInOrder}
 use Rattle.rp_log.specs.Recorded.{LearnedAlike}
@@ -53,12 +54,33 @@ pub record IsProposer (me : ℕ) (config : Config) (records : List Rec) (taken :
   pub unlearned : (i : ℕ) → Has i (map (λ p. p.position) proposer.proposals) → learned_at records i ≡ None
   pub right : AllByRecursion IsRightProposal proposer.proposals
 
--- the learner heard these votes, as a set, and settled what the records learn
-pub record IsLearner (config : Config) (records : List Rec) (learner : Learning) (votes : List HeardVote) : Type 0 where
+-- the vote was heard at an unlearned position of the learner's window
+pub record IsOpenVote (records : List Rec) (learner : Learning) (vote : HeardVote) : Type 0 where
+  pub position : 1 ≤ vote.1
+  pub within : vote.1 < learner.first + window
+  pub unlearned : learned_at records vote.1 ≡ None
+
+-- The learner's window is above the applied list. It heard these votes, as a set, each at an unlearned
+-- position of the window, and up to the window's end it settled what the records learn.
+pub record IsLearner (config : Config) (records : List Rec) (taken : ℕ) (learner : Learning) (votes : List HeardVote) : Type 0 where
   pub nodes : learner.nodes ≡ config.nodes
   pub positions : learner.max_positions ≡ config.max_positions
+  pub first : learner.first ≡ suc taken
   pub heard : SameMembers learner.heard votes
-  pub settled : (i : ℕ) → i ≤ config.max_positions → is_settled learner i ≡ is_some (learned_at records i)
+  pub open_votes : (vote : HeardVote) → Has vote votes → IsOpenVote records learner vote
+  pub settled : (i : ℕ) → 1 ≤ i → i < learner.first + window → is_settled learner i ≡ is_some (learned_at records i)
+
+-- up to the end of its window the learner settled what the log learned
+abbrev pub IsSettledAlike : Learning → Contents → Type 0
+IsSettledAlike learner log = (i : ℕ) → 1 ≤ i → i < learner.first + window → is_settled learner i ≡ is_some (action_at log i)
+
+-- The learner's window moved on to the position behind those that the log took; the votes heard within it stay.
+pub record Follows (before : Learning) (log : Contents) (after : Learning) : Type 0 where
+  pub nodes : after.nodes ≡ before.nodes
+  pub positions : after.max_positions ≡ before.max_positions
+  pub first : after.first ≡ next_to_take log
+  pub heard : SameMembers after.heard (filter (λ vote. nat_le (next_to_take log) vote.1) before.heard)
+  pub settled : IsSettledAlike after log
 
 -- the log learned what the records say, nothing is ready, and what was taken is applied
 pub record IsApplied {S : Type 0} (records : List Rec) (log : Contents) (applied : Applied S) : Type 0 where
@@ -73,7 +95,7 @@ pub record Tied {S : Type 0} (me : ℕ) (config : Config) (disk : Disk) (failed 
   pub member : me ≤ config.nodes
   pub stands : IsOnDisk config.max_positions disk failed records
   pub leads : IsProposer me config records (length log.taken) proposer
-  pub learns : IsLearner config records learner votes
+  pub learns : IsLearner config records (length log.taken) learner votes
   pub applies : IsApplied records log applied
 
 -- the record is a promise or a vote

@@ -8,11 +8,9 @@ ghost use Rattle.rp_replica.specs.Turning.{TurnsIf, StopsIf, effect_of};
 use crate::replica::Replica;
 use crate::sent::Sent;
 use rp_base::{Fault, Position};
+use rp_learner::WINDOW;
 use rp_machine::Machine;
 use rp_store::Device;
-
-/// How far above the first unlearned position a node may lead.
-const WINDOW: u32 = 64;
 
 impl<M: Machine, D: Device> Replica<M, D> {
     /// The word to lead at a position, or with none at the least position that is not learned and at
@@ -85,7 +83,7 @@ impl<M: Machine, D: Device> Replica<M, D> {
 }
 
 /// The position of a number within the log.
-fn position_at(number: u32) -> Position
+pub(crate) fn position_at(number: u32) -> Position
     requires low { 1 ≤ number }
     requires high { number < 2 ^ 16 }
     ensures { result ≡ number }

@@ -22,6 +22,7 @@ use crate::replica::{Replica, write};
 use crate::sent::{Outbox, Sent};
 use rp_base::{Action, Ballot, Fault, NodeId, Position, Rec, Vote};
 use rp_codec::Body;
+use rp_learner::WINDOW;
 use rp_machine::Machine;
 use rp_model::Dropped;
 use rp_proposer::Progress;
@@ -74,7 +75,7 @@ impl<M: Machine, D: Device> Replica<M, D> {
             ≡ is_out_of_reach self.now.config.max_positions self.now.records position }
     {
         let number = u32::from(position.get());
-        self.config.max_positions < position.get() || self.log.next_unlearned() + 64 <= number
+        self.config.max_positions < position.get() || self.log.next_unlearned() + WINDOW <= number
     }
 
     /// The ballot to lead in next, if there is one.

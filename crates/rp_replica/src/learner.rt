@@ -3,6 +3,7 @@
 
 ghost use Rattle.std.specs.Prelude.{◌≡◌, ◌+◌, ◌*◌, ◌≤◌, None, length, IfOk, IfErr, IsOkUnless, OnOk, OnErr, false};
 ghost use Rattle.rp_base.specs.Action.{IsRight};
+ghost use Rattle.rp_base.specs.Number.{IsPosition};
 ghost use Rattle.rp_base.specs.Sets.{with_member};
 ghost use Rattle.rp_base.specs.Promises.{same_heard};
 ghost use Rattle.rp_learner.specs.Standings.{vote_for};
@@ -59,7 +60,7 @@ impl<M: Machine, D: Device> Replica<M, D> {
         action: &Action,
     ) -> Standing
         requires sender { from ≤ self.now.config.nodes }
-        requires place { position ≤ self.now.config.max_positions }
+        requires place { IsPosition position }
         ensures { result ≡ standing_of self.now.config.nodes self.now.records
             self.now.running.heard from position (vote_for ballot action.now) }
     {
@@ -77,7 +78,7 @@ impl<M: Machine, D: Device> Replica<M, D> {
         action: &Action,
     ) -> Result<(), Fault>
         requires sender { from ≤ self.old.config.nodes }
-        requires place { position ≤ self.old.config.max_positions }
+        requires place { IsPosition position }
         requires counting { standing_of self.old.config.nodes self.old.records
             self.old.running.heard from position (vote_for ballot action.now) ≡ Counting }
         ensures ok { OnOk result (self.new ≡ held_after self.old (notes
@@ -158,7 +159,7 @@ impl<M: Machine, D: Device> Replica<M, D> {
     ) -> Result<Sent, Fault>
         requires working { self.old.failed ≡ false }
         requires sender { from ≤ self.old.config.nodes }
-        requires place { position ≤ self.old.config.max_positions }
+        requires place { IsPosition position × (position ≤ self.old.config.max_positions) }
         requires right { IsRight action.now }
         ensures ok { IfOk result (λ sent. Turns (on_accepted M.next M.answers self.old.begin
             self.old.config.nodes self.old.me self.old.records self.old.running
@@ -168,7 +169,7 @@ impl<M: Machine, D: Device> Replica<M, D> {
             from position (vote_for ballot action.now)).written self.old self.new fault) }
     {
         match self.standing(from, position, ballot, action) {
-            Standing::Known => Ok(Outbox::new(buffer).sent(Dropped::No)),
+            Standing::Known | Standing::Beyond => Ok(Outbox::new(buffer).sent(Dropped::No)),
             Standing::Counting => {
                 self.hear(alloc, from, position, ballot, action)?;
                 Ok(Outbox::new(buffer).sent(Dropped::No))

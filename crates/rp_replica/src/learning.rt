@@ -13,6 +13,7 @@ ghost use Rattle.rp_replica.specs.Turning.{Stops};
 use crate::applying::apply_and_reply;
 use crate::replica::{Replica, write};
 use crate::sent::RoomyOutbox;
+use crate::window::follow;
 use rp_base::{Action, Fault, Position, Rec};
 use rp_log::Log;
 use rp_machine::Machine;
@@ -58,6 +59,7 @@ impl<M: Machine, D: Device> Replica<M, D> {
             &self.pending,
             out,
         );
+        follow(&mut self.learner, &self.log);
         self.pending
             .settle(&self.machine, taken_since(&self.log, before));
         Ok(())

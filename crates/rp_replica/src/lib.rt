@@ -9,6 +9,7 @@
 //! - `own_action`: what a proposal takes as its own action
 //! - `learner`: a replica that is asked what was decided, and hears of votes
 //! - `learning`: an action that is learned
+//! - `window`: the learner's window, which follows the log
 //! - `applying`: what is learned is applied in order, and answered
 //! - `arrivals`: calls, interrupts and ticks that come, and become pending
 //! - `pending`: the items that wait to be proposed
@@ -44,6 +45,7 @@ mod report;
 mod sent;
 mod standing;
 mod turn;
+mod window;
 mod written;
 
 pub use cut::NotCut;

@@ -1,6 +1,6 @@
 //! A replica that is opened over a device.
 
-ghost use Rattle.std.specs.Prelude.{◌≡◌, ◌≤◌, ℕ, Some, None, [], IfOk, IfErr, IsOkUnless};
+ghost use Rattle.std.specs.Prelude.{◌≡◌, ◌≤◌, ℕ, Some, None, [], length, IfOk, IfErr, IsOkUnless};
 ghost use Rattle.rp_base.specs.Config.{IsRightConfig};
 ghost use Rattle.rp_base.specs.declared.fault.Fault.TheVariants as faults;
 ghost use Rattle.rp_model.specs.Parts.{is_in_log, records_in_log};
@@ -18,6 +18,7 @@ use crate::applying::apply_ready;
 use crate::heard::Heard;
 use crate::pending::Pending;
 use crate::replica::Replica;
+use crate::window::follow;
 use rp_acceptor::Acceptor;
 use rp_base::{Config, Fault, NodeId, Rec};
 use rp_learner::Learner;
@@ -46,11 +47,11 @@ pub(crate) fn skip(records: &mut Vec<Rec>, max_positions: u16)
     records.retain(|rec| is_in_log(max_positions, rec));
 }
 
-/// The learner of these records, which heard nothing.
+/// A learner that heard nothing and settled what these records learn, its window from position 1 on.
 pub(crate) fn learner_of(alloc: Global, config: Config, records: &[Rec]) -> Result<Learner, Fault>
     requires right { IsRightConfig config }
     requires within { AllInLog config.max_positions records.now }
-    ensures learner { IfOk result (λ learner. IsLearner config records.now learner []) }
+    ensures learner { IfOk result (λ learner. IsLearner config records.now 0 learner []) }
     ensures only { IsOkUnless result faults.OutOfMemory }
 {
     let mut learner = Learner::new(alloc, config.nodes, config.max_positions)?;
@@ -104,7 +105,8 @@ fn restored<M: Machine>(
     ensures acceptor { IfOk result (λ r. r.acceptor.records ≡ records.now) }
     ensures proposer { IfOk result (λ r. r.proposer
         ≡ proposing.restored node config.nodes records.now) }
-    ensures learner { IfOk result (λ r. IsLearner config records.now r.learner []) }
+    ensures learner { IfOk result (λ r.
+        IsLearner config records.now (length r.log.taken) r.learner []) }
     ensures log { IfOk result (λ r. IsApplied records.now r.log r.machine) }
     ensures machine { IfOk result (λ r. r.machine.begin ≡ M.begin program.now) }
     ensures pending { IfOk result (λ r. r.pending ≡ []) }
@@ -112,11 +114,12 @@ fn restored<M: Machine>(
 {
     let acceptor = Acceptor::restore(alloc, records)?;
     let proposer = Proposer::restore(alloc, node, config.nodes, records)?;
-    let learner = learner_of(alloc, config, records)?;
+    let mut learner = learner_of(alloc, config, records)?;
     let mut log = log_of(alloc, records)?;
     let mut machine = Numbered::new(alloc, program)?;
     let pending = Pending::new(alloc)?;
     apply_ready(&mut machine, &mut log);
+    follow(&mut learner, &log);
     Ok(Parts {
         acceptor,
         proposer,

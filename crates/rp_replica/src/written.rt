@@ -152,7 +152,7 @@ impl<M: Machine, D: Device> Replica<M, D> {
         action: &Action,
     ) -> Option<Rec>
         requires sender { from ≤ self.now.config.nodes }
-        requires place { position ≤ self.now.config.max_positions }
+        requires place { IsPosition position × (position ≤ self.now.config.max_positions) }
         requires right { IsRight action.now }
         ensures written { result ≡ (on_accepted M.next M.answers self.now.begin
             self.now.config.nodes self.now.me self.now.records self.now.running from position
@@ -161,7 +161,7 @@ impl<M: Machine, D: Device> Replica<M, D> {
     {
         match self.standing(from, position, ballot, action) {
             Standing::Learned => Some(Rec::Learned(position, *action)),
-            Standing::Counting | Standing::Known => None,
+            Standing::Counting | Standing::Known | Standing::Beyond => None,
         }
     }
 

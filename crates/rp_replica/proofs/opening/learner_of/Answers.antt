@@ -19,12 +19,12 @@ loop-rec-preserved c =
       | in-Learned w ↦
           let i = w.in-Learned.position in
           let v = w.in-Learned.field-1 in
-          let more : IsLearner c.args.config (take k records ++ Learned i v ∷ []) w.settled.new.self [] =
-          learns_more c.args.config (take k records) c.loop-rec.learner w.settled.new.self [] i v c.loop-rec.invariant w.settled.ensures.settled in
-          subst (λ (l : Learning). IsLearner c.args.config (take (k + 1) records) l []) (sym w.learner-is)
-          (subst (λ (rs : List Rec). IsLearner c.args.config rs w.settled.new.self []) (sym (longer ∙ ap (λ (r : Rec). take k records ++ r ∷ []) w.in-Learned.is)) more)
+          let more : IsLearner c.args.config (take k records ++ Learned i v ∷ []) 0 w.settled.new.self [] =
+          learns_more c.args.config (take k records) 0 c.loop-rec.learner w.settled.new.self [] i v c.loop-rec.invariant w.settled.ensures.settled in
+          subst (λ (l : Learning). IsLearner c.args.config (take (k + 1) records) 0 l []) (sym w.learner-is)
+          (subst (λ (rs : List Rec). IsLearner c.args.config rs 0 w.settled.new.self []) (sym (longer ∙ ap (λ (r : Rec). take k records ++ r ∷ []) w.in-Learned.is)) more)
       | in_default w ↦
-          subst (λ (l : Learning). IsLearner c.args.config (take (k + 1) records) l []) (sym w.learner-is)
-          (subst (λ (rs : List Rec). IsLearner c.args.config rs c.loop-rec.learner []) (sym longer)
-          (learns_none c.args.config (take k records) rec c.loop-rec.learner [] (tells_none rec w.in_default.not-Learned) c.loop-rec.invariant))
+          subst (λ (l : Learning). IsLearner c.args.config (take (k + 1) records) 0 l []) (sym w.learner-is)
+          (subst (λ (rs : List Rec). IsLearner c.args.config rs 0 c.loop-rec.learner []) (sym longer)
+          (learns_none c.args.config (take k records) rec 0 c.loop-rec.learner [] (tells_none rec w.in_default.not-Learned) c.loop-rec.invariant))
     ]

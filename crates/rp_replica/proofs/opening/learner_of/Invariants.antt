@@ -3,4 +3,4 @@ use Rattle.rp_replica.specs.Tied.{IsLearner}
 use Rattle.rp_replica.proofs.opening.learner_of.Given as goal
 
 abbrev pub invariant-loop-rec : goal.invariant-loop-rec
-invariant-loop-rec l = IsLearner l.fn.config (take l.rec-index l.records) l.learner []
+invariant-loop-rec l = IsLearner l.fn.config (take l.rec-index l.records) 0 l.learner []

@@ -1,30 +1,23 @@
--- A position is settled where its mark says so.
-use Rattle.std.proofs.Common.{◌≡◌, true, false, Some, None, sym, ap, ◌∙◌}
-use Rattle.rp_learner.specs.Places.{mark_at, places_of, settled_of}
-use Rattle.rp_learner.proofs.Placing.{settled_at}
-use Rattle.rp_learner.proofs.Paging.{settled_by, open_by, place_unmarked}
+-- What a decision in the window is goes by its place.
+use Rattle.std.proofs.Common.{◌≡◌, ◌∙◌, sym}
+use Rattle.std.proofs.lemmas.Bool.{cond-true, cond-false}
+use Rattle.rp_learner.specs.declared.learner.Decision.TheVariants.{Known, Learned}
+use Rattle.rp_learner.specs.Places.{is_settled_in}
+use Rattle.rp_learner.proofs.Outcomes.{decision_here, offset_at}
 use Rattle.rp_learner.proofs.learner.Learner.decided.Goals as goal
 
-pub returns-in-Some-true : goal.returns-in-Some-true
-returns-in-Some-true c =
-    let marks = c.self.inside.marks.items in
-    let pages = c.self.inside.pages.items in
-    let at : mark_at marks c.args.position ≡ Some true =
-    ap (λ l. mark_at l c.args.position) (sym c.deref.ensures.value) ∙ sym c.mark_at.ensures ∙ c.in-Some-true.is ∙ ap (λ b. Some b) c.in-Some-true.field-0-test in
-    rw (← c.self.view_is, settled_at (places_of marks pages) c.args.position, settled_by marks pages c.args.position at)
+pub returns-in-Some-get : goal.returns-in-Some-get
+returns-in-Some-get c =
+    let l = c.self.inside in
+    let p = c.in-Some-get.place.now in
+    rw (← c.self.view_is)
+    (sym (decision_here l.nodes l.max_positions l.first l.places.items c.args.position c.in-Some.offset p (offset_at l.first c.args.position c.in-Some.offset c.in-Some.ensures)
+    c.self.invariant.2 (sym c.in-Some-get.ensures) ∙ cond-true (is_settled_in p) Known Learned (sym c.is_settled.ensures ∙ c.if-is_settled.true)))
 
-pub returns-in-Some-false : goal.returns-in-Some-false
-returns-in-Some-false c =
-    let marks = c.self.inside.marks.items in
-    let pages = c.self.inside.pages.items in
-    let at : mark_at marks c.args.position ≡ Some false =
-    ap (λ l. mark_at l c.args.position) (sym c.deref.ensures.value) ∙ sym c.mark_at.ensures ∙ c.in-Some-false.is ∙ ap (λ b. Some b) c.in-Some-false.field-0-test in
-    rw (← c.self.view_is, settled_at (places_of marks pages) c.args.position, open_by marks pages c.args.position at)
-
-pub returns-in-None : goal.returns-in-None
-returns-in-None c =
-    let marks = c.self.inside.marks.items in
-    let pages = c.self.inside.pages.items in
-    let at : mark_at marks c.args.position ≡ None =
-    ap (λ l. mark_at l c.args.position) (sym c.deref.ensures.value) ∙ sym c.mark_at.ensures ∙ c.in-None.is in
-    rw (← c.self.view_is, settled_at (places_of marks pages) c.args.position, ap settled_of (place_unmarked marks pages c.args.position at))
+pub returns-in-Some-2 : goal.returns-in-Some-2
+returns-in-Some-2 c =
+    let l = c.self.inside in
+    let p = c.in-Some-get.place.now in
+    rw (← c.self.view_is)
+    (sym (decision_here l.nodes l.max_positions l.first l.places.items c.args.position c.in-Some.offset p (offset_at l.first c.args.position c.in-Some.offset c.in-Some.ensures)
+    c.self.invariant.2 (sym c.in-Some-get.ensures) ∙ cond-false (is_settled_in p) Known Learned (sym c.is_settled.ensures ∙ c.if-is_settled.false)))

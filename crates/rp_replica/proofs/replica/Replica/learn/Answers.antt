@@ -11,7 +11,7 @@ use Rattle.std.proofs.lemmas.Bool.{le-leb}
 use Rattle.rp_replica.specs.Held.{Held, held_after}
 use Rattle.rp_replica.specs.Packets.{with_packets}
 use Rattle.rp_replica.proofs.Keeping.{tied_refused}
-use Rattle.rp_replica.proofs.Learned.{tied_room, log_learned, learned_is_right, tied_learned, held_learned, replies_learned}
+use Rattle.rp_replica.proofs.Learned.{tied_room, log_learned, learned_is_right, follows_on, follows_alike, tied_learned, held_learned, replies_learned}
 use Rattle.rp_replica.proofs.replica.Replica.learn.Goals as goal
 
 pub invariant_of-self-in_err-write : goal.invariant_of-self-in_err-write
@@ -29,6 +29,26 @@ apply_and_reply-requires-clause-right g c =
     learned_is_right r.config.max_positions (g.D.Device.disk r.store.device) r.store.failed r.acceptor.records c.learn.new.self c.args.position v c.self.invariant.stands c.requires.right
     (log_learned r.acceptor.records r.log c.reserve.new.self c.learn.new.self c.args.position v c.self.invariant.applies.learned c.in_ok-reserve.ensures.ok c.learn.ensures)
 
+pub follow-requires-clause-on : goal.follow-requires-clause-on
+follow-requires-clause-on g c =
+    let m = g.M.Machine in
+    let r = c.self.inside in
+    let i = c.args.position in
+    follows_on m.next m.answers g.D.Device.disk r.me r.config r.store c.write.new.store r.acceptor.records c.write.new.acceptor.records r.proposer c.settled.new.self
+    r.learner c.settled-2.new.self r.heard c.settle.new.self r.log c.reserve.new.self c.learn.new.self c.apply_and_reply.new.log r.machine c.apply_and_reply.new.machine r.pending c.args.out.now c.apply_and_reply.new.out i c.args.action.now
+    c.self.invariant c.in_ok-write.ensures.put c.in_ok-write.ensures.noted c.settled.ensures c.settled-2.ensures.settled c.settle.ensures
+    c.in_ok-reserve.ensures.ok c.learn.ensures c.apply_and_reply.ensures.replied c.apply_and_reply.ensures.ordered c.apply_and_reply.ensures.none
+
+pub follow-requires-clause-alike : goal.follow-requires-clause-alike
+follow-requires-clause-alike g c =
+    let m = g.M.Machine in
+    let r = c.self.inside in
+    let i = c.args.position in
+    follows_alike m.next m.answers g.D.Device.disk r.me r.config r.store c.write.new.store r.acceptor.records c.write.new.acceptor.records r.proposer c.settled.new.self
+    r.learner c.settled-2.new.self r.heard c.settle.new.self r.log c.reserve.new.self c.learn.new.self c.apply_and_reply.new.log r.machine c.apply_and_reply.new.machine r.pending c.args.out.now c.apply_and_reply.new.out i c.args.action.now
+    c.self.invariant c.in_ok-write.ensures.put c.in_ok-write.ensures.noted c.settled.ensures c.settled-2.ensures.settled c.settle.ensures
+    c.in_ok-reserve.ensures.ok c.learn.ensures c.apply_and_reply.ensures.replied c.apply_and_reply.ensures.ordered c.apply_and_reply.ensures.none
+
 pub invariant_of-self-2 : goal.invariant_of-self-2
 invariant_of-self-2 g c =
     let m = g.M.Machine in
@@ -39,7 +59,7 @@ invariant_of-self-2 g c =
     r.learner c.settled-2.new.self r.heard c.settle.new.self r.log c.reserve.new.self c.learn.new.self c.apply_and_reply.new.log r.machine c.apply_and_reply.new.machine r.pending c.args.out.now c.apply_and_reply.new.out i c.args.action.now
     c.self.invariant c.in_ok-write.ensures.put c.in_ok-write.ensures.noted c.settled.ensures c.settled-2.ensures.settled c.settle.ensures
     c.in_ok-reserve.ensures.ok c.learn.ensures c.apply_and_reply.ensures.replied c.apply_and_reply.ensures.ordered c.apply_and_reply.ensures.none
-    c.in_ok-write.ensures.range c.requires.right (le-leb i r.config.max_positions within)
+    c.follow.new.learner c.follow.ensures c.in_ok-write.ensures.range c.requires.right (le-leb i r.config.max_positions within)
 
 pub returns-clause-learned : goal.returns-clause-learned
 returns-clause-learned g c =

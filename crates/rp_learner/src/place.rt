@@ -1,0 +1,91 @@
+//! The place of a position in a learner's window.
+
+ghost use Rattle.std.specs.Prelude.{◌≡◌, ◌≤◌, ◌<◌, false, OnOk, OnErr};
+ghost use Rattle.rp_base.specs.Sets.{Has};
+ghost use Rattle.rp_learner.specs.Places.{NotesCast, is_settled_in, opened, voters_at, votes_in};
+ghost use Rattle.rp_learner.specs.declared.place.Place.TheVariants.{Settled};
+ghost use Rattle.rp_learner.specs.Standings.{vote_for};
+
+use crate::tally::Tallies;
+use rp_base::{Action, Ballot, NodeId, Vote, majority};
+use std::alloc::{AllocError, Global};
+
+/// What a learner knows of one position. Settled, it holds no votes.
+#[derive(Debug, Drop)]
+pub enum Place {
+    /// No vote was heard.
+    Unheard,
+    /// These votes were heard, and decide nothing.
+    Heard(Tallies),
+    /// The position is settled.
+    Settled,
+}
+
+impl Place {
+    /// Notes a vote of one of 3 to 7 nodes. `AllocError` leaves the place as it was.
+    #[inline(always)]
+    pub fn hear(
+        &mut self,
+        alloc: Global,
+        nodes: u8,
+        from: NodeId,
+        ballot: Ballot,
+        action: &Action,
+    ) -> Result<(), AllocError>
+        requires nodes { (3 ≤ nodes) × (nodes ≤ 7) }
+        ensures ok { OnOk result (NotesCast nodes self.old
+            (record { from = from; vote = vote_for ballot action.now }) self.new) }
+        ensures err { OnErr result (self.new ≡ self.old) }
+        ensures open { OnErr result (is_settled_in self.old ≡ false) }
+        ensures unheard { OnErr result (¬ Has (record {
+          from = from;
+          vote = vote_for ballot action.now;
+        }) (votes_in self.old)) }
+        ensures few { OnErr result (voters_at nodes self.old
+            (record { from = from; vote = vote_for ballot action.now }) ≤ 1) }
+    {
+        match self {
+            Place::Settled => {}
+            Place::Unheard => {
+                let vote = Vote {
+                    ballot,
+                    action: *action,
+                };
+                *self = Place::Heard(Tallies::new(alloc, from, vote));
+            }
+            Place::Heard(tallies) => {
+                let voters = tallies.hear(nodes, from, ballot, action)?;
+                if voters >= usize::from(majority(nodes)) {
+                    *self = Place::Settled;
+                }
+            }
+        }
+        Ok(())
+    }
+
+    /// Settles the position, and lets go of its votes.
+    pub fn settle(&mut self)
+        ensures { self.new ≡ Settled }
+    {
+        *self = Place::Settled;
+    }
+
+    /// Whether the position is settled.
+    pub fn is_settled(&self) -> bool
+        ensures { result ≡ is_settled_in self.now }
+    {
+        matches!(self, Place::Settled)
+    }
+
+    /// A place without votes at an offset of the window, settled if the offset's bit is set.
+    pub fn opened(settled: u64, offset: u32) -> Place
+        requires { offset < 64 }
+        ensures { result ≡ opened settled offset }
+    {
+        if settled >> offset & 1 == 1 {
+            Place::Settled
+        } else {
+            Place::Unheard
+        }
+    }
+}

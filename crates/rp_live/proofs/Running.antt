@@ -95,7 +95,7 @@ module _ {S P : Type 0} (next : S → Action → S) (answers : S → Action → 
   pub note_memory : (input : Input) (fault : Fault) → IsNote input → Runs old.part → new.failures ≡ 0 → IsStopBy next answers begin (λ given. given ≡ input) old new fault
       → fault ≡ OutOfMemory
   note_memory input fault note runs never stop =
-      let taken = λ given is. note_taken stop.input given (subst IsNote (sym stop.is) note) is in
+      let taken : (given : NodeInput) → given_by stop.input ≡ Ok given → IsTaken given = λ given is. note_taken stop.input given (subst IsNote (sym stop.is) note) is in
       elim stop.why [
         | inl cut ↦ stops_memory stop.input fault taken runs never (inl cut)
         | inr other ↦ elim other [ inl none ↦ stops_memory stop.input fault taken runs never (inr none) | inr unsent ↦ unsent.memory ]

@@ -1,5 +1,5 @@
 -- In every history offers and votes are near the first unlearned position of the node that offered.
-use Rattle.std.proofs.Common.{◌≡◌, ◌≢◌, ℕ, ◌+◌, ◌<◌, ◌≤◌, Bool, true, false, if◌then◌else◌, Result, Ok, Err, Option, Some, None, List, [], ◌∷◌, ◌++◌, length, inl, inr, refl, sym, ap, subst, ◌∙◌, arith, append-nil}
+use Rattle.std.proofs.Common.{◌≡◌, ℕ, ◌+◌, Bool, true, false, if◌then◌else◌, Result, Ok, Err, Option, Some, None, List, [], ◌∷◌, ◌++◌, length, inl, inr, refl, sym, ap, subst, ◌∙◌, arith, append-nil}
 use Rattle.std.specs.Prelude.{nat_le, nat_lt, unwrap_or}
 use Rattle.std.proofs.lemmas.Bool.{cases_eq, lt-leb}
 use Rattle.std.proofs.lemmas.List.{length-append}
@@ -19,20 +19,19 @@ use Rattle.rp_codec.specs.declared.packet.Body.{Body}
 use Rattle.rp_codec.specs.declared.packet.Body.TheVariants as bodies
 use Rattle.rp_model.specs.Parts.{Running, NodePart, TaskPart, Turn, fresh_node, with_record}
 use Rattle.rp_model.specs.Texts.{written_for}
-use Rattle.rp_model.specs.Leader.{window, is_beyond}
+use Rattle.rp_model.specs.Leader.{window}
 use Rattle.rp_model.specs.Receiving.{party_number}
 use Rattle.rp_model.specs.Tasks.{TaskInput, Submit, Again, Take, asks, next_call, may_call, calls_if, asks_again, takes, takes_reply, task_hears, task_effect}
-use Rattle.rp_model.specs.Effect.{Setting, Done, goes_on_as, NodeInput, Receive, Lead, Interrupt, Tick, Report, running_effect, turned_if, effect_while, node_effect, stop_part, cut_part, stops_while, stop_effect, cut_if, cut_effect, restart_while, restart_part, untorn_part}
+use Rattle.rp_model.specs.Effect.{Setting, Done, goes_on_as, NodeInput, Receive, Lead, Interrupt, Tick, Report, running_effect, turned_if, effect_while, node_effect, stop_part, cut_part, stops_while, cut_if, restart_while, untorn_part}
 use Rattle.rp_model.specs.Events.{Event}
-use Rattle.rp_model.specs.Answers.{untorn}
-use Rattle.rp_model.specs.World.{World, opening_world, part_at, with_part, node_done, task_done}
+use Rattle.rp_model.specs.World.{World, opening_world, part_at, with_part, node_done}
 use Rattle.rp_model.proofs.AppliedGrowing.{applied_more}
 use Rattle.rp_agreement.specs.History.{IsHistory}
-use Rattle.rp_agreement.specs.Inputs.{IsInput, IsTaskInput}
+use Rattle.rp_agreement.specs.Inputs.{IsInput}
 use Rattle.rp_agreement.specs.Ranges.{AreVotesNear}
 use Rattle.rp_agreement.proofs.EventWalk.{IsKeptByAll, history_keeps}
 use Rattle.rp_agreement.proofs.LogKeeping.{same_everywhere}
-use Rattle.rp_agreement.proofs.NearTurns.{IsNear, AreNear, SaysNear, MayVote, MayVoteFor, IsNearTurn, IsNearIf, turn_near}
+use Rattle.rp_agreement.proofs.NearTurns.{IsNear, AreNear, SaysNear, MayVote, MayVoteFor, IsNearIf, turn_near}
 use Rattle.rp_agreement.proofs.PartPlaces.{part_has, put_there, put_beside}
 
 -- the position is near for a node

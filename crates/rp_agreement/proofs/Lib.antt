@@ -40,3 +40,5 @@ pub mod RangedTurns
 pub mod RangedNodes
 pub mod RangeKeeping
 pub mod OnlyMade
+pub mod NearTurns
+pub mod NearKeeping

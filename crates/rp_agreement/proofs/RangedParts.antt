@@ -78,7 +78,7 @@ learned_ranged records i v all is = (all _ (learned_has records i v is)).right
 abbrev pub AreProposals : List Proposal → Type 0
 AreProposals proposals = (p : Proposal) → Has p proposals → IsRangedProposal p
 
-with_or_old : (p q : Proposal) (proposals : List Proposal) → Has p (with_proposal proposals q) → Has p proposals ⊎ (p ≡ q)
+pub with_or_old : (p q : Proposal) (proposals : List Proposal) → Has p (with_proposal proposals q) → Has p proposals ⊎ (p ≡ q)
 with_or_old p q [] h = elim h [ inl same ↦ inr same | inr none ↦ inl none ]
 with_or_old p q (first ∷ rest) h =
     elim (cases_Bool (nat_eq first.position q.position)) [

@@ -1,5 +1,5 @@
 -- A world whose numbers are within the ranges of their types: each packet of it is one (this project's own).
-use Rattle.std.specs.Prelude.{◌≡◌, ℕ, Some, IfSome, length}
+use Rattle.std.specs.Prelude.{◌≡◌, ℕ, false, Some, IfSome, length}
 use Rattle.rp_base.specs.Action.{IsRight}
 use Rattle.rp_base.specs.Ballot.{IsBallot}
 use Rattle.rp_base.specs.Number.{IsPosition}
@@ -9,7 +9,10 @@ use Rattle.rp_base.specs.Sets.{Has}
 use Rattle.rp_base.specs.declared.action.Action.{Action}
 use Rattle.rp_base.specs.declared.record.Rec.{Rec}
 use Rattle.rp_base.specs.declared.record.Vote.{Vote}
+use Rattle.rp_codec.specs.declared.packet.Party.{Party}
 use Rattle.rp_codec.specs.declared.packet.Party.TheVariants.{Node}
+use Rattle.rp_codec.specs.declared.packet.Body.TheVariants.{Accepted}
+use Rattle.rp_model.specs.Leader.{is_beyond}
 use Rattle.rp_codec.specs.Message.{Message, IsPacket}
 use Rattle.rp_codec.specs.Record.{IsRecord}
 use Rattle.rp_model.specs.Effect.{Done}
@@ -49,3 +52,8 @@ pub record IsRangedStep (x : ℕ) (done : Done NodePart) : Type 0 where
   pub part : IsRangedPart done.part
   pub packets : (m : Message) → Has m done.sends → IsPacket m
   pub own : (m : Message) → Has m done.sends → m.from ≡ Node x
+
+-- Every vote that was sent to a node is for a position less than 64 above the first that the node has not learned.
+abbrev pub AreVotesNear : World → Type 0
+AreVotesNear w = (from : Party) (x i b : ℕ) (v : Action) → Has (record { from = from; to = Node x; body = Accepted i b v }) w.sent
+    → (part : NodePart) → part_at w.nodes x ≡ Some part → is_beyond part.records i ≡ false

@@ -43,6 +43,7 @@ pub use order::{
 pub use packets::packets_say_so;
 pub use ranges::{
     events_keep_ranges, few_packets_are_sent, packets_are_right, records_stay_in_the_log,
+    votes_are_in_the_window,
 };
 pub use replies::{
     answers_are_one, calls_count_in_turn, calls_count_where_they_first_stand, events_keep_replies,

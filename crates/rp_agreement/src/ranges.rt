@@ -17,7 +17,7 @@ ghost use Rattle.rp_model.specs.World.{World, Happening, opening_world, part_at,
 ghost use Rattle.rp_model.specs.Parts.{NodePart};
 ghost use Rattle.rp_agreement.specs.Answered.{setting_for};
 ghost use Rattle.rp_agreement.specs.History.{IsHistory};
-ghost use Rattle.rp_agreement.specs.Ranges.{IsRangedWorld};
+ghost use Rattle.rp_agreement.specs.Ranges.{IsRangedWorld, AreVotesNear};
 
 use crate::opening::the_opening_is_sound;
 use rp_machine::{Machine, answers_are_few, replies_fit};
@@ -34,6 +34,13 @@ pub fn records_stay_in_the_log<M: Machine>()
         → IsHistory setting events world
         → (x : ℕ) (part : NodePart) → part_at world.nodes x ≡ Some part
         → length (applied_of part.records) ≤ setting.config.max_positions }
+{}
+
+/// In every history a vote is sent only for a position less than 64 above the first unlearned one of
+/// the node that it is sent to; so none arrives where a node notes none.
+pub fn votes_are_in_the_window<M: Machine>()
+    ensures { (setting : Setting M) (events : List Event) (world : World)
+        → IsHistory setting events world → AreVotesNear world }
 {}
 
 /// Behind any history an event sends fewer than 2^32 - 1 packets, so that a `u32` numbers them: a

@@ -1,19 +1,18 @@
 -- What moving the window on makes of the places, and of what they stand for.
-use Rattle.std.proofs.Common.{◌≡◌, ℕ, zero, suc, ◌+◌, ◌-◌, ◌<◌, ◌≤◌, Bool, true, false, ◌||◌, ◌↔◌, cond, min, Option, Some, None, List, [], ◌∷◌, ◌++◌, length, drop, refl, sym, ap, subst, ◌∙◌, inl, inr, arith, append_assoc}
+use Rattle.std.proofs.Common.{◌≡◌, ℕ, zero, suc, ◌+◌, ◌-◌, ◌<◌, ◌≤◌, ◌↔◌, min, Option, Some, List, [], ◌∷◌, ◌++◌, length, drop, refl, sym, ap, subst, ◌∙◌, inl, inr, arith, append_assoc}
 use Rattle.std.specs.Prelude.{nat_eq, nat_le, nat_lt, filter, slice_get}
 use Rattle.std.specs.List.{list_any}
 use Rattle.std.proofs.lemmas.Bool.{cases_Bool, ltb-true, ltb-false, leb-true, le-leb, le-ltb, cond-true, cond-false}
 use Rattle.std.proofs.lemmas.List.{length-append, length-drop, drop-append-le, drop-drop}
-use Rattle.std.proofs.lemmas.Option.{slice_get_past, slice_get_within}
+use Rattle.std.proofs.lemmas.Option.{slice_get_past}
 use Rattle.circular_buffer.specs.Buffer.{keep_last}
 use Rattle.circular_buffer.proofs.Places.{slice_get-drop, slice_get-append_left, slice_get-append_right}
-use Rattle.rp_base.specs.Sets.{Has, SameMembers}
+use Rattle.rp_base.specs.Sets.{Has}
 use Rattle.rp_base.specs.Promises.{HeardVote}
 use Rattle.rp_base.proofs.Members.{has_passing, passes}
 use Rattle.rp_learner.specs.Casts.{CastVote}
 use Rattle.rp_learner.specs.declared.place.Place.{Place}
 use Rattle.rp_learner.specs.declared.place.Place.TheVariants.{Unheard, Settled}
-use Rattle.rp_learner.specs.Learning.{Learning}
 use Rattle.rp_learner.specs.Places.{window, is_marked, opened, heard_from, settled_from}
 use Rattle.rp_learner.specs.Standings.{is_settled, Advances}
 use Rattle.rp_learner.proofs.Placing.{votes_of, settled_of, cast_of, or_skip, heard_where, heard_there, settled_where}

@@ -1,5 +1,5 @@
 -- What a place is once a vote is noted there.
-use Rattle.std.proofs.Common.{◌≡◌, ℕ, ◌+◌, ◌<◌, ◌≤◌, false, List, [], ◌∷◌, refl, arith}
+use Rattle.std.proofs.Common.{◌≡◌, ℕ, ◌<◌, ◌≤◌, false, List, [], ◌∷◌, refl, arith}
 use Rattle.std.proofs.lemmas.Bool.{both_ways}
 use Rattle.rp_base.specs.Majority.{majority_of}
 use Rattle.rp_base.specs.Sets.{SameMembers, with_member}

@@ -6,16 +6,15 @@ use Rattle.std.proofs.lemmas.Option.{slice_get_within}
 use Rattle.rp_base.specs.declared.record.Vote.{Vote}
 use Rattle.rp_base.specs.Majority.{majority_of, nodes_among}
 use Rattle.rp_base.specs.Sets.{Has, with_member}
-use Rattle.rp_base.specs.Promises.{HeardVote, voters_of, makes_majority}
+use Rattle.rp_base.specs.Promises.{voters_of, makes_majority}
 use Rattle.rp_learner.specs.Casts.{CastVote, voters_with}
 use Rattle.rp_learner.specs.declared.place.Place.{Place}
 use Rattle.rp_learner.specs.declared.place.Place.TheVariants.{Settled}
 use Rattle.rp_learner.specs.declared.learner.Standing.{Standing}
 use Rattle.rp_learner.specs.declared.learner.Standing.TheVariants.{Counting, Learned, Known, Beyond}
-use Rattle.rp_learner.specs.declared.learner.Decision.{Decision}
 use Rattle.rp_learner.specs.declared.learner.Decision.TheVariants as decisions
 use Rattle.rp_learner.specs.Learning.{Learning}
-use Rattle.rp_learner.specs.Places.{votes_in, is_settled_in, voters_at, NotesCast, heard_from, settled_from}
+use Rattle.rp_learner.specs.Places.{votes_in, is_settled_in, voters_at, NotesCast, heard_from}
 use Rattle.rp_learner.specs.Standings.{is_beyond, is_settled, heard_with, standing_with, decision_at, with_mark, with_settled, with_standing, with_vote, SameLearning, IsOneMore}
 use Rattle.rp_learner.proofs.Placing.{votes_of, settled_of, or_skip, heard_at, settled_where}
 use Rattle.rp_learner.proofs.Voters.{voters_where, one_more_voter}

@@ -9,7 +9,7 @@ use Rattle.rp_learner.specs.Casts.{CastVote}
 use Rattle.rp_learner.specs.declared.place.Place.{Place}
 use Rattle.rp_learner.specs.declared.place.Place.TheVariants.{Unheard, Heard, Settled}
 use Rattle.rp_learner.specs.Places.{votes_in, is_settled_in, heard_from, if_settled, settled_from}
-use Rattle.rp_base.proofs.Members.{found, finds}
+use Rattle.rp_base.proofs.Members.{found}
 use Rattle.std.proofs.lemmas.Bool.Decides.{Decides-eqb}
 use Rattle.rp_base.proofs.Members.{has_split, has_left, has_right, has_mapped}
 

@@ -1,5 +1,5 @@
 -- What a write of one place does to the votes and positions that the places stand for.
-use Rattle.std.proofs.Common.{◌≡◌, ◌≢◌, ℕ, ◌+◌, ◌<◌, true, false, not, ◌⊎◌, ◌↔◌, Option, Some, List, [], length, set, refl, sym, ap, subst, ◌∙◌, inl, inr, arith}
+use Rattle.std.proofs.Common.{◌≡◌, ◌≢◌, ℕ, ◌+◌, ◌<◌, not, ◌↔◌, Option, Some, List, [], length, set, refl, sym, ap, subst, ◌∙◌, inl, inr, arith}
 use Rattle.std.specs.Prelude.{nat_eq, filter, slice_get}
 use Rattle.std.proofs.lemmas.Bool.{cases_eq, ne_eqb, eq-eqb, both_ways}
 use Rattle.std.proofs.lemmas.Bool.Decides.{Decides-eqb}

@@ -1,5 +1,5 @@
 -- What the places of a learner's window hold, as sets of votes and positions (this project's own).
-use Rattle.std.specs.Prelude.{ℕ, zero, suc, ◌≡◌, ◌≤◌, ◌<◌, ◌+◌, length, Bool, true, false, nat_eq, Option, Some, None, List, [], ◌∷◌, ◌++◌, map, if◌then◌else◌}
+use Rattle.std.specs.Prelude.{ℕ, suc, ◌≡◌, ◌≤◌, ◌<◌, length, Bool, true, false, nat_eq, List, [], ◌∷◌, ◌++◌, map, if◌then◌else◌}
 use Rattle.std.specs.Int.{bit_at}
 use Rattle.rp_base.specs.Sets.{SameMembers, with_member}
 use Rattle.rp_base.specs.Majority.{majority_of, nodes_among}

@@ -27,7 +27,7 @@ use Rattle.rp_base.specs.contracts.history.History as History
 use Rattle.rp_base.specs.contracts.history.History.TheKnot as knot
 use Rattle.rp_base.specs.declared.history.History.TheDeep as deep
 use Rattle.rp_learner.specs.contracts.learner.Learner as Learner
-use Rattle.rp_learner.specs.contracts.page.Page as Page
+use Rattle.rp_learner.specs.contracts.place.Place as Place
 use Rattle.rp_learner.specs.contracts.tally.Tallies as Tallies
 use Rattle.rp_machine.specs.declared.machine.Machine as machine
 use Rattle.rp_machine.specs.contracts.numbered.Numbered as Numbered
@@ -71,11 +71,11 @@ history_send T s = tied_send (knot.frame T) (knot.step T) (knot.sizes T) (keeps 
 tallies_send : IsSend Tallies.the_row
 tallies_send = search (crosses, sendable) depth 40 fits 20000
 
-page_send : IsSend Page.the_row
-page_send = search (crosses, sendable, tallies_send) depth 20 fits 20000
+learned_place_send : IsSend Place.the_row
+learned_place_send = search (crosses, sendable, tallies_send) depth 20 fits 20000
 
 learner_send : IsSend Learner.the_row
-learner_send = search (crosses, sendable, page_send) depth 20 fits 20000
+learner_send = search (crosses, sendable, learned_place_send, cells.the_send, deed.the_send) depth 40 fits 20000
 
 store_inside : (D : RattleType) (d : device.Ghosts D.Denot) → IsSend D → IsSend (store.the_row D d)
 store_inside D d t = recorded_send (store.the_field D d).row _ _ (store.the_type D d).to_one (struct_send (shape (store.the_type D d)) (t, (search sendable, tt)))

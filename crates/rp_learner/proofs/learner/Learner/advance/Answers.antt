@@ -1,5 +1,5 @@
 -- Each push moves the window on by one place.
-use Rattle.std.proofs.Common.{◌≡◌, ◌≤◌, ◌-◌, ◌+◌, ◌∙◌, ℕ, List, [], ◌∷◌, ◌++◌, length, sym, ap, subst, arith}
+use Rattle.std.proofs.Common.{◌≡◌, ◌≤◌, ◌-◌, ◌∙◌, ℕ, List, [], ◌∷◌, ◌++◌, length, sym, ap, subst, arith}
 use Rattle.circular_buffer.specs.Buffer.{keep_last}
 use Rattle.rp_learner.specs.declared.place.Place.{Place}
 use Rattle.rp_learner.specs.Places.{window}

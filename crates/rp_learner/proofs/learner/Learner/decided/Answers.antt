@@ -1,5 +1,5 @@
 -- What a decision in the window is goes by its place.
-use Rattle.std.proofs.Common.{◌≡◌, ◌∙◌, sym}
+use Rattle.std.proofs.Common.{◌∙◌, sym}
 use Rattle.std.proofs.lemmas.Bool.{cond-true, cond-false}
 use Rattle.rp_learner.specs.declared.learner.Decision.TheVariants.{Known, Learned}
 use Rattle.rp_learner.specs.Places.{is_settled_in}

@@ -1,6 +1,5 @@
 -- What the window stands for once the vote is noted in its place.
-use Rattle.std.proofs.Common.{◌≡◌, ◌∙◌, Some, sym, ap, set}
-use Rattle.std.specs.Prelude.{slice_get}
+use Rattle.std.proofs.Common.{◌∙◌, sym, ap, set}
 use Rattle.rp_learner.specs.declared.place.Place.{Place}
 use Rattle.rp_learner.specs.Standings.{vote_for}
 use Rattle.rp_learner.proofs.Outcomes.{kept, notes_here, one_more_here, offset_at, on_err}

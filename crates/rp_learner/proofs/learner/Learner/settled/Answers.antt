@@ -1,5 +1,5 @@
 -- The place of the position is settled.
-use Rattle.std.proofs.Common.{◌≡◌, sym}
+use Rattle.std.proofs.Common.{sym}
 use Rattle.rp_learner.proofs.Outcomes.{settles_here, offset_at}
 use Rattle.rp_learner.proofs.learner.Learner.settled.Goals as goal
 

@@ -1,0 +1,264 @@
+-- A node offers near its first unlearned position, and votes for offers alone.
+use Rattle.std.proofs.Common.{◌≡◌, ℕ, ◌+◌, ◌<◌, Bool, true, false, if◌then◌else◌, is_some, nat_lt, nat_le, Option, Some, None, Result, Ok, Err, List, [], ◌∷◌, ◌++◌, map, length, filter, inl, inr, refl, sym, subst}
+use Rattle.std.specs.Prelude.{◌^◌, ◌||◌, nat_eq}
+use Rattle.std.specs.List.{list_any}
+use Rattle.std.proofs.lemmas.Bool.{both_ways, leb-false}
+use Rattle.rp_base.specs.declared.action.Action.{Action}
+use Rattle.rp_base.specs.declared.action.Action.TheVariants as actions
+use Rattle.rp_base.specs.declared.reply.Answer.{Answer}
+use Rattle.rp_base.specs.declared.reply.Reply.{Reply}
+use Rattle.rp_base.specs.declared.fault.Fault.{Fault}
+use Rattle.rp_base.specs.declared.record.Vote.{Vote}
+use Rattle.rp_base.specs.declared.record.Rec.{Rec}
+use Rattle.rp_base.specs.declared.record.Rec.TheVariants.{Learned}
+use Rattle.rp_base.specs.declared.proposal.Phase.TheVariants.{Offering}
+use Rattle.rp_base.specs.declared.voting.PrepareAnswer.{PrepareAnswer}
+use Rattle.rp_base.specs.declared.voting.PrepareAnswer.TheVariants as prepares
+use Rattle.rp_base.specs.declared.voting.AcceptAnswer.{AcceptAnswer}
+use Rattle.rp_base.specs.declared.voting.AcceptAnswer.TheVariants as accepts
+use Rattle.rp_base.specs.Ballot.{next_ballot, round_of}
+use Rattle.rp_base.specs.Promises.{Promise, same_heard, makes_majority, offer_of}
+use Rattle.rp_base.specs.Proposals.{Proposal, proposal_at, without_proposal, with_proposal, is_in, takes_promise, with_promise, is_promised, after_promise}
+use Rattle.rp_base.specs.Records.{learned_at, applied_of, first_unlearned}
+use Rattle.rp_base.specs.Sets.{Has, with_member}
+use Rattle.rp_base.specs.Voting.{prepare_answer, accept_answer}
+use Rattle.rp_base.proofs.Members.{has_split, has_passing, mapped_has}
+use Rattle.rp_codec.specs.Message.{Message}
+use Rattle.rp_codec.specs.declared.packet.Party.{Party}
+use Rattle.rp_codec.specs.declared.packet.Party.TheVariants.{Node}
+use Rattle.rp_codec.specs.declared.packet.Body.{Body}
+use Rattle.rp_codec.specs.declared.packet.Body.TheVariants as bodies
+use Rattle.rp_machine.specs.Asked.{last_number, last_occurrence, kept_reply}
+use Rattle.rp_machine.specs.Replay.{one_to, kept_of, replay_answers}
+use Rattle.rp_model.specs.Parts.{Running, Turn}
+use Rattle.rp_model.specs.Says.{says, says_to_all, says_to_others, says_to_task, sends, notes, writes, drops_full, drops_foreign}
+use Rattle.rp_model.specs.Acceptor.{tells_promise, tells_vote}
+use Rattle.rp_model.specs.Leader.{chosen_position, window, is_beyond, is_out_of_reach, starts_above, counts_promise, on_promise_to, on_nack}
+use Rattle.rp_model.specs.Learner.{missing_position, asks_for, tells_learned, learns, on_vote, on_decision}
+use Rattle.rp_model.specs.Pending.{most_pending, adds_pending, on_numbered, on_call, is_answered_by, replies_to, is_same_call}
+use Rattle.rp_model.specs.Receiving.{is_for_node, party_number, on_body}
+use Rattle.rp_model.specs.Effect.{Setting, NodeInput, Receive, Lead, Interrupt, Tick, Report, report_of, running_effect}
+use Rattle.rp_agreement.proofs.Lists.{found_has}
+use Rattle.rp_agreement.proofs.RangedParts.{with_or_old}
+
+-- the position is less than 64 above the first that the records do not learn
+abbrev pub IsNear : List Rec → ℕ → Type 0
+IsNear records i = i < first_unlearned records + window
+
+abbrev pub AreNear : List Rec → List Proposal → Type 0
+AreNear records proposals = (p : Proposal) → Has p proposals → IsNear records p.position
+
+-- an offer comes from this node and is near; a vote goes to a node that may have it
+abbrev pub SaysNear : ℕ → List Rec → (ℕ → ℕ → Type 0) → Party → Party → Body → Type 0
+SaysNear me records Votes from to (bodies.Call action) = Unit {0}
+SaysNear me records Votes from to (bodies.Prepare i b) = Unit {0}
+SaysNear me records Votes from to (bodies.Promise i b last) = Unit {0}
+SaysNear me records Votes from to (bodies.Accept i b v) = (from ≡ Node me) × IsNear records i
+SaysNear me records Votes from to (bodies.Accepted i b v) = (a : ℕ) × (to ≡ Node a) × Votes a i
+SaysNear me records Votes from to (bodies.Decided i v) = Unit {0}
+SaysNear me records Votes from to (bodies.Ask i) = Unit {0}
+SaysNear me records Votes from to (bodies.Nack i b bound) = Unit {0}
+SaysNear me records Votes from to (bodies.Reply number reply) = Unit {0}
+SaysNear me records Votes from to (bodies.Report first applied told) = Unit {0}
+
+-- who offered may have a vote
+abbrev pub MayVote : (ℕ → ℕ → Type 0) → ℕ → Body → Type 0
+MayVote Votes from (bodies.Call action) = Unit {0}
+MayVote Votes from (bodies.Prepare i b) = Unit {0}
+MayVote Votes from (bodies.Promise i b last) = Unit {0}
+MayVote Votes from (bodies.Accept i b v) = Votes from i
+MayVote Votes from (bodies.Accepted i b v) = Unit {0}
+MayVote Votes from (bodies.Decided i v) = Unit {0}
+MayVote Votes from (bodies.Ask i) = Unit {0}
+MayVote Votes from (bodies.Nack i b bound) = Unit {0}
+MayVote Votes from (bodies.Reply number reply) = Unit {0}
+MayVote Votes from (bodies.Report first applied told) = Unit {0}
+
+module _ (me : ℕ) (records : List Rec) (Votes : ℕ → ℕ → Type 0) where
+  abbrev pub AllNear : List Message → Type 0
+  AllNear packets = (m : Message) → Has m packets → SaysNear me records Votes m.from m.to m.body
+
+  -- what a turn proposes and sends is near
+  pub record IsNearTurn (turn : Turn) : Type 0 where
+    pub proposals : AreNear records turn.running.proposals
+    pub sent : AllNear turn.sent
+
+  none : AllNear []
+  none m h = absurd h
+
+  one : (m : Message) → SaysNear me records Votes m.from m.to m.body → AllNear (m ∷ [])
+  one m is k h = elim h [ inl same ↦ subst (λ (n : Message). SaysNear me records Votes n.from n.to n.body) (sym same) is | inr nothing ↦ absurd nothing ]
+
+  both : (ms ks : List Message) → AllNear ms → AllNear ks → AllNear (ms ++ ks)
+  both ms ks left right m h = elim (has_split m ms ks h) [ inl before ↦ left m before | inr behind ↦ right m behind ]
+
+  mapped : {A : Type 0} (f : A → Message) (xs : List A) → ((a : A) → SaysNear me records Votes (f a).from (f a).to (f a).body) → AllNear (map f xs)
+  mapped f xs each m h = let hit = mapped_has f m xs h in subst (λ (n : Message). SaysNear me records Votes n.from n.to n.body) (sym hit.2) (each hit.0)
+
+  choice : (test : Bool) (first other : Turn) → IsNearTurn first → IsNearTurn other → IsNearTurn (if test then first else other)
+  choice true first other left right = left
+  choice false first other left right = right
+
+  noted : (running : Running) → AreNear records running.proposals → IsNearTurn (notes running)
+  noted running near = record { proposals = near; sent = none }
+
+  sending : (running : Running) (packets : List Message) → AreNear records running.proposals → AllNear packets → IsNearTurn (sends running packets)
+  sending running packets near all = record { proposals = near; sent = all }
+
+  writing : (rec : Rec) (running : Running) (packets : List Message) → AreNear records running.proposals → AllNear packets → IsNearTurn (writes rec running packets)
+  writing rec running packets near all = record { proposals = near; sent = all }
+
+  with_near : (ps : List Proposal) (q : Proposal) → AreNear records ps → IsNear records q.position → AreNear records (with_proposal ps q)
+  with_near ps q all near p h = elim (with_or_old p q ps h) [ inl old ↦ all p old | inr new ↦ subst (λ (r : Proposal). IsNear records r.position) (sym new) near ]
+
+  without_near : (ps : List Proposal) (i : ℕ) → AreNear records ps → AreNear records (without_proposal ps i)
+  without_near ps i all p h = all p (has_passing _ p ps h).0
+
+  -- ---- calls
+
+  adds : (running : Running) (item : Action) → AreNear records running.proposals → IsNearTurn (adds_pending running item)
+  adds running item near =
+      choice (list_any (is_same_call item) running.pending) (notes running) _ (noted running near)
+      (choice (nat_lt (length running.pending) most_pending) _ (drops_full running) (record { proposals = near; sent = none }) (record { proposals = near; sent = none }))
+
+  numbered : (task number : ℕ) (kept : List Action) (running : Running) (call : Action) (reply : Option Reply) → AreNear records running.proposals → IsNearTurn (on_numbered me kept running task number call reply)
+  numbered task number kept running call None near = choice (nat_lt number (last_number task kept)) (notes running) (adds_pending running call) (noted running near) (adds running call near)
+  numbered task number kept running call (Some reply) near = sending running (says_to_task me (bodies.Reply number reply) task ∷ []) near (one _ tt)
+
+  called : (kept : List Action) (given : List Answer) (running : Running) (action : Action) → AreNear records running.proposals → IsNearTurn (on_call me kept given running action)
+  called kept given running actions.Noop near = noted running near
+  called kept given running (actions.Call task number object operation arg) near = numbered task number kept running (actions.Call task number object operation arg) (kept_reply task number kept given) near
+  called kept given running (actions.Interrupt source occurrence) near = noted running near
+  called kept given running (actions.Tick now) near = noted running near
+
+  -- ---- the acceptor
+
+  promised : (from i b : ℕ) (running : Running) (answer : PrepareAnswer) → AreNear records running.proposals → IsNearTurn (tells_promise me running from i b answer)
+  promised from i b running (prepares.Promise last rec) near = writing rec running (says me (bodies.Promise i b last) from ∷ []) near (one _ tt)
+  promised from i b running (prepares.Nack bound) near = sending running (says me (bodies.Nack i b bound) from ∷ []) near (one _ tt)
+  promised from i b running prepares.Silent near = noted running near
+
+  voted : (from i b : ℕ) (v : Action) (running : Running) (answer : AcceptAnswer) → AreNear records running.proposals → Votes from i → IsNearTurn (tells_vote me running from i b v answer)
+  voted from i b v running (accepts.Vote rec) near may = writing rec running (says me (bodies.Accepted i b v) from ∷ []) near (one _ (from, refl, may))
+  voted from i b v running accepts.Again near may = sending running (says me (bodies.Accepted i b v) from ∷ []) near (one _ (from, refl, may))
+  voted from i b v running (accepts.Nack bound) near may = sending running (says me (bodies.Nack i b bound) from ∷ []) near (one _ tt)
+  voted from i b v running accepts.Silent near may = noted running near
+
+  -- ---- the proposer
+
+  after_near : (nodes : ℕ) (p : Proposal) (promise : Promise) → (after_promise nodes p promise).position ≡ p.position
+  after_near nodes p promise =
+      elim (is_promised nodes (with_promise p promise)) as (λ b. (let q : Proposal = if b then record (with_promise p promise) { phase = Offering } else with_promise p promise in q).position ≡ p.position) [ true ↦ refl | false ↦ refl ]
+
+  promise_to : (nodes from b : ℕ) (last : Option Vote) (running : Running) (i : ℕ) (found : Option Proposal) → AreNear records running.proposals → proposal_at running.proposals i ≡ found
+      → IsNearTurn (on_promise_to nodes me running b (from, last) found)
+  promise_to nodes from b last running i None near is = noted running near
+  promise_to nodes from b last running i (Some p) near is =
+      let promise : Promise = (from, last) in
+      let here : IsNear records p.position = near p (found_has (λ (q : Proposal). nat_eq q.position i) p running.proposals is).0 in
+      let after = with_promise p promise in
+      let known = record running { proposals = with_proposal running.proposals (after_promise nodes p promise) } in
+      let all : AreNear records known.proposals = with_near running.proposals (after_promise nodes p promise) near (subst (IsNear records) (sym (after_near nodes p promise)) here) in
+      let offer = bodies.Accept p.position p.ballot (offer_of p.own after.promises) in
+      choice (takes_promise b p) (counts_promise nodes me running p promise) (notes running)
+      (choice (is_promised nodes after) (sends known (says_to_all nodes me offer)) (notes known)
+      (sending known (says_to_all nodes me offer) all (mapped (says me offer) (one_to nodes) (λ k. (refl, here))))
+      (noted known all))
+      (noted running near)
+
+  refused : (running : Running) (i b bound : ℕ) → AreNear records running.proposals → IsNearTurn (on_nack running i b bound)
+  refused running i b bound near =
+      choice (is_in b (proposal_at running.proposals i)) _ (notes running) (record { proposals = without_near running.proposals i near; sent = none }) (noted running near)
+
+  -- ---- the learner
+
+  told : (from i : ℕ) (running : Running) (learned : Option Action) → AreNear records running.proposals → IsNearTurn (tells_learned me running from i learned)
+  told from i running None near = noted running near
+  told from i running (Some v) near = sending running (says me (bodies.Decided i v) from ∷ []) near (one _ tt)
+
+  asked : (from : ℕ) (missing : Option ℕ) → AllNear (asks_for me from missing)
+  asked from None = none
+  asked from (Some i) = one _ tt
+
+  module _ {S : Type 0} (next : S → Action → S) (answers : S → Action → List Answer) (begin : S) where
+    learned : (running : Running) (i : ℕ) (v : Action) (packets behind : List Message) → AreNear records running.proposals → AllNear packets → AllNear behind
+        → IsNearTurn (learns next answers begin me records running i v packets behind)
+    learned running i v packets behind near first last =
+        let replies : (given : List Answer) → AllNear (replies_to me running.pending given) = λ given.
+        mapped (λ (answer : Answer). says_to_task me (bodies.Reply answer.number answer.reply) answer.task) (filter (λ answer. list_any (is_answered_by answer) running.pending) given) (λ answer. tt) in
+        record {
+          proposals = without_near running.proposals i near;
+          sent = both _ behind (both packets _ first (replies _)) last;
+        }
+
+    vote_near : (nodes : ℕ) (running : Running) (from i : ℕ) (vote : Vote) (known : Option Action) → AreNear records running.proposals → IsNearTurn (on_vote next answers begin nodes me records running from i vote known)
+    vote_near nodes running from i vote (Some v) near = noted running near
+    vote_near nodes running from i vote None near =
+        choice (makes_majority nodes i vote (with_member same_heard running.heard (from, i, vote))) _ _
+        (learned running i vote.action (says_to_others nodes me (bodies.Decided i vote.action)) [] near (mapped (says me (bodies.Decided i vote.action)) _ (λ k. tt)) none)
+        (record { proposals = near; sent = none })
+
+    decision_near : (running : Running) (from i : ℕ) (v : Action) (known : Option Action) → AreNear records running.proposals → IsNearTurn (on_decision next answers begin me records running from i v known)
+    decision_near running from i v (Some w) near = noted running near
+    decision_near running from i v None near = learned running i v [] (asks_for me from (missing_position (records ++ Learned i v ∷ []))) near none (asked from (missing_position (records ++ Learned i v ∷ [])))
+
+    body_near : (nodes : ℕ) (running : Running) (from : ℕ) (body : Body) → AreNear records running.proposals → MayVote Votes from body → IsNearTurn (on_body next answers begin nodes me records running from body)
+    body_near nodes running from (bodies.Call action) near may = called (kept_of next answers begin (applied_of records)) (replay_answers next answers begin (applied_of records)) running action near
+    body_near nodes running from (bodies.Prepare i b) near may = promised from i b running (prepare_answer records i b) near
+    body_near nodes running from (bodies.Promise i b last) near may = promise_to nodes from b last running i (proposal_at running.proposals i) near refl
+    body_near nodes running from (bodies.Accept i b v) near may = voted from i b v running (accept_answer records i b v) near may
+    body_near nodes running from (bodies.Accepted i b v) near may =
+        choice (is_beyond records i) _ _ (noted running near) (vote_near nodes running from i (record { ballot = b; action = v }) (learned_at records i) near)
+    body_near nodes running from (bodies.Decided i v) near may = decision_near running from i v (learned_at records i) near
+    body_near nodes running from (bodies.Ask i) near may = told from i running (learned_at records i) near
+    body_near nodes running from (bodies.Nack i b bound) near may = refused running i b bound near
+    body_near nodes running from (bodies.Reply number reply) near may = noted running near
+    body_near nodes running from (bodies.Report first applied actions) near may = noted running near
+
+-- ---- any input
+
+-- what a turn comes to, if it is not refused
+abbrev pub IsNearIf : ℕ → List Rec → (ℕ → ℕ → Type 0) → Result Turn Fault → Type 0
+IsNearIf me records Votes (Ok turn) = IsNearTurn me records Votes turn
+IsNearIf me records Votes (Err fault) = Unit {0}
+
+either_if : (me : ℕ) (records : List Rec) (Votes : ℕ → ℕ → Type 0) (test : Bool) (first other : Result Turn Fault) → (test ≡ true → IsNearIf me records Votes first) → (test ≡ false → IsNearIf me records Votes other)
+    → IsNearIf me records Votes (if test then first else other)
+either_if me records Votes true first other left right = left refl
+either_if me records Votes false first other left right = right refl
+
+in_reach : (most : ℕ) (records : List Rec) (i : ℕ) → is_out_of_reach most records i ≡ false → IsNear records i
+in_reach most records i e = leb-false (first_unlearned records + window) i (no_second (nat_lt most i) (is_beyond records i) e)
+  where
+    no_second : (a b : Bool) → (a || b) ≡ false → b ≡ false
+    no_second true b e = absurd (both_ways true e refl)
+    no_second false b e = e
+
+-- the input is an offer only of a node that may have a vote
+abbrev pub MayVoteFor : (ℕ → ℕ → Type 0) → NodeInput → Type 0
+MayVoteFor Votes (Receive message) = MayVote Votes (party_number message.from) message.body
+MayVoteFor Votes (Lead choice) = Unit {0}
+MayVoteFor Votes (Interrupt source occurrence) = Unit {0}
+MayVoteFor Votes (Tick now) = Unit {0}
+MayVoteFor Votes (Report first) = Unit {0}
+
+pub turn_near : {S : Type 0} (s : Setting S) (me : ℕ) (records : List Rec) (Votes : ℕ → ℕ → Type 0) (running : Running) (input : NodeInput) → AreNear records running.proposals → MayVoteFor Votes input
+    → IsNearIf me records Votes (running_effect s me records running input)
+turn_near s me records Votes running (Receive message) near may =
+    choice me records Votes (is_for_node s.config me message) _ (drops_foreign running)
+    (body_near me records Votes s.next s.answers s.begin s.config.nodes running (party_number message.from) message.body near may) (record { proposals = near; sent = none me records Votes })
+turn_near s me records Votes running (Lead wanted) near may =
+    let most = s.config.max_positions in
+    let i = chosen_position records running wanted in
+    let b = next_ballot me (starts_above records running) in
+    either_if me records Votes (is_some (learned_at records i)) _ _ (λ _. noted me records Votes running near) (λ _.
+    either_if me records Votes (is_out_of_reach most records i) _ _ (λ _. tt) (λ within.
+    either_if me records Votes (nat_le (2 ^ 32) (round_of b)) _ _ (λ _. tt) (λ _. record {
+      proposals = with_near me records Votes running.proposals _ near (in_reach most records i within);
+      sent = mapped me records Votes (says me (bodies.Prepare i b)) (one_to s.config.nodes) (λ k. tt);
+    })))
+turn_near s me records Votes running (Interrupt source occurrence) near may =
+    choice me records Votes (nat_lt (last_occurrence source (kept_of s.next s.answers s.begin (applied_of records))) occurrence) _ (notes running)
+    (adds me records Votes running (actions.Interrupt source occurrence) near) (noted me records Votes running near)
+turn_near s me records Votes running (Tick now) near may = adds me records Votes running (actions.Tick now) near
+turn_near s me records Votes running (Report first) near may = sending me records Votes running (report_of me first (applied_of records) ∷ []) near (one me records Votes _ tt)

@@ -4,6 +4,7 @@
 //! In reading order:
 //! - `device`: what a store asks of the device under it
 //! - `memory`: a device in memory
+//! - `failing`: a device of which one call fails on demand
 //! - `count`: a count that only contracts see
 //! - `reading`: the records that bytes begin with
 //! - `store`: the store of a node's records
@@ -12,6 +13,7 @@
 
 mod count;
 mod device;
+mod failing;
 mod laws;
 mod memory;
 mod reading;
@@ -19,6 +21,7 @@ mod store;
 
 pub use count::Count;
 pub use device::{CutDevice, Device, InfallibleDevice};
+pub use failing::{DeviceCall, FailDevice};
 pub use laws::{one_reading, stop_inside_open, stop_inside_put};
 pub use memory::MemDevice;
 pub use store::{NotTorn, Opened, Store};

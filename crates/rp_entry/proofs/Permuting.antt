@@ -1,5 +1,5 @@
 -- Lists in another order.
-use Rattle.std.proofs.Common.{◌≡◌, ◌⊎◌, inl, inr, List, [], ◌∷◌, ◌++◌, sym, subst}
+use Rattle.std.proofs.Common.{◌≡◌, ◌⊎◌, inl, inr, suc, List, [], ◌∷◌, ◌++◌, length, map, refl, sym, ◌∙◌, ap, subst}
 use Rattle.rp_base.specs.Sets.{Has, IsSet}
 
 -- the one list is the other in another order
@@ -11,6 +11,19 @@ pub data Perm {A : Type 0} : List A → List A → Type 0 where
 
 pub permuted : {A : Type 0} {xs ys : List A} → xs ≡ ys → Perm xs ys
 permuted {A} {xs} e = subst (Perm xs) e same
+
+pub length_permuted : {A : Type 0} {xs ys : List A} → Perm xs ys → length xs ≡ length ys
+length_permuted same = refl
+length_permuted (behind p) = ap suc (length_permuted p)
+length_permuted swap = refl
+length_permuted (chain p q) = length_permuted p ∙ length_permuted q
+
+-- what is made of each, in another order
+pub mapped_permuted : {A B : Type 0} (f : A → B) {xs ys : List A} → Perm xs ys → Perm (map f xs) (map f ys)
+mapped_permuted f same = same
+mapped_permuted f (behind p) = behind (mapped_permuted f p)
+mapped_permuted f swap = swap
+mapped_permuted f (chain p q) = chain (mapped_permuted f p) (mapped_permuted f q)
 
 pub has_permuted : {A : Type 0} (x : A) {xs ys : List A} → Perm xs ys → Has x xs → Has x ys
 has_permuted x same h = h
@@ -49,7 +62,7 @@ at_end zs swap = swap
 at_end zs (chain p q) = chain (at_end zs p) (at_end zs q)
 
 -- one moves to the front
-one_first : {A : Type 0} (xs : List A) (y : A) (ys : List A) → Perm (xs ++ y ∷ ys) (y ∷ (xs ++ ys))
+pub one_first : {A : Type 0} (xs : List A) (y : A) (ys : List A) → Perm (xs ++ y ∷ ys) (y ∷ (xs ++ ys))
 one_first [] y ys = same
 one_first (x ∷ xs) y ys = chain (behind (one_first xs y ys)) swap
 

@@ -1,5 +1,5 @@
 -- The calls that wait in the queues of an object.
-use Rattle.std.proofs.Common.{◌≡◌, ◌≤◌, ◌<◌, ◌-◌, ◌+◌, ℕ, zero, suc, List, [], ◌∷◌, ◌++◌, length, map, set, Some, inl, inr, refl, sym, ap, subst, arith, append_assoc, length-append}
+use Rattle.std.proofs.Common.{◌≡◌, ◌≤◌, ◌<◌, ◌-◌, ◌+◌, ℕ, zero, suc, List, [], ◌∷◌, ◌++◌, length, map, set, Some, inl, inr, refl, sym, ◌∙◌, ap, subst, arith, append_assoc, length-append}
 use Rattle.std.proofs.lemmas.Bool.{cases_eq}
 use Rattle.std.proofs.lemmas.List.{length-map}
 use Rattle.std.proofs.lemmas.Option.{slice_get_within}
@@ -50,7 +50,7 @@ as_many [] (queue ∷ queues) each = absurd each
 as_many (entry ∷ entries) [] each = absurd each
 as_many (entry ∷ entries) (queue ∷ queues) each = ap suc (as_many entries queues each.1)
 
-short_taken : (entries : List Entry) (queues : List (List Waiting)) (place : ℕ) (call : Waiting) (rest : List Waiting) → AllZip IsShort entries queues → queue_at queues place ≡ call ∷ rest → AllZip IsShort entries (set queues place rest)
+pub short_taken : (entries : List Entry) (queues : List (List Waiting)) (place : ℕ) (call : Waiting) (rest : List Waiting) → AllZip IsShort entries queues → queue_at queues place ≡ call ∷ rest → AllZip IsShort entries (set queues place rest)
 short_taken [] [] place call rest each there = absurd (cc)
 short_taken [] (queue ∷ queues) place call rest each there = absurd each
 short_taken (entry ∷ entries) [] place call rest each there = absurd each
@@ -66,15 +66,14 @@ short_joined (own ∷ entries) (queue ∷ queues) zero entry new each there shor
     (subst (λ (e : Entry). length new ≤ e.longest) (sym is) short, each.1)
 short_joined (own ∷ entries) (queue ∷ queues) (suc place) entry new each there short = (each.0, short_joined entries queues place entry new each.1 there short)
 
--- the queue of an entry at a place
-pub short_at : (entries : List Entry) (queues : List (List Waiting)) (place : ℕ) (entry : Entry) → AllZip IsShort entries queues → slice_get entries place ≡ Some entry → length (queue_at queues place) ≤ entry.longest
-short_at [] [] place entry each there = absurd (cc)
-short_at [] (queue ∷ queues) place entry each there = absurd each
-short_at (own ∷ entries) [] place entry each there = absurd each
-short_at (own ∷ entries) (queue ∷ queues) zero entry each there =
-    let is : own ≡ entry = cc in
-    subst (λ (e : Entry). length queue ≤ e.longest) is each.0
-short_at (own ∷ entries) (queue ∷ queues) (suc place) entry each there = short_at entries queues place entry each.1 there
+-- a call joins the queue of the entry of an index, where there is room
+pub short_grown : (entries : List Entry) (queues : List (List Waiting)) (index : ℕ) (call : Waiting) (entry : Entry) → AllZip IsShort entries queues → of_index entries index ≡ Some entry → length (queue_at queues (index - 1)) < entry.longest
+    → AllZip IsShort entries (set queues (index - 1) (queue_at queues (index - 1) ++ call ∷ []))
+short_grown entries queues zero call entry short there room = absurd (cc)
+short_grown entries queues (suc place) call entry short there room =
+    let same_place : suc place - 1 ≡ place = omega arith in
+    let at : slice_get entries (suc place - 1) ≡ Some entry = ap (slice_get entries) same_place ∙ there in
+    short_joined entries queues (suc place - 1) entry (queue_at queues (suc place - 1) ++ call ∷ []) short at (omega (arith, room, length-append (queue_at queues (suc place - 1)) (call ∷ [])))
 
 -- ---- the tasks that wait
 
@@ -103,23 +102,17 @@ right_taken {operations} {before} place call rest there right after left =
 -- and once a call of another task joins
 pub right_joined : {operations : Operations} {before : State} (index : ℕ) (call : Waiting) (entry : Entry) → of_index operations.entries.items index ≡ Some entry → length (queue_at before.queues (index - 1)) < entry.longest
     → IsTask call.task → ¬ Has call.task (tasks_waiting before) → HasQueues operations before → HasQueues operations (with_caller before index call)
-right_joined zero call entry there room task free right = absurd (cc)
-right_joined {operations} {before} (suc place) call entry there room task free right =
-    let same_place : suc place - 1 ≡ place = omega arith in
-    let new = queue_at before.queues place ++ call ∷ [] in
-    let after : with_caller before (suc place) call ≡ record { store = before.store; queues = set before.queues place new } = ap (λ n. record { store = before.store; queues = set before.queues n (queue_at before.queues n ++ call ∷ []) }) same_place in
-    let open_place : length (queue_at before.queues place) < entry.longest = subst (λ n. length (queue_at before.queues n) < entry.longest) same_place room in
-    let within = index_there operations.entries.items (suc place) entry there in
-    let below : place < length before.queues = omega (arith, within.1, as_many operations.entries.items before.queues right.short) in
-    let perm = mapped_permuted task_of (joined before.queues place call below) in
+right_joined {operations} {before} index call entry there room task free right =
+    let within = index_there operations.entries.items index entry there in
+    let below : index - 1 < length before.queues = omega (arith, within.0, within.1, as_many operations.entries.items before.queues right.short) in
+    let perm = mapped_permuted task_of (joined before.queues (index - 1) call below) in
     let set_of : IsSet (call.task ∷ tasks_waiting before) = (free, right.apart) in
     let inside : (t : ℕ) → Has t (call.task ∷ tasks_waiting before) → IsTask t = λ t has. elim has [ inl is ↦ subst IsTask (sym is) task | inr was ↦ right.tasks t was ] in
-    let long : length new ≤ entry.longest = omega (arith, open_place, length-append (queue_at before.queues place) (call ∷ [])) in
-    subst (λ (s : State). HasQueues operations s) (sym after) (record {
-      short = short_joined operations.entries.items before.queues place entry new right.short there long;
+    record {
+      short = short_grown operations.entries.items before.queues index call entry right.short there room;
       tasks = λ t has. inside t (has_permuted t (back perm) has);
       apart = set_permuted perm set_of;
-    })
+    }
 
 -- ---- no more wait than there are tasks
 

@@ -44,7 +44,8 @@ module _ (entries : List Entry) (state : State) (place : ℕ) where
 
 -- ---- where nobody waits
 
-no_call : (entries : List Entry) → all_calls (empty_queues entries) ≡ []
+-- there is no call
+pub no_call : (entries : List Entry) → all_calls (empty_queues entries) ≡ []
 no_call [] = refl
 no_call (entry ∷ entries) = no_call entries
 

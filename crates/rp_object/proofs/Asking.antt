@@ -100,11 +100,13 @@ still_made [] [] place object new made there operations queues = absurd (cc)
 still_made [] (o ∷ objects) place object new made there operations queues = absurd made
 still_made (d ∷ declared) [] place object new made there operations queues = absurd made
 still_made (d ∷ declared) (o ∷ objects) zero object new made there operations queues =
-    let is : o ≡ object = cc in
-    (record {
-      operations = operations ∙ ap (λ (p : Protected). p.operations) (sym is) ∙ made.0.operations;
-      queues = queues ∙ ap (λ (p : Protected). length p.state.queues) (sym is) ∙ made.0.queues;
-    }, made.1)
+    let is : o ≡ object = cc in (
+      record {
+        operations = operations ∙ ap (λ (p : Protected). p.operations) (sym is) ∙ made.0.operations;
+        queues = queues ∙ ap (λ (p : Protected). length p.state.queues) (sym is) ∙ made.0.queues;
+      },
+      made.1,
+    )
 still_made (d ∷ declared) (o ∷ objects) (suc place) object new made there operations queues = (made.0, still_made declared objects place object new made.1 there operations queues)
 
 module _ {program : Declarations} {timers : List (Option ℤ)} where
@@ -130,7 +132,7 @@ module _ {program : Declarations} {timers : List (Option ℤ)} where
   held_each objects held = made_each program.objects.items objects (recursion_from_All DeclarationFits program.objects.items held.right.objects) held.made
 
   module _ (objects : List Protected) (place : ℕ) (object new : Protected) (request : Request) (caller : Option CallOutcome) (told : List Answer) (held : IsHeld program objects timers)
-    (below : place < length objects) (read : object ≡ get_or objects place object) (acts : Acts object.operations object.state request caller told new.state) where
+      (below : place < length objects) (read : object ≡ get_or objects place object) (acts : Acts object.operations object.state request caller told new.state) where
     at_place : slice_get objects place ≡ Some object
     at_place = slice_get_read objects (length objects) place object refl below read
 

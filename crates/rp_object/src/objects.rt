@@ -99,7 +99,12 @@ impl Objects {
     {
         let mut text = String::new(alloc);
         let declared = &self.declarations.objects;
-        write_objects(&mut text, self.declarations.profile, declared, &self.objects)?;
+        write_objects(
+            &mut text,
+            self.declarations.profile,
+            declared,
+            &self.objects,
+        )?;
         writeln!(text, "clock {}", self.clock)?;
         write_timers(&mut text, &self.declarations.timers, &self.timers)?;
         Ok(text.into_bytes())

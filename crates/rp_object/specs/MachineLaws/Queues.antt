@@ -1,19 +1,15 @@
 -- What an action does to the queues of its object.
-use Rattle.std.proofs.Common.{◌≡◌, ◌≤◌, ◌<◌, ◌-◌, List, [], ◌∷◌, ◌++◌, length, set, Option, Some, None, inl, inr, refl, sym, ◌∙◌, ap, subst, arith, length-set}
+use Rattle.std.proofs.Common.{◌≡◌, ◌<◌, ◌-◌, List, [], ◌∷◌, ◌++◌, length, set, Option, inl, inr, refl, sym, ◌∙◌, ap, subst, arith, length-set}
 use Rattle.std.specs.List.{AllZip}
 use Rattle.rp_base.specs.Sets.{Has}
-use Rattle.rp_base.proofs.Members.{has_right}
 use Rattle.rp_base.specs.declared.reply.Answer.{Answer}
-use Rattle.rp_body.specs.declared.statement.Stmt.{Stmt}
-use Rattle.rp_entry.specs.declared.operations.Entry.{Entry}
 use Rattle.rp_entry.specs.declared.operations.Operations.{Operations}
 use Rattle.rp_entry.specs.declared.state.Waiting.{Waiting}
 use Rattle.rp_entry.specs.declared.state.CallOutcome.{CallOutcome}
 use Rattle.rp_entry.specs.Queue.{State, IsServiced, queue_at, all_calls}
 use Rattle.rp_entry.specs.Protected.{IsShort}
-use Rattle.rp_entry.specs.Servicing.{Serves, Services, ends, goes_on}
-use Rattle.rp_entry.specs.Actions.{Request, Runs, Acts, calls_function, calls_procedure, calls_entry, event, function, procedure, open_entry, closed_entry, full_queue, handler, no_function, no_procedure, no_entry, no_handler}
-use Rattle.rp_entry.specs.Accounting.{joins}
+use Rattle.rp_entry.specs.Servicing.{Services, ends, goes_on}
+use Rattle.rp_entry.specs.Actions.{Request, Acts, calls_function, calls_procedure, calls_entry, event, function, procedure, open_entry, closed_entry, full_queue, handler, no_function, no_procedure, no_entry, no_handler}
 use Rattle.rp_entry.proofs.Permuting.{has_permuted, back}
 use Rattle.rp_entry.proofs.Chains.{is_serviced}
 use Rattle.rp_entry.proofs.Queues.{taken, joined, index_there, short_taken, short_grown}

@@ -1,5 +1,5 @@
 -- One call more.
-use Rattle.std.proofs.Common.{◌<◌, pos, length, string_bytes, sym, ◌∙◌, ap, arith}
+use Rattle.std.proofs.Common.{pos, string_bytes, sym, ◌∙◌, ap, arith}
 use Rattle.std.proofs.lemmas.Option.{slice_get-get_or}
 use Rattle.rp_entry.specs.declared.state.Waiting.{Waiting}
 use Rattle.rp_object.proofs.Writing.{calls_more}

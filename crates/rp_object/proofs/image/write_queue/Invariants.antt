@@ -1,6 +1,6 @@
 use Rattle.std.proofs.Common.{◌≡◌, ◌++◌, take, string_bytes}
 use Rattle.std.specs.Prelude.{flat_map}
-use Rattle.rp_object.specs.Image.{call_text, queues_text}
+use Rattle.rp_object.specs.Image.{call_text}
 use Rattle.rp_object.proofs.image.write_queue.Given as goal
 
 abbrev pub invariant-loop-place : goal.invariant-loop-place

@@ -1,12 +1,12 @@
 -- There are no more answers than tasks.
-use Rattle.std.proofs.Common.{◌≡◌, Bool, true, cond, Some, sym, ◌∙◌, ap, subst, rules}
+use Rattle.std.proofs.Common.{◌≡◌, Bool, true, cond, sym, ◌∙◌, ap, subst, rules}
 use Rattle.rp_base.specs.Number.{IsTask}
 use Rattle.rp_base.specs.declared.reply.Reply.TheVariants.{NoSuchOperation}
 use Rattle.rp_entry.specs.declared.state.CallOutcome.TheVariants.{Reply}
 use Rattle.rp_object.specs.declared.program.Declarations.{Declarations}
 use Rattle.rp_object.specs.Program.{is_declared}
 use Rattle.rp_object.specs.State.{Running}
-use Rattle.rp_object.specs.Step.{Result, called, allowed, ends_with}
+use Rattle.rp_object.specs.Step.{called, allowed, ends_with}
 use Rattle.rp_object.specs.Held.{IsHeld}
 use Rattle.rp_object.proofs.Asking.{few_answers}
 use Rattle.rp_object.proofs.objects.Objects.call.Goals as goal

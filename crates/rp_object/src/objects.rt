@@ -67,6 +67,28 @@ impl Objects {
         })
     }
 
+    /// Whether no call of the action's task waits, so that `apply` may be called.
+    pub fn may_apply(&self, action: &Action) -> bool
+        ensures { IsTrue result ↔ MayApply (objects_waiting self.now) action.now }
+    {
+        match *action {
+            Action::Call { task, .. } => !self.is_waiting(task),
+            Action::Noop | Action::Interrupt { .. } | Action::Tick { .. } => true,
+        }
+    }
+
+    /// Whether a call of the task waits at one of the objects.
+    fn is_waiting(&self, task: TaskId) -> bool
+        ensures { IsTrue result ↔ Has task (tasks_waiting self.now) }
+    {
+        for object in &self.objects {
+            if object.is_waiting(task) {
+                return true;
+            }
+        }
+        false
+    }
+
     /// Applies an action, and gives the answers that come of it: the caller's, and then those of the
     /// callers that were served. It takes no memory. No call of the action's task waits.
     pub fn apply(&mut self, action: &Action) -> Answers

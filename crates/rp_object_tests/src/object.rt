@@ -1,4 +1,4 @@
-use rp_base::{Action, Answer, Operation, Reply, TaskId};
+use rp_base::{Action, Answer, Answers, Operation, Reply, TaskId};
 use rp_body::{Components, Cond, Expr, Ranged, Stmt};
 use rp_entry::{Entry, Operations};
 use rp_machine::Numbered;
@@ -44,7 +44,7 @@ fn counter(alloc: Global) -> Result<ObjectDeclaration, AllocError> {
     let operations = Operations {
         functions: Vec::new(alloc),
         procedures,
-        entry: None,
+        entries: Vec::new(alloc),
     };
     Ok(ObjectDeclaration {
         name: String::from_str(alloc, "box")?,
@@ -52,6 +52,7 @@ fn counter(alloc: Global) -> Result<ObjectDeclaration, AllocError> {
         ints,
         bools: Vec::new(alloc),
         components,
+        entries: Vec::new(alloc),
         operations: Arc::new(alloc, operations)?,
     })
 }
@@ -68,20 +69,26 @@ fn gate(alloc: Global) -> Result<ObjectDeclaration, AllocError> {
     procedures.push(lift)?;
     let mut pass = Vec::new(alloc);
     pass.push(Stmt::Put(0, Cond::Constant(false)))?;
+    let mut entries = Vec::new(alloc);
+    entries.push(Entry {
+        barrier: 0,
+        longest: 1,
+        body: pass,
+    })?;
     let operations = Operations {
         functions: Vec::new(alloc),
         procedures,
-        entry: Some(Entry {
-            barrier: 0,
-            body: pass,
-        }),
+        entries,
     };
+    let mut names = Vec::new(alloc);
+    names.push(String::from_str(alloc, "pass")?)?;
     Ok(ObjectDeclaration {
         name: String::from_str(alloc, "gate")?,
         ceiling: 10,
         ints: Vec::new(alloc),
         bools,
         components,
+        entries: names,
         operations: Arc::new(alloc, operations)?,
     })
 }
@@ -113,6 +120,7 @@ fn program(alloc: Global) -> Result<Program, Fail> {
         })?;
     }
     let declarations = Declarations {
+        profile: Profile::Ravenscar,
         priorities,
         objects,
         interrupts,
@@ -130,6 +138,14 @@ fn call(task: u8, number: u32, object: u8, operation: Operation, arg: i64) -> Re
         operation,
         arg,
     })
+}
+
+/// Applies an action whose task does not wait.
+fn applied(objects: &mut Objects, action: &Action) -> Result<Answers, Fail> {
+    if !objects.may_apply(action) {
+        return Err(Fail::from("a task that waits"));
+    }
+    Ok(objects.apply(action))
 }
 
 /// The answer to a call of the task.
@@ -151,23 +167,28 @@ fn events_that_are_due_together_fire_in_order_and_the_clock_stays(
         (2, Operation::SetTimer(1), 9, Reply::Value(0)),
         (3, Operation::SetTimer(1), 5, Reply::Value(0)),
     ] {
-        let told = objects.apply(&call(EQUAL, number, BOX, operation, arg)?);
+        let told = applied(&mut objects, &call(EQUAL, number, BOX, operation, arg)?)?;
         assert_eq!(rt; told.as_slice(), [answer(EQUAL, number, reply)?].as_slice());
     }
-    assert!(rt; objects.apply(&Action::Tick { now: 7 }).is_empty());
-    assert!(rt; objects.apply(&Action::Tick { now: 3 }).is_empty());
-    let told = objects.apply(&call(EQUAL, 4, BOX, Operation::CancelTimer(1), 0)?);
+    assert!(rt; applied(&mut objects, &Action::Tick { now: 7 })?.is_empty());
+    assert!(rt; applied(&mut objects, &Action::Tick { now: 3 })?.is_empty());
+    let told = applied(
+        &mut objects,
+        &call(EQUAL, 4, BOX, Operation::CancelTimer(1), 0)?,
+    )?;
     assert_eq!(rt;
         told.as_slice(),
         [answer(EQUAL, 4, Reply::Truth(false))?].as_slice()
     );
     assert!(rt;
-        objects
-            .apply(&Action::Interrupt {
+        applied(
+            &mut objects,
+            &Action::Interrupt {
                 source: 2,
                 occurrence: 1
-            })
-            .is_empty()
+            }
+        )?
+        .is_empty()
     );
     let image = objects.image(rt.alloc())?;
     let wanted =
@@ -179,32 +200,35 @@ fn events_that_are_due_together_fire_in_order_and_the_clock_stays(
 #[test]
 fn a_caller_waits_and_is_answered_by_who_opens(rt: HostRuntime) -> Result<(), Fail> {
     let mut objects = Objects::start(rt.alloc(), &program(rt.alloc())?)?;
+    assert!(rt; applied(&mut objects, &call(EQUAL, 1, GATE, Operation::Entry(1), 7)?)?.is_empty());
     assert!(rt;
-        objects
-            .apply(&call(EQUAL, 1, GATE, Operation::Entry(1), 7)?)
-            .is_empty()
-    );
-    assert!(rt;
-        objects
-            .apply(&call(EQUAL, 1, BOX, Operation::SetTimer(2), 9)?)
-            .len()
+        applied(
+            &mut objects,
+            &call(OTHER, 1, BOX, Operation::SetTimer(2), 9)?
+        )?
+        .len()
             == 1
     );
     assert!(rt;
-        objects
-            .apply(&Action::Interrupt {
+        applied(
+            &mut objects,
+            &Action::Interrupt {
                 source: 1,
                 occurrence: 1
-            })
-            .is_empty()
+            }
+        )?
+        .is_empty()
     );
     let image = objects.image(rt.alloc())?;
     let wanted =
         "object box n=1\nobject gate up=false queue task 1 call 1 arg 7\nclock 0\ntimer x off\ntimer y at 9\n";
     assert_eq!(rt; image.as_slice(), wanted.as_bytes());
-    let told = objects.apply(&call(EQUAL, 2, GATE, Operation::Procedure(1), 0)?);
+    let told = applied(
+        &mut objects,
+        &call(OTHER, 2, GATE, Operation::Procedure(1), 0)?,
+    )?;
     let wanted = [
-        answer(EQUAL, 2, Reply::Value(0))?,
+        answer(OTHER, 2, Reply::Value(0))?,
         answer(EQUAL, 1, Reply::Value(0))?,
     ];
     assert_eq!(rt; told.as_slice(), wanted.as_slice());
@@ -231,7 +255,7 @@ fn what_is_not_declared_is_refused_before_the_ceiling(rt: HostRuntime) -> Result
         ),
         (EQUAL, GATE, Operation::Procedure(1), Reply::Value(0)),
     ] {
-        let told = objects.apply(&call(task, 1, object, operation, 0)?);
+        let told = applied(&mut objects, &call(task, 1, object, operation, 0)?)?;
         assert_eq!(rt; told.as_slice(), [answer(task, 1, reply)?].as_slice());
     }
     Ok(())
@@ -275,5 +299,132 @@ fn a_caller_that_waits_in_a_log_is_served_by_another_call(rt: HostRuntime) -> Re
     let wanted =
         "object box n=1\nobject gate up=false queue none\nclock 0\ntimer x off\ntimer y off\n";
     assert_eq!(rt; image.as_slice(), wanted.as_bytes());
+    Ok(())
+}
+
+/// The gate of four tasks, of any profile: the number n from 0 to 9, the Boolean up, the procedure lift,
+/// which puts it up, and two entries when up: pass, at which two calls wait, which counts to 2 and then
+/// puts up down, and late, which gives 7.
+fn double_gate(alloc: Global, profile: Profile) -> Result<Declarations, Fail> {
+    let name = |text: &str| String::from_str(alloc, text);
+    let mut components = Components::new();
+    components.add_int(Ranged {
+        low: 0,
+        high: 9,
+        value: 0,
+    });
+    components.add_bool(false);
+    let mut pass = adding(alloc, Expr::Int(0), Expr::Number(1))?;
+    pass.push(Stmt::Out(Expr::Int(0)))?;
+    let full = Cond::Equal(Expr::Int(0), Expr::Number(2));
+    let down = vec![in alloc; Stmt::Put(0, Cond::Constant(false))]?;
+    pass.push(Stmt::If(full, down, Vec::new(alloc)))?;
+    let lift = vec![in alloc; Stmt::Put(0, Cond::Constant(true))]?;
+    let operations = Operations {
+        functions: Vec::new(alloc),
+        procedures: vec![in alloc; lift]?,
+        entries: vec![in alloc;
+            Entry {
+                barrier: 0,
+                longest: 2,
+                body: pass,
+            },
+            Entry {
+                barrier: 0,
+                longest: 1,
+                body: vec![in alloc; Stmt::Out(Expr::Number(7))]?,
+            },
+        ]?,
+    };
+    let gate = ObjectDeclaration {
+        name: name("gate")?,
+        ceiling: 10,
+        ints: vec![in alloc; name("n")?]?,
+        bools: vec![in alloc; name("up")?]?,
+        components,
+        entries: vec![in alloc; name("pass")?, name("late")?]?,
+        operations: Arc::new(alloc, operations)?,
+    };
+    Ok(Declarations {
+        profile,
+        priorities: vec![in alloc; 5, 5, 5, 5]?,
+        objects: vec![in alloc; gate]?,
+        interrupts: Vec::new(alloc),
+        timers: Vec::new(alloc),
+    })
+}
+
+/// The tasks that are answered at these calls, and their replies.
+fn replies_to(
+    alloc: Global,
+    objects: &mut Objects,
+    calls: &[(u8, u32, Operation)],
+) -> Result<Vec<(u8, Reply)>, Fail> {
+    let mut replies = Vec::new(alloc);
+    for (task, number, operation) in calls {
+        let told = applied(objects, &call(*task, *number, 1, *operation, 0)?)?;
+        for answer in told.as_slice() {
+            replies.push((answer.task.get(), answer.reply))?;
+        }
+    }
+    Ok(replies)
+}
+
+#[test]
+fn callers_of_the_first_entry_are_served_before_the_others(rt: HostRuntime) -> Result<(), Fail> {
+    let alloc = rt.alloc();
+    let declared = Arc::new(alloc, double_gate(alloc, Profile::Jorvik)?)?;
+    let mut objects = Objects::start(alloc, &Program::new(declared).ok_or("a program")?)?;
+    let pass = Operation::Entry(1);
+    let late = Operation::Entry(2);
+    let lift = Operation::Procedure(1);
+
+    let calls = [(1, 1, pass), (2, 1, pass), (3, 1, late), (4, 1, lift)];
+    let replies = replies_to(alloc, &mut objects, calls.as_slice())?;
+    let wanted = [
+        (4, Reply::Value(0)),
+        (1, Reply::Value(1)),
+        (2, Reply::Value(2)),
+    ];
+    assert_eq!(rt; replies.as_slice(), wanted.as_slice());
+    let image = objects.image(alloc)?;
+    let wanted =
+        "object gate n=2 up=false queue pass none queue late task 3 call 1 arg 0\nclock 0\n";
+    assert_eq!(rt; image.as_slice(), wanted.as_bytes());
+
+    assert!(rt; !objects.may_apply(&call(3, 2, 1, lift, 0)?));
+    let replies = replies_to(alloc, &mut objects, [(1, 2, lift)].as_slice())?;
+    let wanted = [(1, Reply::Value(0)), (3, Reply::Value(7))];
+    assert_eq!(rt; replies.as_slice(), wanted.as_slice());
+    let image = objects.image(alloc)?;
+    let wanted = "object gate n=2 up=true queue pass none queue late none\nclock 0\n";
+    assert_eq!(rt; image.as_slice(), wanted.as_bytes());
+    Ok(())
+}
+
+#[test]
+fn a_call_beyond_the_longest_queue_is_refused(rt: HostRuntime) -> Result<(), Fail> {
+    let alloc = rt.alloc();
+    let declared = Arc::new(alloc, double_gate(alloc, Profile::Jorvik)?)?;
+    let mut objects = Objects::start(alloc, &Program::new(declared).ok_or("a program")?)?;
+    let pass = Operation::Entry(1);
+    let absent = Operation::Entry(3);
+
+    let calls = [(1, 1, pass), (2, 1, pass), (3, 1, pass), (4, 1, absent)];
+    let replies = replies_to(alloc, &mut objects, calls.as_slice())?;
+    let wanted = [(3, Reply::ProgramError), (4, Reply::NoSuchOperation)];
+    assert_eq!(rt; replies.as_slice(), wanted.as_slice());
+    let image = objects.image(alloc)?;
+    let wanted =
+        "object gate n=0 up=false queue pass task 1 call 1 arg 0 task 2 call 1 arg 0 queue late none\nclock 0\n";
+    assert_eq!(rt; image.as_slice(), wanted.as_bytes());
+    Ok(())
+}
+
+#[test]
+fn a_second_entry_is_no_ravenscar_program(rt: HostRuntime) -> Result<(), Fail> {
+    let alloc = rt.alloc();
+    let declared = double_gate(alloc, Profile::Ravenscar)?;
+    assert!(rt; Program::new(Arc::new(alloc, declared)?).is_none());
     Ok(())
 }

@@ -159,22 +159,27 @@ named_if {Y} {S} eq declared names more key name (Err fault) is same has all =
 
 -- ---- a function, a procedure or the entry more
 
-pub function_more : (before after : Operations) (function : DeclaredFunction) → after.functions.items ≡ before.functions.items ++ function ∷ [] → after.procedures ≡ before.procedures → after.entry ≡ before.entry
+pub function_more : (before after : Operations) (function : DeclaredFunction) → after.functions.items ≡ before.functions.items ++ function ∷ [] → after.procedures ≡ before.procedures → after.entries ≡ before.entries
     → (name : OperationName) → has_operation (operation_of name) before ≡ true → has_operation (operation_of name) after ≡ true
 function_more before after function more same entry (Function index) has =
     subst (λ (l : List DeclaredFunction). is_some (of_index l index.number) ≡ true) (sym more) (still_numbered before.functions.items function index.number has)
 function_more before after function more same entry (Procedure index) has = ap (λ p. is_some (of_index p.items index.number)) same ∙ has
-function_more before after function more same entry Entry has = ap (λ e. is_some e) entry ∙ has
+function_more before after function more same entry Entry has = ap (λ e. is_some (of_index e.items 1)) entry ∙ has
 
-pub procedure_more : (before after : Operations) (body : Vec Stmt Global) → after.procedures.items ≡ before.procedures.items ++ body ∷ [] → after.functions ≡ before.functions → after.entry ≡ before.entry
+pub procedure_more : (before after : Operations) (body : Vec Stmt Global) → after.procedures.items ≡ before.procedures.items ++ body ∷ [] → after.functions ≡ before.functions → after.entries ≡ before.entries
     → (name : OperationName) → has_operation (operation_of name) before ≡ true → has_operation (operation_of name) after ≡ true
 procedure_more before after body more same entry (Function index) has = ap (λ f. is_some (of_index f.items index.number)) same ∙ has
 procedure_more before after body more same entry (Procedure index) has =
     subst (λ (l : List (Vec Stmt Global)). is_some (of_index l index.number) ≡ true) (sym more) (still_numbered before.procedures.items body index.number has)
-procedure_more before after body more same entry Entry has = ap (λ e. is_some e) entry ∙ has
+procedure_more before after body more same entry Entry has = ap (λ e. is_some (of_index e.items 1)) entry ∙ has
 
-pub entry_more : (before after : Operations) (entry : DeclaredEntry) → after.entry ≡ Some entry → after.functions ≡ before.functions → after.procedures ≡ before.procedures
+-- a list with one entry more has a first one
+pub first_numbered : (entries : List DeclaredEntry) (entry : DeclaredEntry) → is_some (of_index (entries ++ entry ∷ []) 1) ≡ true
+first_numbered [] entry = refl
+first_numbered (first ∷ rest) entry = refl
+
+pub entry_more : (before after : Operations) (entry : DeclaredEntry) → after.entries.items ≡ before.entries.items ++ entry ∷ [] → after.functions ≡ before.functions → after.procedures ≡ before.procedures
     → (name : OperationName) → has_operation (operation_of name) before ≡ true → has_operation (operation_of name) after ≡ true
 entry_more before after entry more functions procedures (Function index) has = ap (λ f. is_some (of_index f.items index.number)) functions ∙ has
 entry_more before after entry more functions procedures (Procedure index) has = ap (λ p. is_some (of_index p.items index.number)) procedures ∙ has
-entry_more before after entry more functions procedures Entry has = ap (λ e. is_some e) more
+entry_more before after entry more functions procedures Entry has = subst (λ (l : List DeclaredEntry). is_some (of_index l 1) ≡ true) (sym more) (first_numbered before.entries.items entry)

@@ -32,6 +32,7 @@ pub struct ObjectDraft {
     ceiling: u8,
     components: Components,
     component_names: ComponentNames,
+    entry_names: Vec<String>,
     operations: Operations,
     operation_names: OperationNames,
     ghost named: { AreNamed operations operation_names },
@@ -45,10 +46,11 @@ impl ObjectDraft {
             ceiling,
             components: Components::new(),
             component_names: IndexMap::new(alloc),
+            entry_names: Vec::new(alloc),
             operations: Operations {
                 functions: Vec::new(alloc),
                 procedures: Vec::new(alloc),
-                entry: None,
+                entries: Vec::new(alloc),
             },
             operation_names: IndexMap::new(alloc),
         }
@@ -77,6 +79,7 @@ impl ObjectDraft {
             ints,
             bools,
             components: self.components,
+            entries: self.entry_names,
             operations: Arc::new(alloc, self.operations)?,
         };
         Ok((declaration, self.operation_names))
@@ -222,7 +225,12 @@ impl ObjectDraft {
             Err(reason) => return Err(LineError::Bad(reason).at(line.number)),
         };
         let body = read_body(alloc, lines, &self.component_names)?;
-        self.operations.entry = Some(Entry { barrier, body });
+        self.operations.entries.push(Entry {
+            barrier,
+            longest: 1,
+            body,
+        })?;
+        self.entry_names.push(String::from_str(alloc, name)?)?;
         let name = String::from_str(alloc, name)?;
         self.operation_names.insert(name, OperationName::Entry)?;
         Ok(())
@@ -230,7 +238,7 @@ impl ObjectDraft {
 
     /// The name of an entry, and the component that is its barrier.
     fn entry_head<'w>(&self, mut words: Words<'w>) -> Result<(&'w str, u8), DeckReason> {
-        if self.operations.entry.is_some() {
+        if !self.operations.entries.is_empty() {
             return Err(DeckReason::TooMany);
         }
         let name = take_new_name(&mut words, &self.operation_names)?;

@@ -18,7 +18,7 @@ use crate::objects::ObjectDraft;
 use indexmap::IndexMap;
 use rp_base::DeckReason;
 use rp_machine::TallyProgram;
-use rp_object::{Declarations, Handler, ObjectDeclaration, Program, TimingEvent};
+use rp_object::{Declarations, Handler, ObjectDeclaration, Profile, Program, TimingEvent};
 use std::alloc::{AllocError, Global};
 use std::mem;
 use std::sync::Arc;
@@ -72,6 +72,7 @@ fn make(alloc: Global, draft: &Draft, drafts: Vec<ObjectDraft>) -> Result<Object
     let interrupts = handlers_of(alloc, &draft.interrupts)?;
     let timers = timing_events(alloc, &draft.timers)?;
     let declarations = Declarations {
+        profile: Profile::Ravenscar,
         priorities,
         objects,
         interrupts,

@@ -11,7 +11,7 @@ pub invariant_of-self-2 : goal.invariant_of-self-2
 invariant_of-self-2 c =
     let self = c.args.self.now in
     let index = c.in_ok-index.index in
-    let after : Operations = record { functions = c.push.new.self; procedures = self.operations.procedures; entry = self.operations.entry } in
+    let after : Operations = record { functions = c.push.new.self; procedures = self.operations.procedures; entries = self.operations.entries } in
     let number : index.number ≡ length self.operations.functions.items + 1 = search rules in
     let has : is_some (of_index c.push.new.self.items index.number) ≡ true =
     subst (λ l. is_some (of_index l index.number) ≡ true) (sym c.in_ok-push.ensures.items) (last_numbered self.operations.functions.items c.match-this.function index.number number) in

@@ -12,7 +12,7 @@ invariant_of-self-2 c =
     let self = c.args.self.now in
     let index = c.in-Ok.head.0 in
     let body = c.in_ok-body.body in
-    let after : Operations = record { functions = self.operations.functions; procedures = c.push.new.self; entry = self.operations.entry } in
+    let after : Operations = record { functions = self.operations.functions; procedures = c.push.new.self; entries = self.operations.entries } in
     let number : index.number ≡ length self.operations.procedures.items + 1 = search rules in
     let has : is_some (of_index c.push.new.self.items index.number) ≡ true =
     subst (λ l. is_some (of_index l index.number) ≡ true) (sym c.in_ok-push.ensures.items) (last_numbered self.operations.procedures.items body index.number number) in

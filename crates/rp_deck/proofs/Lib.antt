@@ -1,2 +1,3 @@
+mod LinesLemmas
 mod Naming
 mod WordsLemmas

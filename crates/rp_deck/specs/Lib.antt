@@ -1,11 +1,14 @@
+pub mod Ahead
 pub mod Bodies
 pub mod Deck
 pub mod Declarations
-pub mod Left
+pub mod LineEnds
 pub mod LineFaults
 pub mod Lines
 pub mod Live
 pub mod Named
+pub mod Numbers
 pub mod Programs
+pub mod Reading
 pub mod Script
 pub mod Words

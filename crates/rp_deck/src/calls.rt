@@ -12,7 +12,7 @@ ghost use Rattle.rp_deck.specs.Script.{IsRightEvent, IsStepDeclared, IsStepWithi
 use crate::declarations::Declared;
 use crate::names::Index;
 use crate::operands::{read_dotted, read_node, read_task};
-use crate::words::{Words, read_number};
+use crate::words::Words;
 use rp_base::{DeckReason, Operation};
 use rp_model::{Event, Interrupt, Step};
 
@@ -33,9 +33,10 @@ pub fn read_call(words: &mut Words<'_>, declared: &Declared) -> Result<Event, De
         .operations_at(place)
         .ok_or(DeckReason::UnknownName)?;
     let operation = names.get(operation).ok_or(DeckReason::UnknownName)?;
-    let arg = match words.next() {
-        Some(word) => read_number(word).ok_or(DeckReason::BadNumber)?,
-        None => 0,
+    let arg = if words.is_at_end() {
+        0
+    } else {
+        words.take_integer()?
     };
     Ok(Event::Submit {
         task,

@@ -3,7 +3,7 @@
 ghost use Rattle.std.specs.Prelude.{◌≡◌, ◌≤◌, false, length, IfSome, IfOk, IfErr, OnOk};
 ghost use Rattle.indexmap.specs.IndexMap.{index_map_len};
 ghost use Rattle.indexmap.specs.IndexSet.{index_set_len};
-ghost use Rattle.rp_deck.specs.Left.{left};
+ghost use Rattle.rp_deck.specs.Ahead.{left};
 ghost use Rattle.rp_deck.specs.LineFaults.{IsDeckFault};
 ghost use Rattle.rp_deck.specs.Declarations.{IsNodeCount, IsNameSet, IsDraft, IsFinishable};
 

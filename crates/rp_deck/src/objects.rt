@@ -2,7 +2,7 @@
 
 ghost use Rattle.std.specs.Prelude.{◌≡◌, ◌≤◌, ◌+◌, length, IfErr, IfOk};
 ghost use Rattle.rp_object.specs.Program.{operations_of};
-ghost use Rattle.rp_deck.specs.Left.{left};
+ghost use Rattle.rp_deck.specs.Ahead.{left};
 ghost use Rattle.rp_deck.specs.LineFaults.{IsDeckFault};
 ghost use Rattle.rp_deck.specs.Named.{AreNamed};
 

@@ -6,7 +6,7 @@ ghost use Rattle.rp_deck.specs.Declarations.{IsComplete};
 ghost use Rattle.rp_deck.specs.Words.{IsName};
 
 use crate::declarations::Declared;
-use crate::words::{Words, read_name, read_number};
+use crate::words::{Words, read_name};
 use rp_base::{DeckReason, NodeId, Position, TaskId};
 
 /// Reads the number of a node.
@@ -31,11 +31,13 @@ pub fn read_task(words: &mut Words<'_>, declared: &Declared) -> Result<TaskId, D
     Ok(TaskId::new(index as u8 + 1).unwrap())
 }
 
+/// The most that the number of a position is.
+const MOST_POSITION: u64 = 65_535;
+
 /// Reads the number of a position.
-pub fn read_position(word: &[u8]) -> Result<Position, DeckReason> {
-    let number = read_number(word).ok_or(DeckReason::BadNumber)?;
-    let number = u16::try_from(number).map_err(|_| DeckReason::BadNumber)?;
-    Position::new(number).ok_or(DeckReason::BadNumber)
+pub fn read_position(words: &mut Words<'_>) -> Result<Position, DeckReason> {
+    let number = words.take_number(1, MOST_POSITION)?;
+    Ok(Position::new(number as u16).unwrap())
 }
 
 /// Reads two names that one dot parts.

@@ -14,7 +14,7 @@ use crate::deck::{Command, Line, Mode};
 use crate::declarations::Declared;
 use crate::lines::{Lines, TextLine};
 use crate::operands::{read_node, read_position, read_task};
-use crate::words::{Words, read_number};
+use crate::words::Words;
 use rp_base::{DeckReason, Fault};
 use rp_model::{Event, Step};
 use std::alloc::Global;
@@ -201,9 +201,10 @@ fn read_lead(words: &mut Words<'_>, nodes: u8) -> Result<Step, DeckReason>
     ensures declared { IfOk result (λ step. (interrupts : ℕ) → IsStepDeclared interrupts step) }
 {
     let node = read_node(words, nodes)?;
-    let position = match words.next() {
-        Some(word) => Some(read_position(word)?),
-        None => None,
+    let position = if words.is_at_end() {
+        None
+    } else {
+        Some(read_position(words)?)
     };
     Ok(Step::Lead { node, position })
 }
@@ -228,21 +229,10 @@ fn read_lose(words: &mut Words<'_>) -> Result<Command, DeckReason>
         → IsCommandDeclared program interrupts command) }
 {
     let first = words.take_number(1, MOST)?;
-    let last = match words.next() {
-        Some(word) => read_message(word)?,
-        None => first,
+    let last = if words.is_at_end() {
+        first
+    } else {
+        words.take_number(1, MOST)?
     };
     Ok(Command::Lose { first, last })
-}
-
-/// Reads the number of a message.
-fn read_message(word: &[u8]) -> Result<u64, DeckReason>
-    ensures { IfOk result IsMessage }
-{
-    let number = read_number(word).ok_or(DeckReason::BadNumber)?;
-    let number = u64::try_from(number).map_err(|_| DeckReason::BadNumber)?;
-    if number == 0 {
-        return Err(DeckReason::BadNumber);
-    }
-    Ok(number)
 }

@@ -1,7 +1,7 @@
 //! Reads the bodies of operations.
 
 ghost use Rattle.std.specs.Prelude.{◌≤◌, ◌<◌, ◌≡◌, ◌+◌, ◌^◌, length, IfOk, IfErr, OnOk};
-ghost use Rattle.rp_deck.specs.Left.{left};
+ghost use Rattle.rp_deck.specs.Ahead.{left};
 ghost use Rattle.rp_deck.specs.LineFaults.{IsDeckFault};
 ghost use Rattle.rp_deck.specs.Bodies.{IsWithinDepth};
 

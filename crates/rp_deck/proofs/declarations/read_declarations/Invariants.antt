@@ -1,5 +1,5 @@
 use Rattle.std.proofs.Common.{length}
-use Rattle.rp_deck.specs.Left.{left}
+use Rattle.rp_deck.specs.Ahead.{left}
 use Rattle.rp_deck.specs.Declarations.{IsDraft}
 use Rattle.rp_deck.proofs.declarations.read_declarations.Given as goal
 

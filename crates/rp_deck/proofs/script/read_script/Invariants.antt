@@ -1,6 +1,6 @@
 use Rattle.std.proofs.Common.{length}
 use Rattle.std.specs.Prelude.{All}
-use Rattle.rp_deck.specs.Left.{left}
+use Rattle.rp_deck.specs.Ahead.{left}
 use Rattle.rp_deck.specs.Live.{IsTaken}
 use Rattle.rp_deck.specs.Script.{IsRightLine}
 use Rattle.rp_deck.proofs.script.read_script.Given as goal

@@ -1,5 +1,5 @@
 use Rattle.std.proofs.Common.{◌≤◌, length}
-use Rattle.rp_deck.specs.Left.{left}
+use Rattle.rp_deck.specs.Ahead.{left}
 use Rattle.rp_deck.proofs.statements.Body.+part.Given as goal
 
 abbrev pub decreases-part : goal.decreases-part

@@ -1,3 +1,4 @@
 mod LinesLemmas
 mod Naming
+mod TablesLemmas
 mod WordsLemmas

@@ -2,6 +2,8 @@ pub mod Ahead
 pub mod Bodies
 pub mod Deck
 pub mod Declarations
+pub mod DraftViews
+pub mod Drafts
 pub mod LineEnds
 pub mod LineFaults
 pub mod Lines
@@ -11,4 +13,5 @@ pub mod Numbers
 pub mod Programs
 pub mod Reading
 pub mod Script
+pub mod Tables
 pub mod Words

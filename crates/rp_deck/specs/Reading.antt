@@ -1,11 +1,12 @@
 -- How words are read from left to right. Each reader takes the bytes of a line that are still to be read, and
 -- answers what it read and the bytes after that, or the reason of the first word that is missing or wrong.
-use Rattle.std.specs.Prelude.{◌≡◌, ℕ, Bool, List, Option, Some, None, Result, Ok, Err, if◌then◌else◌}
+use Rattle.std.specs.Prelude.{◌≡◌, ℕ, ◌==◌, Bool, List, take, drop, position, Option, Some, None, Result, Ok, Err, if◌then◌else◌}
 use Rattle.std.specs.Prelude.{ℤ}
 use Rattle.rp_base.specs.declared.fault.DeckReason.{DeckReason}
-use Rattle.rp_base.specs.declared.fault.DeckReason.TheVariants.{WrongNumberOfWords, BadNumber, BadName}
+use Rattle.rp_base.specs.declared.fault.DeckReason.TheVariants.{WrongNumberOfWords, BadNumber, BadName, DuplicateName}
 use Rattle.rp_deck.specs.declared.line_error.LineError.{LineError}
 use Rattle.rp_deck.specs.declared.line_error.LineError.TheVariants.{OutOfMemory, Bad}
+use Rattle.rp_deck.specs.Tables.{is_declared}
 use Rattle.rp_deck.specs.Words.{is_at_end, first_word, after_word, is_name, number_of, number_within}
 
 -- one reader after another, up to the first reason
@@ -55,6 +56,21 @@ name_at bytes = do
   word ← word_at bytes
   name ← name_of word.0
   Ok (name, word.1)
+
+-- a name that is not among these
+unfoldable pub new_name_at : List (List ℕ) → List ℕ → Result (List ℕ × List ℕ) DeckReason
+new_name_at names bytes = do
+  name ← name_at bytes
+  new ← unless DuplicateName (is_declared name.0 names)
+  Ok name
+
+-- two names with one dot between them
+unfoldable pub dotted_of : List ℕ → Result (List ℕ × List ℕ) DeckReason
+dotted_of word = do
+  dot ← some_or BadName (position (λ byte. byte == 46) word)
+  first ← name_of (take dot word)
+  second ← name_of (drop 1 (drop dot word))
+  Ok (first, second)
 
 -- any number
 unfoldable pub integer_at : List ℕ → Result (ℤ × List ℕ) DeckReason

@@ -2,6 +2,9 @@
 
 ghost use Rattle.std.specs.Prelude.{◌≡◌, Some, IfOk, IfErr, IfSome, slice_get};
 ghost use Rattle.rp_deck.specs.Declarations.{IsNodeCount, IsDraft, IsComplete};
+ghost use Rattle.rp_deck.specs.Ahead.{text_of};
+ghost use Rattle.rp_deck.specs.Drafts.{nodes_line};
+ghost use Rattle.rp_deck.specs.Reading.{Gives};
 ghost use Rattle.rp_deck.specs.LineFaults.{IsDeckFault};
 
 use crate::deck::{DeckProgram, Task};
@@ -61,8 +64,10 @@ pub fn read_nodes(lines: &mut Lines<'_>) -> Result<u8, Fault>
 }
 
 /// How many nodes the line declares.
+#[tactic(auto, unfolding(crate::specs::Drafts::nodes_line))]
 fn node_count(line: &mut TextLine<'_>) -> Result<u8, DeckReason>
-    ensures { IfOk result IsNodeCount }
+    ensures read { Gives (λ nodes. nodes) result (nodes_line (text_of line.old)) }
+    ensures in_range { IfOk result IsNodeCount }
 {
     if line.first != b"nodes".as_slice() {
         return Err(DeckReason::NodesExpected);

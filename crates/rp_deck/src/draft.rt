@@ -1,16 +1,21 @@
 //! What a deck declares so far, and the lines by which it goes on.
 
-ghost use Rattle.std.specs.Prelude.{◌≡◌, ◌≤◌, false, length, IfSome, IfOk, IfErr, OnOk};
+ghost use Rattle.std.specs.Prelude.{◌≡◌, ◌≤◌, ◌<◌, ◌∷◌, ◌++◌, [], false, length, IfSome, IfOk, IfErr, OnOk};
 ghost use Rattle.indexmap.specs.IndexMap.{index_map_len};
 ghost use Rattle.indexmap.specs.IndexSet.{index_set_len};
 ghost use Rattle.rp_deck.specs.Ahead.{left};
+ghost use Rattle.rp_deck.specs.DraftViews.{draft_text};
+ghost use Rattle.rp_deck.specs.Drafts.{is_new, empty_draft, positions_line, task_line, object_line, handler_at, interrupt_line, timer_line, script_line};
 ghost use Rattle.rp_deck.specs.LineFaults.{IsDeckFault};
+ghost use Rattle.rp_deck.specs.Reading.{Gives, Makes};
+ghost use Rattle.rp_deck.specs.Tables.{place_of, set_names};
+ghost use Rattle.rp_deck.specs.Words.{unread};
 ghost use Rattle.rp_deck.specs.Declarations.{IsNodeCount, IsNameSet, IsDraft, IsFinishable};
 
 use crate::deck::Task;
 use crate::line_error::LineError;
 use crate::lines::{Lines, TextLine};
-use crate::names::{OperationName, take_new_name};
+use crate::names::{OperationName, add_name, declare, take_name_not_in, take_new_name};
 use crate::objects::ObjectDraft;
 use crate::operands::read_dotted;
 use crate::words::Words;
@@ -61,7 +66,7 @@ impl Draft {
     pub fn new(alloc: Global, nodes: u8) -> Self
         requires { IsNodeCount nodes }
         ensures draft { IsDraft result }
-        ensures nodes { result.nodes ≡ nodes }
+        ensures empty { draft_text result ≡ empty_draft nodes }
     {
         Draft {
             nodes,
@@ -76,7 +81,9 @@ impl Draft {
     }
 
     /// Whether nothing but the nodes is declared.
-    fn is_new(&self) -> bool {
+    fn is_new(&self) -> bool
+        ensures { result ≡ is_new (draft_text self.now) }
+    {
         self.positions.is_none() && self.tasks.is_empty() && self.objects.is_empty()
     }
 
@@ -138,9 +145,12 @@ impl Draft {
     }
 
     /// Reads the rest of `positions P`.
+    #[tactic(auto, using(crate::proofs::TablesLemmas::map_last), unfolding(crate::specs::Drafts::positions_line))]
     fn read_positions(&mut self, mut words: Words<'_>) -> Result<(), LineError>
         requires { IsDraft self.old }
-        ensures { OnOk result (IsDraft self.new × (self.new.nodes ≡ self.old.nodes)) }
+        ensures read { Makes (λ _. draft_text self.new) result
+            (positions_line (draft_text self.old) (unread words.entry)) }
+        ensures draft { OnOk result (IsDraft self.new × (self.new.nodes ≡ self.old.nodes)) }
     {
         let positions = words.take_number(1, MOST_POSITIONS)?;
         words.end()?;
@@ -149,9 +159,12 @@ impl Draft {
     }
 
     /// Reads the rest of `task NAME PRIORITY`.
+    #[tactic(auto, using(crate::proofs::TablesLemmas::map_last), unfolding(crate::specs::Drafts::task_line))]
     fn read_task(&mut self, alloc: Global, mut words: Words<'_>) -> Result<(), LineError>
         requires { IsDraft self.old }
-        ensures { OnOk result (IsDraft self.new × (self.new.nodes ≡ self.old.nodes)) }
+        ensures read { Makes (λ _. draft_text self.new) result
+            (task_line (draft_text self.old) (unread words.entry)) }
+        ensures draft { OnOk result (IsDraft self.new × (self.new.nodes ≡ self.old.nodes)) }
     {
         if self.tasks.len() >= MOST {
             return Err(LineError::Bad(DeckReason::TooMany));
@@ -159,8 +172,7 @@ impl Draft {
         let name = take_new_name(&mut words, &self.tasks)?;
         let priority = words.take_number(1, 30)? as u8;
         words.end()?;
-        let name = String::from_str(alloc, name)?;
-        self.tasks.insert(name, Task { priority })?;
+        declare(alloc, &mut self.tasks, name, Task { priority })?;
         Ok(())
     }
 
@@ -176,21 +188,29 @@ impl Draft {
         Ok(())
     }
 
-    /// Reads the rest of `object NAME CEILING`. The object counts as declared from its name on, since a
-    /// bad ceiling ends the reading.
+    /// The place of the object of this name.
+    fn place_of(&self, name: &str) -> Option<usize>
+        ensures place { result ≡ place_of name.now (set_names self.now.objects) }
+        ensures within { IfSome result (λ place. place < index_set_len self.now.objects) }
+    {
+        self.objects.get_index_of(name)
+    }
+
+    /// Reads the rest of `object NAME CEILING`.
+    #[tactic(auto, using(crate::proofs::TablesLemmas::map_last), unfolding(crate::specs::Drafts::object_line))]
     fn read_object(&mut self, alloc: Global, mut words: Words<'_>) -> Result<(), LineError>
         requires { IsDraft self.old × (self.old.is_tally ≡ false) }
-        ensures { OnOk result (IsDraft self.new × (self.new.nodes ≡ self.old.nodes)) }
+        ensures read { Makes (λ _. draft_text self.new) result
+            (object_line (draft_text self.old) (unread words.entry)) }
+        ensures draft { OnOk result (IsDraft self.new × (self.new.nodes ≡ self.old.nodes)) }
     {
         if self.objects.len() >= MOST {
             return Err(LineError::Bad(DeckReason::TooMany));
         }
-        let name = words.take_name()?;
-        if !self.objects.insert(String::from_str(alloc, name)?)? {
-            return Err(LineError::Bad(DeckReason::DuplicateName));
-        }
+        let name = take_name_not_in(&mut words, &self.objects)?;
         let ceiling = words.take_number(1, 30)? as u8;
         words.end()?;
+        add_name(alloc, &mut self.objects, name)?;
         let name = String::from_str(alloc, name)?;
         self.drafts.push(ObjectDraft::new(alloc, name, ceiling))?;
         Ok(())
@@ -215,9 +235,12 @@ impl Draft {
     }
 
     /// Reads the rest of `interrupt NAME OBJECT.PROCEDURE`.
+    #[tactic(auto, using(crate::proofs::TablesLemmas::map_last), unfolding(crate::specs::Drafts::interrupt_line))]
     fn read_interrupt(&mut self, alloc: Global, mut words: Words<'_>) -> Result<(), LineError>
         requires { IsDraft self.old }
-        ensures { OnOk result (IsDraft self.new × (self.new.nodes ≡ self.old.nodes)) }
+        ensures read { Makes (λ _. draft_text self.new) result
+            (interrupt_line (draft_text self.old) (unread words.entry)) }
+        ensures draft { OnOk result (IsDraft self.new × (self.new.nodes ≡ self.old.nodes)) }
     {
         if self.interrupts.len() >= MOST {
             return Err(LineError::Bad(DeckReason::TooMany));
@@ -225,15 +248,17 @@ impl Draft {
         let name = take_new_name(&mut words, &self.interrupts)?;
         let handler = self.take_handler(&mut words)?;
         words.end()?;
-        let name = String::from_str(alloc, name)?;
-        self.interrupts.insert(name, handler)?;
+        declare(alloc, &mut self.interrupts, name, handler)?;
         Ok(())
     }
 
     /// Reads the rest of `timer NAME OBJECT.PROCEDURE`.
+    #[tactic(auto, using(crate::proofs::TablesLemmas::map_last), unfolding(crate::specs::Drafts::timer_line))]
     fn read_timer(&mut self, alloc: Global, mut words: Words<'_>) -> Result<(), LineError>
         requires { IsDraft self.old }
-        ensures { OnOk result (IsDraft self.new × (self.new.nodes ≡ self.old.nodes)) }
+        ensures read { Makes (λ _. draft_text self.new) result
+            (timer_line (draft_text self.old) (unread words.entry)) }
+        ensures draft { OnOk result (IsDraft self.new × (self.new.nodes ≡ self.old.nodes)) }
     {
         if self.timers.len() >= MOST {
             return Err(LineError::Bad(DeckReason::TooMany));
@@ -241,20 +266,19 @@ impl Draft {
         let name = take_new_name(&mut words, &self.timers)?;
         let handler = self.take_handler(&mut words)?;
         words.end()?;
-        let name = String::from_str(alloc, name)?;
-        self.timers.insert(name, handler)?;
+        declare(alloc, &mut self.timers, name, handler)?;
         Ok(())
     }
 
     /// The next word, a procedure of an object.
+    #[tactic(auto, unfolding(crate::specs::Drafts::handler_at))]
     fn take_handler(&self, words: &mut Words<'_>) -> Result<Handler, DeckReason>
         requires { IsNameSet self.now.objects }
+        ensures { Gives (λ handler. (handler, unread words.new)) result
+            (handler_at (draft_text self.now) (unread words.old)) }
     {
         let (object, procedure) = read_dotted(words.take()?)?;
-        let place = self
-            .objects
-            .get_index_of(object)
-            .ok_or(DeckReason::UnknownName)?;
+        let place = self.place_of(object).ok_or(DeckReason::UnknownName)?;
         let draft = self.drafts.get(place).ok_or(DeckReason::UnknownName)?;
         match draft.operation(procedure) {
             Some(OperationName::Procedure(index)) => Ok(Handler {
@@ -266,9 +290,11 @@ impl Draft {
     }
 
     /// Ends the declarations, at `script`.
+    #[tactic(auto, unfolding(crate::specs::Drafts::script_line))]
     pub fn complete(&self, words: &mut Words<'_>) -> Result<(), DeckReason>
         requires { IsDraft self.now }
-        ensures { OnOk result (IsFinishable self.now) }
+        ensures read { Gives (λ _. tt) result (script_line (draft_text self.now) (unread words.old)) }
+        ensures finishable { OnOk result (IsFinishable self.now) }
     {
         if self.tasks.is_empty() {
             return Err(DeckReason::TaskExpected);

@@ -38,8 +38,16 @@ pub struct ObjectDraft {
 }
 
 impl ObjectDraft {
+    ghost use Rattle.std.specs.Prelude.{option_map, string_bytes};
+    ghost use Rattle.rp_deck.specs.DraftViews.{object_text};
+    ghost use Rattle.rp_deck.specs.Drafts.{empty_object};
+    ghost use Rattle.rp_deck.specs.Named.{operation_of};
+    ghost use Rattle.rp_deck.specs.Tables.{find};
+
     /// An object that has nothing yet.
-    pub fn new(alloc: Global, name: String, ceiling: u8) -> Self {
+    pub fn new(alloc: Global, name: String, ceiling: u8) -> Self
+        ensures { object_text result ≡ empty_object (string_bytes name) ceiling }
+    {
         ObjectDraft {
             name,
             ceiling,
@@ -55,7 +63,10 @@ impl ObjectDraft {
     }
 
     /// The operation of this name.
-    pub fn operation(&self, name: &str) -> Option<OperationName> {
+    pub fn operation(&self, name: &str) -> Option<OperationName>
+        ensures { option_map operation_of result
+            ≡ find name.now (object_text self.now).operation_names (object_text self.now).operations }
+    {
         self.operation_names.get(name).copied()
     }
 

@@ -1,9 +1,9 @@
 //! Reads the words of a script's line that name nodes, tasks and positions.
 
-ghost use Rattle.std.specs.Prelude.{◌≤◌, ◌≡◌, ◌∷◌, ◌++◌, IfOk};
+ghost use Rattle.std.specs.Prelude.{◌≡◌, ◌≤◌, ◌<◌, ◌==◌, length, position, IfOk, IfSome};
 ghost use Rattle.indexmap.specs.IndexMap.{index_map_len};
 ghost use Rattle.rp_deck.specs.Declarations.{IsComplete};
-ghost use Rattle.rp_deck.specs.Words.{IsName};
+ghost use Rattle.rp_deck.specs.Reading.{Gives, dotted_of};
 
 use crate::declarations::Declared;
 use crate::words::{Words, read_name};
@@ -40,14 +40,23 @@ pub fn read_position(words: &mut Words<'_>) -> Result<Position, DeckReason> {
     Ok(Position::new(number as u16).unwrap())
 }
 
-/// Reads two names that one dot parts.
-pub fn read_dotted(word: &[u8]) -> Result<(&str, &str), DeckReason>
-    ensures names { IfOk result (λ names. IsName names.0.now × IsName names.1.now) }
-    ensures whole { IfOk result (λ names. word.now ≡ names.0.now ++ 46 ∷ names.1.now) }
+/// How many bytes stand before the first dot, if there is one.
+fn place_of_dot(word: &[u8]) -> Option<usize>
+    ensures place { result ≡ position (λ byte. byte == 46) word.now }
+    ensures within { IfSome result (λ dot. dot < length word.now) }
 {
-    let dot = word
-        .iter()
-        .position(|byte| *byte == b'.')
-        .ok_or(DeckReason::BadName)?;
-    Ok((read_name(&word[..dot])?, read_name(&word[dot + 1..])?))
+    word.iter().position(|byte| *byte == b'.')
+}
+
+/// Reads two names with one dot between them.
+#[tactic(auto, unfolding(crate::specs::Reading::dotted_of))]
+pub fn read_dotted(word: &[u8]) -> Result<(&str, &str), DeckReason>
+    ensures { Gives (λ names. (names.0.now, names.1.now)) result (dotted_of word.now) }
+{
+    let dot = place_of_dot(word).ok_or(DeckReason::BadName)?;
+    let (first, rest) = word.split_at(dot);
+    let (_, second) = rest.split_at(1);
+    let first = read_name(first)?;
+    let second = read_name(second)?;
+    Ok((first, second))
 }

@@ -1,0 +1,139 @@
+-- What a deck declares so far, and how each line adds to it.
+use Rattle.std.specs.Prelude.{◌≡◌, ℕ, ◌+◌, ◌&&◌, ◌==◌, Bool, true, false, not, nat_lt, List, [], ◌∷◌, ◌++◌, codes, length, map, slice_get, Option, Some, None, is_some, Result, Ok, Err, if◌then◌else◌}
+use Rattle.std.specs.FinMap.{empty}
+use Rattle.std.specs.Str.{bytes_eq}
+use Rattle.rp_base.specs.declared.action.Operation.{Operation}
+use Rattle.rp_base.specs.declared.action.Operation.TheVariants as operations
+use Rattle.rp_base.specs.declared.fault.DeckReason.{DeckReason}
+use Rattle.rp_base.specs.declared.fault.DeckReason.TheVariants.{NodesExpected, TooMany, UnknownName, TaskExpected, ObjectExpected}
+use Rattle.rp_body.specs.Store.{Store}
+use Rattle.rp_object.specs.declared.program.Handler.{Handler}
+use Rattle.rp_deck.specs.declared.draft.Kind.{Kind}
+use Rattle.rp_deck.specs.declared.draft.Kind.TheVariants.{Positions, Task, Tally, Object, Interrupt, Timer}
+use Rattle.rp_deck.specs.declared.names.Component.{Component}
+use Rattle.rp_deck.specs.Lines.{LineText}
+use Rattle.rp_deck.specs.Tables.{place_of, find}
+use Rattle.rp_deck.specs.Reading.{◌>>=◌, some_or, unless, word_at, end_at, new_name_at, number_at, dotted_of}
+
+-- what an object has so far: the names of its components, what these are, their first values, the names of its
+-- operations, and what these are
+pub record ObjectText : Type 0 where
+  pub name : List ℕ
+  pub ceiling : ℕ
+  pub component_names : List (List ℕ)
+  pub components : List Component
+  pub store : Store
+  pub operation_names : List (List ℕ)
+  pub operations : List Operation
+
+-- what is declared so far, each kind in declared order: the names, and what they stand for
+pub record DraftText : Type 0 where
+  pub nodes : ℕ
+  pub positions : Option ℕ
+  pub is_tally : Bool
+  pub tasks : List (List ℕ)
+  pub priorities : List ℕ
+  pub objects : List (List ℕ)
+  pub drafts : List ObjectText
+  pub interrupts : List (List ℕ)
+  pub interrupt_handlers : List Handler
+  pub timers : List (List ℕ)
+  pub timer_handlers : List Handler
+
+-- nothing but the nodes
+abbrev pub empty_draft : ℕ → DraftText
+empty_draft nodes = record {
+  nodes = nodes; positions = None; is_tally = false; tasks = []; priorities = []; objects = []; drafts = [];
+  interrupts = []; interrupt_handlers = []; timers = []; timer_handlers = [];
+}
+
+abbrev pub is_empty : {X : Type 0} → List X → Bool
+is_empty xs = length xs == 0
+
+-- nothing but the nodes is declared
+abbrev pub is_new : DraftText → Bool
+is_new d = not (is_some d.positions) && is_empty d.tasks && is_empty d.objects
+
+-- `nodes N`, the first line
+unfoldable pub nodes_line : LineText → Result ℕ DeckReason
+nodes_line line = do
+  first ← unless NodesExpected (not (bytes_eq line.first (codes "nodes")))
+  nodes ← number_at 3 7 line.rest
+  e ← end_at nodes.1
+  Ok nodes.0
+
+-- `positions P`
+unfoldable pub positions_line : DraftText → List ℕ → Result DraftText DeckReason
+positions_line d words = do
+  positions ← number_at 1 65535 words
+  e ← end_at positions.1
+  Ok (record d { positions = Some positions.0 })
+
+-- `task NAME PRIORITY`
+unfoldable pub task_line : DraftText → List ℕ → Result DraftText DeckReason
+task_line d words = do
+  few ← unless TooMany (not (nat_lt (length d.tasks) 8))
+  name ← new_name_at d.tasks words
+  priority ← number_at 1 30 name.1
+  e ← end_at priority.1
+  Ok (record d { tasks = d.tasks ++ name.0 ∷ []; priorities = d.priorities ++ priority.0 ∷ [] })
+
+-- an object that has nothing yet
+abbrev pub empty_object : List ℕ → ℕ → ObjectText
+empty_object name ceiling = record {
+  name = name; ceiling = ceiling; component_names = []; components = []; store = record { ints = empty; bools = empty };
+  operation_names = []; operations = [];
+}
+
+-- `object NAME CEILING`
+unfoldable pub object_line : DraftText → List ℕ → Result DraftText DeckReason
+object_line d words = do
+  few ← unless TooMany (not (nat_lt (length d.objects) 8))
+  name ← new_name_at d.objects words
+  ceiling ← number_at 1 30 name.1
+  e ← end_at ceiling.1
+  Ok (record d { objects = d.objects ++ name.0 ∷ []; drafts = d.drafts ++ empty_object name.0 ceiling.0 ∷ [] })
+
+-- a procedure's number
+abbrev pub procedure_number : Operation → Option ℕ
+procedure_number (operations.Procedure number) = Some number
+procedure_number _ = None
+
+abbrev pub procedure_of : Option Operation → Option ℕ
+procedure_of None = None
+procedure_of (Some operation) = procedure_number operation
+
+-- `OBJECT.PROCEDURE`
+unfoldable pub handler_at : DraftText → List ℕ → Result (Handler × List ℕ) DeckReason
+handler_at d words = do
+  word ← word_at words
+  names ← dotted_of word.0
+  place ← some_or UnknownName (place_of names.0 d.objects)
+  object ← some_or UnknownName (slice_get d.drafts place)
+  procedure ← some_or UnknownName (procedure_of (find names.1 object.operation_names object.operations))
+  Ok (record { object = place + 1; procedure = procedure }, word.1)
+
+-- `interrupt NAME OBJECT.PROCEDURE`
+unfoldable pub interrupt_line : DraftText → List ℕ → Result DraftText DeckReason
+interrupt_line d words = do
+  few ← unless TooMany (not (nat_lt (length d.interrupts) 8))
+  name ← new_name_at d.interrupts words
+  handler ← handler_at d name.1
+  e ← end_at handler.1
+  Ok (record d { interrupts = d.interrupts ++ name.0 ∷ []; interrupt_handlers = d.interrupt_handlers ++ handler.0 ∷ [] })
+
+-- `timer NAME OBJECT.PROCEDURE`
+unfoldable pub timer_line : DraftText → List ℕ → Result DraftText DeckReason
+timer_line d words = do
+  few ← unless TooMany (not (nat_lt (length d.timers) 8))
+  name ← new_name_at d.timers words
+  handler ← handler_at d name.1
+  e ← end_at handler.1
+  Ok (record d { timers = d.timers ++ name.0 ∷ []; timer_handlers = d.timer_handlers ++ handler.0 ∷ [] })
+
+-- at `script`: there are tasks and objects
+unfoldable pub script_line : DraftText → List ℕ → Result (Unit {0}) DeckReason
+script_line d words = do
+  tasks ← unless TaskExpected (is_empty d.tasks)
+  objects ← unless ObjectExpected (is_empty d.objects)
+  end_at words

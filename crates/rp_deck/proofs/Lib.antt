@@ -1,4 +1,5 @@
 mod LinesLemmas
 mod Naming
 mod TablesLemmas
+mod TallyLemmas
 mod WordsLemmas

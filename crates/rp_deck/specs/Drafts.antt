@@ -1,5 +1,5 @@
 -- What a deck declares so far, and how each line adds to it.
-use Rattle.std.specs.Prelude.{◌≡◌, ℕ, ◌+◌, ◌&&◌, ◌==◌, Bool, true, false, not, nat_lt, List, [], ◌∷◌, ◌++◌, codes, length, map, slice_get, Option, Some, None, is_some, Result, Ok, Err, if◌then◌else◌}
+use Rattle.std.specs.Prelude.{◌≡◌, ℕ, zero, suc, ◌+◌, ◌&&◌, ◌==◌, Bool, true, false, not, nat_lt, List, [], ◌∷◌, ◌++◌, codes, length, map, slice_get, Option, Some, None, is_some, Result, Ok, Err, if◌then◌else◌}
 use Rattle.std.specs.FinMap.{empty}
 use Rattle.std.specs.Str.{bytes_eq}
 use Rattle.rp_base.specs.declared.action.Operation.{Operation}
@@ -54,6 +54,33 @@ is_empty xs = length xs == 0
 abbrev pub is_new : DraftText → Bool
 is_new d = not (is_some d.positions) && is_empty d.tasks && is_empty d.objects
 
+-- what a line declares by its first word, but for the lines of an object
+abbrev pub kind_named : List ℕ → Option Kind
+kind_named first =
+    if bytes_eq first (codes "positions") then Some Positions
+    else if bytes_eq first (codes "task") then Some Task
+    else if bytes_eq first (codes "tally") then Some Tally
+    else if bytes_eq first (codes "object") then Some Object
+    else if bytes_eq first (codes "interrupt") then Some Interrupt
+    else if bytes_eq first (codes "timer") then Some Timer
+    else None
+
+-- what may be declared here: `positions` right after `nodes`, and either a tally or objects
+abbrev pub allows : DraftText → Kind → Bool
+allows d Positions = is_new d
+allows d Task = true
+allows d Tally = not d.is_tally && is_empty d.objects
+allows d Object = not d.is_tally
+allows d Interrupt = not d.is_tally
+allows d Timer = not d.is_tally
+
+abbrev pub kind_allowed : DraftText → Option Kind → Option Kind
+kind_allowed d None = None
+kind_allowed d (Some kind) = if allows d kind then Some kind else None
+
+abbrev pub kind_of : DraftText → List ℕ → Option Kind
+kind_of d first = kind_allowed d (kind_named first)
+
 -- `nodes N`, the first line
 unfoldable pub nodes_line : LineText → Result ℕ DeckReason
 nodes_line line = do
@@ -77,6 +104,21 @@ task_line d words = do
   priority ← number_at 1 30 name.1
   e ← end_at priority.1
   Ok (record d { tasks = d.tasks ++ name.0 ∷ []; priorities = d.priorities ++ priority.0 ∷ [] })
+
+-- the names o1, o2 and so on
+abbrev pub tally_name : ℕ → List ℕ
+tally_name number = 111 ∷ (48 + number) ∷ []
+
+abbrev pub tally_names : ℕ → List (List ℕ)
+tally_names zero = []
+tally_names (suc count) = tally_names count ++ tally_name (suc count) ∷ []
+
+-- `tally COUNT`
+unfoldable pub tally_line : DraftText → List ℕ → Result DraftText DeckReason
+tally_line d words = do
+  count ← number_at 1 8 words
+  e ← end_at count.1
+  Ok (record d { objects = tally_names count.0; is_tally = true })
 
 -- an object that has nothing yet
 abbrev pub empty_object : List ℕ → ℕ → ObjectText
@@ -130,6 +172,15 @@ timer_line d words = do
   handler ← handler_at d name.1
   e ← end_at handler.1
   Ok (record d { timers = d.timers ++ name.0 ∷ []; timer_handlers = d.timer_handlers ++ handler.0 ∷ [] })
+
+-- a line that declares something of this kind
+abbrev pub declaration_line : DraftText → Kind → List ℕ → Result DraftText DeckReason
+declaration_line d Positions words = positions_line d words
+declaration_line d Task words = task_line d words
+declaration_line d Tally words = tally_line d words
+declaration_line d Object words = object_line d words
+declaration_line d Interrupt words = interrupt_line d words
+declaration_line d Timer words = timer_line d words
 
 -- at `script`: there are tasks and objects
 unfoldable pub script_line : DraftText → List ℕ → Result (Unit {0}) DeckReason

@@ -10,6 +10,7 @@ pub mod Lines
 pub mod Live
 pub mod Named
 pub mod Numbers
+pub mod Objects
 pub mod Programs
 pub mod Reading
 pub mod Script

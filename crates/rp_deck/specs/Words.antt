@@ -1,8 +1,9 @@
 -- The words of a line, which of them are names, and which are numbers.
 use Rattle.std.specs.Prelude.{ℕ, ◌≤◌, ◌==◌, ◌||◌, ◌&&◌, Bool, true, false, not, List, [], ◌∷◌, take, drop, length, slice_get, IsSomeAnd, IsTrue, All, nat_le, if◌then◌else◌}
-use Rattle.std.specs.Prelude.{ℤ, pos, neg_ℤ, Option, Some, None}
+use Rattle.std.specs.Prelude.{ℤ, pos, neg_ℤ, codes, Option, Some, None}
 use Rattle.std.specs.List.{prefix_len, list_all}
 use Rattle.std.specs.Char.{is_ascii_digit, is_ascii_alphabetic}
+use Rattle.std.specs.Str.{bytes_eq}
 use Rattle.std.specs.Str.Parse.{digits_value, starts_with_minus}
 use Rattle.rp_body.specs.Expressions.{fits_64}
 use Rattle.rp_deck.specs.declared.words.Words.{Words}
@@ -70,3 +71,10 @@ number_of word = if is_digits (without_minus word) && fits_64 (number_written wo
 abbrev pub number_within : ℕ → ℕ → Option ℤ → Option ℕ
 number_within low high (Some (pos n)) = if nat_le low n && nat_le n high then Some n else None
 number_within low high _ = None
+
+-- `true` or `false`
+abbrev pub truth_named : List ℕ → Option Bool
+truth_named word =
+    if bytes_eq word (codes "true") then Some true
+    else if bytes_eq word (codes "false") then Some false
+    else None

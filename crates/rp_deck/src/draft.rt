@@ -5,7 +5,7 @@ ghost use Rattle.indexmap.specs.IndexMap.{index_map_len};
 ghost use Rattle.indexmap.specs.IndexSet.{index_set_len};
 ghost use Rattle.rp_deck.specs.Ahead.{left};
 ghost use Rattle.rp_deck.specs.DraftViews.{draft_text};
-ghost use Rattle.rp_deck.specs.Drafts.{is_new, empty_draft, positions_line, task_line, object_line, handler_at, interrupt_line, timer_line, script_line};
+ghost use Rattle.rp_deck.specs.Drafts.{is_new, empty_draft, kind_named, allows, kind_of, positions_line, task_line, tally_name, tally_names, tally_line, object_line, handler_at, interrupt_line, timer_line, declaration_line, script_line};
 ghost use Rattle.rp_deck.specs.LineFaults.{IsDeckFault};
 ghost use Rattle.rp_deck.specs.Reading.{Gives, Makes};
 ghost use Rattle.rp_deck.specs.Tables.{place_of, set_names};
@@ -18,11 +18,11 @@ use crate::lines::{Lines, TextLine};
 use crate::names::{OperationName, add_name, declare, take_name_not_in, take_new_name};
 use crate::objects::ObjectDraft;
 use crate::operands::read_dotted;
-use crate::words::Words;
+use crate::words::{Words, is_word};
 use indexmap::{IndexMap, IndexSet};
 use rp_base::{DeckReason, Fault, Position};
 use rp_object::Handler;
-use std::alloc::{AllocError, Global};
+use std::alloc::Global;
 
 /// The most that is declared of each kind.
 const MOST: usize = 8;
@@ -59,6 +59,29 @@ enum Kind {
     Object,
     Interrupt,
     Timer,
+}
+
+impl Kind {
+    /// The declaration that begins with this word.
+    fn named(first: &[u8]) -> Option<Kind>
+        ensures { result ≡ kind_named first.now }
+    {
+        if is_word(first, b"positions") {
+            Some(Kind::Positions)
+        } else if is_word(first, b"task") {
+            Some(Kind::Task)
+        } else if is_word(first, b"tally") {
+            Some(Kind::Tally)
+        } else if is_word(first, b"object") {
+            Some(Kind::Object)
+        } else if is_word(first, b"interrupt") {
+            Some(Kind::Interrupt)
+        } else if is_word(first, b"timer") {
+            Some(Kind::Timer)
+        } else {
+            None
+        }
+    }
 }
 
 impl Draft {
@@ -108,20 +131,26 @@ impl Draft {
         }
     }
 
+    /// Whether a declaration of this kind may stand here.
+    fn allows(&self, kind: Kind) -> bool
+        ensures { result ≡ allows (draft_text self.now) kind }
+    {
+        match kind {
+            Kind::Positions => self.is_new(),
+            Kind::Task => true,
+            Kind::Tally => !self.is_tally && self.objects.is_empty(),
+            Kind::Object | Kind::Interrupt | Kind::Timer => !self.is_tally,
+        }
+    }
+
     /// The declaration that begins with this word, where it is one of the deck's own that may stand
     /// here.
     fn kind_of(&self, first: &[u8]) -> Option<Kind>
-        ensures { IfSome result (λ kind. kind ≡ Kind.Object → self.now.is_tally ≡ false) }
+        ensures kind { result ≡ kind_of (draft_text self.now) first.now }
+        ensures object { IfSome result (λ kind. kind ≡ Kind.Object → self.now.is_tally ≡ false) }
     {
-        match first {
-            b"positions" if self.is_new() => Some(Kind::Positions),
-            b"task" => Some(Kind::Task),
-            b"tally" if !self.is_tally && self.objects.is_empty() => Some(Kind::Tally),
-            b"object" if !self.is_tally => Some(Kind::Object),
-            b"interrupt" if !self.is_tally => Some(Kind::Interrupt),
-            b"timer" if !self.is_tally => Some(Kind::Timer),
-            _ => None,
-        }
+        let kind = Kind::named(first)?;
+        if self.allows(kind) { Some(kind) } else { None }
     }
 
     /// Reads a declaration of this kind, behind its first word.
@@ -132,7 +161,9 @@ impl Draft {
         words: Words<'_>,
     ) -> Result<(), LineError>
         requires { IsDraft self.old × (kind ≡ Kind.Object → self.old.is_tally ≡ false) }
-        ensures { OnOk result (IsDraft self.new × (self.new.nodes ≡ self.old.nodes)) }
+        ensures read { Makes (λ _. draft_text self.new) result
+            (declaration_line (draft_text self.old) kind (unread words.entry)) }
+        ensures draft { OnOk result (IsDraft self.new × (self.new.nodes ≡ self.old.nodes)) }
     {
         match kind {
             Kind::Positions => self.read_positions(words),
@@ -177,9 +208,12 @@ impl Draft {
     }
 
     /// Reads the rest of `tally COUNT`.
+    #[tactic(auto, unfolding(crate::specs::Drafts::tally_line))]
     fn read_tally(&mut self, alloc: Global, mut words: Words<'_>) -> Result<(), LineError>
         requires { IsDraft self.old }
-        ensures { OnOk result (IsDraft self.new × (self.new.nodes ≡ self.old.nodes)) }
+        ensures read { Makes (λ _. draft_text self.new) result
+            (tally_line (draft_text self.old) (unread words.entry)) }
+        ensures draft { OnOk result (IsDraft self.new × (self.new.nodes ≡ self.old.nodes)) }
     {
         let count = words.take_number(1, MOST_OBJECTS)?;
         words.end()?;
@@ -306,14 +340,34 @@ impl Draft {
     }
 }
 
+/// The name of a tally's object, by its number.
+fn tally_name(number: u8) -> &'static str
+    requires { (1 ≤ number) × (number ≤ 8) }
+    ensures { result.now ≡ tally_name number }
+{
+    match number {
+        1 => "o1",
+        2 => "o2",
+        3 => "o3",
+        4 => "o4",
+        5 => "o5",
+        6 => "o6",
+        7 => "o7",
+        _ => "o8",
+    }
+}
+
 /// The names of a tally's objects: o1, o2 and so on.
-fn tally_objects(alloc: Global, count: u8) -> Result<IndexSet<String>, AllocError>
+fn tally_objects(alloc: Global, count: u8) -> Result<IndexSet<String>, LineError>
     requires { count ≤ 8 }
-    ensures { IfOk result (λ objects. IsNameSet objects × (index_set_len objects ≤ count)) }
+    ensures names { IfOk result (λ objects. set_names objects ≡ tally_names count) }
+    ensures objects { IfOk result (λ objects. IsNameSet objects
+        × (index_set_len objects ≤ count)) }
+    ensures memory { IfErr result (λ error. error ≡ LineError.OutOfMemory) }
 {
     let mut objects = IndexSet::new(alloc);
     for number in 0..count {
-        objects.insert(format!(in alloc; "o{}", number + 1)?)?;
+        add_name(alloc, &mut objects, tally_name(number + 1))?;
     }
     Ok(objects)
 }

@@ -3,6 +3,9 @@
 ghost use Rattle.std.specs.Prelude.{◌≡◌, ◌≤◌, ◌<◌, ◌+◌, OnOk, IfOk};
 ghost use Rattle.rp_body.specs.Check.{expr_nodes, cond_nodes};
 
+ghost use Rattle.rp_deck.specs.Objects.{expression_words};
+ghost use Rattle.rp_deck.specs.Tables.{is_declared};
+
 use crate::line_error::LineError;
 use crate::names::{Component, ComponentNames};
 use crate::words::{Words, read_name, read_number};
@@ -15,7 +18,9 @@ const MOST_NODES: u8 = 32;
 
 /// Whether the word has a meaning of its own in expressions and conditions, so that no component may be
 /// named by it.
-pub fn is_of_expressions(word: &str) -> bool {
+pub fn is_of_expressions(word: &str) -> bool
+    ensures { result ≡ is_declared word.now expression_words }
+{
     matches!(
         word,
         "arg" | "out" | "add" | "sub" | "true" | "false" | "lt" | "le" | "eq" | "not" | "and" | "or"

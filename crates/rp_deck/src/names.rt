@@ -80,7 +80,7 @@ pub type ComponentNames = IndexMap<String, Component>;
 pub type OperationNames = IndexMap<String, OperationName>;
 
 /// Whether the table has the name.
-fn has_name<V>(table: &IndexMap<String, V>, name: &str) -> bool
+pub fn has_name<V>(table: &IndexMap<String, V>, name: &str) -> bool
     ensures { result ≡ is_declared name.now (key_names table.now) }
 {
     table.contains_key(name)

@@ -10,10 +10,11 @@ use crate::expressions::{bool_named, is_of_expressions, read_cond, read_expr};
 use crate::line_error::LineError;
 use crate::lines::{Lines, TextLine};
 use crate::names::{
-    Component, ComponentNames, Index, OperationName, OperationNames, take_new_name,
+    Component, ComponentNames, Index, OperationName, OperationNames, declare, has_name,
+    take_new_name,
 };
 use crate::statements::read_body;
-use crate::words::Words;
+use crate::words::{Words, is_within, truth_named};
 use indexmap::IndexMap;
 use rp_base::{DeckReason, Fault};
 use rp_body::{Components, Ranged};
@@ -42,7 +43,11 @@ impl ObjectDraft {
     ghost use Rattle.rp_deck.specs.DraftViews.{object_text};
     ghost use Rattle.rp_deck.specs.Drafts.{empty_object};
     ghost use Rattle.rp_deck.specs.Named.{operation_of};
-    ghost use Rattle.rp_deck.specs.Tables.{find};
+    ghost use Rattle.std.specs.Prelude.{false};
+    ghost use Rattle.rp_deck.specs.Objects.{component_name_at, int_line, bool_line};
+    ghost use Rattle.rp_deck.specs.Reading.{Gives, Makes};
+    ghost use Rattle.rp_deck.specs.Tables.{find, is_declared, key_names};
+    ghost use Rattle.rp_deck.specs.Words.{unread};
 
     /// An object that has nothing yet.
     pub fn new(alloc: Global, name: String, ceiling: u8) -> Self
@@ -119,19 +124,29 @@ impl ObjectDraft {
     }
 
     /// The next word, a name for a component.
-    fn take_component_name<'w>(&self, words: &mut Words<'w>) -> Result<&'w str, DeckReason> {
+    #[tactic(auto, unfolding(crate::specs::Objects::component_name_at))]
+    fn take_component_name<'w>(&self, words: &mut Words<'w>) -> Result<&'w str, DeckReason>
+        ensures read { Gives (λ name. (name.now, unread words.new)) result
+            (component_name_at (object_text self.now).component_names (unread words.old)) }
+        ensures new { IfOk result (λ name.
+            is_declared name.now (key_names self.now.component_names) ≡ false) }
+    {
         let name = words.take_name()?;
         if is_of_expressions(name) {
             return Err(DeckReason::BadName);
         }
-        if self.component_names.contains_key(name) {
+        if has_name(&self.component_names, name) {
             return Err(DeckReason::DuplicateName);
         }
         Ok(name)
     }
 
     /// Reads the rest of `int NAME LOW HIGH INIT`.
-    fn read_int(&mut self, alloc: Global, mut words: Words<'_>) -> Result<(), LineError> {
+    #[tactic(auto, unfolding(crate::specs::Objects::int_line))]
+    fn read_int(&mut self, alloc: Global, mut words: Words<'_>) -> Result<(), LineError>
+        ensures { Makes (λ _. object_text self.new) result
+            (int_line (object_text self.old) (unread words.entry)) }
+    {
         let place = self.components.limits().ints;
         if place >= MOST_COMPONENTS {
             return Err(LineError::Bad(DeckReason::TooMany));
@@ -140,31 +155,29 @@ impl ObjectDraft {
         let low = words.take_integer()?;
         let high = words.take_integer()?;
         let value = words.take_integer()?;
-        if value < low || high < value {
+        if !is_within(low, high, value) {
             return Err(LineError::Bad(DeckReason::BadNumber));
         }
         words.end()?;
-        let name = String::from_str(alloc, name)?;
-        self.component_names.insert(name, Component::Int(place))?;
+        declare(alloc, &mut self.component_names, name, Component::Int(place))?;
         self.components.add_int(Ranged { low, high, value });
         Ok(())
     }
 
     /// Reads the rest of `bool NAME INIT`.
-    fn read_bool(&mut self, alloc: Global, mut words: Words<'_>) -> Result<(), LineError> {
+    #[tactic(auto, unfolding(crate::specs::Objects::bool_line))]
+    fn read_bool(&mut self, alloc: Global, mut words: Words<'_>) -> Result<(), LineError>
+        ensures { Makes (λ _. object_text self.new) result
+            (bool_line (object_text self.old) (unread words.entry)) }
+    {
         let place = self.components.limits().bools;
         if place >= MOST_COMPONENTS {
             return Err(LineError::Bad(DeckReason::TooMany));
         }
         let name = self.take_component_name(&mut words)?;
-        let value = match words.take()? {
-            b"true" => true,
-            b"false" => false,
-            _ => return Err(LineError::Bad(DeckReason::UnknownWord)),
-        };
+        let value = truth_named(words.take()?).ok_or(DeckReason::UnknownWord)?;
         words.end()?;
-        let name = String::from_str(alloc, name)?;
-        self.component_names.insert(name, Component::Bool(place))?;
+        declare(alloc, &mut self.component_names, name, Component::Bool(place))?;
         self.components.add_bool(value);
         Ok(())
     }

@@ -3,7 +3,9 @@
 ghost use Rattle.std.specs.Prelude.{◌≡◌, ◌≤◌, length, not, SomeIff, IfOk};
 ghost use Rattle.std.specs.Char.{is_ascii_alphabetic};
 ghost use Rattle.std.specs.List.{prefix_len, list_all};
-ghost use Rattle.rp_deck.specs.Words.{begins_with, is_blank, is_of_name, is_name, IsName, number_of, without_blanks, is_at_end};
+ghost use Rattle.std.specs.Str.{bytes_eq};
+ghost use Rattle.rp_body.specs.Store.{is_within};
+ghost use Rattle.rp_deck.specs.Words.{truth_named, begins_with, is_blank, is_of_name, is_name, IsName, number_of, without_blanks, is_at_end};
 ghost use Rattle.rp_deck.specs.Numbers.{IsNumber, number_read};
 ghost use Rattle.rp_deck.specs.Reading.{Gives, word_at, end_at, name_at, integer_at, number_at, name_of};
 
@@ -94,6 +96,31 @@ pub fn read_number(word: &[u8]) -> Option<i64>
     ensures { result ≡ number_of word.now }
 {
     parse_number(word)
+}
+
+/// Whether the number is from low to high.
+pub fn is_within(low: i64, high: i64, number: i64) -> bool
+    ensures { result ≡ is_within low high number }
+{
+    low <= number && number <= high
+}
+
+/// Whether the word is this one.
+pub fn is_word(word: &[u8], text: &[u8]) -> bool
+    ensures { result ≡ bytes_eq word.now text.now }
+{
+    word == text
+}
+
+/// The truth value that the word names.
+pub fn truth_named(word: &[u8]) -> Option<bool>
+    ensures { result ≡ truth_named word.now }
+{
+    match word {
+        b"true" => Some(true),
+        b"false" => Some(false),
+        _ => None,
+    }
 }
 
 /// The words of a line that are still to be read.

@@ -73,6 +73,20 @@ found_is {Y} {X} {Z} view name (e ∷ es) =
     ∙ sym (found_step (bytes_eq name (string_bytes e.0)) (prefix_len (λ (key : List ℕ). not (bytes_eq name key)) names) (length names)
     (option_map view (lookup (λ key. bytes_eq name (string_bytes key)) es)) (view e.1) (map view (values_of es)) (sym (found_is view name es)))
 
+mapped_itself : {X : Type 0} (xs : List X) → map (λ x. x) xs ≡ xs
+mapped_itself [] = refl
+mapped_itself {X} (x ∷ xs) = ap (λ (l : List X). x ∷ l) (mapped_itself xs)
+
+viewed_itself : {X : Type 0} (o : Option X) → option_map (λ x. x) o ≡ o
+viewed_itself None = refl
+viewed_itself (Some x) = refl
+
+pub found_itself : {Y X : Type 0} (name : List ℕ) (entries : List (String Y × X))
+    → lookup (λ key. bytes_eq name (string_bytes key)) entries ≡ find name (map (λ key. string_bytes key) (keys_of entries)) (values_of entries)
+found_itself {Y} {X} name entries =
+    sym (viewed_itself (lookup (λ key. bytes_eq name (string_bytes key)) entries)) ∙ found_is (λ (x : X). x) name entries
+    ∙ ap (λ (l : List X). find name (map (λ key. string_bytes key) (keys_of entries)) l) (mapped_itself (values_of entries))
+
 -- ---- a name that is not there goes last
 
 skipped : {X : Type 0} (t more : Bool) (x y z : X) → (t || more) ≡ false → y ≡ z → cond t x y ≡ z

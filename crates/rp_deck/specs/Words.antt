@@ -72,6 +72,10 @@ abbrev pub number_within : ℕ → ℕ → Option ℤ → Option ℕ
 number_within low high (Some (pos n)) = if nat_le low n && nat_le n high then Some n else None
 number_within low high _ = None
 
+-- the word is read as a number: it begins with a digit or `-`
+abbrev pub begins_as_number : List ℕ → Bool
+begins_as_number word = begins_with (λ byte. byte == 45 || is_ascii_digit byte) word
+
 -- `true` or `false`
 abbrev pub truth_named : List ℕ → Option Bool
 truth_named word =

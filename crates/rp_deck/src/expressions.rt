@@ -3,8 +3,12 @@
 ghost use Rattle.std.specs.Prelude.{◌≡◌, ◌≤◌, ◌<◌, ◌+◌, OnOk, IfOk};
 ghost use Rattle.rp_body.specs.Check.{expr_nodes, cond_nodes};
 
+ghost use Rattle.indexmap.specs.IndexMap.{values};
+ghost use Rattle.rp_deck.specs.Expressions.{component_of, int_of, bool_of};
 ghost use Rattle.rp_deck.specs.Objects.{expression_words};
-ghost use Rattle.rp_deck.specs.Tables.{is_declared};
+ghost use Rattle.rp_deck.specs.Reading.{Gives};
+ghost use Rattle.rp_deck.specs.Tables.{is_declared, find, key_names};
+ghost use Rattle.rp_deck.specs.Words.{begins_as_number};
 
 use crate::line_error::LineError;
 use crate::names::{Component, ComponentNames};
@@ -28,19 +32,38 @@ pub fn is_of_expressions(word: &str) -> bool
 }
 
 /// Whether the word is read as a number: it begins with a digit or `-`.
-fn begins_as_number(word: &[u8]) -> bool {
-    word.first()
-        .is_some_and(|byte| *byte == b'-' || byte.is_ascii_digit())
+fn begins_as_number(word: &[u8]) -> bool
+    ensures { result ≡ begins_as_number word.now }
+{
+    match word {
+        [] => false,
+        [first, ..] => *first == b'-' || first.is_ascii_digit(),
+    }
+}
+
+/// The component of this name, if it is declared.
+fn find_component(names: &ComponentNames, name: &str) -> Option<Component>
+    ensures { result ≡ find name.now (key_names names.now) (values names.now) }
+{
+    names.get(name).copied()
 }
 
 /// The component of this name.
-fn component_named(word: &[u8], names: &ComponentNames) -> Result<Component, DeckReason> {
+#[tactic(auto, unfolding(crate::specs::Expressions::component_of))]
+fn component_named(word: &[u8], names: &ComponentNames) -> Result<Component, DeckReason>
+    ensures { Gives (λ component. component) result
+        (component_of (key_names names.now) (values names.now) word.now) }
+{
     let name = read_name(word)?;
-    names.get(name).copied().ok_or(DeckReason::UnknownName)
+    find_component(names, name).ok_or(DeckReason::UnknownName)
 }
 
 /// The whole-number component of this name.
-pub fn int_named(word: &[u8], names: &ComponentNames) -> Result<u8, DeckReason> {
+#[tactic(auto, unfolding(crate::specs::Expressions::int_of))]
+pub fn int_named(word: &[u8], names: &ComponentNames) -> Result<u8, DeckReason>
+    ensures { Gives (λ place. place) result
+        (int_of (key_names names.now) (values names.now) word.now) }
+{
     match component_named(word, names)? {
         Component::Int(place) => Ok(place),
         Component::Bool(_) => Err(DeckReason::UnknownName),
@@ -48,7 +71,11 @@ pub fn int_named(word: &[u8], names: &ComponentNames) -> Result<u8, DeckReason> 
 }
 
 /// The Boolean component of this name.
-pub fn bool_named(word: &[u8], names: &ComponentNames) -> Result<u8, DeckReason> {
+#[tactic(auto, unfolding(crate::specs::Expressions::bool_of))]
+pub fn bool_named(word: &[u8], names: &ComponentNames) -> Result<u8, DeckReason>
+    ensures { Gives (λ place. place) result
+        (bool_of (key_names names.now) (values names.now) word.now) }
+{
     match component_named(word, names)? {
         Component::Bool(place) => Ok(place),
         Component::Int(_) => Err(DeckReason::UnknownName),

@@ -1,3 +1,4 @@
+mod ExpressionsLemmas
 mod LinesLemmas
 mod Naming
 mod TablesLemmas

@@ -67,3 +67,31 @@ module _ (names : List (List ℕ)) (declared : List Component) where
     first ← part left words
     second ← part first.1 first.2
     Ok (make first.0 second.0, second.1, second.2)
+
+  -- a number, and a component, as nodes
+  abbrev pub number_node : Option ℤ → ℕ → List ℕ → Result (ExprText × ℕ × List ℕ) DeckReason
+  number_node None left words = Err BadNumber
+  number_node (Some number) left words = Ok (Number number, left, words)
+
+  abbrev pub int_node : Result ℕ DeckReason → ℕ → List ℕ → Result (ExprText × ℕ × List ℕ) DeckReason
+  int_node (Err reason) left words = Err reason
+  int_node (Ok place) left words = Ok (Int place, left, words)
+
+  -- an expression that begins with this word, each part of it read by part
+  unfoldable pub expr_from : (ℕ → List ℕ → Result (ExprText × ℕ × List ℕ) DeckReason) → List ℕ → ℕ → List ℕ → Result (ExprText × ℕ × List ℕ) DeckReason
+  expr_from part word left words =
+      if bytes_eq word (codes "arg") then Ok (Arg, left, words)
+      else if bytes_eq word (codes "out") then Ok (Out, left, words)
+      else if bytes_eq word (codes "add") then two_at part Add left words
+      else if bytes_eq word (codes "sub") then two_at part Sub left words
+      else if begins_as_number word then number_node (number_of word) left words
+      else int_node (int_of word) left words
+
+  -- an expression, at most so deep, of at most so many nodes
+  unfoldable pub expr_at : ℕ → ℕ → List ℕ → Result (ExprText × ℕ × List ℕ) DeckReason
+  expr_at zero left words = do
+    node ← node_at left words
+    Err BadExpression
+  expr_at (suc depth) left words = do
+    node ← node_at left words
+    expr_from (expr_at depth) node.0 node.1 node.2

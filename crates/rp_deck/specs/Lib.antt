@@ -4,6 +4,7 @@ pub mod Deck
 pub mod Declarations
 pub mod DraftViews
 pub mod Drafts
+pub mod ExpressionViews
 pub mod Expressions
 pub mod LineEnds
 pub mod LineFaults

@@ -4,11 +4,12 @@ ghost use Rattle.std.specs.Prelude.{◌≡◌, ◌≤◌, ◌<◌, ◌+◌, OnOk
 ghost use Rattle.rp_body.specs.Check.{expr_nodes, cond_nodes};
 
 ghost use Rattle.indexmap.specs.IndexMap.{values};
-ghost use Rattle.rp_deck.specs.Expressions.{component_of, int_of, bool_of};
+ghost use Rattle.rp_deck.specs.ExpressionViews.{expr_text};
+ghost use Rattle.rp_deck.specs.Expressions.{component_of, int_of, bool_of, node_at, expr_from, expr_at};
 ghost use Rattle.rp_deck.specs.Objects.{expression_words};
-ghost use Rattle.rp_deck.specs.Reading.{Gives};
+ghost use Rattle.rp_deck.specs.Reading.{Gives, Makes};
 ghost use Rattle.rp_deck.specs.Tables.{is_declared, find, key_names};
-ghost use Rattle.rp_deck.specs.Words.{begins_as_number};
+ghost use Rattle.rp_deck.specs.Words.{begins_as_number, unread};
 
 use crate::line_error::LineError;
 use crate::names::{Component, ComponentNames};
@@ -87,7 +88,7 @@ pub fn read_expr(alloc: Global, words: Words<'_>, names: &ComponentNames) -> Res
     ensures { IfOk result (λ expr. expr_nodes expr ≤ 32) }
 {
     let mut nodes = Nodes::new(alloc, words, names);
-    let expr = nodes.expr()?;
+    let expr = nodes.expr(MOST_NODES)?;
     nodes.words.end()?;
     Ok(expr)
 }
@@ -126,34 +127,63 @@ impl<'w, 'n> Nodes<'w, 'n> {
     }
 
     /// The word of the next node.
+    #[tactic(auto, unfolding(crate::specs::Expressions::node_at))]
     fn next(&mut self) -> Result<&'w [u8], DeckReason>
-        ensures { OnOk result (self.new.left + 1 ≡ self.old.left) }
+        ensures read { Gives (λ word. (word.now, self.new.left, unread self.new.words)) result
+            (node_at (key_names self.old.names.now) (values self.old.names.now) self.old.left
+            (unread self.old.words)) }
+        ensures names { self.new.names ≡ self.old.names }
+        ensures left { OnOk result (self.new.left + 1 ≡ self.old.left) }
     {
         let word = self.words.take()?;
         self.left = self.left.checked_sub(1).ok_or(DeckReason::BadExpression)?;
         Ok(word)
     }
 
-    /// Reads an expression.
-    fn expr(&mut self) -> Result<Expr, LineError>
-        ensures { IfOk result (λ expr. self.new.left + expr_nodes expr ≡ self.old.left) }
+    /// Reads an expression that is at most so deep.
+    #[cycle(expr)]
+    #[tactic(auto, unfolding(crate::specs::Expressions::expr_at))]
+    fn expr(&mut self, depth: u8) -> Result<Expr, LineError>
+        ensures read { Makes (λ expr. (expr_text expr, self.new.left, unread self.new.words)) result
+            (expr_at (key_names self.old.names.now) (values self.old.names.now) depth self.old.left
+            (unread self.old.words)) }
+        ensures names { self.new.names ≡ self.old.names }
+        ensures nodes { IfOk result (λ expr. self.new.left + expr_nodes expr ≡ self.old.left) }
+    {
+        let word = self.next()?;
+        match depth.checked_sub(1) {
+            Some(inner) => self.expr_from(word, inner),
+            None => Err(LineError::Bad(DeckReason::BadExpression)),
+        }
+    }
+
+    /// Reads the rest of an expression, after its first word. Its parts are at most so deep.
+    #[cycle(expr)]
+    #[tactic(auto, unfolding(crate::specs::Expressions::expr_from))]
+    fn expr_from(&mut self, word: &[u8], depth: u8) -> Result<Expr, LineError>
+        ensures read { Makes (λ expr. (expr_text expr, self.new.left, unread self.new.words)) result
+            (expr_from (key_names self.old.names.now) (values self.old.names.now)
+            (expr_at (key_names self.old.names.now) (values self.old.names.now) depth) word.now
+            self.old.left (unread self.old.words)) }
+        ensures names { self.new.names ≡ self.old.names }
+        ensures nodes { IfOk result (λ expr. self.new.left + expr_nodes expr ≡ self.old.left + 1) }
     {
         let alloc = self.alloc;
-        match self.next()? {
+        match word {
             b"arg" => Ok(Expr::Arg),
             b"out" => Ok(Expr::Out),
             b"add" => {
-                let first = Box::new(alloc, self.expr()?)?;
-                Ok(Expr::Add(first, Box::new(alloc, self.expr()?)?))
+                let first = Box::new(alloc, self.expr(depth)?)?;
+                Ok(Expr::Add(first, Box::new(alloc, self.expr(depth)?)?))
             }
             b"sub" => {
-                let first = Box::new(alloc, self.expr()?)?;
-                Ok(Expr::Sub(first, Box::new(alloc, self.expr()?)?))
+                let first = Box::new(alloc, self.expr(depth)?)?;
+                Ok(Expr::Sub(first, Box::new(alloc, self.expr(depth)?)?))
             }
-            word if begins_as_number(word) => {
+            _ if begins_as_number(word) => {
                 Ok(Expr::Number(read_number(word).ok_or(DeckReason::BadNumber)?))
             }
-            word => Ok(Expr::Int(int_named(word, self.names)?)),
+            _ => Ok(Expr::Int(int_named(word, self.names)?)),
         }
     }
 
@@ -166,16 +196,16 @@ impl<'w, 'n> Nodes<'w, 'n> {
             b"true" => Ok(Cond::Constant(true)),
             b"false" => Ok(Cond::Constant(false)),
             b"lt" => {
-                let first = self.expr()?;
-                Ok(Cond::Less(first, self.expr()?))
+                let first = self.expr(MOST_NODES)?;
+                Ok(Cond::Less(first, self.expr(MOST_NODES)?))
             }
             b"le" => {
-                let first = self.expr()?;
-                Ok(Cond::LessOrEqual(first, self.expr()?))
+                let first = self.expr(MOST_NODES)?;
+                Ok(Cond::LessOrEqual(first, self.expr(MOST_NODES)?))
             }
             b"eq" => {
-                let first = self.expr()?;
-                Ok(Cond::Equal(first, self.expr()?))
+                let first = self.expr(MOST_NODES)?;
+                Ok(Cond::Equal(first, self.expr(MOST_NODES)?))
             }
             b"not" => Ok(Cond::Not(Box::new(alloc, self.cond()?)?)),
             b"and" => {

@@ -95,3 +95,10 @@ module _ (names : List (List ℕ)) (declared : List Component) where
   expr_at (suc depth) left words = do
     node ← node_at left words
     expr_from (expr_at depth) node.0 node.1 node.2
+
+  -- an expression of at most 32 nodes, and no word after it
+  unfoldable pub expr_line : List ℕ → Result ExprText DeckReason
+  expr_line words = do
+    expr ← expr_at 32 32 words
+    e ← end_at expr.2
+    Ok expr.0

@@ -5,7 +5,7 @@ ghost use Rattle.rp_body.specs.Check.{expr_nodes, cond_nodes};
 
 ghost use Rattle.indexmap.specs.IndexMap.{values};
 ghost use Rattle.rp_deck.specs.ExpressionViews.{expr_text};
-ghost use Rattle.rp_deck.specs.Expressions.{component_of, int_of, bool_of, node_at, expr_from, expr_at};
+ghost use Rattle.rp_deck.specs.Expressions.{component_of, int_of, bool_of, node_at, expr_from, expr_at, expr_line};
 ghost use Rattle.rp_deck.specs.Objects.{expression_words};
 ghost use Rattle.rp_deck.specs.Reading.{Gives, Makes};
 ghost use Rattle.rp_deck.specs.Tables.{is_declared, find, key_names};
@@ -84,10 +84,18 @@ pub fn bool_named(word: &[u8], names: &ComponentNames) -> Result<u8, DeckReason>
 }
 
 /// Reads an expression, behind which no word is left.
+#[tactic(auto, unfolding(crate::specs::Expressions::expr_line))]
 pub fn read_expr(alloc: Global, words: Words<'_>, names: &ComponentNames) -> Result<Expr, LineError>
-    ensures { IfOk result (λ expr. expr_nodes expr ≤ 32) }
+    ensures read { Makes expr_text result
+        (expr_line (key_names names.now) (values names.now) (unread words.entry)) }
+    ensures nodes { IfOk result (λ expr. expr_nodes expr ≤ 32) }
 {
-    let mut nodes = Nodes::new(alloc, words, names);
+    let mut nodes = Nodes {
+        alloc,
+        words,
+        names,
+        left: MOST_NODES,
+    };
     let expr = nodes.expr(MOST_NODES)?;
     nodes.words.end()?;
     Ok(expr)
@@ -97,7 +105,12 @@ pub fn read_expr(alloc: Global, words: Words<'_>, names: &ComponentNames) -> Res
 pub fn read_cond(alloc: Global, words: Words<'_>, names: &ComponentNames) -> Result<Cond, LineError>
     ensures { IfOk result (λ cond. cond_nodes cond ≤ 32) }
 {
-    let mut nodes = Nodes::new(alloc, words, names);
+    let mut nodes = Nodes {
+        alloc,
+        words,
+        names,
+        left: MOST_NODES,
+    };
     let cond = nodes.cond()?;
     nodes.words.end()?;
     Ok(cond)
@@ -115,17 +128,6 @@ struct Nodes<'w, 'n> {
 }
 
 impl<'w, 'n> Nodes<'w, 'n> {
-    fn new(alloc: Global, words: Words<'w>, names: &'n ComponentNames) -> Self
-        ensures { result.left ≡ 32 }
-    {
-        Nodes {
-            alloc,
-            words,
-            names,
-            left: MOST_NODES,
-        }
-    }
-
     /// The word of the next node.
     #[tactic(auto, unfolding(crate::specs::Expressions::node_at))]
     fn next(&mut self) -> Result<&'w [u8], DeckReason>

@@ -1,10 +1,10 @@
 -- An expression by its first word.
-use Rattle.std.proofs.Common.{◌≡◌, ℕ, zero, suc, ◌+◌, List, Result, Ok, Err, arith, ap, refl, sym, subst, ◌∙◌}
+use Rattle.std.proofs.Common.{◌≡◌, ℕ, zero, suc, ◌+◌, List, Result, Ok, Err, arith, ap, ◌∙◌}
 use Rattle.rp_base.specs.declared.fault.DeckReason.{DeckReason}
 use Rattle.rp_base.specs.declared.fault.DeckReason.TheVariants.{BadExpression}
 use Rattle.rp_deck.specs.declared.names.Component.{Component}
 use Rattle.rp_deck.specs.Reading.{◌>>=◌}
-use Rattle.rp_deck.specs.Expressions.{ExprText, node_at, expr_from, expr_at}
+use Rattle.rp_deck.specs.Expressions.{node_at, expr_from, expr_at}
 
 -- no node, and so no expression
 pub expr_refused : (names : List (List ℕ)) (declared : List Component) (depth left : ℕ) (words : List ℕ) (reason : DeckReason)

@@ -1,11 +1,10 @@
 -- The lines of a text: the first one, and the others.
-use Rattle.std.proofs.Common.{◌≡◌, ℕ, zero, suc, ◌+◌, ◌-◌, ◌<◌, ◌==◌, ◌&&◌, not, List, [], ◌∷◌, Bool, true, false, cond, length, take, drop, ◌++◌, arith, ap, refl, sym, subst, ◌∙◌}
+use Rattle.std.proofs.Common.{◌≡◌, ℕ, suc, ◌+◌, ◌-◌, ◌<◌, ◌==◌, ◌&&◌, not, List, [], ◌∷◌, Bool, true, false, cond, length, take, drop, ◌++◌, arith, ap, refl, sym, subst, ◌∙◌}
 use Rattle.std.specs.Prelude.{nat_eq, option_to_list}
-use Rattle.std.specs.List.{prefix_len}
 use lib.Pointwise.{pointwise}
 use Rattle.std.proofs.lemmas.Bool.Decides.{nat_tests}
 use Rattle.rp_deck.specs.Words.{begins_with}
-use Rattle.rp_deck.specs.Lines.{is_line_feed, in_front, lines_of, LineText, text_at, texts_from}
+use Rattle.rp_deck.specs.Lines.{is_line_feed, in_front, lines_of, text_at, texts_from}
 use Rattle.rp_deck.specs.LineEnds.{line_end, without_return}
 
 -- ---- a return at the end of a line

@@ -1,14 +1,14 @@
 -- Names, as they are looked up and added.
-use Rattle.std.proofs.Common.{◌≡◌, ℕ, suc, ◌+◌, ◌<◌, ◌≤◌, ◌||◌, List, [], ◌∷◌, ◌++◌, Bool, true, false, cond, not, map, length, Option, Some, None, position, is_some, nat_lt, arith, ap, refl, sym, subst, ◌∙◌}
+use Rattle.std.proofs.Common.{◌≡◌, ℕ, suc, ◌+◌, ◌<◌, ◌≤◌, ◌||◌, List, [], ◌∷◌, ◌++◌, Bool, true, false, cond, not, map, length, Option, Some, None, position, is_some, nat_lt, arith, ap, refl, sym, ◌∙◌}
 use Rattle.std.specs.Prelude.{String, string_bytes, slice_get, option_map}
 use Rattle.std.specs.List.{list_any, prefix_len}
 use Rattle.std.specs.Map.{keys_of, values_of, lookup}
 use Rattle.std.specs.Str.{bytes_eq}
 use Rattle.std.specs.String.{string_eq}
-use Rattle.indexmap.specs.IndexMap.{IndexMap, insert_entry}
+use Rattle.indexmap.specs.IndexMap.{insert_entry}
 use Rattle.std.proofs.lemmas.Bool.{ltb-true, ltb-false, lt-ltb, le-ltb}
 use Rattle.indexmap.specs.IndexSet.{insert_key}
-use Rattle.rp_deck.specs.Tables.{is_declared, place_of, value_at, find, key_names}
+use Rattle.rp_deck.specs.Tables.{is_declared, place_of, value_at, find}
 
 -- ---- a name that is looked up is among the names
 

@@ -1,5 +1,5 @@
 -- The names of a tally's objects.
-use Rattle.std.proofs.Common.{◌≡◌, ℕ, zero, suc, ◌+◌, ◌<◌, List, [], ◌∷◌, ◌++◌, false, arith, ap, refl, sym, subst, ◌∙◌}
+use Rattle.std.proofs.Common.{◌≡◌, ℕ, zero, suc, ◌+◌, ◌<◌, [], ◌∷◌, ◌++◌, false, arith, ap, refl, sym, subst, ◌∙◌}
 use Rattle.rp_deck.specs.Tables.{is_declared}
 use Rattle.rp_deck.specs.Drafts.{tally_name, tally_names}
 

@@ -1,7 +1,7 @@
 -- Names and numbers are ASCII, and so they are text. A number is what the standard library reads, but for a plus.
-use Rattle.std.proofs.Common.{◌≡◌, ℕ, ◌<◌, ◌==◌, ◌&&◌, List, [], ◌∷◌, Bool, true, false, cond, length, drop, arith, IsUtf8, Option, Some, None, ap, refl, sym, subst, ◌∙◌, zero, suc}
+use Rattle.std.proofs.Common.{◌≡◌, ℕ, ◌<◌, ◌==◌, ◌&&◌, List, [], ◌∷◌, Bool, true, false, cond, drop, arith, IsUtf8, Option, Some, None, ap, refl, sym, subst, ◌∙◌, zero, suc}
 use Rattle.std.specs.Prelude.{◌≢◌, ℤ, pos, negsuc, neg_ℤ, IsTrue, SomeIff, FitsSigned, slice_get, nat_le}
-use Rattle.std.specs.Int.{w64, IsInRange}
+use Rattle.std.specs.Int.{w64}
 use Rattle.std.specs.List.{list_all}
 use Rattle.std.specs.Char.{is_ascii_digit, digit_value}
 use Rattle.std.specs.Str.{IsAscii}
@@ -12,7 +12,7 @@ use Rattle.std.proofs.lemmas.Str.{IsUtf8-from_ascii, digit_value_digit}
 use Rattle.std.proofs.lemmas.Str.Parse.{digit_from_value}
 use Rattle.std.proofs.lemmas.Fmt.{IsAscii-from_digits}
 use Rattle.rp_body.specs.Expressions.{fits_64}
-use Rattle.rp_deck.specs.Words.{is_of_name, is_name, IsName, without_minus, is_digits, number_written, number_of}
+use Rattle.rp_deck.specs.Words.{is_of_name, IsName, without_minus, is_digits, number_written, number_of}
 use Rattle.rp_deck.specs.Numbers.{IsNumber, number_read}
 
 both : (a b : Bool) → (a && b) ≡ true → (a ≡ true) × (b ≡ true)
@@ -140,7 +140,6 @@ number_is_text word number = IsUtf8-from_ascii word (number_is_ascii word number
     number_is_ascii : (word : List ℕ) → IsNumber word → IsAscii word
     number_is_ascii word number = by_sign word (subst IsAscii (without_sign word number.no_plus) (IsAscii-from_digits (without_leading_sign word) number.digits.1))
 
-
 is_number : (word : List ℕ) → (is_digits (without_minus word) && fits_64 (number_written word)) ≡ true → IsNumber word
 is_number word h =
     let t = both (is_digits (without_minus word)) (fits_64 (number_written word)) h in
@@ -154,8 +153,8 @@ is_number word h =
 of_number : (word : List ℕ) → IsNumber word → (is_digits (without_minus word) && fits_64 (number_written word)) ≡ true
 of_number word number =
     and_true (is_digits (without_minus word)) (fits_64 (number_written word))
-      (of_numeral (without_minus word) (subst (IsNumeral 10) (without_sign word number.no_plus) number.digits))
-      (of_fits (number_written word) (subst (FitsSigned w64) (value_same word number.no_plus) number.fits))
+    (of_numeral (without_minus word) (subst (IsNumeral 10) (without_sign word number.no_plus) number.digits))
+    (of_fits (number_written word) (subst (FitsSigned w64) (value_same word number.no_plus) number.fits))
 
 pub number_exact : (word : List ℕ) (found : Option ℤ) → SomeIff found (IsNumber word) (number_read word) → found ≡ number_of word
 number_exact word (Some n) h =

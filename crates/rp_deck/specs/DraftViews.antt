@@ -1,5 +1,5 @@
 -- What is declared so far, as the text says it.
-use Rattle.std.specs.Prelude.{ℕ, List, map, string_bytes}
+use Rattle.std.specs.Prelude.{ℕ, map, string_bytes}
 use Rattle.indexmap.specs.IndexMap.{values}
 use Rattle.rp_deck.specs.declared.deck.Task.{Task}
 use Rattle.rp_deck.specs.declared.draft.Draft.{Draft}

@@ -1,5 +1,5 @@
 -- What a deck declares so far, and how each line adds to it.
-use Rattle.std.specs.Prelude.{◌≡◌, ℕ, zero, suc, ◌+◌, ◌&&◌, ◌==◌, Bool, true, false, not, nat_lt, List, [], ◌∷◌, ◌++◌, codes, length, map, slice_get, Option, Some, None, is_some, Result, Ok, Err, if◌then◌else◌}
+use Rattle.std.specs.Prelude.{ℕ, zero, suc, ◌+◌, ◌&&◌, ◌==◌, Bool, true, false, not, nat_lt, List, [], ◌∷◌, ◌++◌, codes, length, slice_get, Option, Some, None, is_some, Result, Ok, if◌then◌else◌}
 use Rattle.std.specs.FinMap.{empty}
 use Rattle.std.specs.Str.{bytes_eq}
 use Rattle.rp_base.specs.declared.action.Operation.{Operation}
@@ -43,8 +43,17 @@ pub record DraftText : Type 0 where
 -- nothing but the nodes
 abbrev pub empty_draft : ℕ → DraftText
 empty_draft nodes = record {
-  nodes = nodes; positions = None; is_tally = false; tasks = []; priorities = []; objects = []; drafts = [];
-  interrupts = []; interrupt_handlers = []; timers = []; timer_handlers = [];
+  nodes = nodes;
+  positions = None;
+  is_tally = false;
+  tasks = [];
+  priorities = [];
+  objects = [];
+  drafts = [];
+  interrupts = [];
+  interrupt_handlers = [];
+  timers = [];
+  timer_handlers = [];
 }
 
 abbrev pub is_empty : {X : Type 0} → List X → Bool
@@ -123,8 +132,13 @@ tally_line d words = do
 -- an object that has nothing yet
 abbrev pub empty_object : List ℕ → ℕ → ObjectText
 empty_object name ceiling = record {
-  name = name; ceiling = ceiling; component_names = []; components = []; store = record { ints = empty; bools = empty };
-  operation_names = []; operations = [];
+  name = name;
+  ceiling = ceiling;
+  component_names = [];
+  components = [];
+  store = record { ints = empty; bools = empty };
+  operation_names = [];
+  operations = [];
 }
 
 -- `object NAME CEILING`

@@ -1,5 +1,5 @@
 -- How the lines of an object add to it.
-use Rattle.std.specs.Prelude.{◌≡◌, ℕ, ℤ, not, nat_lt, List, [], ◌∷◌, ◌++◌, codes, Result, Ok}
+use Rattle.std.specs.Prelude.{ℕ, not, nat_lt, List, [], ◌∷◌, ◌++◌, codes, Result, Ok}
 use Rattle.std.specs.FinMap.{insert, len}
 use Rattle.rp_base.specs.declared.fault.DeckReason.{DeckReason}
 use Rattle.rp_base.specs.declared.fault.DeckReason.TheVariants.{TooMany, BadNumber, BadName, DuplicateName, UnknownWord}

@@ -1,5 +1,5 @@
 -- The words of a line, which of them are names, and which are numbers.
-use Rattle.std.specs.Prelude.{ℕ, ◌≤◌, ◌==◌, ◌||◌, ◌&&◌, Bool, true, false, not, List, [], ◌∷◌, take, drop, length, slice_get, IsSomeAnd, IsTrue, All, nat_le, if◌then◌else◌}
+use Rattle.std.specs.Prelude.{ℕ, ◌==◌, ◌||◌, ◌&&◌, Bool, true, false, not, List, [], ◌∷◌, take, drop, length, IsTrue, nat_le, if◌then◌else◌}
 use Rattle.std.specs.Prelude.{ℤ, pos, neg_ℤ, codes, Option, Some, None}
 use Rattle.std.specs.List.{prefix_len, list_all}
 use Rattle.std.specs.Char.{is_ascii_digit, is_ascii_alphabetic}

@@ -2,7 +2,6 @@
 
 ghost use Rattle.std.specs.Prelude.{◌≡◌, ◌≤◌, ◌<◌, ◌+◌, OnOk, IfOk};
 ghost use Rattle.rp_body.specs.Check.{expr_nodes, cond_nodes};
-
 ghost use Rattle.indexmap.specs.IndexMap.{values};
 ghost use Rattle.rp_deck.specs.ExpressionViews.{expr_text};
 ghost use Rattle.rp_deck.specs.Expressions.{component_of, int_of, bool_of, node_at, expr_from, expr_at, expr_line};

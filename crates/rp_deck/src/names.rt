@@ -147,11 +147,7 @@ pub fn take_name_not_in<'w>(
 }
 
 /// Adds a name that the set does not have.
-pub fn add_name(
-    alloc: Global,
-    names: &mut IndexSet<String>,
-    name: &str,
-) -> Result<(), LineError>
+pub fn add_name(alloc: Global, names: &mut IndexSet<String>, name: &str) -> Result<(), LineError>
     requires { is_declared name.now (set_names names.old) ≡ false }
     ensures names { OnOk result (set_names names.new ≡ set_names names.old ++ name.now ∷ []) }
     ensures len { OnOk result (index_set_len names.new ≡ index_set_len names.old + 1) }

@@ -159,7 +159,12 @@ impl ObjectDraft {
             return Err(LineError::Bad(DeckReason::BadNumber));
         }
         words.end()?;
-        declare(alloc, &mut self.component_names, name, Component::Int(place))?;
+        declare(
+            alloc,
+            &mut self.component_names,
+            name,
+            Component::Int(place),
+        )?;
         self.components.add_int(Ranged { low, high, value });
         Ok(())
     }
@@ -177,7 +182,12 @@ impl ObjectDraft {
         let name = self.take_component_name(&mut words)?;
         let value = truth_named(words.take()?).ok_or(DeckReason::UnknownWord)?;
         words.end()?;
-        declare(alloc, &mut self.component_names, name, Component::Bool(place))?;
+        declare(
+            alloc,
+            &mut self.component_names,
+            name,
+            Component::Bool(place),
+        )?;
         self.components.add_bool(value);
         Ok(())
     }

@@ -1,9 +1,8 @@
 -- The operation is one of the names of the object's operations.
-use Rattle.std.proofs.Common.{◌≡◌, ◌≤◌, ◌+◌, ℕ, suc, Some, rules, arith, sym, subst, ◌∙◌, length}
+use Rattle.std.proofs.Common.{◌≡◌, ◌+◌, ℕ, suc, Some, rules, arith, sym, subst, ◌∙◌}
 use Rattle.std.specs.Prelude.{slice_get}
 use Rattle.std.specs.List.{IsAmong}
 use Rattle.indexmap.specs.IndexMap.{values}
-use Rattle.std.proofs.lemmas.Grind.{common_steps}
 use Rattle.rp_deck.specs.Named.{operation_of}
 use Rattle.rp_deck.specs.Programs.{IsOffered}
 use Rattle.rp_deck.proofs.Naming.{offered}

@@ -1,5 +1,5 @@
 -- One object more.
-use Rattle.std.proofs.Common.{rules, ap, arith, sym, subst, ◌∙◌}
+use Rattle.std.proofs.Common.{rules, sym, subst}
 use Rattle.rp_deck.proofs.Naming.{AreTallyNames, all_tally_more}
 use Rattle.rp_deck.proofs.program.tally.Goals as goal
 

@@ -1,4 +1,4 @@
-use Rattle.std.proofs.Common.{◌≡◌, ℕ, Some, List, length}
+use Rattle.std.proofs.Common.{◌≡◌, length}
 use Rattle.rp_deck.proofs.Naming.{AreTallyNames}
 use Rattle.rp_deck.proofs.program.tally.Given as goal
 

@@ -1,9 +1,8 @@
 -- An expression by its first word, and then the rest.
-use Rattle.std.proofs.Common.{◌≡◌, ◌+◌, ◌∙◌, ℕ, List, Err, Ok, rules, arith, sym, subst}
+use Rattle.std.proofs.Common.{rules, arith}
 use Rattle.indexmap.specs.IndexMap.{values}
 use Rattle.rp_deck.specs.Tables.{key_names}
 use Rattle.rp_deck.specs.Words.{unread}
-use Rattle.rp_deck.specs.Expressions.{node_at, expr_at}
 use Rattle.rp_deck.proofs.ExpressionsLemmas.{expr_refused, expr_deeper}
 use Rattle.rp_deck.proofs.expressions.Nodes.+expr.Goals as goal
 
@@ -18,6 +17,6 @@ expr-returns-in-Some-clause-read t c =
     let self = c.args.self.now in
     let after = c.next.new.self in
     let deeper = expr_deeper (key_names self.names.now) (values self.names.now) c.args.depth c.in-Some.inner self.left (unread self.words) (c.in_ok-word.word.now, after.left, unread after.words)
-        (omega arith) c.in_ok-word.ensures.read in
+    (omega arith) c.in_ok-word.ensures.read in
     let read = rw c.in_ok-word.ensures.names at c.expr_from.ensures.read in
     rw deeper read

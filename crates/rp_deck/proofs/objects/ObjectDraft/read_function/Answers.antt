@@ -3,7 +3,7 @@ use Rattle.std.proofs.Common.{◌≡◌, ◌+◌, length, rules, true, is_some, 
 use Rattle.std.specs.Prelude.{is_some}
 use Rattle.rp_entry.specs.Operations.{of_index}
 use Rattle.rp_entry.specs.declared.operations.Operations.{Operations}
-use Rattle.rp_deck.specs.declared.names.OperationName.TheVariants.{Function, Procedure, Entry}
+use Rattle.rp_deck.specs.declared.names.OperationName.TheVariants.{Function}
 use Rattle.rp_deck.proofs.Naming.{last_numbered, function_more, named_more, named_if}
 use Rattle.rp_deck.proofs.objects.ObjectDraft.read_function.Goals as goal
 

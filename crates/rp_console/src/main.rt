@@ -35,9 +35,8 @@ mod stream;
 mod trace;
 
 use console::{Streams, obey, refuse_unread};
-use std::env;
-use std::io;
 use std::process::ExitCode;
+use std::{env, io};
 
 fn main(rt: HostRuntime) -> ExitCode {
     let mut streams = Streams {

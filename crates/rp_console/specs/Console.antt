@@ -1,8 +1,6 @@
 -- What the program does with the words of the command line, and how it ends.
 use Rattle.std.specs.Prelude.{◌≡◌, ◌≢◌, ◌⊎◌, ℕ, true, false, Option, Some, None, Result, Ok, Err, List, [], codes, option_map, IsSome, IfOk, OnOk, IfErr}
 use Rattle.std.specs.Io.KnownBytes.{Appends}
-use Rattle.std_io.specs.declared.io.kind.ErrorKind as io
-use Rattle.std_io.specs.declared.io.kind.ErrorKind.TheVariants as io_kinds
 use Rattle.clap.specs.Kinds.{IsAmong}
 use Rattle.clap.specs.Words.{Text, fault_of, subcommand_of}
 use Rattle.clap.specs.declared.error.kind.ErrorKind.{ErrorKind}
@@ -68,9 +66,9 @@ pub record RefusesAs (kind : ErrorKind) (output output_after errors errors_after
   pub errors_kept : kind ≡ DisplayHelp → ending.status ≡ words_status_of kind → errors_after ≡ errors
   pub memory : kind ≡ OutOfMemory → OnOk ending.reported (Appends errors errors_after (report_of (Err faults.OutOfMemory)))
 
--- The words could not be read: memory ran out, or, where that was not so, one is not UTF-8.
-abbrev pub IsUnread : io.ErrorKind → ErrorKind → Type 0
-IsUnread reason kind = (kind ≡ OutOfMemory) ⊎ ((reason ≢ io_kinds.OutOfMemory) × (kind ≡ InvalidValue))
+-- one of the words is not UTF-8, or memory ran out for saying so
+abbrev pub IsUnread : ErrorKind → Type 0
+IsUnread kind = (kind ≡ InvalidValue) ⊎ (kind ≡ OutOfMemory)
 
 -- The words ask for a run, which ran; or they are wrong, or memory ran out, which was reported.
 abbrev pub FollowsWords : List Text → Option (List ℕ) → Option (List ℕ) → Option (List ℕ) → Option (List ℕ) → Ending → Type 0

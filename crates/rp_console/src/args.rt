@@ -10,7 +10,6 @@ use clap::error::ErrorKind;
 use clap::{Arg, ArgAction, ArgMatches, Command, Error, value_parser};
 use std::alloc::{AllocError, Global};
 use std::convert::AsStr;
-use std::io;
 
 /// What the program is asked to do.
 #[derive(Clone, Copy, Debug, PartialEq, Eq, Hash)]
@@ -117,13 +116,10 @@ fn number_of(found: &ArgMatches<'_>, id: &str) -> u32
     found.get_one::<u32>(id).unwrap_or(0)
 }
 
-/// Why words that could not be read are refused: memory ran out, or else one is not UTF-8.
-pub fn unread_words(alloc: Global, kind: io::ErrorKind) -> Error
-    ensures { IsUnread kind (kind_of result) }
+/// Why words of which one is not UTF-8 are refused, or `OutOfMemory` where there is none for that.
+pub fn unread_words(alloc: Global) -> Error
+    ensures { IsUnread (kind_of result) }
 {
-    if kind == io::ErrorKind::OutOfMemory {
-        return Error::from(AllocError);
-    }
     match not_utf8(alloc) {
         Ok(error) => error,
         Err(error) => Error::from(error),

@@ -87,17 +87,16 @@ fn run_as<T: Threads + Wait + Clock, R: Read, W: Write>(
     }
 }
 
-/// Reports that the words could not be read: memory ran out for them, or else one is not UTF-8.
+/// Reports that one of the words is not UTF-8.
 pub fn refuse_unread<R: Read + Drop, W: Write + Drop, E: Write + Drop>(
     alloc: Global,
-    kind: io::ErrorKind,
     streams: &mut Streams<R, W, E>,
 ) -> Ending
-    ensures refused { (why : ErrorKind) × IsUnread kind why × RefusesAs why
+    ensures refused { (why : ErrorKind) × IsUnread why × RefusesAs why
         (W.contents streams.old.writer) (W.contents streams.new.writer)
         (E.contents streams.old.errors) (E.contents streams.new.errors) result }
 {
-    refuse(&unread_words(alloc, kind), streams)
+    refuse(&unread_words(alloc), streams)
 }
 
 /// Reports why the words are wrong, or prints the help that they ask for.
@@ -147,7 +146,7 @@ fn end<E: Write>(errors: &mut E, ran: Result<Option<FiguresLine>, Fault>) -> End
 }
 
 /// Reports a fault.
-fn fail<E: Write>(errors: &mut E, fault: Fault) -> Ending
+pub fn fail<E: Write>(errors: &mut E, fault: Fault) -> Ending
     ensures status { result.status ≡ status_of fault }
     ensures reported { OnOk result.reported (Appends (E.contents errors.old)
         (E.contents errors.new) (with_line_feed (fault_line_of fault))) }

@@ -34,7 +34,8 @@ mod status;
 mod stream;
 mod trace;
 
-use console::{Streams, obey, refuse_unread};
+use console::{Streams, fail, obey, refuse_unread};
+use rp_base::Fault;
 use std::process::ExitCode;
 use std::{env, io};
 
@@ -46,7 +47,10 @@ fn main(rt: HostRuntime) -> ExitCode {
     };
     let ending = match given_words(&rt) {
         Ok(words) => obey(&rt, rt.alloc(), words.as_slice(), &mut streams),
-        Err(error) => refuse_unread(rt.alloc(), error.kind(), &mut streams),
+        Err(error) if error.kind() == io::ErrorKind::OutOfMemory => {
+            fail(&mut streams.errors, Fault::OutOfMemory)
+        }
+        Err(_) => refuse_unread(rt.alloc(), &mut streams),
     };
     ExitCode::from(ending.status)
 }

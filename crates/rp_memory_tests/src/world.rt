@@ -7,7 +7,7 @@ use std::alloc::Global;
 use std::test::Fail;
 
 /// A step, taken once more where memory was refused and no message was sent.
-pub(crate) fn step<M: Machine, D: CutDevice>(
+fn step<M: Machine, D: CutDevice>(
     cluster: &mut Cluster<M, D>,
     alloc: Global,
     event: &Event,

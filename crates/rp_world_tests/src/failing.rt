@@ -1,4 +1,3 @@
-use crate::world::step;
 use rp_base::{Config, Fault, NodeId, Operation, Reply, TaskId};
 use rp_machine::{Machine, Tally, TallyProgram};
 use rp_model::{Event, Step};
@@ -47,7 +46,7 @@ impl<M: Machine, D: CutDevice> Run<M, D> {
 
     /// A step. A device that fails is counted, and the run goes on.
     fn makes(&mut self, alloc: Global, event: &Event) -> Result<(), Fault> {
-        match step(&mut self.cluster, alloc, event) {
+        match self.cluster.step(alloc, event) {
             Ok(effect) => self.outcome.opened = effect.opened.or(self.outcome.opened),
             Err(Fault::Device) => self.outcome.failures = self.outcome.failures.saturating_add(1),
             Err(fault) => return Err(fault),

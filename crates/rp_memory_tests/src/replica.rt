@@ -1,10 +1,11 @@
 ghost use Rattle.std.specs.Prelude.{◌≡◌, true};
 ghost use Rattle.rp_replica.specs.Inputs.{IsRightInput};
 
+use crate::failing::{Call, FailingDevice};
 use rp_base::{Config, Fault, NodeId, Position};
 use rp_machine::{Machine, Tally, TallyProgram};
 use rp_replica::*;
-use rp_store::{CutDevice, Device, DeviceCall, FailDevice, MemDevice};
+use rp_store::{CutDevice, Device, MemDevice};
 use std::alloc::Global;
 use std::test::*;
 
@@ -318,32 +319,32 @@ fn image_of<M: Machine, D: Device>(alloc: Global, node: &Replica<M, D>) -> Resul
 fn a_device_that_fails_once_loses_no_vote(rt: HostRuntime) -> Result<(), Fail> {
     let alloc = rt.alloc();
     let program = TallyProgram::new(1).ok_or("one object")?;
-    // A promise that was written and not sent is not sent again.
+    // A promise that was written and not told is not told again.
     let cases = [
-        (DeviceCall::Read, 1, 0, 2, 0),
-        (DeviceCall::Sync, 1, 0, 2, 0),
-        (DeviceCall::Append, 1, 6, 2, 0),
-        (DeviceCall::Sync, 2, 0, 2, 15),
-        (DeviceCall::Append, 2, 14, 2, 0),
-        (DeviceCall::Sync, 3, 0, 2, 0),
-        (DeviceCall::Append, 3, 10, 2, 0),
-        (DeviceCall::Sync, 4, 0, 2, 0),
-        (DeviceCall::Append, 0, 0, 1, 0),
+        (Some((Call::Read, 0)), 2, 0),
+        (Some((Call::Sync, 0)), 2, 0),
+        (Some((Call::Append, 0)), 2, 0),
+        (Some((Call::Sync, 12)), 2, 15),
+        (Some((Call::Append, 12)), 2, 0),
+        (Some((Call::Sync, 41)), 2, 0),
+        (Some((Call::Append, 41)), 2, 0),
+        (Some((Call::Sync, 62)), 2, 0),
+        (None, 1, 0),
     ];
-    for (kind, at, kept, openings, unsent) in cases {
-        let device = FailDevice::new(MemDevice::new(alloc), kind, at, kept);
-        let heard = hears_all::<Tally, FailDevice<MemDevice>>(alloc, &program, device, &HEARD)?;
-        assert_eq!(rt; heard.openings, openings, "{kind:?} {at}");
+    for (fails, openings, untold) in cases {
+        let device = FailingDevice::new(alloc, fails);
+        let heard = hears_all::<Tally, FailingDevice>(alloc, &program, device, &HEARD)?;
+        assert_eq!(rt; heard.openings, openings, "{fails:?}");
         assert_eq!(rt;
             Some(heard.sent.as_slice()),
-            ANSWERS.get(unsent..),
-            "{kind:?} {at}"
+            ANSWERS.get(untold..),
+            "{fails:?}"
         );
-        assert_eq!(rt; heard.stored, 62, "{kind:?} {at}");
+        assert_eq!(rt; heard.stored, 62, "{fails:?}");
         assert_eq!(rt;
             heard.image.as_slice(),
             b"tally o1=5\n".as_slice(),
-            "{kind:?} {at}"
+            "{fails:?}"
         );
     }
     Ok(())

@@ -94,7 +94,7 @@ goes_on t part waits = record { calls = λ m h. absurd h; waits = waits }
 operation_right : (operation : Operation) → is_right_operation operation ≡ true → IsRightOperation operation
 operation_right (Function index) e = let both = and_parts _ _ e in (leb-true 1 index both.0, leb-true index 8 both.1)
 operation_right (Procedure index) e = let both = and_parts _ _ e in (leb-true 1 index both.0, leb-true index 8 both.1)
-operation_right (Entry index) e = eqb-true index 1 e
+operation_right (Entry index) e = let both = and_parts _ _ e in (leb-true 1 index both.0, leb-true index 4 both.1)
 operation_right (SetTimer index) e = let both = and_parts _ _ e in (leb-true 1 index both.0, leb-true index 8 both.1)
 operation_right (CancelTimer index) e = let both = and_parts _ _ e in (leb-true 1 index both.0, leb-true index 8 both.1)
 

@@ -1,5 +1,5 @@
 -- Which actions keep the rules of their fields (the limits are this project's own).
-use Rattle.std.specs.Prelude.{ℕ, ◌≡◌, ◌<◌, ◌≤◌, ◌^◌, FitsSigned, Bool, true, false, nat_eq, nat_le, ◌&&◌}
+use Rattle.std.specs.Prelude.{ℕ, ◌<◌, ◌≤◌, ◌^◌, FitsSigned, Bool, true, false, nat_eq, nat_le, ◌&&◌}
 use Rattle.std.specs.Ordering.{int_eq}
 use Rattle.std.specs.Int.{w64}
 use Rattle.rp_base.specs.Number.{IsTask, in_range}
@@ -16,11 +16,15 @@ IsIndex n = (1 ≤ n) × (n ≤ 8)
 abbrev pub IsCount : ℕ → Type 0
 IsCount n = (1 ≤ n) × (n < 2 ^ 32)
 
--- an object has one entry, and up to 8 of everything else
+-- an index of an entry is 1 to 4
+abbrev pub IsEntryIndex : ℕ → Type 0
+IsEntryIndex n = (1 ≤ n) × (n ≤ 4)
+
+-- an object has at most 4 entries, and at most 8 of everything else
 abbrev pub IsRightOperation : Operation → Type 0
 IsRightOperation (Function index) = IsIndex index
 IsRightOperation (Procedure index) = IsIndex index
-IsRightOperation (Entry index) = index ≡ 1
+IsRightOperation (Entry index) = IsEntryIndex index
 IsRightOperation (SetTimer index) = IsIndex index
 IsRightOperation (CancelTimer index) = IsIndex index
 
@@ -36,7 +40,7 @@ IsRight (Tick now) = now < 2 ^ 32
 abbrev pub is_right_operation : Operation → Bool
 is_right_operation (Function index) = in_range 1 8 index
 is_right_operation (Procedure index) = in_range 1 8 index
-is_right_operation (Entry index) = nat_eq index 1
+is_right_operation (Entry index) = in_range 1 4 index
 is_right_operation (SetTimer index) = in_range 1 8 index
 is_right_operation (CancelTimer index) = in_range 1 8 index
 

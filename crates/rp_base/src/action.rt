@@ -5,8 +5,11 @@ ghost use Rattle.rp_base.specs.Action.{IsRight, IsRightOperation, is_right_opera
 
 use crate::number::{MOST_TASKS, TaskId};
 
-/// The most operations of a kind that an object has, an entry aside.
+/// The most operations of a kind that an object has, entries aside.
 const MOST_OPERATIONS: u8 = 8;
+
+/// The most entries that an object has.
+const MOST_ENTRIES: u8 = 4;
 
 /// The most objects that a program has.
 const MOST_OBJECTS: u8 = 8;
@@ -14,8 +17,8 @@ const MOST_OBJECTS: u8 = 8;
 /// The most sources of interrupts.
 const MOST_SOURCES: u8 = 8;
 
-/// Which operation of an object is called, by its index from 1 in declared order. An entry's index
-/// is 1. A `SetTimer`'s argument is the time, and its reply is `Value(0)`.
+/// Which operation of an object is called, by its index from 1 in declared order. A `SetTimer`'s
+/// argument is the time, and its reply is `Value(0)`.
 #[derive(Clone, Copy, Debug, PartialEq, Eq, Hash)]
 pub enum Operation {
     Function(u8),
@@ -26,13 +29,13 @@ pub enum Operation {
 }
 
 impl Operation {
-    /// Whether the index is within its range: 1 to 8, for an entry 1.
+    /// Whether the index is within its range: 1 to 8, for an entry 1 to 4.
     pub fn is_right(self) -> bool
         ensures right { IsTrue result ↔ IsRightOperation self }
         ensures value { result ≡ is_right_operation self }
     {
         match self {
-            Operation::Entry(index) => index == 1,
+            Operation::Entry(index) => matches!(index, 1..=MOST_ENTRIES),
             Operation::Function(index)
             | Operation::Procedure(index)
             | Operation::SetTimer(index)

@@ -13,8 +13,9 @@ use Rattle.rp_codec.specs.declared.packet.Body.TheVariants as bodies
 use Rattle.rp_codec.specs.declared.kind.Kind.{Kind}
 use Rattle.rp_codec.specs.declared.kind.Kind.TheVariants.{Call, Prepare, Promise, Accept, Accepted, Decided, Ask, Nack, Reply as Answer, Report}
 use Rattle.rp_base.specs.Right.{IsReply}
+use Rattle.rp_codec.specs.declared.version.Version.{Version}
 use Rattle.rp_codec.specs.Message.{IsBody, IsNodeParty, IsTaskParty, IsAudit, IsVoteBelow, MaySay, report_len}
-use Rattle.rp_codec.specs.Text.{number_text, position_text, ballot_text, action_text, reply_text, last_text, kind_number, body_text}
+use Rattle.rp_codec.specs.Text.{number_text, position_text, ballot_text, action_text_at, reply_text, last_text_at, kind_number, body_text_at, HasActionText, HasBodyText}
 use Rattle.rp_codec.specs.Reading.{value_at, truth_at, reply_at, lower_ballot_at, higher_ballot_at, vote_at, last_at, prepare_at, promise_at, accept_at, accepted_at, decided_at, ask_at, nack_at, answer_at, report_at, task_call_at, body_at}
 use Rattle.rp_codec.proofs.Steps.{IsBytes, Yields, Took, then, when, keeps, guarded}
 use Rattle.rp_codec.proofs.FieldLaws.{TookByte, TookNumber16, number16_took, number16_again, TookSigned, TookCount, TookPosition, TookBallot, byte_took, signed_took, signed_again, count_took, count_again, position_took, position_again, ballot_took, ballot_again}
@@ -97,34 +98,34 @@ higher_again ballot higher rest right = rw (ballot_again higher rest right.0, lt
 
 -- ---- a promise's vote
 
-abbrev IsLast : ℕ → Option Vote → Type 0
-IsLast ballot last = IfSome last (λ vote. IsBallot vote.ballot) × IfSome last (λ vote. IsVoteBelow ballot vote)
+abbrev IsLast : Version → ℕ → Option Vote → Type 0
+IsLast v ballot last = IfSome last (λ vote. IsBallot vote.ballot) × IfSome last (λ vote. IsVoteBelow ballot vote) × IfSome last (λ vote. HasActionText v vote.action)
 
-abbrev TookLast : ℕ → List ℕ → Option Vote × List ℕ → Type 0
-TookLast ballot bytes = Took last_text (IsLast ballot) bytes
+abbrev TookLast : Version → ℕ → List ℕ → Option Vote × List ℕ → Type 0
+TookLast v ballot bytes = Took (last_text_at v) (IsLast v ballot) bytes
 
-vote_took : (ballot : ℕ) (bytes rest : List ℕ) → bytes ≡ 1 ∷ rest → IsBytes rest → Yields (TookLast ballot bytes) (vote_at ballot rest)
+vote_took : (v : Version) (ballot : ℕ) (bytes rest : List ℕ) → bytes ≡ 1 ∷ rest → IsBytes rest → Yields (TookLast v ballot bytes) (vote_at v ballot rest)
 unfolding vote_at
-vote_took ballot bytes rest begins h =
-    then (TookLower ballot rest) (TookLast ballot bytes) _ _ (lower_took ballot rest h)
-    (λ b t. then (TookAction b.1) (TookLast ballot bytes) _ _ (action_took b.1 t.rest)
-    (λ action a. record { parts = begins ∙ rw (t.parts, a.parts) (simp append_assoc); rest = a.rest; right = (t.right.0, (t.right.1, a.right)) }))
+vote_took v ballot bytes rest begins h =
+    then (TookLower ballot rest) (TookLast v ballot bytes) _ _ (lower_took ballot rest h)
+    (λ b t. then (TookAction v b.1) (TookLast v ballot bytes) _ _ (action_took v b.1 t.rest)
+    (λ action a. record { parts = begins ∙ rw (t.parts, a.parts) (simp append_assoc); rest = a.rest; right = (t.right.0, (t.right.1, a.right.0), a.right.1) }))
 
-last_took : (ballot : ℕ) (bytes : List ℕ) → IsBytes bytes → Yields (TookLast ballot bytes) (last_at ballot bytes)
+last_took : (v : Version) (ballot : ℕ) (bytes : List ℕ) → IsBytes bytes → Yields (TookLast v ballot bytes) (last_at v ballot bytes)
 unfolding last_at
-last_took ballot bytes h =
-    then (TookByte bytes) (TookLast ballot bytes) _ _ (byte_took bytes h)
+last_took v ballot bytes h =
+    then (TookByte bytes) (TookLast v ballot bytes) _ _ (byte_took bytes h)
     (λ flag t.
     let begins : (k : ℕ) → eqb flag.0 k ≡ true → bytes ≡ k ∷ flag.1 = λ k e. t.parts ∙ ap (λ (b : ℕ). b ∷ flag.1) (eqb-true _ _ e) in
-    when (TookLast ballot bytes) (eqb flag.0 0) _ _ (λ e. record { parts = begins 0 e; rest = t.rest; right = (tt, tt) })
-    (λ _. when (TookLast ballot bytes) (eqb flag.0 1) _ _ (λ e. vote_took ballot bytes flag.1 (begins 1 e) t.rest) (λ _. tt)))
+    when (TookLast v ballot bytes) (eqb flag.0 0) _ _ (λ e. record { parts = begins 0 e; rest = t.rest; right = (tt, tt, tt) })
+    (λ _. when (TookLast v ballot bytes) (eqb flag.0 1) _ _ (λ e. vote_took v ballot bytes flag.1 (begins 1 e) t.rest) (λ _. tt)))
 
-last_again : (ballot : ℕ) (last : Option Vote) (rest : List ℕ) → IsLast ballot last → last_at ballot (last_text last ++ rest) ≡ Ok (last, rest)
+last_again : (v : Version) (ballot : ℕ) (last : Option Vote) (rest : List ℕ) → IsLast v ballot last → last_at v ballot (last_text_at v last ++ rest) ≡ Ok (last, rest)
 unfolding last_at vote_at
-last_again ballot None rest right = refl
-last_again ballot (Some vote) rest right =
-    let parts : last_text (Some vote) ++ rest ≡ 1 ∷ (ballot_text vote.ballot ++ (action_text vote.action ++ rest)) = simp append_assoc in
-    ap (last_at ballot) parts ∙ rw (lower_again ballot vote.ballot (action_text vote.action ++ rest) (right.0, right.1.0), action_again vote.action rest right.1.1) refl
+last_again v ballot None rest right = refl
+last_again v ballot (Some vote) rest right =
+    let parts : last_text_at v (Some vote) ++ rest ≡ 1 ∷ (ballot_text vote.ballot ++ (action_text_at v vote.action ++ rest)) = simp append_assoc in
+    ap (last_at v ballot) parts ∙ rw (lower_again ballot vote.ballot (action_text_at v vote.action ++ rest) (right.0, right.1.0), action_again v vote.action rest (right.1.1, right.2)) refl
 
 -- ---- bodies
 
@@ -166,111 +167,113 @@ IsTo Answer to = IsTaskParty to
 IsTo Report to = IsAudit to
 
 -- what reading a body of this kind shows
-pub record IsSaid (kind : Kind) (from : Party) (body : Body) : Type 0 where
+pub record IsSaid (v : Version) (kind : Kind) (from : Party) (body : Body) : Type 0 where
   pub number : number_of kind ≡ kind_number body
   pub ranges : IsBody body
+  pub has : HasBodyText v body
   pub rules : (to : Party) → IsFrom kind from → IsTo kind to → MaySay from to body
 
-abbrev pub TookBody : Kind → Party → List ℕ → Body × List ℕ → Type 0
-TookBody kind from bytes = Took body_text (IsSaid kind from) bytes
+abbrev pub TookBody : Version → Kind → Party → List ℕ → Body × List ℕ → Type 0
+TookBody v kind from bytes = Took (body_text_at v) (IsSaid v kind from) bytes
 
-task_call_took : (from : Party) (bytes : List ℕ) → IsBytes bytes → Yields (TookBody Call from bytes) (task_call_at from bytes)
+task_call_took : (v : Version) (from : Party) (bytes : List ℕ) → IsBytes bytes → Yields (TookBody v Call from bytes) (task_call_at v from bytes)
 unfolding task_call_at
-task_call_took from bytes h =
-    then (TookOwn from bytes) (TookBody Call from bytes) _ _ (own_call_took from bytes h)
-    (λ action a. record { parts = a.parts; rest = a.rest; right = record { number = refl; ranges = tt; rules = λ to f t. (f, t, a.right.0, a.right.1) } })
+task_call_took v from bytes h =
+    then (TookOwn v from bytes) (TookBody v Call from bytes) _ _ (own_call_took v from bytes h)
+    (λ action a. record { parts = a.parts; rest = a.rest; right = record { number = refl; ranges = tt; has = a.right.1.1; rules = λ to f t. (f, t, a.right.0, a.right.1.0) } })
 
-prepare_took : (from : Party) (bytes : List ℕ) → IsBytes bytes → Yields (TookBody Prepare from bytes) (prepare_at bytes)
+prepare_took : (v : Version) (from : Party) (bytes : List ℕ) → IsBytes bytes → Yields (TookBody v Prepare from bytes) (prepare_at bytes)
 unfolding prepare_at
-prepare_took from bytes h =
-    then (TookPosition bytes) (TookBody Prepare from bytes) _ _ (position_took bytes h)
-    (λ position p. then (TookBallot position.1) (TookBody Prepare from bytes) _ _ (ballot_took position.1 p.rest)
-    (λ ballot b. record { parts = rw (p.parts, b.parts) (simp append_assoc); rest = b.rest; right = record { number = refl; ranges = (p.right, b.right); rules = λ to f t. (f, t) } }))
+prepare_took v from bytes h =
+    then (TookPosition bytes) (TookBody v Prepare from bytes) _ _ (position_took bytes h)
+    (λ position p. then (TookBallot position.1) (TookBody v Prepare from bytes) _ _ (ballot_took position.1 p.rest)
+    (λ ballot b. record { parts = rw (p.parts, b.parts) (simp append_assoc); rest = b.rest; right = record { number = refl; ranges = (p.right, b.right); has = tt; rules = λ to f t. (f, t) } }))
 
-promise_took : (from : Party) (bytes : List ℕ) → IsBytes bytes → Yields (TookBody Promise from bytes) (promise_at bytes)
+promise_took : (v : Version) (from : Party) (bytes : List ℕ) → IsBytes bytes → Yields (TookBody v Promise from bytes) (promise_at v bytes)
 unfolding promise_at
-promise_took from bytes h =
-    then (TookPosition bytes) (TookBody Promise from bytes) _ _ (position_took bytes h)
-    (λ position p. then (TookBallot position.1) (TookBody Promise from bytes) _ _ (ballot_took position.1 p.rest)
-    (λ ballot b. then (TookLast ballot.0 ballot.1) (TookBody Promise from bytes) _ _ (last_took ballot.0 ballot.1 b.rest)
-    (λ last l. record { parts = rw (p.parts, b.parts, l.parts) (simp append_assoc); rest = l.rest; right = record { number = refl; ranges = (p.right, b.right, l.right.0); rules = λ to f t. ((f, t), l.right.1) } })))
+promise_took v from bytes h =
+    then (TookPosition bytes) (TookBody v Promise from bytes) _ _ (position_took bytes h)
+    (λ position p. then (TookBallot position.1) (TookBody v Promise from bytes) _ _ (ballot_took position.1 p.rest)
+    (λ ballot b. then (TookLast v ballot.0 ballot.1) (TookBody v Promise from bytes) _ _ (last_took v ballot.0 ballot.1 b.rest)
+    (λ last l. record { parts = rw (p.parts, b.parts, l.parts) (simp append_assoc); rest = l.rest; right = record { number = refl; ranges = (p.right, b.right, l.right.0); has = l.right.2; rules = λ to f t. ((f, t), l.right.1) } })))
 
-accept_took : (from : Party) (bytes : List ℕ) → IsBytes bytes → Yields (TookBody Accept from bytes) (accept_at bytes)
+accept_took : (v : Version) (from : Party) (bytes : List ℕ) → IsBytes bytes → Yields (TookBody v Accept from bytes) (accept_at v bytes)
 unfolding accept_at
-accept_took from bytes h =
-    then (TookPosition bytes) (TookBody Accept from bytes) _ _ (position_took bytes h)
-    (λ position p. then (TookBallot position.1) (TookBody Accept from bytes) _ _ (ballot_took position.1 p.rest)
-    (λ ballot b. then (TookAction ballot.1) (TookBody Accept from bytes) _ _ (action_took ballot.1 b.rest)
-    (λ action a. record { parts = rw (p.parts, b.parts, a.parts) (simp append_assoc); rest = a.rest; right = record { number = refl; ranges = (p.right, b.right); rules = λ to f t. ((f, t), a.right) } })))
+accept_took v from bytes h =
+    then (TookPosition bytes) (TookBody v Accept from bytes) _ _ (position_took bytes h)
+    (λ position p. then (TookBallot position.1) (TookBody v Accept from bytes) _ _ (ballot_took position.1 p.rest)
+    (λ ballot b. then (TookAction v ballot.1) (TookBody v Accept from bytes) _ _ (action_took v ballot.1 b.rest)
+    (λ action a. record { parts = rw (p.parts, b.parts, a.parts) (simp append_assoc); rest = a.rest; right = record { number = refl; ranges = (p.right, b.right); has = a.right.1; rules = λ to f t. ((f, t), a.right.0) } })))
 
-accepted_took : (from : Party) (bytes : List ℕ) → IsBytes bytes → Yields (TookBody Accepted from bytes) (accepted_at bytes)
+accepted_took : (v : Version) (from : Party) (bytes : List ℕ) → IsBytes bytes → Yields (TookBody v Accepted from bytes) (accepted_at v bytes)
 unfolding accepted_at
-accepted_took from bytes h =
-    then (TookPosition bytes) (TookBody Accepted from bytes) _ _ (position_took bytes h)
-    (λ position p. then (TookBallot position.1) (TookBody Accepted from bytes) _ _ (ballot_took position.1 p.rest)
-    (λ ballot b. then (TookAction ballot.1) (TookBody Accepted from bytes) _ _ (action_took ballot.1 b.rest)
-    (λ action a. record { parts = rw (p.parts, b.parts, a.parts) (simp append_assoc); rest = a.rest; right = record { number = refl; ranges = (p.right, b.right); rules = λ to f t. ((f, t), a.right) } })))
+accepted_took v from bytes h =
+    then (TookPosition bytes) (TookBody v Accepted from bytes) _ _ (position_took bytes h)
+    (λ position p. then (TookBallot position.1) (TookBody v Accepted from bytes) _ _ (ballot_took position.1 p.rest)
+    (λ ballot b. then (TookAction v ballot.1) (TookBody v Accepted from bytes) _ _ (action_took v ballot.1 b.rest)
+    (λ action a. record { parts = rw (p.parts, b.parts, a.parts) (simp append_assoc); rest = a.rest; right = record { number = refl; ranges = (p.right, b.right); has = a.right.1; rules = λ to f t. ((f, t), a.right.0) } })))
 
-decided_took : (from : Party) (bytes : List ℕ) → IsBytes bytes → Yields (TookBody Decided from bytes) (decided_at bytes)
+decided_took : (v : Version) (from : Party) (bytes : List ℕ) → IsBytes bytes → Yields (TookBody v Decided from bytes) (decided_at v bytes)
 unfolding decided_at
-decided_took from bytes h =
-    then (TookPosition bytes) (TookBody Decided from bytes) _ _ (position_took bytes h)
-    (λ position p. then (TookAction position.1) (TookBody Decided from bytes) _ _ (action_took position.1 p.rest)
-    (λ action a. record { parts = rw (p.parts, a.parts) (simp append_assoc); rest = a.rest; right = record { number = refl; ranges = p.right; rules = λ to f t. ((f, t), a.right) } }))
+decided_took v from bytes h =
+    then (TookPosition bytes) (TookBody v Decided from bytes) _ _ (position_took bytes h)
+    (λ position p. then (TookAction v position.1) (TookBody v Decided from bytes) _ _ (action_took v position.1 p.rest)
+    (λ action a. record { parts = rw (p.parts, a.parts) (simp append_assoc); rest = a.rest; right = record { number = refl; ranges = p.right; has = a.right.1; rules = λ to f t. ((f, t), a.right.0) } }))
 
-ask_took : (from : Party) (bytes : List ℕ) → IsBytes bytes → Yields (TookBody Ask from bytes) (ask_at bytes)
+ask_took : (v : Version) (from : Party) (bytes : List ℕ) → IsBytes bytes → Yields (TookBody v Ask from bytes) (ask_at bytes)
 unfolding ask_at
-ask_took from bytes h =
-    then (TookPosition bytes) (TookBody Ask from bytes) _ _ (position_took bytes h)
-    (λ position p. record { parts = p.parts; rest = p.rest; right = record { number = refl; ranges = p.right; rules = λ to f t. (f, t) } })
+ask_took v from bytes h =
+    then (TookPosition bytes) (TookBody v Ask from bytes) _ _ (position_took bytes h)
+    (λ position p. record { parts = p.parts; rest = p.rest; right = record { number = refl; ranges = p.right; has = tt; rules = λ to f t. (f, t) } })
 
-nack_took : (from : Party) (bytes : List ℕ) → IsBytes bytes → Yields (TookBody Nack from bytes) (nack_at bytes)
+nack_took : (v : Version) (from : Party) (bytes : List ℕ) → IsBytes bytes → Yields (TookBody v Nack from bytes) (nack_at bytes)
 unfolding nack_at
-nack_took from bytes h =
-    then (TookPosition bytes) (TookBody Nack from bytes) _ _ (position_took bytes h)
-    (λ position p. then (TookBallot position.1) (TookBody Nack from bytes) _ _ (ballot_took position.1 p.rest)
-    (λ ballot b. then (TookHigher ballot.0 ballot.1) (TookBody Nack from bytes) _ _ (higher_took ballot.0 ballot.1 b.rest)
-    (λ bound u. record { parts = rw (p.parts, b.parts, u.parts) (simp append_assoc); rest = u.rest; right = record { number = refl; ranges = (p.right, b.right, u.right.0); rules = λ to f t. ((f, t), u.right.1) } })))
+nack_took v from bytes h =
+    then (TookPosition bytes) (TookBody v Nack from bytes) _ _ (position_took bytes h)
+    (λ position p. then (TookBallot position.1) (TookBody v Nack from bytes) _ _ (ballot_took position.1 p.rest)
+    (λ ballot b. then (TookHigher ballot.0 ballot.1) (TookBody v Nack from bytes) _ _ (higher_took ballot.0 ballot.1 b.rest)
+    (λ bound u. record { parts = rw (p.parts, b.parts, u.parts) (simp append_assoc); rest = u.rest; right = record { number = refl; ranges = (p.right, b.right, u.right.0); has = tt; rules = λ to f t. ((f, t), u.right.1) } })))
 
-answer_took : (from : Party) (bytes : List ℕ) → IsBytes bytes → Yields (TookBody Answer from bytes) (answer_at bytes)
+answer_took : (v : Version) (from : Party) (bytes : List ℕ) → IsBytes bytes → Yields (TookBody v Answer from bytes) (answer_at bytes)
 unfolding answer_at
-answer_took from bytes h =
-    then (TookCount bytes) (TookBody Answer from bytes) _ _ (count_took bytes h)
-    (λ number n. then (TookReply number.1) (TookBody Answer from bytes) _ _ (reply_took number.1 n.rest)
-    (λ reply r. record { parts = rw (n.parts, r.parts) (simp append_assoc); rest = r.rest; right = record { number = refl; ranges = r.right; rules = λ to f t. (f, t, n.right) } }))
+answer_took v from bytes h =
+    then (TookCount bytes) (TookBody v Answer from bytes) _ _ (count_took bytes h)
+    (λ number n. then (TookReply number.1) (TookBody v Answer from bytes) _ _ (reply_took number.1 n.rest)
+    (λ reply r. record { parts = rw (n.parts, r.parts) (simp append_assoc); rest = r.rest; right = record { number = refl; ranges = r.right; has = tt; rules = λ to f t. (f, t, n.right) } }))
 
-report_took : (from : Party) (bytes : List ℕ) → IsBytes bytes → Yields (TookBody Report from bytes) (report_at bytes)
+report_took : (v : Version) (from : Party) (bytes : List ℕ) → IsBytes bytes → Yields (TookBody v Report from bytes) (report_at v bytes)
 unfolding report_at
-report_took from bytes h =
-    then (TookPosition bytes) (TookBody Report from bytes) _ _ (position_took bytes h)
-    (λ first p. then (TookNumber16 first.1) (TookBody Report from bytes) _ _ (number16_took first.1 p.rest)
-    (λ applied n. then (TookByte applied.1) (TookBody Report from bytes) _ _ (byte_took applied.1 n.rest)
-    (λ count c. guarded (TookBody Report from bytes) (eqb count.0 (report_len first.0 applied.0)) count _
-    (λ e. then (TookActions count.0 count.1) (TookBody Report from bytes) _ _ (actions_took count.0 count.1 c.rest)
+report_took v from bytes h =
+    then (TookPosition bytes) (TookBody v Report from bytes) _ _ (position_took bytes h)
+    (λ first p. then (TookNumber16 first.1) (TookBody v Report from bytes) _ _ (number16_took first.1 p.rest)
+    (λ applied n. then (TookByte applied.1) (TookBody v Report from bytes) _ _ (byte_took applied.1 n.rest)
+    (λ count c. guarded (TookBody v Report from bytes) (eqb count.0 (report_len first.0 applied.0)) count _
+    (λ e. then (TookActions v count.0 count.1) (TookBody v Report from bytes) _ _ (actions_took v count.0 count.1 c.rest)
     (λ actions a.
     let counted : count.0 ≡ length actions.0 = sym a.right.0 in
     record {
-      parts = rw (p.parts, n.parts, c.parts, a.parts) (ap (λ (k : ℕ). position_text first.0 ++ (number_text w16 applied.0 ++ (k ∷ (each_text actions.0 ++ actions.1)))) counted ∙ simp append_assoc);
+      parts = rw (p.parts, n.parts, c.parts, a.parts) (ap (λ (k : ℕ). position_text first.0 ++ (number_text w16 applied.0 ++ (k ∷ (each_text v actions.0 ++ actions.1)))) counted ∙ simp append_assoc);
       rest = a.rest;
       right = record {
         number = refl;
         ranges = (p.right, n.right);
+        has = a.right.2;
         rules = λ to f t. (f, t, record { len = a.right.0 ∙ eqb-true _ _ e; right = a.right.1 });
       };
     })))))
 
-pub body_took : (kind : Kind) (from : Party) (bytes : List ℕ) → IsBytes bytes → Yields (TookBody kind from bytes) (body_at kind from bytes)
+pub body_took : (v : Version) (kind : Kind) (from : Party) (bytes : List ℕ) → IsBytes bytes → Yields (TookBody v kind from bytes) (body_at v kind from bytes)
 unfolding body_at
-body_took Call from bytes h = task_call_took from bytes h
-body_took Prepare from bytes h = prepare_took from bytes h
-body_took Promise from bytes h = promise_took from bytes h
-body_took Accept from bytes h = accept_took from bytes h
-body_took Accepted from bytes h = accepted_took from bytes h
-body_took Decided from bytes h = decided_took from bytes h
-body_took Ask from bytes h = ask_took from bytes h
-body_took Nack from bytes h = nack_took from bytes h
-body_took Answer from bytes h = answer_took from bytes h
-body_took Report from bytes h = report_took from bytes h
+body_took v Call from bytes h = task_call_took v from bytes h
+body_took v Prepare from bytes h = prepare_took v from bytes h
+body_took v Promise from bytes h = promise_took v from bytes h
+body_took v Accept from bytes h = accept_took v from bytes h
+body_took v Accepted from bytes h = accepted_took v from bytes h
+body_took v Decided from bytes h = decided_took v from bytes h
+body_took v Ask from bytes h = ask_took v from bytes h
+body_took v Nack from bytes h = nack_took v from bytes h
+body_took v Answer from bytes h = answer_took v from bytes h
+body_took v Report from bytes h = report_took v from bytes h
 
 -- the kind of a body
 abbrev pub kind_of_body : Body → Kind
@@ -289,25 +292,25 @@ kind_of_body (bodies.Report first applied actions) = Report
 regroup : (x y z rest : List ℕ) → (x ++ y ++ z) ++ rest ≡ x ++ (y ++ (z ++ rest))
 regroup x y z rest = simp append_assoc
 
-pub body_again : (from to : Party) (body : Body) (rest : List ℕ) → IsBody body → MaySay from to body → body_at (kind_of_body body) from (body_text body ++ rest) ≡ Ok (body, rest)
+pub body_again : (v : Version) (from to : Party) (body : Body) (rest : List ℕ) → IsBody body → MaySay from to body → HasBodyText v body → body_at v (kind_of_body body) from (body_text_at v body ++ rest) ≡ Ok (body, rest)
 unfolding body_at task_call_at prepare_at promise_at accept_at accepted_at decided_at ask_at nack_at answer_at report_at
-body_again from to (bodies.Call action) rest ranges rules = rw (own_call_again from action rest rules.2 rules.3) refl
-body_again from to (bodies.Prepare position ballot) rest ranges rules =
+body_again v from to (bodies.Call action) rest ranges rules has = rw (own_call_again v from action rest rules.2 (rules.3, has)) refl
+body_again v from to (bodies.Prepare position ballot) rest ranges rules has =
     ap prepare_at (append_assoc (position_text position) (ballot_text ballot) rest) ∙ rw (position_again position (ballot_text ballot ++ rest) ranges.0, ballot_again ballot rest ranges.1) refl
-body_again from to (bodies.Promise position ballot last) rest ranges rules =
-    ap promise_at (regroup (position_text position) (ballot_text ballot) (last_text last) rest) ∙ rw (position_again position (ballot_text ballot ++ (last_text last ++ rest)) ranges.0, ballot_again ballot (last_text last ++ rest) ranges.1, last_again ballot last rest (ranges.2, rules.1)) refl
-body_again from to (bodies.Accept position ballot action) rest ranges rules =
-    ap accept_at (regroup (position_text position) (ballot_text ballot) (action_text action) rest) ∙ rw (position_again position (ballot_text ballot ++ (action_text action ++ rest)) ranges.0, ballot_again ballot (action_text action ++ rest) ranges.1, action_again action rest rules.1) refl
-body_again from to (bodies.Accepted position ballot action) rest ranges rules =
-    ap accepted_at (regroup (position_text position) (ballot_text ballot) (action_text action) rest) ∙ rw (position_again position (ballot_text ballot ++ (action_text action ++ rest)) ranges.0, ballot_again ballot (action_text action ++ rest) ranges.1, action_again action rest rules.1) refl
-body_again from to (bodies.Decided position action) rest ranges rules =
-    ap decided_at (append_assoc (position_text position) (action_text action) rest) ∙ rw (position_again position (action_text action ++ rest) ranges, action_again action rest rules.1) refl
-body_again from to (bodies.Ask position) rest ranges rules = rw (position_again position rest ranges) refl
-body_again from to (bodies.Nack position ballot bound) rest ranges rules =
+body_again v from to (bodies.Promise position ballot last) rest ranges rules has =
+    ap (promise_at v) (regroup (position_text position) (ballot_text ballot) (last_text_at v last) rest) ∙ rw (position_again position (ballot_text ballot ++ (last_text_at v last ++ rest)) ranges.0, ballot_again ballot (last_text_at v last ++ rest) ranges.1, last_again v ballot last rest (ranges.2, rules.1, has)) refl
+body_again v from to (bodies.Accept position ballot action) rest ranges rules has =
+    ap (accept_at v) (regroup (position_text position) (ballot_text ballot) (action_text_at v action) rest) ∙ rw (position_again position (ballot_text ballot ++ (action_text_at v action ++ rest)) ranges.0, ballot_again ballot (action_text_at v action ++ rest) ranges.1, action_again v action rest (rules.1, has)) refl
+body_again v from to (bodies.Accepted position ballot action) rest ranges rules has =
+    ap (accepted_at v) (regroup (position_text position) (ballot_text ballot) (action_text_at v action) rest) ∙ rw (position_again position (ballot_text ballot ++ (action_text_at v action ++ rest)) ranges.0, ballot_again ballot (action_text_at v action ++ rest) ranges.1, action_again v action rest (rules.1, has)) refl
+body_again v from to (bodies.Decided position action) rest ranges rules has =
+    ap (decided_at v) (append_assoc (position_text position) (action_text_at v action) rest) ∙ rw (position_again position (action_text_at v action ++ rest) ranges, action_again v action rest (rules.1, has)) refl
+body_again v from to (bodies.Ask position) rest ranges rules has = rw (position_again position rest ranges) refl
+body_again v from to (bodies.Nack position ballot bound) rest ranges rules has =
     ap nack_at (regroup (position_text position) (ballot_text ballot) (ballot_text bound) rest) ∙ rw (position_again position (ballot_text ballot ++ (ballot_text bound ++ rest)) ranges.0, ballot_again ballot (ballot_text bound ++ rest) ranges.1, higher_again ballot bound rest (ranges.2, rules.1)) refl
-body_again from to (bodies.Reply number reply) rest ranges rules =
+body_again v from to (bodies.Reply number reply) rest ranges rules has =
     ap answer_at (append_assoc (number_text w32 number) (reply_text reply) rest) ∙ rw (count_again number (reply_text reply ++ rest) rules.2, reply_again reply rest ranges) refl
-body_again from to (bodies.Report first applied actions) rest ranges rules =
+body_again v from to (bodies.Report first applied actions) rest ranges rules has =
     let told = rules.2 in
-    let parts : body_text (bodies.Report first applied actions) ++ rest ≡ position_text first ++ (number_text w16 applied ++ (length actions ∷ (each_text actions ++ rest))) = simp append_assoc in
-    ap report_at parts ∙ rw (position_again first (number_text w16 applied ++ (length actions ∷ (each_text actions ++ rest))) ranges.0, number16_again applied (length actions ∷ (each_text actions ++ rest)) ranges.1, eq-eqb _ _ told.len, actions_again actions rest told.right) refl
+    let parts : body_text_at v (bodies.Report first applied actions) ++ rest ≡ position_text first ++ (number_text w16 applied ++ (length actions ∷ (each_text v actions ++ rest))) = simp append_assoc in
+    ap (report_at v) parts ∙ rw (position_again first (number_text w16 applied ++ (length actions ∷ (each_text v actions ++ rest))) ranges.0, number16_again applied (length actions ∷ (each_text v actions ++ rest)) ranges.1, eq-eqb _ _ told.len, actions_again v actions rest told.right has) refl

@@ -1,6 +1,7 @@
 pub mod RuleTests
 pub mod Steps
 pub mod FieldLaws
+pub mod VersionLaws
 pub mod ActionLaws
 pub mod ListReading
 pub mod BodyLaws

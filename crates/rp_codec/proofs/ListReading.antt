@@ -6,6 +6,7 @@ use Rattle.std.proofs.lemmas.Bool.{eq-eqb}
 use Rattle.std.proofs.lemmas.List.{append-nil, flat_map_more, take_more, take_all}
 use Rattle.rp_base.specs.declared.fault.PacketReason.{PacketReason}
 use Rattle.rp_base.specs.declared.action.Action.{Action}
+use Rattle.rp_codec.specs.declared.version.Version.{Version}
 use Rattle.rp_codec.specs.Text.{action_text}
 use Rattle.rp_codec.specs.Message.{report_len}
 use Rattle.rp_codec.specs.declared.packet.Body.TheVariants.{Report}
@@ -17,56 +18,56 @@ prefixed front (Ok x) = Ok (front ++ x.0, x.1)
 prefixed front (Err e) = Err e
 
 -- so many were read, and the others stand where the rest begins
-pub record HasRead (count : ℕ) (bytes : List ℕ) (done : ℕ) (front : List Action) (rest : List ℕ) : Type 0 where
-  pub read : actions_at count bytes ≡ prefixed front (actions_at (count - done) rest)
+pub record HasRead (v : Version) (count : ℕ) (bytes : List ℕ) (done : ℕ) (front : List Action) (rest : List ℕ) : Type 0 where
+  pub read : actions_at v count bytes ≡ prefixed front (actions_at v (count - done) rest)
 
 prefixed_nil : (read : Read (List Action)) → read ≡ prefixed [] read
 prefixed_nil (Ok x) = refl
 prefixed_nil (Err e) = refl
 
-pub none_read : (count : ℕ) (bytes : List ℕ) → HasRead count bytes 0 [] bytes
-none_read count bytes =
+pub none_read : (v : Version) (count : ℕ) (bytes : List ℕ) → HasRead v count bytes 0 [] bytes
+none_read v count bytes =
     let counted : count ≡ count - 0 = omega arith in
-    record { read = prefixed_nil (actions_at count bytes) ∙ ap (λ (k : ℕ). prefixed [] (actions_at k bytes)) counted }
+    record { read = prefixed_nil (actions_at v count bytes) ∙ ap (λ (k : ℕ). prefixed [] (actions_at v k bytes)) counted }
 
 joined : (front : List Action) (action : Action) (others : Read (List Action))
     → prefixed front (others >>= λ x. Ok (action ∷ x.0, x.1)) ≡ prefixed (front ++ action ∷ []) others
 joined front action (Ok x) = ap (λ (l : List Action). Ok (l, x.1)) (sym (append_assoc front (action ∷ []) x.0))
 joined front action (Err e) = refl
 
-read_step : (front : List Action) (left : ℕ) (rest : List ℕ) (action : Action) (after : List ℕ) → action_at rest ≡ Ok (action, after)
-    → prefixed front (actions_at (suc left) rest) ≡ prefixed (front ++ action ∷ []) (actions_at left after)
+read_step : (v : Version) (front : List Action) (left : ℕ) (rest : List ℕ) (action : Action) (after : List ℕ) → action_at v rest ≡ Ok (action, after)
+    → prefixed front (actions_at v (suc left) rest) ≡ prefixed (front ++ action ∷ []) (actions_at v left after)
 unfolding actions_at
-read_step front left rest action after e = rw e (joined front action (actions_at left after))
+read_step v front left rest action after e = rw e (joined front action (actions_at v left after))
 
-pub one_more_read : (count : ℕ) (bytes : List ℕ) (done : ℕ) (front : List Action) (rest : List ℕ) (action : Action) (after : List ℕ)
-    → HasRead count bytes done front rest → done < count → action_at rest ≡ Ok (action, after) → HasRead count bytes (done + 1) (front ++ action ∷ []) after
-one_more_read count bytes done front rest action after h more e =
+pub one_more_read : (v : Version) (count : ℕ) (bytes : List ℕ) (done : ℕ) (front : List Action) (rest : List ℕ) (action : Action) (after : List ℕ)
+    → HasRead v count bytes done front rest → done < count → action_at v rest ≡ Ok (action, after) → HasRead v count bytes (done + 1) (front ++ action ∷ []) after
+one_more_read v count bytes done front rest action after h more e =
     let left : ℕ = count - (done + 1) in
     let counted : count - done ≡ suc left = omega arith in
-    record { read = h.read ∙ ap (λ (k : ℕ). prefixed front (actions_at k rest)) counted ∙ read_step front left rest action after e }
+    record { read = h.read ∙ ap (λ (k : ℕ). prefixed front (actions_at v k rest)) counted ∙ read_step v front left rest action after e }
 
-fault_step : (front : List Action) (left : ℕ) (rest : List ℕ) (reason : PacketReason) → action_at rest ≡ Err reason
-    → prefixed front (actions_at (suc left) rest) ≡ Err reason
+fault_step : (v : Version) (front : List Action) (left : ℕ) (rest : List ℕ) (reason : PacketReason) → action_at v rest ≡ Err reason
+    → prefixed front (actions_at v (suc left) rest) ≡ Err reason
 unfolding actions_at
-fault_step front left rest reason e = rw e refl
+fault_step v front left rest reason e = rw e refl
 
-pub fault_read : (count : ℕ) (bytes : List ℕ) (done : ℕ) (front : List Action) (rest : List ℕ) (reason : PacketReason)
-    → HasRead count bytes done front rest → done < count → action_at rest ≡ Err reason → actions_at count bytes ≡ Err reason
-fault_read count bytes done front rest reason h more e =
+pub fault_read : (v : Version) (count : ℕ) (bytes : List ℕ) (done : ℕ) (front : List Action) (rest : List ℕ) (reason : PacketReason)
+    → HasRead v count bytes done front rest → done < count → action_at v rest ≡ Err reason → actions_at v count bytes ≡ Err reason
+fault_read v count bytes done front rest reason h more e =
     let left : ℕ = count - (done + 1) in
     let counted : count - done ≡ suc left = omega arith in
-    h.read ∙ ap (λ (k : ℕ). prefixed front (actions_at k rest)) counted ∙ fault_step front left rest reason e
+    h.read ∙ ap (λ (k : ℕ). prefixed front (actions_at v k rest)) counted ∙ fault_step v front left rest reason e
 
-last_step : (front : List Action) (rest : List ℕ) → prefixed front (actions_at 0 rest) ≡ Ok (front, rest)
+last_step : (v : Version) (front : List Action) (rest : List ℕ) → prefixed front (actions_at v 0 rest) ≡ Ok (front, rest)
 unfolding actions_at
-last_step front rest = ap (λ (l : List Action). Ok (l, rest)) (append-nil front)
+last_step v front rest = ap (λ (l : List Action). Ok (l, rest)) (append-nil front)
 
-pub all_read : (count : ℕ) (bytes : List ℕ) (done : ℕ) (front : List Action) (rest : List ℕ)
-    → HasRead count bytes done front rest → count ≤ done → actions_at count bytes ≡ Ok (front, rest)
-all_read count bytes done front rest h whole =
+pub all_read : (v : Version) (count : ℕ) (bytes : List ℕ) (done : ℕ) (front : List Action) (rest : List ℕ)
+    → HasRead v count bytes done front rest → count ≤ done → actions_at v count bytes ≡ Ok (front, rest)
+all_read v count bytes done front rest h whole =
     let counted : count - done ≡ 0 = omega arith in
-    h.read ∙ ap (λ (k : ℕ). prefixed front (actions_at k rest)) counted ∙ last_step front rest
+    h.read ∙ ap (λ (k : ℕ). prefixed front (actions_at v k rest)) counted ∙ last_step v front rest
 
 -- ---- what follows from a list that was read whole
 
@@ -80,13 +81,13 @@ same_list read list rest e actions after f =
     ap (λ (p : List Action × List ℕ). p.0) same
 
 -- a report, field by field
-pub report_found : (bytes after_first after_applied text told after : List ℕ) (first applied count : ℕ) (actions : List Action)
+pub report_found : (v : Version) (bytes after_first after_applied text told after : List ℕ) (first applied count : ℕ) (actions : List Action)
     → position_at bytes ≡ Ok (first, after_first) → number_at w16 after_first ≡ Ok (applied, after_applied) → byte_at after_applied ≡ Ok (count, text)
-    → count ≡ report_len first applied → told ≡ text → actions_at count text ≡ Ok (actions, after)
-    → (actions_at count told ≡ Ok (actions, after)) × (report_at bytes ≡ Ok (Report first applied actions, after))
+    → count ≡ report_len first applied → told ≡ text → actions_at v count text ≡ Ok (actions, after)
+    → (actions_at v count told ≡ Ok (actions, after)) × (report_at v bytes ≡ Ok (Report first applied actions, after))
 unfolding report_at
-report_found bytes after_first after_applied text told after first applied count actions e1 e2 e3 counted same e4 =
-    (ap (actions_at count) same ∙ e4, rw (e1, e2, e3, eq-eqb _ _ counted, e4) refl)
+report_found v bytes after_first after_applied text told after first applied count actions e1 e2 e3 counted same e4 =
+    (ap (actions_at v count) same ∙ e4, rw (e1, e2, e3, eq-eqb _ _ counted, e4) refl)
 
 -- ---- and written
 

@@ -9,12 +9,14 @@ use Rattle.rp_codec.specs.declared.packet.Body.TheVariants as bodies
 use Rattle.rp_codec.specs.declared.kind.Kind.{Kind}
 use Rattle.rp_codec.specs.declared.kind.Kind.TheVariants.{Call, Prepare, Promise, Accept, Accepted, Decided, Ask, Nack, Reply as Answer, Report}
 use Rattle.rp_codec.specs.Kind.{kind_of}
+use Rattle.rp_codec.specs.declared.version.Version.{Version}
 use Rattle.rp_codec.specs.Message.{Message, IsParty, IsNodeParty, IsTaskParty, IsAudit, MaySay, IsPacket}
-use Rattle.rp_codec.specs.Text.{party_text, kind_number, body_text, text_of}
+use Rattle.rp_codec.specs.Text.{party_text, kind_number, body_text_at, text_at, HasText}
 use Rattle.rp_codec.specs.Reading.{is_node, node_at, task_at, audit_at, from_at, to_at, said_at, packet_at}
 use Rattle.rp_codec.proofs.RuleTests.{is_node_decides}
 use Rattle.rp_codec.proofs.Steps.{IsBytes, Yields, Took, then, guarded}
 use Rattle.rp_codec.proofs.FieldLaws.{TookByte, byte_took}
+use Rattle.rp_codec.proofs.VersionLaws.{version_of_number}
 use Rattle.rp_codec.proofs.BodyLaws.{number_of, IsFrom, IsTo, TookBody, body_took, kind_of_body, body_again}
 
 -- ---- parties
@@ -133,21 +135,21 @@ to_again Report party rest range to = audit_again party rest to
 
 -- ---- what stands behind the kind
 
-abbrev pub said_text : Message → List ℕ
-said_text m = party_text m.from ++ party_text m.to ++ body_text m.body
+abbrev pub said_text : Version → Message → List ℕ
+said_text v m = party_text m.from ++ party_text m.to ++ body_text_at v m.body
 
-abbrev pub IsPacketOf : Kind → Message → Type 0
-IsPacketOf kind m = IsPacket m × (number_of kind ≡ kind_number m.body)
+abbrev pub IsPacketOf : Version → Kind → Message → Type 0
+IsPacketOf v kind m = IsPacket m × HasText v m × (number_of kind ≡ kind_number m.body)
 
-abbrev pub TookSaid : Kind → List ℕ → Message × List ℕ → Type 0
-TookSaid kind bytes = Took said_text (IsPacketOf kind) bytes
+abbrev pub TookSaid : Version → Kind → List ℕ → Message × List ℕ → Type 0
+TookSaid v kind bytes = Took (said_text v) (IsPacketOf v kind) bytes
 
-pub said_took : (kind : Kind) (bytes : List ℕ) → IsBytes bytes → Yields (TookSaid kind bytes) (said_at kind bytes)
+pub said_took : (v : Version) (kind : Kind) (bytes : List ℕ) → IsBytes bytes → Yields (TookSaid v kind bytes) (said_at v kind bytes)
 unfolding said_at
-said_took kind bytes h =
-    then (TookFrom kind bytes) (TookSaid kind bytes) _ _ (from_took kind bytes h)
-    (λ from f. then (TookTo kind from.1) (TookSaid kind bytes) _ _ (to_took kind from.1 f.rest)
-    (λ to t. then (TookBody kind from.0 to.1) (TookSaid kind bytes) _ _ (body_took kind from.0 to.1 t.rest)
+said_took v kind bytes h =
+    then (TookFrom kind bytes) (TookSaid v kind bytes) _ _ (from_took kind bytes h)
+    (λ from f. then (TookTo kind from.1) (TookSaid v kind bytes) _ _ (to_took kind from.1 f.rest)
+    (λ to t. then (TookBody v kind from.0 to.1) (TookSaid v kind bytes) _ _ (body_took v kind from.0 to.1 t.rest)
     (λ body b. record {
       parts = rw (f.parts, t.parts, b.parts) (simp append_assoc);
       rest = b.rest;
@@ -156,6 +158,7 @@ said_took kind bytes h =
           ranges = record { from = f.right.0; to = t.right.0; body = b.right.ranges };
           rules = b.right.rules to.0 f.right.1 t.right.1;
         },
+        b.right.has,
         b.right.number,
       );
     })))
@@ -173,13 +176,13 @@ may_send from to (bodies.Nack position ballot bound) rules = rules.0
 may_send from to (bodies.Reply number reply) rules = (rules.0, rules.1)
 may_send from to (bodies.Report first applied actions) rules = (rules.0, rules.1)
 
-said_again : (m : Message) (rest : List ℕ) → IsPacket m → said_at (kind_of_body m.body) (said_text m ++ rest) ≡ Ok (m, rest)
+said_again : (v : Version) (m : Message) (rest : List ℕ) → IsPacket m → HasText v m → said_at v (kind_of_body m.body) (said_text v m ++ rest) ≡ Ok (m, rest)
 unfolding said_at
-said_again m rest packet =
+said_again v m rest packet has =
     let kind : Kind = kind_of_body m.body in
     let parties = may_send m.from m.to m.body packet.rules in
-    let parts : said_text m ++ rest ≡ party_text m.from ++ (party_text m.to ++ (body_text m.body ++ rest)) = simp append_assoc in
-    ap (said_at kind) parts ∙ rw (from_again kind m.from (party_text m.to ++ (body_text m.body ++ rest)) packet.ranges.from parties.0, to_again kind m.to (body_text m.body ++ rest) packet.ranges.to parties.1, body_again m.from m.to m.body rest packet.ranges.body packet.rules) refl
+    let parts : said_text v m ++ rest ≡ party_text m.from ++ (party_text m.to ++ (body_text_at v m.body ++ rest)) = simp append_assoc in
+    ap (said_at v kind) parts ∙ rw (from_again kind m.from (party_text m.to ++ (body_text_at v m.body ++ rest)) packet.ranges.from parties.0, to_again kind m.to (body_text_at v m.body ++ rest) packet.ranges.to parties.1, body_again v m.from m.to m.body rest packet.ranges.body packet.rules has) refl
 
 -- ---- whole packets
 
@@ -195,6 +198,6 @@ kind_of_number (bodies.Nack position ballot bound) = refl
 kind_of_number (bodies.Reply number reply) = refl
 kind_of_number (bodies.Report first applied actions) = refl
 
-pub packet_again : (m : Message) (rest : List ℕ) → IsPacket m → packet_at (text_of m ++ rest) ≡ Ok (m, rest)
+pub packet_again : (v : Version) (m : Message) (rest : List ℕ) → IsPacket m → HasText v m → packet_at (text_at v m ++ rest) ≡ Ok (m, rest)
 unfolding packet_at
-packet_again m rest packet = rw (kind_of_number m.body) (said_again m rest packet)
+packet_again v m rest packet has = rw (version_of_number v, kind_of_number m.body) (said_again v m rest packet has)

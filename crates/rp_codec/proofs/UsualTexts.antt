@@ -33,20 +33,20 @@ call_joined bytes front b1 number b2 middle b3 arg b4 task n object operation z 
 -- what stands before the action: who, at which position, in which ballot
 pub place_joined : (front head r1 position r2 ballot r3 : List ℕ) (kind from to : ℕ) (position_text ballot_text : List ℕ)
     → front ≡ head ++ r1 → r1 ≡ position ++ r2 → r2 ≡ ballot ++ r3 → r3 ≡ []
-    → head ≡ 1 ∷ kind ∷ from ∷ to ∷ [] → position ≡ position_text → ballot ≡ ballot_text
-    → front ≡ 1 ∷ kind ∷ from ∷ to ∷ (position_text ++ ballot_text)
+    → head ≡ 2 ∷ kind ∷ from ∷ to ∷ [] → position ≡ position_text → ballot ≡ ballot_text
+    → front ≡ 2 ∷ kind ∷ from ∷ to ∷ (position_text ++ ballot_text)
 place_joined front head r1 position r2 ballot r3 kind from to p b e1 e2 e3 e4 h is_p is_b =
     rw (e1, e2, e3, e4, h, is_p, is_b) (simp append-nil)
 
 -- a vote, or what asks for one
 pub vote_joined : (bytes front rest : List ℕ) (kind from to : ℕ) (place action : List ℕ)
-    → bytes ≡ front ++ rest → front ≡ 1 ∷ kind ∷ from ∷ to ∷ place → rest ≡ action → bytes ≡ 1 ∷ kind ∷ from ∷ to ∷ (place ++ action)
+    → bytes ≡ front ++ rest → front ≡ 2 ∷ kind ∷ from ∷ to ∷ place → rest ≡ action → bytes ≡ 2 ∷ kind ∷ from ∷ to ∷ (place ++ action)
 vote_joined bytes front rest kind from to place action e f r = rw (e, f, r) refl
 
 -- an action that is decided at a position
 pub decided_joined : (bytes head rest position last : List ℕ) (kind from to : ℕ) (place action : List ℕ)
-    → bytes ≡ head ++ rest → rest ≡ position ++ last → head ≡ 1 ∷ kind ∷ from ∷ to ∷ [] → position ≡ place → last ≡ action
-    → bytes ≡ 1 ∷ kind ∷ from ∷ to ∷ (place ++ action)
+    → bytes ≡ head ++ rest → rest ≡ position ++ last → head ≡ 2 ∷ kind ∷ from ∷ to ∷ [] → position ≡ place → last ≡ action
+    → bytes ≡ 2 ∷ kind ∷ from ∷ to ∷ (place ++ action)
 decided_joined bytes head rest position last kind from to place action e1 e2 h p a = rw (e1, e2, h, p, a) refl
 
 pub one : (l : List ℕ) (a : ℕ) → length l ≡ 1 → get_or l 0 0 ≡ a → l ≡ a ∷ []
@@ -62,7 +62,7 @@ four (x ∷ l) a b c d long i j k m =
 -- a reply with a value
 pub reply_joined : (bytes head r1 number r2 tag r3 value r4 : List ℕ) (kind from to : ℕ) (count signed : List ℕ)
     → bytes ≡ head ++ r1 → r1 ≡ number ++ r2 → r2 ≡ tag ++ r3 → r3 ≡ value ++ r4 → r4 ≡ []
-    → head ≡ 1 ∷ kind ∷ from ∷ to ∷ [] → number ≡ count → tag ≡ 1 ∷ [] → value ≡ signed
-    → bytes ≡ 1 ∷ kind ∷ from ∷ to ∷ (count ++ 1 ∷ signed)
+    → head ≡ 2 ∷ kind ∷ from ∷ to ∷ [] → number ≡ count → tag ≡ 1 ∷ [] → value ≡ signed
+    → bytes ≡ 2 ∷ kind ∷ from ∷ to ∷ (count ++ 1 ∷ signed)
 reply_joined bytes head r1 number r2 tag r3 value r4 kind from to count signed e1 e2 e3 e4 e5 h n t v =
     rw (e1, e2, e3, e4, e5, h, n, t, v) (simp append-nil)

@@ -7,6 +7,7 @@ use Rattle.rp_codec.specs.declared.packet.Body.TheVariants.{Report}
 use Rattle.rp_codec.specs.declared.content.Content.{Content}
 use Rattle.rp_codec.specs.declared.content.Content.TheVariants.{Whole, Listed}
 use Rattle.rp_codec.specs.declared.content.Found.{Found}
+use Rattle.rp_codec.specs.declared.version.Version.{Version}
 use Rattle.rp_codec.specs.Message.{Message, KeepsRules}
 use Rattle.rp_codec.specs.Reading.{Read, actions_at}
 
@@ -18,8 +19,8 @@ Skips (Err e) after read = read ≡ Err e
 -- a content that ends where these bytes begin stands for this body
 abbrev pub StandsFor : Content → List ℕ → Body → Type 0
 StandsFor (Whole whole) after body = body ≡ whole
-StandsFor (Listed first applied count text) after body =
-    (actions : List Action) × (actions_at count text ≡ Ok (actions, after)) × (body ≡ Report first applied actions)
+StandsFor (Listed version first applied count text) after body =
+    (actions : List Action) × (actions_at version count text ≡ Ok (actions, after)) × (body ≡ Report first applied actions)
 
 -- what a function returned, and the bytes that it left, stand for what reading gives
 abbrev pub Finds : Result Content PacketReason → List ℕ → Read Body → Type 0
@@ -45,8 +46,9 @@ abbrev pub KeepsRulesAt : Found → Type 0
 KeepsRulesAt found = (body : Body) × (after : List ℕ) × StandsFor found.content after body × KeepsRules (with_body found body)
 
 -- the list is that of the first so many actions
-abbrev pub AreFirst : List Action → ℕ → List ℕ → Type 0
-AreFirst list count text = (actions : List Action) (after : List ℕ) → actions_at count text ≡ Ok (actions, after) → list ≡ actions
+abbrev pub AreFirst : List Action → Version → ℕ → List ℕ → Type 0
+AreFirst list version count text =
+    (actions : List Action) (after : List ℕ) → actions_at version count text ≡ Ok (actions, after) → list ≡ actions
 
 -- the packet is the one that was found
 abbrev pub IsListed : Message → Found → Type 0
@@ -55,4 +57,4 @@ IsListed packet found = (body : Body) (after : List ℕ) → StandsFor found.con
 -- a report, whose actions are yet to be put into a list
 abbrev pub IsList : Content → Type 0
 IsList (Whole body) = ⊥
-IsList (Listed first applied count text) = Unit {0}
+IsList (Listed version first applied count text) = Unit {0}

@@ -1,4 +1,5 @@
 pub mod Message
+pub mod Version
 pub mod Text
 pub mod Kind
 pub mod Reading

@@ -2,7 +2,7 @@
 use Rattle.std.specs.Prelude.{◌≡◌, ℕ, zero, suc, ◌-◌, ◌^◌, ◌%◌, Bool, true, false, ◌&&◌, List, [], ◌∷◌, length, take, drop, Option, Some, None, Result, Ok, Err, nat_lt, nat_le, ◌==◌, if◌then◌else◌, ℤ}
 use Rattle.std.specs.Int.{Width, w16, w32, w64, byte_len, from_be_bytes, cast_signed}
 use Rattle.rp_base.specs.declared.fault.PacketReason.{PacketReason}
-use Rattle.rp_base.specs.declared.fault.PacketReason.TheVariants.{Short, Long, Version, Kind as UnknownKind, Field}
+use Rattle.rp_base.specs.declared.fault.PacketReason.TheVariants.{Short, Long, Version as UnknownVersion, Kind as UnknownKind, Field}
 use Rattle.rp_base.specs.declared.action.Operation.{Operation}
 use Rattle.rp_base.specs.declared.action.Operation.TheVariants as operations
 use Rattle.rp_base.specs.declared.action.Action.{Action}
@@ -17,6 +17,9 @@ use Rattle.rp_codec.specs.declared.packet.Body.TheVariants as bodies
 use Rattle.rp_codec.specs.declared.kind.Kind.{Kind}
 use Rattle.rp_codec.specs.declared.kind.Kind.TheVariants.{Call, Prepare, Promise, Accept, Accepted, Decided, Ask, Nack, Reply as Answer, Report}
 use Rattle.rp_codec.specs.Kind.{kind_of}
+use Rattle.rp_codec.specs.declared.version.Version.{Version}
+use Rattle.rp_codec.specs.declared.version.Version.TheVariants.{V1, V2}
+use Rattle.rp_codec.specs.Version.{version_of}
 use Rattle.rp_codec.specs.Message.{Message, report_len}
 
 infixl 10 ◌>>=◌
@@ -91,33 +94,41 @@ indexed_at operation bytes = do
   index ← index_at bytes
   Ok (operation index.0, index.1)
 
--- an entry's index is 0, which means entry 1
-abbrev pub entry_at : List ℕ → Read Operation
-entry_at bytes = do
-  index ← byte_at bytes
-  first ← ruled (index.0 == 0) index
-  Ok (operations.Entry 1, first.1)
+-- an entry's index: 0 in version 1, where it means entry 1, and 1 to 4 in version 2
+abbrev pub is_entry_byte : Version → ℕ → Bool
+is_entry_byte V1 n = n == 0
+is_entry_byte V2 n = nat_le 1 n && nat_le n 4
 
-abbrev pub operation_of_kind : ℕ → List ℕ → Read Operation
-operation_of_kind kind bytes =
+abbrev pub entry_of : Version → ℕ → ℕ
+entry_of V1 n = 1
+entry_of V2 n = n
+
+abbrev pub entry_at : Version → List ℕ → Read Operation
+entry_at version bytes = do
+  index ← byte_at bytes
+  right ← ruled (is_entry_byte version index.0) index
+  Ok (operations.Entry (entry_of version right.0), right.1)
+
+abbrev pub operation_of_kind : Version → ℕ → List ℕ → Read Operation
+operation_of_kind version kind bytes =
     if kind == 1 then indexed_at operations.Function bytes else
     if kind == 2 then indexed_at operations.Procedure bytes else
-    if kind == 3 then entry_at bytes else
+    if kind == 3 then entry_at version bytes else
     if kind == 4 then indexed_at operations.SetTimer bytes else
     if kind == 5 then indexed_at operations.CancelTimer bytes else
     Err Field
 
-unfoldable pub operation_at : List ℕ → Read Operation
-operation_at bytes = do
+unfoldable pub operation_at : Version → List ℕ → Read Operation
+operation_at version bytes = do
   kind ← byte_at bytes
-  operation_of_kind kind.0 kind.1
+  operation_of_kind version kind.0 kind.1
 
 -- a task's call, behind its task
-unfoldable pub call_at : ℕ → List ℕ → Read Action
-call_at task bytes = do
+unfoldable pub call_at : Version → ℕ → List ℕ → Read Action
+call_at version task bytes = do
   number ← count_at bytes
   object ← index_at number.1
-  operation ← operation_at object.1
+  operation ← operation_at version object.1
   arg ← signed_at operation.1
   Ok (actions.Call task number.0 object.0 operation.0 arg.0, arg.1)
 
@@ -132,23 +143,23 @@ tick_at bytes = do
   now ← number_at w32 bytes
   Ok (actions.Tick now.0, now.1)
 
-unfoldable pub any_call_at : List ℕ → Read Action
-any_call_at bytes = do
+unfoldable pub any_call_at : Version → List ℕ → Read Action
+any_call_at version bytes = do
   task ← index_at bytes
-  call_at task.0 task.1
+  call_at version task.0 task.1
 
-abbrev pub action_of_tag : ℕ → List ℕ → Read Action
-action_of_tag tag bytes =
+abbrev pub action_of_tag : Version → ℕ → List ℕ → Read Action
+action_of_tag version tag bytes =
     if tag == 0 then Ok (actions.Noop, bytes) else
-    if tag == 1 then any_call_at bytes else
+    if tag == 1 then any_call_at version bytes else
     if tag == 2 then interrupt_at bytes else
     if tag == 3 then tick_at bytes else
     Err Field
 
-unfoldable pub action_at : List ℕ → Read Action
-action_at bytes = do
+unfoldable pub action_at : Version → List ℕ → Read Action
+action_at version bytes = do
   tag ← byte_at bytes
-  action_of_tag tag.0 tag.1
+  action_of_tag version tag.0 tag.1
 
 abbrev pub is_task : Party → ℕ → Bool
 is_task (Node n) task = false
@@ -156,20 +167,20 @@ is_task (Task t) task = task == t
 is_task Audit task = false
 
 -- an action that is a call of this party
-unfoldable pub own_call_at : Party → List ℕ → Read Action
-own_call_at from bytes = do
+unfoldable pub own_call_at : Version → Party → List ℕ → Read Action
+own_call_at version from bytes = do
   tag ← byte_at bytes
   call ← ruled (tag.0 == 1) tag
   task ← index_at call.1
   own ← ruled (is_task from task.0) task
-  call_at own.0 own.1
+  call_at version own.0 own.1
 
 -- so many actions, one behind the other
-unfoldable pub actions_at : ℕ → List ℕ → Read (List Action)
-actions_at zero bytes = Ok ([], bytes)
-actions_at (suc more) bytes = do
-  action ← action_at bytes
-  others ← actions_at more action.1
+unfoldable pub actions_at : Version → ℕ → List ℕ → Read (List Action)
+actions_at version zero bytes = Ok ([], bytes)
+actions_at version (suc more) bytes = do
+  action ← action_at version bytes
+  others ← actions_at version more action.1
   Ok (action.0 ∷ others.0, others.1)
 
 -- ---- replies
@@ -219,22 +230,22 @@ higher_ballot_at ballot bytes = do
   ruled (nat_lt ballot higher.0) higher
 
 -- a vote in a ballot below this one
-unfoldable pub vote_at : ℕ → List ℕ → Read (Option Vote)
-vote_at ballot bytes = do
+unfoldable pub vote_at : Version → ℕ → List ℕ → Read (Option Vote)
+vote_at version ballot bytes = do
   voted ← lower_ballot_at ballot bytes
-  action ← action_at voted.1
+  action ← action_at version voted.1
   Ok (Some (record { ballot = voted.0; action = action.0 }), action.1)
 
-abbrev pub last_of_flag : ℕ → ℕ → List ℕ → Read (Option Vote)
-last_of_flag ballot flag bytes =
+abbrev pub last_of_flag : Version → ℕ → ℕ → List ℕ → Read (Option Vote)
+last_of_flag version ballot flag bytes =
     if flag == 0 then Ok (None, bytes) else
-    if flag == 1 then vote_at ballot bytes else
+    if flag == 1 then vote_at version ballot bytes else
     Err Field
 
-unfoldable pub last_at : ℕ → List ℕ → Read (Option Vote)
-last_at ballot bytes = do
+unfoldable pub last_at : Version → ℕ → List ℕ → Read (Option Vote)
+last_at version ballot bytes = do
   flag ← byte_at bytes
-  last_of_flag ballot flag.0 flag.1
+  last_of_flag version ballot flag.0 flag.1
 
 unfoldable pub prepare_at : List ℕ → Read Body
 prepare_at bytes = do
@@ -242,31 +253,31 @@ prepare_at bytes = do
   ballot ← ballot_at position.1
   Ok (bodies.Prepare position.0 ballot.0, ballot.1)
 
-unfoldable pub promise_at : List ℕ → Read Body
-promise_at bytes = do
+unfoldable pub promise_at : Version → List ℕ → Read Body
+promise_at version bytes = do
   position ← position_at bytes
   ballot ← ballot_at position.1
-  last ← last_at ballot.0 ballot.1
+  last ← last_at version ballot.0 ballot.1
   Ok (bodies.Promise position.0 ballot.0 last.0, last.1)
 
-unfoldable pub accept_at : List ℕ → Read Body
-accept_at bytes = do
+unfoldable pub accept_at : Version → List ℕ → Read Body
+accept_at version bytes = do
   position ← position_at bytes
   ballot ← ballot_at position.1
-  action ← action_at ballot.1
+  action ← action_at version ballot.1
   Ok (bodies.Accept position.0 ballot.0 action.0, action.1)
 
-unfoldable pub accepted_at : List ℕ → Read Body
-accepted_at bytes = do
+unfoldable pub accepted_at : Version → List ℕ → Read Body
+accepted_at version bytes = do
   position ← position_at bytes
   ballot ← ballot_at position.1
-  action ← action_at ballot.1
+  action ← action_at version ballot.1
   Ok (bodies.Accepted position.0 ballot.0 action.0, action.1)
 
-unfoldable pub decided_at : List ℕ → Read Body
-decided_at bytes = do
+unfoldable pub decided_at : Version → List ℕ → Read Body
+decided_at version bytes = do
   position ← position_at bytes
-  action ← action_at position.1
+  action ← action_at version position.1
   Ok (bodies.Decided position.0 action.0, action.1)
 
 unfoldable pub ask_at : List ℕ → Read Body
@@ -287,32 +298,32 @@ answer_at bytes = do
   reply ← reply_at number.1
   Ok (bodies.Reply number.0 reply.0, reply.1)
 
-unfoldable pub task_call_at : Party → List ℕ → Read Body
-task_call_at from bytes = do
-  action ← own_call_at from bytes
+unfoldable pub task_call_at : Version → Party → List ℕ → Read Body
+task_call_at version from bytes = do
+  action ← own_call_at version from bytes
   Ok (bodies.Call action.0, action.1)
 
 -- a report of as many actions as its numbers say
-unfoldable pub report_at : List ℕ → Read Body
-report_at bytes = do
+unfoldable pub report_at : Version → List ℕ → Read Body
+report_at version bytes = do
   first ← position_at bytes
   applied ← number_at w16 first.1
   count ← byte_at applied.1
   right ← ruled (count.0 == report_len first.0 applied.0) count
-  actions ← actions_at right.0 right.1
+  actions ← actions_at version right.0 right.1
   Ok (bodies.Report first.0 applied.0 actions.0, actions.1)
 
-unfoldable pub body_at : Kind → Party → List ℕ → Read Body
-body_at Call from bytes = task_call_at from bytes
-body_at Prepare from bytes = prepare_at bytes
-body_at Promise from bytes = promise_at bytes
-body_at Accept from bytes = accept_at bytes
-body_at Accepted from bytes = accepted_at bytes
-body_at Decided from bytes = decided_at bytes
-body_at Ask from bytes = ask_at bytes
-body_at Nack from bytes = nack_at bytes
-body_at Answer from bytes = answer_at bytes
-body_at Report from bytes = report_at bytes
+unfoldable pub body_at : Version → Kind → Party → List ℕ → Read Body
+body_at version Call from bytes = task_call_at version from bytes
+body_at version Prepare from bytes = prepare_at bytes
+body_at version Promise from bytes = promise_at version bytes
+body_at version Accept from bytes = accept_at version bytes
+body_at version Accepted from bytes = accepted_at version bytes
+body_at version Decided from bytes = decided_at version bytes
+body_at version Ask from bytes = ask_at bytes
+body_at version Nack from bytes = nack_at bytes
+body_at version Answer from bytes = answer_at bytes
+body_at version Report from bytes = report_at version bytes
 
 -- ---- packets
 
@@ -362,33 +373,34 @@ to_at Answer bytes = task_at bytes
 to_at Report bytes = audit_at bytes
 
 -- what stands behind the kind
-unfoldable pub said_at : Kind → List ℕ → Read Message
-said_at kind bytes = do
+unfoldable pub said_at : Version → Kind → List ℕ → Read Message
+said_at version kind bytes = do
   from ← from_at kind bytes
   to ← to_at kind from.1
-  body ← body_at kind from.0 to.1
+  body ← body_at version kind from.0 to.1
   Ok (record { from = from.0; to = to.0; body = body.0 }, body.1)
 
-abbrev pub version_at : List ℕ → Read ℕ
+-- a value, or this reason where there is none
+abbrev pub known : {A : Type 0} → PacketReason → Option A → List ℕ → Read A
+known reason (Some x) rest = Ok (x, rest)
+known reason None rest = Err reason
+
+abbrev pub version_at : List ℕ → Read Version
 version_at bytes = do
   n ← byte_at bytes
-  if n.0 == 1 then Ok n else Err Version
-
-abbrev pub known : {A : Type 0} → Option A → List ℕ → Read A
-known (Some x) rest = Ok (x, rest)
-known None rest = Err UnknownKind
+  known UnknownVersion (version_of n.0) n.1
 
 abbrev pub kind_at : List ℕ → Read Kind
 kind_at bytes = do
   n ← byte_at bytes
-  known (kind_of n.0) n.1
+  known UnknownKind (kind_of n.0) n.1
 
--- a packet and the bytes after it
+-- a packet of either version and the bytes after it
 unfoldable pub packet_at : List ℕ → Read Message
 packet_at bytes = do
   version ← version_at bytes
   kind ← kind_at version.1
-  said_at kind.0 kind.1
+  said_at version.0 kind.0 kind.1
 
 -- all of the bytes
 unfoldable pub all_of : List ℕ → Result Message PacketReason

@@ -1,18 +1,40 @@
--- The one text of each record, and which records have one (the format is this project's own).
+-- The text of each record in each version, and which records have one (the format is this project's own).
 use Rattle.std.specs.Prelude.{◌≡◌, ℕ, List, [], ◌∷◌, ◌++◌}
 use Rattle.rp_base.specs.Number.{IsPosition}
 use Rattle.rp_base.specs.Ballot.{IsBallot}
 use Rattle.rp_base.specs.Right.{IsRightRecord}
 use Rattle.rp_base.specs.declared.record.Rec.{Rec}
 use Rattle.rp_base.specs.declared.record.Rec.TheVariants.{Started, Promised, Voted, Learned}
-use Rattle.rp_codec.specs.Text.{position_text, ballot_text, action_text}
+use Rattle.rp_codec.specs.declared.version.Version.{Version}
+use Rattle.rp_codec.specs.declared.version.Version.TheVariants.{V2}
+use Rattle.rp_codec.specs.Version.{version_number}
+use Rattle.rp_codec.specs.Text.{position_text, ballot_text, action_text_at, HasActionText}
 
--- version 1, the kind, and the fields in order
+-- the version, the kind, and the fields in order
+abbrev pub record_text_at : Version → Rec → List ℕ
+record_text_at version (Started ballot) = (version_number version ∷ 1 ∷ []) ++ ballot_text ballot
+record_text_at version (Promised position ballot) =
+    (version_number version ∷ 2 ∷ []) ++ position_text position ++ ballot_text ballot
+record_text_at version (Voted position ballot action) =
+    (version_number version ∷ 3 ∷ []) ++ position_text position ++ ballot_text ballot ++ action_text_at version action
+record_text_at version (Learned position action) =
+    (version_number version ∷ 4 ∷ []) ++ position_text position ++ action_text_at version action
+
+-- what is written of a record
 abbrev pub record_text : Rec → List ℕ
-record_text (Started ballot) = (1 ∷ 1 ∷ []) ++ ballot_text ballot
-record_text (Promised position ballot) = (1 ∷ 2 ∷ []) ++ position_text position ++ ballot_text ballot
-record_text (Voted position ballot action) = (1 ∷ 3 ∷ []) ++ position_text position ++ ballot_text ballot ++ action_text action
-record_text (Learned position action) = (1 ∷ 4 ∷ []) ++ position_text position ++ action_text action
+record_text rec = record_text_at V2 rec
+
+-- the record has a text of the version
+abbrev pub HasRecordText : Version → Rec → Type 0
+HasRecordText version (Started ballot) = Unit {0}
+HasRecordText version (Promised position ballot) = Unit {0}
+HasRecordText version (Voted position ballot action) = HasActionText version action
+HasRecordText version (Learned position action) = HasActionText version action
+
+-- the bytes are a text of the record, and others behind it
+abbrev pub IsRecordTextBefore : Rec → List ℕ → List ℕ → Type 0
+IsRecordTextBefore rec rest bytes =
+    (version : Version) × HasRecordText version rec × (bytes ≡ record_text_at version rec ++ rest)
 
 -- each position and each ballot is one
 abbrev pub HasRecordRanges : Rec → Type 0
@@ -28,4 +50,4 @@ pub record IsRecord (r : Rec) : Type 0 where
 
 -- bytes that begin with a record's text
 abbrev pub BeginsWithRecord : List ℕ → Type 0
-BeginsWithRecord bytes = (r : Rec) × (rest : List ℕ) × IsRecord r × (bytes ≡ record_text r ++ rest)
+BeginsWithRecord bytes = (r : Rec) × (rest : List ℕ) × IsRecord r × IsRecordTextBefore r rest bytes

@@ -3,7 +3,9 @@ use Rattle.std.specs.Prelude.{ℕ, List, Ok, Err, ◌==◌, if◌then◌else◌}
 use Rattle.rp_base.specs.declared.fault.PacketReason.TheVariants.{Field}
 use Rattle.rp_base.specs.declared.record.Rec.{Rec}
 use Rattle.rp_base.specs.declared.record.Rec.TheVariants.{Started, Promised, Voted, Learned}
-use Rattle.rp_codec.specs.Reading.{◌>>=◌, Read, ruled, byte_at, position_at, ballot_at, action_at}
+use Rattle.rp_codec.specs.declared.version.Version.{Version}
+use Rattle.rp_codec.specs.Version.{version_of}
+use Rattle.rp_codec.specs.Reading.{◌>>=◌, Read, known, byte_at, position_at, ballot_at, action_at}
 
 unfoldable pub started_at : List ℕ → Read Rec
 started_at bytes = do
@@ -16,31 +18,31 @@ promised_at bytes = do
   ballot ← ballot_at position.1
   Ok (Promised position.0 ballot.0, ballot.1)
 
-unfoldable pub voted_at : List ℕ → Read Rec
-voted_at bytes = do
+unfoldable pub voted_at : Version → List ℕ → Read Rec
+voted_at version bytes = do
   position ← position_at bytes
   ballot ← ballot_at position.1
-  action ← action_at ballot.1
+  action ← action_at version ballot.1
   Ok (Voted position.0 ballot.0 action.0, action.1)
 
-unfoldable pub learned_at : List ℕ → Read Rec
-learned_at bytes = do
+unfoldable pub learned_at : Version → List ℕ → Read Rec
+learned_at version bytes = do
   position ← position_at bytes
-  action ← action_at position.1
+  action ← action_at version position.1
   Ok (Learned position.0 action.0, action.1)
 
-abbrev pub record_of_kind : ℕ → List ℕ → Read Rec
-record_of_kind kind bytes =
+abbrev pub record_of_kind : Version → ℕ → List ℕ → Read Rec
+record_of_kind version kind bytes =
     if kind == 1 then started_at bytes else
     if kind == 2 then promised_at bytes else
-    if kind == 3 then voted_at bytes else
-    if kind == 4 then learned_at bytes else
+    if kind == 3 then voted_at version bytes else
+    if kind == 4 then learned_at version bytes else
     Err Field
 
--- a record and the bytes after it
+-- a record of either version and the bytes after it
 unfoldable pub record_at : List ℕ → Read Rec
 record_at bytes = do
-  version ← byte_at bytes
-  first ← ruled (version.0 == 1) version
-  kind ← byte_at first.1
-  record_of_kind kind.0 kind.1
+  number ← byte_at bytes
+  version ← known Field (version_of number.0) number.1
+  kind ← byte_at version.1
+  record_of_kind version.0 kind.0 kind.1

@@ -1,5 +1,6 @@
--- The one text of each packet, and of its parts. Numbers stand with their highest byte first.
-use Rattle.std.specs.Prelude.{ℕ, ℤ, ◌+◌, Bool, true, false, List, [], ◌∷◌, ◌++◌, length, flat_map, Option, Some, None}
+-- The text of each packet, and of its parts, in each version. Numbers stand with their highest byte first. What
+-- is written is of version 2; in version 1 an entry's index is 0, and a value with another entry than 1 has no text.
+use Rattle.std.specs.Prelude.{◌≡◌, ℕ, ℤ, ◌+◌, Bool, true, false, List, [], ◌∷◌, ◌++◌, length, flat_map, All, IfSome, Option, Some, None}
 use Rattle.std.specs.Int.{Width, w16, w32, w64, to_be_bytes, cast_unsigned}
 use Rattle.rp_base.specs.declared.action.Operation.{Operation}
 use Rattle.rp_base.specs.declared.action.Operation.TheVariants as operations
@@ -12,6 +13,9 @@ use Rattle.rp_codec.specs.declared.packet.Party.{Party}
 use Rattle.rp_codec.specs.declared.packet.Party.TheVariants.{Node, Task, Audit}
 use Rattle.rp_codec.specs.declared.packet.Body.{Body}
 use Rattle.rp_codec.specs.declared.packet.Body.TheVariants.{Call, Prepare, Promise, Accept, Accepted, Decided, Ask, Nack, Reply as Answer, Report}
+use Rattle.rp_codec.specs.declared.version.Version.{Version}
+use Rattle.rp_codec.specs.declared.version.Version.TheVariants.{V1, V2}
+use Rattle.rp_codec.specs.Version.{version_number}
 use Rattle.rp_codec.specs.Message.{Message}
 
 -- a number in its type's bytes
@@ -28,24 +32,37 @@ position_text position = number_text w16 position
 abbrev pub ballot_text : ℕ → List ℕ
 ballot_text ballot = number_text w64 ballot
 
--- an entry's index is not told, since it is always 1
-abbrev pub operation_text : Operation → List ℕ
-operation_text (operations.Function index) = 1 ∷ index ∷ []
-operation_text (operations.Procedure index) = 2 ∷ index ∷ []
-operation_text (operations.Entry index) = 3 ∷ 0 ∷ []
-operation_text (operations.SetTimer index) = 4 ∷ index ∷ []
-operation_text (operations.CancelTimer index) = 5 ∷ index ∷ []
+-- what stands for an entry's index
+abbrev pub entry_byte : Version → ℕ → ℕ
+entry_byte V1 index = 0
+entry_byte V2 index = index
 
-abbrev pub action_text : Action → List ℕ
-action_text actions.Noop = 0 ∷ []
-action_text (actions.Call task number object operation arg) =
-    (1 ∷ task ∷ number_text w32 number) ++ (object ∷ operation_text operation) ++ signed_text arg
-action_text (actions.Interrupt source occurrence) = 2 ∷ source ∷ number_text w32 occurrence
-action_text (actions.Tick now) = 3 ∷ number_text w32 now
+abbrev pub operation_text_at : Version → Operation → List ℕ
+operation_text_at version (operations.Function index) = 1 ∷ index ∷ []
+operation_text_at version (operations.Procedure index) = 2 ∷ index ∷ []
+operation_text_at version (operations.Entry index) = 3 ∷ entry_byte version index ∷ []
+operation_text_at version (operations.SetTimer index) = 4 ∷ index ∷ []
+operation_text_at version (operations.CancelTimer index) = 5 ∷ index ∷ []
+
+abbrev pub action_text_at : Version → Action → List ℕ
+action_text_at version actions.Noop = 0 ∷ []
+action_text_at version (actions.Call task number object operation arg) =
+    (1 ∷ task ∷ number_text w32 number) ++ (object ∷ operation_text_at version operation) ++ signed_text arg
+action_text_at version (actions.Interrupt source occurrence) = 2 ∷ source ∷ number_text w32 occurrence
+action_text_at version (actions.Tick now) = 3 ∷ number_text w32 now
 
 -- how many actions there are, and each
+abbrev pub actions_text_at : Version → List Action → List ℕ
+actions_text_at version actions = length actions ∷ flat_map (action_text_at version) actions
+
+abbrev pub operation_text : Operation → List ℕ
+operation_text operation = operation_text_at V2 operation
+
+abbrev pub action_text : Action → List ℕ
+action_text action = action_text_at V2 action
+
 abbrev pub actions_text : List Action → List ℕ
-actions_text actions = length actions ∷ flat_map action_text actions
+actions_text actions = actions_text_at V2 actions
 
 -- a vote's place, and its action
 abbrev pub vote_text : ℕ → ℕ → Action → List ℕ
@@ -63,9 +80,12 @@ reply_text replies.ProgramError = 4 ∷ []
 reply_text replies.NoSuchOperation = 5 ∷ []
 
 -- a flag, and the vote where there is one
+abbrev pub last_text_at : Version → Option Vote → List ℕ
+last_text_at version None = 0 ∷ []
+last_text_at version (Some vote) = (1 ∷ ballot_text vote.ballot) ++ action_text_at version vote.action
+
 abbrev pub last_text : Option Vote → List ℕ
-last_text None = 0 ∷ []
-last_text (Some vote) = (1 ∷ ballot_text vote.ballot) ++ action_text vote.action
+last_text last = last_text_at V2 last
 
 abbrev pub party_number : Party → ℕ
 party_number (Node n) = n
@@ -105,21 +125,75 @@ short_body_text (Nack position ballot bound) = position_text position ++ ballot_
 short_body_text (Answer number reply) = number_text w32 number ++ reply_text reply
 short_body_text (Report first applied actions) = position_text first ++ number_text w16 applied
 
-abbrev pub body_text : Body → List ℕ
-body_text (Call action) = action_text action
-body_text (Prepare position ballot) = position_text position ++ ballot_text ballot
-body_text (Promise position ballot last) = position_text position ++ ballot_text ballot ++ last_text last
-body_text (Accept position ballot action) = position_text position ++ ballot_text ballot ++ action_text action
-body_text (Accepted position ballot action) = position_text position ++ ballot_text ballot ++ action_text action
-body_text (Decided position action) = position_text position ++ action_text action
-body_text (Ask position) = position_text position
-body_text (Nack position ballot bound) = position_text position ++ ballot_text ballot ++ ballot_text bound
-body_text (Answer number reply) = number_text w32 number ++ reply_text reply
-body_text (Report first applied actions) = position_text first ++ number_text w16 applied ++ actions_text actions
+abbrev pub body_text_at : Version → Body → List ℕ
+body_text_at version (Call action) = action_text_at version action
+body_text_at version (Prepare position ballot) = position_text position ++ ballot_text ballot
+body_text_at version (Promise position ballot last) =
+    position_text position ++ ballot_text ballot ++ last_text_at version last
+body_text_at version (Accept position ballot action) =
+    position_text position ++ ballot_text ballot ++ action_text_at version action
+body_text_at version (Accepted position ballot action) =
+    position_text position ++ ballot_text ballot ++ action_text_at version action
+body_text_at version (Decided position action) = position_text position ++ action_text_at version action
+body_text_at version (Ask position) = position_text position
+body_text_at version (Nack position ballot bound) = position_text position ++ ballot_text ballot ++ ballot_text bound
+body_text_at version (Answer number reply) = number_text w32 number ++ reply_text reply
+body_text_at version (Report first applied actions) =
+    position_text first ++ number_text w16 applied ++ actions_text_at version actions
 
--- version 1, the kind, and who says it to whom
+-- the version, the kind, and who says it to whom
+abbrev pub head_text_at : Version → Message → List ℕ
+head_text_at version m = (version_number version ∷ kind_number m.body ∷ party_text m.from) ++ party_text m.to
+
+abbrev pub text_at : Version → Message → List ℕ
+text_at version m = head_text_at version m ++ body_text_at version m.body
+
+-- what is written of a packet
 abbrev pub head_text : Message → List ℕ
-head_text m = (1 ∷ kind_number m.body ∷ party_text m.from) ++ party_text m.to
+head_text m = head_text_at V2 m
 
 abbrev pub text_of : Message → List ℕ
-text_of m = head_text m ++ body_text m.body
+text_of m = text_at V2 m
+
+-- ---- what has a text of the version
+
+-- in version 1 entry 1 alone
+abbrev pub HasEntryText : Version → ℕ → Type 0
+HasEntryText V1 index = index ≡ 1
+HasEntryText V2 index = Unit {0}
+
+abbrev pub HasOperationText : Version → Operation → Type 0
+HasOperationText version (operations.Function index) = Unit {0}
+HasOperationText version (operations.Procedure index) = Unit {0}
+HasOperationText version (operations.Entry index) = HasEntryText version index
+HasOperationText version (operations.SetTimer index) = Unit {0}
+HasOperationText version (operations.CancelTimer index) = Unit {0}
+
+abbrev pub HasActionText : Version → Action → Type 0
+HasActionText version actions.Noop = Unit {0}
+HasActionText version (actions.Call task number object operation arg) = HasOperationText version operation
+HasActionText version (actions.Interrupt source occurrence) = Unit {0}
+HasActionText version (actions.Tick now) = Unit {0}
+
+abbrev pub HasBodyText : Version → Body → Type 0
+HasBodyText version (Call action) = HasActionText version action
+HasBodyText version (Prepare position ballot) = Unit {0}
+HasBodyText version (Promise position ballot last) = IfSome last (λ vote. HasActionText version vote.action)
+HasBodyText version (Accept position ballot action) = HasActionText version action
+HasBodyText version (Accepted position ballot action) = HasActionText version action
+HasBodyText version (Decided position action) = HasActionText version action
+HasBodyText version (Ask position) = Unit {0}
+HasBodyText version (Nack position ballot bound) = Unit {0}
+HasBodyText version (Answer number reply) = Unit {0}
+HasBodyText version (Report first applied actions) = All (HasActionText version) actions
+
+abbrev pub HasText : Version → Message → Type 0
+HasText version m = HasBodyText version m.body
+
+-- the bytes are a text of the packet
+abbrev pub IsTextOf : Message → List ℕ → Type 0
+IsTextOf m bytes = (version : Version) × HasText version m × (bytes ≡ text_at version m)
+
+-- the bytes are a text of the packet, and others behind it
+abbrev pub IsTextBefore : Message → List ℕ → List ℕ → Type 0
+IsTextBefore m rest bytes = (version : Version) × HasText version m × (bytes ≡ text_at version m ++ rest)

@@ -1,6 +1,6 @@
 //! Actions as bytes, behind a byte that says which they are: 0 `Noop`, 1 `Call`, 2 `Interrupt`,
 //! 3 `Tick`. In a call, a byte says which operation it is: 1 `Function`, 2 `Procedure`, 3 `Entry`,
-//! 4 `SetTimer`, 5 `CancelTimer`.
+//! 4 `SetTimer`, 5 `CancelTimer`. The index follows, in version 1 0 for an entry.
 
 ghost use Rattle.std.specs.Prelude.{◌≡◌, ◌+◌, ◌≤◌, ◌++◌, length};
 ghost use Rattle.rp_codec.specs.Text.{operation_text, action_text};
@@ -10,24 +10,29 @@ use crate::fields::{put_i64, put_u32, read_count, read_i64, read_index};
 use crate::packet::Party;
 use crate::reader::Reader;
 use crate::short_text::ShortText;
+use crate::version::Version;
 use rp_base::{Action, Operation, PacketReason, TaskId};
 
-/// 0, which means entry 1.
+/// The greatest index of an entry.
+pub(crate) const MOST_ENTRIES: u8 = 4;
+
+/// 1 to 4; in version 1 it is 0, which means entry 1.
 #[inline(always)]
-fn read_entry(reader: &mut Reader) -> Result<Operation, PacketReason>
-    ensures { Gives result reader.new (entry_at reader.old) }
+fn read_entry(reader: &mut Reader, version: Version) -> Result<Operation, PacketReason>
+    ensures { Gives result reader.new (entry_at version reader.old) }
 {
     let index = reader.byte()?;
-    if index != 0 {
-        return Err(PacketReason::Field);
+    match version {
+        Version::V1 if index == 0 => Ok(Operation::Entry(1)),
+        Version::V2 if matches!(index, 1..=MOST_ENTRIES) => Ok(Operation::Entry(index)),
+        Version::V1 | Version::V2 => Err(PacketReason::Field),
     }
-    Ok(Operation::Entry(1))
 }
 
 #[inline(always)]
 #[tactic(auto, unfolding(crate::specs::Reading::operation_at))]
-fn read_operation(reader: &mut Reader) -> Result<Operation, PacketReason>
-    ensures { Gives result reader.new (operation_at reader.old) }
+fn read_operation(reader: &mut Reader, version: Version) -> Result<Operation, PacketReason>
+    ensures { Gives result reader.new (operation_at version reader.old) }
 {
     let kind = reader.byte()?;
     match kind {
@@ -39,7 +44,7 @@ fn read_operation(reader: &mut Reader) -> Result<Operation, PacketReason>
             let index = read_index(reader)?;
             Ok(Operation::Procedure(index))
         }
-        3 => read_entry(reader),
+        3 => read_entry(reader, version),
         4 => {
             let index = read_index(reader)?;
             Ok(Operation::SetTimer(index))
@@ -67,12 +72,12 @@ fn read_task(reader: &mut Reader) -> Result<TaskId, PacketReason>
 /// The rest of a task's call.
 #[inline(always)]
 #[tactic(auto, unfolding(crate::specs::Reading::call_at))]
-fn read_call(reader: &mut Reader, task: TaskId) -> Result<Action, PacketReason>
-    ensures { Gives result reader.new (call_at task reader.old) }
+fn read_call(reader: &mut Reader, version: Version, task: TaskId) -> Result<Action, PacketReason>
+    ensures { Gives result reader.new (call_at version task reader.old) }
 {
     let number = read_count(reader)?;
     let object = read_index(reader)?;
-    let operation = read_operation(reader)?;
+    let operation = read_operation(reader, version)?;
     let arg = read_i64(reader)?;
     let action = Action::Call {
         task,
@@ -86,11 +91,11 @@ fn read_call(reader: &mut Reader, task: TaskId) -> Result<Action, PacketReason>
 
 #[inline(always)]
 #[tactic(auto, unfolding(crate::specs::Reading::any_call_at))]
-fn read_any_call(reader: &mut Reader) -> Result<Action, PacketReason>
-    ensures { Gives result reader.new (any_call_at reader.old) }
+fn read_any_call(reader: &mut Reader, version: Version) -> Result<Action, PacketReason>
+    ensures { Gives result reader.new (any_call_at version reader.old) }
 {
     let task = read_task(reader)?;
-    read_call(reader, task)
+    read_call(reader, version, task)
 }
 
 #[inline(always)]
@@ -112,16 +117,16 @@ fn read_tick(reader: &mut Reader) -> Result<Action, PacketReason>
     Ok(Action::Tick { now })
 }
 
-/// Any action.
+/// Any action, in a text of the version.
 #[inline(always)]
 #[tactic(auto, unfolding(crate::specs::Reading::action_at))]
-pub(crate) fn read_action(reader: &mut Reader) -> Result<Action, PacketReason>
-    ensures { Gives result reader.new (action_at reader.old) }
+pub(crate) fn read_action(reader: &mut Reader, version: Version) -> Result<Action, PacketReason>
+    ensures { Gives result reader.new (action_at version reader.old) }
 {
     let tag = reader.byte()?;
     match tag {
         0 => Ok(Action::Noop),
-        1 => read_any_call(reader),
+        1 => read_any_call(reader, version),
         2 => read_interrupt(reader),
         3 => read_tick(reader),
         _ => Err(PacketReason::Field),
@@ -141,8 +146,12 @@ fn is_own(party: &Party, task: TaskId) -> bool
 /// A call of the party itself.
 #[inline(always)]
 #[tactic(auto, unfolding(crate::specs::Reading::own_call_at))]
-pub(crate) fn read_own_call(reader: &mut Reader, from: &Party) -> Result<Action, PacketReason>
-    ensures { Gives result reader.new (own_call_at from.now reader.old) }
+pub(crate) fn read_own_call(
+    reader: &mut Reader,
+    version: Version,
+    from: &Party,
+) -> Result<Action, PacketReason>
+    ensures { Gives result reader.new (own_call_at version from.now reader.old) }
 {
     let tag = reader.byte()?;
     if tag != 1 {
@@ -152,7 +161,7 @@ pub(crate) fn read_own_call(reader: &mut Reader, from: &Party) -> Result<Action,
     if !is_own(from, task) {
         return Err(PacketReason::Field);
     }
-    read_call(reader, task)
+    read_call(reader, version, task)
 }
 
 #[inline(always)]
@@ -164,7 +173,7 @@ fn put_operation(text: &mut ShortText, operation: Operation)
     let (kind, index) = match operation {
         Operation::Function(index) => (1, index),
         Operation::Procedure(index) => (2, index),
-        Operation::Entry(_) => (3, 0),
+        Operation::Entry(index) => (3, index),
         Operation::SetTimer(index) => (4, index),
         Operation::CancelTimer(index) => (5, index),
     };

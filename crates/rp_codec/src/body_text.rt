@@ -16,6 +16,7 @@ use crate::reader::Reader;
 use crate::reply_text::{put_reply, read_reply};
 use crate::report_text::read_report;
 use crate::short_text::ShortText;
+use crate::version::Version;
 use rp_base::{Action, Ballot, PacketReason, Position, Vote};
 
 #[inline(always)]
@@ -44,23 +45,31 @@ fn read_higher_ballot(reader: &mut Reader, ballot: Ballot) -> Result<Ballot, Pac
 
 #[inline(always)]
 #[tactic(auto, unfolding(crate::specs::Reading::vote_at))]
-fn read_vote(reader: &mut Reader, below: Ballot) -> Result<Option<Vote>, PacketReason>
-    ensures { Gives result reader.new (vote_at below reader.old) }
+fn read_vote(
+    reader: &mut Reader,
+    version: Version,
+    below: Ballot,
+) -> Result<Option<Vote>, PacketReason>
+    ensures { Gives result reader.new (vote_at version below reader.old) }
 {
     let ballot = read_lower_ballot(reader, below)?;
-    let action = read_action(reader)?;
+    let action = read_action(reader, version)?;
     Ok(Some(Vote { ballot, action }))
 }
 
 #[inline(always)]
 #[tactic(auto, unfolding(crate::specs::Reading::last_at))]
-fn read_last(reader: &mut Reader, below: Ballot) -> Result<Option<Vote>, PacketReason>
-    ensures { Gives result reader.new (last_at below reader.old) }
+fn read_last(
+    reader: &mut Reader,
+    version: Version,
+    below: Ballot,
+) -> Result<Option<Vote>, PacketReason>
+    ensures { Gives result reader.new (last_at version below reader.old) }
 {
     let flag = reader.byte()?;
     match flag {
         0 => Ok(None),
-        1 => read_vote(reader, below),
+        1 => read_vote(reader, version, below),
         _ => Err(PacketReason::Field),
     }
 }
@@ -77,12 +86,12 @@ fn read_prepare(reader: &mut Reader) -> Result<Body, PacketReason>
 
 #[inline(always)]
 #[tactic(auto, unfolding(crate::specs::Reading::promise_at))]
-fn read_promise(reader: &mut Reader) -> Result<Body, PacketReason>
-    ensures { Gives result reader.new (promise_at reader.old) }
+fn read_promise(reader: &mut Reader, version: Version) -> Result<Body, PacketReason>
+    ensures { Gives result reader.new (promise_at version reader.old) }
 {
     let position = read_position(reader)?;
     let ballot = read_ballot(reader)?;
-    let last = read_last(reader, ballot)?;
+    let last = read_last(reader, version, ballot)?;
     let body = Body::Promise {
         position,
         ballot,
@@ -93,12 +102,12 @@ fn read_promise(reader: &mut Reader) -> Result<Body, PacketReason>
 
 #[inline(always)]
 #[tactic(auto, unfolding(crate::specs::Reading::accept_at))]
-fn read_accept(reader: &mut Reader) -> Result<Body, PacketReason>
-    ensures { Gives result reader.new (accept_at reader.old) }
+fn read_accept(reader: &mut Reader, version: Version) -> Result<Body, PacketReason>
+    ensures { Gives result reader.new (accept_at version reader.old) }
 {
     let position = read_position(reader)?;
     let ballot = read_ballot(reader)?;
-    let action = read_action(reader)?;
+    let action = read_action(reader, version)?;
     let body = Body::Accept {
         position,
         ballot,
@@ -109,12 +118,12 @@ fn read_accept(reader: &mut Reader) -> Result<Body, PacketReason>
 
 #[inline(always)]
 #[tactic(auto, unfolding(crate::specs::Reading::accepted_at))]
-fn read_accepted(reader: &mut Reader) -> Result<Body, PacketReason>
-    ensures { Gives result reader.new (accepted_at reader.old) }
+fn read_accepted(reader: &mut Reader, version: Version) -> Result<Body, PacketReason>
+    ensures { Gives result reader.new (accepted_at version reader.old) }
 {
     let position = read_position(reader)?;
     let ballot = read_ballot(reader)?;
-    let action = read_action(reader)?;
+    let action = read_action(reader, version)?;
     let body = Body::Accepted {
         position,
         ballot,
@@ -125,11 +134,11 @@ fn read_accepted(reader: &mut Reader) -> Result<Body, PacketReason>
 
 #[inline(always)]
 #[tactic(auto, unfolding(crate::specs::Reading::decided_at))]
-fn read_decided(reader: &mut Reader) -> Result<Body, PacketReason>
-    ensures { Gives result reader.new (decided_at reader.old) }
+fn read_decided(reader: &mut Reader, version: Version) -> Result<Body, PacketReason>
+    ensures { Gives result reader.new (decided_at version reader.old) }
 {
     let position = read_position(reader)?;
-    let action = read_action(reader)?;
+    let action = read_action(reader, version)?;
     Ok(Body::Decided { position, action })
 }
 
@@ -161,10 +170,10 @@ fn read_answer(reader: &mut Reader) -> Result<Body, PacketReason>
 
 #[inline(always)]
 #[tactic(auto, unfolding(crate::specs::Reading::task_call_at))]
-fn read_task_call(reader: &mut Reader, from: &Party) -> Result<Body, PacketReason>
-    ensures { Gives result reader.new (task_call_at from.now reader.old) }
+fn read_task_call(reader: &mut Reader, version: Version, from: &Party) -> Result<Body, PacketReason>
+    ensures { Gives result reader.new (task_call_at version from.now reader.old) }
 {
-    let action = read_own_call(reader, from)?;
+    let action = read_own_call(reader, version, from)?;
     Ok(Body::Call { action })
 }
 
@@ -177,27 +186,28 @@ fn read_ask(reader: &mut Reader) -> Result<Body, PacketReason>
     Ok(Body::Ask { position })
 }
 
-/// What a packet of this kind says, from this party.
+/// What a packet of this version and kind says, from this party.
 #[inline(always)]
 #[tactic(auto, unfolding(crate::specs::Reading::body_at))]
 pub(crate) fn read_content<'a>(
     reader: &mut Reader<'a>,
+    version: Version,
     kind: Kind,
     from: &Party,
 ) -> Result<Content<'a>, PacketReason>
-    ensures { Finds result reader.new (body_at kind from.now reader.old) }
+    ensures { Finds result reader.new (body_at version kind from.now reader.old) }
 {
     let body = match kind {
-        Kind::Call => read_task_call(reader, from),
+        Kind::Call => read_task_call(reader, version, from),
         Kind::Prepare => read_prepare(reader),
-        Kind::Promise => read_promise(reader),
-        Kind::Accept => read_accept(reader),
-        Kind::Accepted => read_accepted(reader),
-        Kind::Decided => read_decided(reader),
+        Kind::Promise => read_promise(reader, version),
+        Kind::Accept => read_accept(reader, version),
+        Kind::Accepted => read_accepted(reader, version),
+        Kind::Decided => read_decided(reader, version),
         Kind::Ask => read_ask(reader),
         Kind::Nack => read_nack(reader),
         Kind::Reply => read_answer(reader),
-        Kind::Report => return read_report(reader),
+        Kind::Report => return read_report(reader, version),
     };
     Ok(Content::Whole(body?))
 }

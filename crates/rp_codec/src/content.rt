@@ -2,6 +2,7 @@
 
 use crate::packet::{Body, Party};
 use crate::reader::Reader;
+use crate::version::Version;
 use rp_base::Position;
 
 /// What a packet says.
@@ -10,6 +11,7 @@ pub(crate) enum Content<'a> {
     Whole(Body),
     /// A report, whose actions are the first `count` of what stands at `actions`.
     Listed {
+        version: Version,
         first: Position,
         applied: u16,
         count: u8,

@@ -1,15 +1,15 @@
 //! Bytes to packets.
 
-ghost use Rattle.std.specs.Prelude.{◌≡◌, ◌↔◌, ℕ, List, ◌++◌, length, Some, IsSome, IfSome, IfOk, OnErr};
+ghost use Rattle.std.specs.Prelude.{◌≡◌, ◌↔◌, ℕ, List, length, Some, IsSome, IfSome, IfOk, OnErr};
 ghost use Rattle.rp_codec.specs.Message.{Message, IsPacket};
-ghost use Rattle.rp_codec.specs.Text.{text_of};
+ghost use Rattle.rp_codec.specs.Text.{text_of, IsTextBefore};
 ghost use Rattle.rp_codec.specs.Reading.{Gives, node_at, task_at, audit_at, from_at, to_at, version_at, kind_at, packet_at, all_of};
 ghost use Rattle.rp_codec.specs.Found.{Skips, FindsPacket, FindsWhole, KeepsRulesAt, IsListed, IsList};
 ghost use Rattle.rp_codec.specs.Decoding.{IsDecoded, IsReportText, BeginsWithPacket};
 
 use crate::body_text::read_content;
 use crate::content::{Content, Found};
-use crate::fields::{AUDIT, TASK_BASE, VERSION};
+use crate::fields::{AUDIT, TASK_BASE};
 use crate::kind::Kind;
 use crate::packet::{Body, Packet, Party};
 use crate::reader::Reader;
@@ -17,6 +17,7 @@ use crate::report_text::list_actions;
 use crate::usual_texts::{
     accept_of, accepted_of, decided_of, prepare_of, promise_of, reply_of, task_call_of,
 };
+use crate::version::Version;
 use rp_base::{NodeId, PacketReason, TaskId};
 use std::alloc::{AllocError, Global};
 
@@ -96,14 +97,14 @@ fn read_to(reader: &mut Reader, kind: Kind) -> Result<Party, PacketReason>
 }
 
 #[inline(always)]
-fn read_version(reader: &mut Reader) -> Result<u8, PacketReason>
+fn read_version(reader: &mut Reader) -> Result<Version, PacketReason>
     ensures { Gives result reader.new (version_at reader.old) }
 {
-    let version = reader.byte()?;
-    if version != VERSION {
-        return Err(PacketReason::Version);
+    let number = reader.byte()?;
+    match Version::of(number) {
+        Some(version) => Ok(version),
+        None => Err(PacketReason::Version),
     }
-    Ok(version)
 }
 
 #[inline(always)]
@@ -123,11 +124,11 @@ fn read_kind(reader: &mut Reader) -> Result<Kind, PacketReason>
 fn read_packet<'a>(reader: &mut Reader<'a>) -> Result<Found<'a>, PacketReason>
     ensures { FindsPacket result reader.new (packet_at reader.old) }
 {
-    let _version = read_version(reader)?;
+    let version = read_version(reader)?;
     let kind = read_kind(reader)?;
     let from = read_from(reader, kind)?;
     let to = read_to(reader, kind)?;
-    let content = read_content(reader, kind, &from)?;
+    let content = read_content(reader, version, kind, &from)?;
     Ok(Found { from, to, content })
 }
 
@@ -156,12 +157,13 @@ fn listed(alloc: Global, found: Found) -> Result<Packet, AllocError>
     let body = match content {
         Content::Whole(body) => body,
         Content::Listed {
+            version,
             first,
             applied,
             count,
             actions,
         } => {
-            let actions = list_actions(alloc, actions, count)?;
+            let actions = list_actions(alloc, actions, version, count)?;
             Body::Report {
                 first,
                 applied,
@@ -187,7 +189,7 @@ fn decode_fields(alloc: Global, bytes: &[u8]) -> Result<Result<Packet, PacketRea
     }
 }
 
-/// The packet between nodes that is read in one piece, if one is.
+/// The packet between nodes that is read in one piece, if one is. Its text is of version 2.
 #[inline(always)]
 fn between_nodes_of(bytes: &[u8]) -> Option<Packet>
     ensures { IfSome result (λ packet. bytes.now ≡ text_of packet) }
@@ -202,7 +204,7 @@ fn between_nodes_of(bytes: &[u8]) -> Option<Packet>
     }
 }
 
-/// The packet from or to a task that is read in one piece, if one is.
+/// The packet from or to a task that is read in one piece, if one is. Its text is of version 2.
 #[inline(always)]
 fn with_task_of(bytes: &[u8]) -> Option<Packet>
     ensures { IfSome result (λ packet. bytes.now ≡ text_of packet) }
@@ -230,8 +232,9 @@ fn decode_others(alloc: Global, bytes: &[u8]) -> Result<Result<Packet, PacketRea
     }
 }
 
-/// The packet of which the bytes are the text, all of the bytes. Where they are no packet's text,
-/// the reason is the first fault from left to right. Only a report's actions take memory.
+/// The packet of which the bytes are a text, of version 1 or 2, all of the bytes. Where they are no
+/// packet's text, the reason is the first fault from left to right, by the version that the first
+/// byte says: `Version` where it says neither. Only a report's actions take memory.
 #[inline(always)]
 pub fn decode(alloc: Global, bytes: &[u8]) -> Result<Result<Packet, PacketReason>, AllocError>
     ensures answer { IfOk result (λ answer. IsDecoded bytes.now answer) }
@@ -254,13 +257,13 @@ fn skip_packet(reader: &mut Reader) -> Result<(), PacketReason>
     Ok(())
 }
 
-/// How many bytes the packet's text has that the bytes begin with. Any bytes may follow it. `None`
-/// where they begin with no packet's text. It takes no memory.
+/// How many bytes the packet's text has, of version 1 or 2, that the bytes begin with. Any bytes may
+/// follow it. `None` where they begin with no packet's text. It takes no memory.
 pub fn packet_len(bytes: &[u8]) -> Option<usize>
     // Where there is one.
     ensures valid { IsSome result ↔ BeginsWithPacket bytes.now }
     // How long it is.
-    ensures value { (p : Message) (rest : List ℕ) → IsPacket p → bytes.now ≡ text_of p ++ rest
+    ensures value { (p : Message) (rest : List ℕ) → IsPacket p → IsTextBefore p rest bytes.now
         → result ≡ Some (length (text_of p)) }
 {
     let mut reader = Reader::new(bytes);

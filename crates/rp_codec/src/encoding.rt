@@ -1,9 +1,10 @@
 //! Packets to bytes.
 
-ghost use Rattle.std.specs.Prelude.{◌≡◌, ℕ, List, ◌++◌, IfOk, OnOk, OnErr};
+ghost use Rattle.std.specs.Prelude.{◌≡◌, ℕ, List, ◌++◌, length, IfOk, OnOk, OnErr};
 ghost use Rattle.rp_codec.specs.Message.{Message, IsPacket};
 ghost use Rattle.rp_codec.specs.Decoding.{IsReportBody};
-ghost use Rattle.rp_codec.specs.Text.{kind_number, party_number, head_text, text_of};
+ghost use Rattle.rp_codec.specs.declared.version.Version.{Version};
+ghost use Rattle.rp_codec.specs.Text.{kind_number, party_number, head_text, text_at, text_of, HasText};
 
 use crate::body_text::put_body;
 use crate::fields::{AUDIT, TASK_BASE, VERSION};
@@ -55,7 +56,7 @@ fn head_of(packet: &Packet) -> [u8; 4]
     ]
 }
 
-/// The one text of a packet that is no report. It takes no memory.
+/// The one text of version 2 of a packet that is no report. It takes no memory.
 #[inline(always)]
 pub fn text_of_packet(packet: &Packet) -> ShortText
     requires { ¬ IsReportBody packet.now.body }
@@ -66,7 +67,7 @@ pub fn text_of_packet(packet: &Packet) -> ShortText
     text
 }
 
-/// Puts the packet's one text behind the bytes. Where memory is refused, the bytes stay.
+/// Puts the packet's one text of version 2 behind the bytes. Where memory is refused, the bytes stay.
 #[inline(always)]
 pub fn encode_onto(packet: &Packet, out: &mut Vec<u8>) -> Result<(), AllocError>
     ensures ok { OnOk result (out.new.items ≡ out.old.items ++ text_of packet.now) }
@@ -88,7 +89,7 @@ pub fn encode_onto(packet: &Packet, out: &mut Vec<u8>) -> Result<(), AllocError>
     }
 }
 
-/// The packet's one text.
+/// The packet's one text of version 2.
 pub fn encode(alloc: Global, packet: &Packet) -> Result<Vec<u8>, AllocError>
     ensures { IfOk result (λ v. v.items ≡ text_of packet.now) }
 {
@@ -97,8 +98,17 @@ pub fn encode(alloc: Global, packet: &Packet) -> Result<Vec<u8>, AllocError>
     Ok(out)
 }
 
-/// No packet's text begins another's, whatever stands behind the two.
+/// No packet's text of version 2 begins another's, whatever stands behind the two.
 pub fn one_text()
     ensures { (p q : Message) (x y : List ℕ) → IsPacket p → IsPacket q
         → text_of p ++ x ≡ text_of q ++ y → (p ≡ q) × (x ≡ y) }
+{}
+
+/// No packet's text of one version or the other begins another's, so none is of both, and a packet
+/// has at most two. The two have one length.
+pub fn two_texts()
+    ensures apart { (v w : Version) (p q : Message) (x y : List ℕ) → IsPacket p → IsPacket q
+        → HasText v p → HasText w q → text_at v p ++ x ≡ text_at w q ++ y
+        → (v ≡ w) × (p ≡ q) × (x ≡ y) }
+    ensures len { (v : Version) (p : Message) → length (text_at v p) ≡ length (text_of p) }
 {}

@@ -11,8 +11,8 @@ use crate::short_text::ShortText;
 use byteorder::{BigEndian, ByteOrder};
 use rp_base::{Ballot, PacketReason, Position};
 
-/// The version of the texts, their first byte.
-pub(crate) const VERSION: u8 = 1;
+/// The version of the texts that are written, their first byte.
+pub(crate) const VERSION: u8 = 2;
 
 /// Task t is the party `TASK_BASE` + t.
 pub(crate) const TASK_BASE: u8 = 16;

@@ -1,10 +1,10 @@
 //! Where a packet's text ends, without reading it.
 
-ghost use Rattle.std.specs.Prelude.{◌≡◌, ℕ, List, ◌++◌, length};
+ghost use Rattle.std.specs.Prelude.{◌≡◌, ℕ, List, length};
 ghost use Rattle.rp_codec.specs.Decoding.{BeginsWithPacket};
 ghost use Rattle.rp_codec.specs.Length.{action_length, reply_length};
 ghost use Rattle.rp_codec.specs.Message.{Message, IsPacket};
-ghost use Rattle.rp_codec.specs.Text.{text_of};
+ghost use Rattle.rp_codec.specs.Text.{text_of, IsTextBefore};
 
 use crate::decoding::packet_len;
 
@@ -31,12 +31,12 @@ fn reply_len(tag: u8) -> usize
     }
 }
 
-/// How many bytes the packet's text has that the bytes begin with. Any bytes may follow it. It
-/// reads three bytes at most, but for a report, which it reads whole. It takes no memory.
+/// How many bytes the packet's text has, of version 1 or 2, that the bytes begin with. Any bytes may
+/// follow it. It reads three bytes at most, but for a report, which it reads whole. It takes no memory.
 #[inline(always)]
 pub fn text_len(bytes: &[u8]) -> usize
     requires { BeginsWithPacket bytes.now }
-    ensures { (p : Message) (rest : List ℕ) → IsPacket p → bytes.now ≡ text_of p ++ rest
+    ensures { (p : Message) (rest : List ℕ) → IsPacket p → IsTextBefore p rest bytes.now
         → result ≡ length (text_of p) }
 {
     match bytes[1] {

@@ -1,11 +1,12 @@
-//! Packets and records as bytes. Each has one text, and `decode` or `decode_front` reads it and
-//! nothing else.
+//! Packets and records as bytes. Each has one text of version 2, which is what is written, and at
+//! most one of version 1. `decode` or `decode_front` reads both, and nothing else.
 //!
 //! In reading order:
 //! - `packet`: what nodes and tasks say to one another
 //! - `actions`: the actions of a report
 //! - `rules`: who may say what to whom
 //! - `kind`: the kinds of packets
+//! - `version`: the versions of texts
 //! - `reader`: bytes that are read from the front
 //! - `fields`: the fields that stand in more than one text: numbers, positions and ballots
 //! - `action_text`: actions as bytes
@@ -38,12 +39,16 @@ mod report_text;
 mod rules;
 mod short_text;
 mod usual_texts;
+mod version;
 
 pub use actions::Actions;
 pub use decoding::{decode, packet_len};
-pub use encoding::{encode, encode_onto, one_text, text_of_packet};
+pub use encoding::{encode, encode_onto, one_text, text_of_packet, two_texts};
 pub use lengths::text_len;
 pub use packet::{Body, Packet, Party};
-pub use record_text::{decode_front, encode_rec, one_record_text, text_of_record};
+pub use record_text::{
+    decode_front, encode_rec, one_record_text, text_of_record, two_record_texts,
+};
 pub use rules::report_len;
 pub use short_text::ShortText;
+pub use version::Version;

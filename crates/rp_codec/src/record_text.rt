@@ -1,9 +1,10 @@
-//! Records as bytes: version 1, and then a byte that says which they are: 1 `Started`,
+//! Records as bytes: the version, and then a byte that says which they are: 1 `Started`,
 //! 2 `Promised`, 3 `Voted`, 4 `Learned`.
 
 ghost use Rattle.std.specs.Prelude.{◌≡◌, ◌≤◌, ℕ, List, ◌++◌, ◌↔◌, length, Some, IsSome, IfSome, IfOk};
 ghost use Rattle.rp_base.specs.declared.record.Rec.{Rec};
-ghost use Rattle.rp_codec.specs.Record.{record_text, IsRecord, BeginsWithRecord};
+ghost use Rattle.rp_codec.specs.declared.version.Version.{Version};
+ghost use Rattle.rp_codec.specs.Record.{record_text_at, record_text, HasRecordText, IsRecordTextBefore, IsRecord, BeginsWithRecord};
 ghost use Rattle.rp_codec.specs.Reading.{Gives};
 ghost use Rattle.rp_codec.specs.RecordReading.{started_at, promised_at, voted_at, learned_at, record_at};
 
@@ -11,6 +12,7 @@ use crate::action_text::{put_action, read_action};
 use crate::fields::{VERSION, put_ballot, put_position, read_ballot, read_position};
 use crate::reader::Reader;
 use crate::short_text::ShortText;
+use crate::version::Version;
 use rp_base::{PacketReason, Rec};
 use std::alloc::{AllocError, Global};
 
@@ -32,21 +34,21 @@ fn read_promised(reader: &mut Reader) -> Result<Rec, PacketReason>
 }
 
 #[tactic(auto, unfolding(crate::specs::RecordReading::voted_at))]
-fn read_voted(reader: &mut Reader) -> Result<Rec, PacketReason>
-    ensures { Gives result reader.new (voted_at reader.old) }
+fn read_voted(reader: &mut Reader, version: Version) -> Result<Rec, PacketReason>
+    ensures { Gives result reader.new (voted_at version reader.old) }
 {
     let position = read_position(reader)?;
     let ballot = read_ballot(reader)?;
-    let action = read_action(reader)?;
+    let action = read_action(reader, version)?;
     Ok(Rec::Voted(position, ballot, action))
 }
 
 #[tactic(auto, unfolding(crate::specs::RecordReading::learned_at))]
-fn read_learned(reader: &mut Reader) -> Result<Rec, PacketReason>
-    ensures { Gives result reader.new (learned_at reader.old) }
+fn read_learned(reader: &mut Reader, version: Version) -> Result<Rec, PacketReason>
+    ensures { Gives result reader.new (learned_at version reader.old) }
 {
     let position = read_position(reader)?;
-    let action = read_action(reader)?;
+    let action = read_action(reader, version)?;
     Ok(Rec::Learned(position, action))
 }
 
@@ -54,21 +56,21 @@ fn read_learned(reader: &mut Reader) -> Result<Rec, PacketReason>
 fn read_record(reader: &mut Reader) -> Result<Rec, PacketReason>
     ensures { Gives result reader.new (record_at reader.old) }
 {
-    let version = reader.byte()?;
-    if version != VERSION {
+    let number = reader.byte()?;
+    let Some(version) = Version::of(number) else {
         return Err(PacketReason::Field);
-    }
+    };
     let kind = reader.byte()?;
     match kind {
         1 => read_started(reader),
         2 => read_promised(reader),
-        3 => read_voted(reader),
-        4 => read_learned(reader),
+        3 => read_voted(reader, version),
+        4 => read_learned(reader, version),
         _ => Err(PacketReason::Field),
     }
 }
 
-/// The record's one text. It takes no memory.
+/// The record's one text of version 2. It takes no memory.
 #[inline(always)]
 pub fn text_of_record(rec: &Rec) -> ShortText
     ensures { result ≡ record_text rec.now }
@@ -101,20 +103,20 @@ pub fn text_of_record(rec: &Rec) -> ShortText
     }
 }
 
-/// The record's one text, in memory.
+/// The record's one text of version 2, in memory.
 pub fn encode_rec(alloc: Global, rec: &Rec) -> Result<Vec<u8>, AllocError>
     ensures { IfOk result (λ v. v.items ≡ record_text rec.now) }
 {
     Vec::from_slice(alloc, text_of_record(rec).as_slice())
 }
 
-/// The record whose text the bytes begin with, and how many bytes that text has. Any bytes may
-/// follow it. `None` where the bytes begin with no record's text. It takes no memory.
+/// The record whose text, of version 1 or 2, the bytes begin with, and how many bytes that text has.
+/// Any bytes may follow it. `None` where the bytes begin with no record's text. It takes no memory.
 pub fn decode_front(bytes: &[u8]) -> Option<(Rec, usize)>
     // Where there is one.
     ensures valid { IsSome result ↔ BeginsWithRecord bytes.now }
     // Which it is, and how long its text is.
-    ensures value { (r : Rec) (rest : List ℕ) → IsRecord r → bytes.now ≡ record_text r ++ rest
+    ensures value { (r : Rec) (rest : List ℕ) → IsRecord r → IsRecordTextBefore r rest bytes.now
         → result ≡ Some (r, length (record_text r)) }
 {
     let mut reader = Reader::new(bytes);
@@ -124,8 +126,17 @@ pub fn decode_front(bytes: &[u8]) -> Option<(Rec, usize)>
     }
 }
 
-/// No record's text begins another's, whatever stands behind the two.
+/// No record's text of version 2 begins another's, whatever stands behind the two.
 pub fn one_record_text()
     ensures { (r s : Rec) (x y : List ℕ) → IsRecord r → IsRecord s
         → record_text r ++ x ≡ record_text s ++ y → (r ≡ s) × (x ≡ y) }
+{}
+
+/// No record's text of one version or the other begins another's, so none is of both, and a record
+/// has at most two. The two have one length.
+pub fn two_record_texts()
+    ensures apart { (v w : Version) (r s : Rec) (x y : List ℕ) → IsRecord r → IsRecord s
+        → HasRecordText v r → HasRecordText w s → record_text_at v r ++ x ≡ record_text_at w s ++ y
+        → (v ≡ w) × (r ≡ s) × (x ≡ y) }
+    ensures len { (v : Version) (r : Rec) → length (record_text_at v r) ≡ length (record_text r) }
 {}

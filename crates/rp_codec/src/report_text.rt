@@ -13,22 +13,26 @@ use crate::fields::read_position;
 use crate::reader::Reader;
 use crate::rules::report_len;
 use crate::short_text::ShortText;
+use crate::version::Version;
 use rp_base::{Action, PacketReason};
 use std::alloc::{AllocError, Global};
 
 /// Reads so many actions, and keeps none.
-fn skip_actions(reader: &mut Reader, count: u8) -> Result<(), PacketReason>
-    ensures { Skips result reader.new (actions_at count reader.old) }
+fn skip_actions(reader: &mut Reader, version: Version, count: u8) -> Result<(), PacketReason>
+    ensures { Skips result reader.new (actions_at version count reader.old) }
 {
     for _ in 0..count {
-        read_action(reader)?;
+        read_action(reader, version)?;
     }
     Ok(())
 }
 
 #[tactic(auto, unfolding(crate::specs::Reading::report_at))]
-pub(crate) fn read_report<'a>(reader: &mut Reader<'a>) -> Result<Content<'a>, PacketReason>
-    ensures { Finds result reader.new (report_at reader.old) }
+pub(crate) fn read_report<'a>(
+    reader: &mut Reader<'a>,
+    version: Version,
+) -> Result<Content<'a>, PacketReason>
+    ensures { Finds result reader.new (report_at version reader.old) }
 {
     let first = read_position(reader)?;
     let applied = reader.u16()?;
@@ -37,8 +41,9 @@ pub(crate) fn read_report<'a>(reader: &mut Reader<'a>) -> Result<Content<'a>, Pa
         return Err(PacketReason::Field);
     }
     let actions = reader.again();
-    skip_actions(reader, count)?;
+    skip_actions(reader, version, count)?;
     let content = Content::Listed {
+        version,
         first,
         applied,
         count,
@@ -51,14 +56,15 @@ pub(crate) fn read_report<'a>(reader: &mut Reader<'a>) -> Result<Content<'a>, Pa
 pub(crate) fn list_actions(
     alloc: Global,
     mut reader: Reader,
+    version: Version,
     count: u8,
 ) -> Result<Actions, AllocError>
-    requires { IsOk (actions_at count reader) }
-    ensures { IfOk result (λ list. AreFirst list count reader.entry) }
+    requires { IsOk (actions_at version count reader) }
+    ensures { IfOk result (λ list. AreFirst list version count reader.entry) }
 {
     let mut actions = Vec::with_capacity(alloc, usize::from(count))?;
     for _ in 0..count {
-        match read_action(&mut reader) {
+        match read_action(&mut reader, version) {
             Ok(action) => actions.push(action)?,
             Err(_) => unreachable!(),
         }

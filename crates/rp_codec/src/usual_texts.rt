@@ -1,11 +1,12 @@
-//! Packets of the usual kinds, each read in one piece since its text has one length: those between
-//! nodes whose action, if any, is a call, a task's call, and a reply with a value.
+//! Packets of the usual kinds, in texts of version 2, each read in one piece since its text has one
+//! length: those between nodes whose action, if any, is a call, a task's call, and a reply with a value.
 
 ghost use Rattle.std.specs.Prelude.{◌≡◌, [], ◌∷◌, ◌++◌, FitsSigned, IfSome};
 ghost use Rattle.std.specs.Int.{w32, w64};
 ghost use Rattle.rp_base.specs.Action.{IsCount, IsRight, IsRightOperation};
 ghost use Rattle.rp_codec.specs.Text.{number_text, signed_text, position_text, ballot_text, operation_text, action_text, vote_text, text_of};
 
+use crate::action_text::MOST_ENTRIES;
 use crate::fields::{TASK_BASE, VERSION};
 use crate::packet::{Body, Packet, Party};
 use crate::rules::is_call_of;
@@ -60,15 +61,13 @@ fn operation_of(kind: u8, index: u8) -> Option<Operation>
     ensures { IfSome result (λ operation. (kind ∷ index ∷ [] ≡ operation_text operation)
         × IsRightOperation operation) }
 {
-    if kind == 3 && index == 0 {
-        return Some(Operation::Entry(1));
-    }
     if index < 1 || index > 8 {
         return None;
     }
     match kind {
         1 => Some(Operation::Function(index)),
         2 => Some(Operation::Procedure(index)),
+        3 if index <= MOST_ENTRIES => Some(Operation::Entry(index)),
         4 => Some(Operation::SetTimer(index)),
         5 => Some(Operation::CancelTimer(index)),
         _ => None,
@@ -102,7 +101,7 @@ fn call_of(bytes: &[u8]) -> Option<Action>
 /// The two nodes of a packet of this kind.
 #[inline(always)]
 fn nodes_of(head: &[u8; 4], kind: u8) -> Option<(NodeId, NodeId)>
-    ensures { IfSome result (λ nodes. head.now ≡ 1 ∷ kind ∷ nodes.0 ∷ nodes.1 ∷ []) }
+    ensures { IfSome result (λ nodes. head.now ≡ 2 ∷ kind ∷ nodes.0 ∷ nodes.1 ∷ []) }
 {
     if head[0] != VERSION || head[1] != kind {
         return None;
@@ -114,7 +113,7 @@ fn nodes_of(head: &[u8; 4], kind: u8) -> Option<(NodeId, NodeId)>
 
 #[inline(always)]
 fn place_of(front: &[u8; 14], kind: u8) -> Option<Place>
-    ensures { IfSome result (λ place. front.now ≡ (1 ∷ kind ∷ place.from ∷ place.to ∷ [])
+    ensures { IfSome result (λ place. front.now ≡ (2 ∷ kind ∷ place.from ∷ place.to ∷ [])
         ++ position_text place.position ++ ballot_text place.ballot) }
 {
     let (head, rest) = front.split_first_chunk::<4>()?;
@@ -135,7 +134,7 @@ fn place_of(front: &[u8; 14], kind: u8) -> Option<Place>
 /// A place, and an action for it: a vote, or what asks for one.
 #[inline(always)]
 fn vote_of(bytes: &[u8], kind: u8) -> Option<(Place, Action)>
-    ensures text { IfSome result (λ vote. bytes.now ≡ (1 ∷ kind ∷ vote.0.from ∷ vote.0.to ∷ [])
+    ensures text { IfSome result (λ vote. bytes.now ≡ (2 ∷ kind ∷ vote.0.from ∷ vote.0.to ∷ [])
         ++ vote_text vote.0.position vote.0.ballot vote.1) }
     ensures right { IfSome result (λ vote. IsRight vote.1) }
 {

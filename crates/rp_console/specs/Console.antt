@@ -7,16 +7,17 @@ use Rattle.clap.specs.declared.error.kind.ErrorKind.{ErrorKind}
 use Rattle.clap.specs.declared.error.kind.ErrorKind.TheVariants.{DisplayHelp, DisplayVersion, InvalidValue, OutOfMemory}
 use Rattle.rp_base.specs.declared.fault.Fault.{Fault}
 use Rattle.rp_base.specs.declared.fault.Fault.TheVariants as faults
-use Rattle.rp_console.specs.Agreeing.{ScriptPrints}
+use Rattle.rp_script.specs.Agreeing.{ScriptPrints}
 use Rattle.rp_console.specs.CommandLine.{console, name_of, seed_of, trace_of, turns_of, ReadsAs, words_status_of}
-use Rattle.rp_console.specs.Faults.{IsBadDeck, IsProgramFault}
-use Rattle.rp_console.specs.Figures.{figures_line_of}
-use Rattle.rp_console.specs.LiveRun.{LivePrints}
-use Rattle.rp_console.specs.Status.{fault_line_of, status_after, status_of, with_line_feed}
+use Rattle.rp_script.specs.Faults.{IsBadDeck, IsProgramFault}
+use Rattle.rp_script.specs.Figures.{figures_line_of}
+use Rattle.rp_script.specs.LiveRun.{LivePrints}
+use Rattle.rp_console.specs.Status.{status_after, status_of}
+use Rattle.rp_script.specs.FaultLine.{fault_line_of, with_line_feed}
 use Rattle.rp_console.specs.declared.args.Args.{Args}
 use Rattle.rp_console.specs.declared.args.Args.TheVariants.{Script, Live}
 use Rattle.rp_console.specs.declared.console.Ending.{Ending}
-use Rattle.rp_console.specs.declared.figures.FiguresLine.{FiguresLine}
+use Rattle.rp_script.specs.declared.figures.FiguresLine.{FiguresLine}
 
 -- these words ask for this
 pub record AsksFor (words : List Text) (args : Args) : Type 0 where

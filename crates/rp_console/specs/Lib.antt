@@ -1,16 +1,3 @@
-pub mod Agreeing
 pub mod CommandLine
 pub mod Console
-pub mod Faults
-pub mod Figures
-pub mod Items
-pub mod LiveOutput
-pub mod LiveRun
-pub mod Output
-pub mod Printed
-pub mod Runs
-pub mod Settled
 pub mod Status
-pub mod Stream
-pub mod Telling
-pub mod Trace

@@ -4,17 +4,16 @@ ghost use Rattle.std.specs.Prelude.{◌≡◌, IfErr, IfOk, OnOk, map};
 ghost use Rattle.std.specs.Io.KnownBytes.{Appends};
 ghost use Rattle.clap.specs.Values.{kind_of};
 ghost use Rattle.rp_console.specs.Console.{FollowsWords, HasFiguresFor, IsUnread, Prints, RefusesAs, report_of};
-ghost use Rattle.rp_console.specs.Faults.{IsBadDeck, IsProgramFault};
-ghost use Rattle.rp_console.specs.Status.{fault_line_of, status_after, status_of, with_line_feed};
+ghost use Rattle.rp_script.specs.Faults.{IsBadDeck, IsProgramFault};
+ghost use Rattle.rp_console.specs.Status.{status_after, status_of};
+ghost use Rattle.rp_script.specs.FaultLine.{fault_line_of, with_line_feed};
 
 use crate::args::{Args, read_args, unread_words, words_status};
-use crate::deck_run::run_script;
-use crate::figures::FiguresLine;
-use crate::live_run::run_live;
-use crate::status::{status, tell};
+use crate::status::status;
 use clap::Error;
 use clap::error::ErrorKind;
 use rp_base::Fault;
+use rp_script::{FiguresLine, run_live, run_script, tell, write_out};
 use std::alloc::Global;
 use std::convert::AsStr;
 use std::io;
@@ -117,12 +116,12 @@ fn refuse<R: Read + Drop, W: Write + Drop, E: Write + Drop>(
             reported: write!(streams.errors, "{error}"),
         };
     }
-    match write!(streams.writer, "{error}") {
-        Ok(()) => Ending {
-            status: words_status(error),
-            reported: Ok(()),
-        },
-        Err(_) => fail(&mut streams.errors, Fault::Io),
+    if write!(streams.writer, "{error}").is_err() || write_out(&mut streams.writer).is_err() {
+        return fail(&mut streams.errors, Fault::Io);
+    }
+    Ending {
+        status: words_status(error),
+        reported: Ok(()),
     }
 }
 

@@ -1,13 +1,9 @@
-//! What the program says of a fault, and the status that it ends with.
+//! The status that the program ends with.
 
-ghost use Rattle.std.specs.Prelude.{◌≡◌, ◌≤◌, ◌↔◌, IsTrue, OnOk, Some};
-ghost use Rattle.rp_base.specs.Fault.{code_of};
-ghost use Rattle.std.specs.Io.KnownBytes.{Appends};
-ghost use Rattle.rp_console.specs.Status.{status_of, reason_text_of, fault_line_of, with_line_feed};
+ghost use Rattle.std.specs.Prelude.{◌≡◌};
+ghost use Rattle.rp_console.specs.Status.{status_of};
 
-use rp_base::{DeckReason, Fault};
-use std::io::Write;
-use std::{fmt, io};
+use rp_base::Fault;
 
 /// The status that the program ends with: 3 where the deck is bad, and 4 at every other fault.
 pub fn status(fault: &Fault) -> u8
@@ -16,75 +12,5 @@ pub fn status(fault: &Fault) -> u8
     match fault {
         Fault::BadDeck { .. } => 3,
         _ => 4,
-    }
-}
-
-/// Whether the fault refuses one step, after which a script goes on.
-pub fn is_refusal(fault: &Fault) -> bool
-    ensures { IsTrue result ↔ ((5 ≤ code_of fault.now) × (code_of fault.now ≤ 10)) }
-{
-    matches!(
-        fault,
-        Fault::NotRunning
-            | Fault::BallotsSpent
-            | Fault::LogFull
-            | Fault::NoSuchMessage
-            | Fault::TaskBusy
-            | Fault::NumbersSpent
-    )
-}
-
-/// Writes the line of a fault: where and why the deck is bad, or the fault's number and name.
-pub fn tell<W: Write>(fault: &Fault, writer: &mut W) -> io::Result<()>
-    ensures { OnOk result (Appends (W.contents writer.old) (W.contents writer.new)
-        (with_line_feed (fault_line_of fault.now))) }
-{
-    let line = FaultLine { fault: *fault };
-    writeln!(writer, "{line}")
-}
-
-/// The words by which a reason is told.
-pub fn reason_text(reason: DeckReason) -> &'static str
-    ensures { result.now ≡ reason_text_of reason }
-{
-    match reason {
-        DeckReason::NodesExpected => "nodes expected",
-        DeckReason::UnknownWord => "unknown word",
-        DeckReason::WrongNumberOfWords => "wrong number of words",
-        DeckReason::BadNumber => "bad number",
-        DeckReason::BadName => "bad name",
-        DeckReason::DuplicateName => "duplicate name",
-        DeckReason::UnknownName => "unknown name",
-        DeckReason::TooMany => "too many",
-        DeckReason::BadExpression => "bad expression",
-        DeckReason::TaskExpected => "task expected",
-        DeckReason::ObjectExpected => "object expected",
-        DeckReason::EndExpected => "end expected",
-        DeckReason::ScriptExpected => "script expected",
-        DeckReason::NotInLive => "not in live",
-    }
-}
-
-/// The line that tells of a fault.
-#[derive(Clone, Copy, Debug, PartialEq, Eq)]
-pub struct FaultLine {
-    pub fault: Fault,
-}
-
-impl fmt::Display for FaultLine {
-    ghost output = { λ l. Some (fault_line_of l.fault) };
-
-    fn fmt<W: fmt::Write>(&self, f: &mut fmt::Formatter<W>) -> fmt::Result {
-        match self.fault {
-            Fault::BadDeck { line, reason } => {
-                let reason = reason_text(reason);
-                write!(f, "deck line {line}: {reason}")
-            }
-            fault => {
-                let code = fault.code();
-                let name = fault.name();
-                write!(f, "fault {code} {name}")
-            }
-        }
     }
 }

@@ -1,5 +1,5 @@
 -- Names of operations, as operations and names are added.
-use Rattle.std.proofs.Common.{◌≡◌, ◌⊎◌, ℕ, zero, suc, ◌+◌, ◌<◌, ◌≤◌, Bool, true, false, if◌then◌else◌, Option, Some, None, Result, Ok, Err, OnOk, List, [], ◌∷◌, ◌++◌, map, length, arith, inl, inr, refl, sym, ap, subst, ◌∙◌}
+use Rattle.std.proofs.Common.{◌≡◌, ◌⊎◌, ℕ, zero, suc, ◌+◌, ◌<◌, Bool, true, Some, Result, Ok, Err, OnOk, List, [], ◌∷◌, ◌++◌, length, arith, inl, inr, refl, sym, ap, subst, ◌∙◌}
 use Rattle.std.specs.Prelude.{All, OnErr, String, Vec, is_some, slice_get, slice_index_or}
 use Rattle.std.specs.Arc.{arc_value}
 use Rattle.std.specs.List.{IsAmong}
@@ -31,24 +31,16 @@ of_among P xs x all among = subst P (sym among.1.1) (all among.0 x among.1.0)
 pub all_weaker : {X : Type 0} (P Q : X → Type 0) (xs : List X) → ((x : X) → P x → Q x) → All P xs → All Q xs
 all_weaker P Q xs weaker all = λ k d below. weaker (slice_index_or xs k d) (all k d below)
 
-all_cons : {X : Type 0} (P : X → Type 0) (x : X) (xs : List X) → P x → All P xs → All P (x ∷ xs)
+pub all_cons : {X : Type 0} (P : X → Type 0) (x : X) (xs : List X) → P x → All P xs → All P (x ∷ xs)
 all_cons P x xs first rest zero d below = first
 all_cons P x xs first rest (suc i) d below = rest i d (omega (arith, below))
 
-all_tail : {X : Type 0} (P : X → Type 0) (x : X) (xs : List X) → All P (x ∷ xs) → All P xs
+pub all_tail : {X : Type 0} (P : X → Type 0) (x : X) (xs : List X) → All P (x ∷ xs) → All P xs
 all_tail P x xs all i d below = all (suc i) d (omega (arith, below))
 
--- all values of a table with one entry more
-pub all_inserted : {K X : Type 0} (P : X → Type 0) (eq : K → K → Bool) (entries : List (K × X)) (k : K) (x : X)
-    → All P (values_of entries) → P x → All P (values_of (insert_entry eq entries k x))
-all_inserted P eq [] k x all new = all_cons P x [] new all
-all_inserted {K} {X} P eq (e ∷ es) k x all new =
-    let rest = all_tail P e.1 (values_of es) all in
-    elim (cases_Bool (eq k e.0)) [
-      | inl hit ↦ subst (λ (l : List (K × X)). All P (values_of l)) (sym (cond-true (eq k e.0) ((e.0, x) ∷ es) (e ∷ insert_entry eq es k x) hit)) (all_cons P x (values_of es) new rest)
-      | inr miss ↦ subst (λ (l : List (K × X)). All P (values_of l)) (sym (cond-false (eq k e.0) ((e.0, x) ∷ es) (e ∷ insert_entry eq es k x) miss))
-          (all_cons P e.1 (values_of (insert_entry eq es k x)) (all zero e.1 (omega arith)) (all_inserted P eq es k x rest new))
-    ]
+pub all_last : {X : Type 0} (P : X → Type 0) (xs : List X) (x : X) → All P xs → P x → All P (xs ++ x ∷ [])
+all_last P [] x all new = all_cons P x [] new all
+all_last P (y ∷ ys) x all new = all_cons P y (ys ++ x ∷ []) (all zero y (omega arith)) (all_last P ys x (all_tail P y ys all) new)
 
 -- ---- numbers from 1 in a list that grows
 
@@ -117,7 +109,7 @@ object_offers : (declarations : Declarations) (place : ℕ) (object : ObjectDecl
     → has_operation (operation_of name) (operations_of object) ≡ true → is_offered declarations (suc place) (operation_of name) ≡ true
 object_offers declarations place object (Function index) here has = ap (is_some_and (λ declared. has_operation (operation_of (Function index)) (operations_of declared))) here ∙ has
 object_offers declarations place object (Procedure index) here has = ap (is_some_and (λ declared. has_operation (operation_of (Procedure index)) (operations_of declared))) here ∙ has
-object_offers declarations place object Entry here has = ap (is_some_and (λ declared. has_operation (operation_of Entry) (operations_of declared))) here ∙ has
+object_offers declarations place object (Entry index) here has = ap (is_some_and (λ declared. has_operation (operation_of (Entry index)) (operations_of declared))) here ∙ has
 
 pub offered : {Y S : Type 0} (program : DeckProgram) (names : List (IndexMap (String Y) OperationName S)) (place : ℕ) (own : IndexMap (String Y) OperationName S) (name : OperationName)
     → AreNamesOf program names → object_count program ≡ length names → slice_get names place ≡ Some own → IsAmong (values own) name → IsOffered program (suc place) (operation_of name)
@@ -142,39 +134,33 @@ pub named_more : {Y S : Type 0} (before after : Operations) (names : IndexMap (S
 named_more before after names still all =
     all_weaker (λ (n : OperationName). has_operation (operation_of n) before ≡ true) (λ (n : OperationName). has_operation (operation_of n) after ≡ true) (values names) still all
 
--- one name more
-pub named_too : {Y S : Type 0} (eq : String Y → String Y → Bool) (declared : Operations) (names more : IndexMap (String Y) OperationName S) (key : String Y) (name : OperationName)
-    → more.entries ≡ insert_entry eq names.entries key name → has_operation (operation_of name) declared ≡ true → AreNamed declared names → AreNamed declared more
-named_too eq declared names more key name is has all =
-    subst (λ (l : List (String _ × OperationName)). All (λ (n : OperationName). has_operation (operation_of n) declared ≡ true) (values_of l)) (sym is)
-    (all_inserted (λ (n : OperationName). has_operation (operation_of n) declared ≡ true) eq names.entries key name all has)
+-- ---- a function, a procedure or an entry more
 
--- where a name is added, or was not
-pub named_if : {Y S X E : Type 0} (eq : String Y → String Y → Bool) (declared : Operations) (names more : IndexMap (String Y) OperationName S) (key : String Y) (name : OperationName) (answer : Result X E)
-    → OnOk answer (more.entries ≡ insert_entry eq names.entries key name) → OnErr answer (IsUnchanged names more)
-    → has_operation (operation_of name) declared ≡ true → AreNamed declared names → AreNamed declared more
-named_if eq declared names more key name (Ok done) is same has all = named_too eq declared names more key name is has all
-named_if {Y} {S} eq declared names more key name (Err fault) is same has all =
-    subst (λ (l : List (String Y × OperationName)). All (λ (n : OperationName). has_operation (operation_of n) declared ≡ true) (values_of l)) (sym same) all
-
--- ---- a function, a procedure or the entry more
-
-pub function_more : (before after : Operations) (function : DeclaredFunction) → after.functions.items ≡ before.functions.items ++ function ∷ [] → after.procedures ≡ before.procedures → after.entry ≡ before.entry
+pub function_more : (before after : Operations) (function : DeclaredFunction) → after.functions.items ≡ before.functions.items ++ function ∷ [] → after.procedures ≡ before.procedures → after.entries ≡ before.entries
     → (name : OperationName) → has_operation (operation_of name) before ≡ true → has_operation (operation_of name) after ≡ true
-function_more before after function more same entry (Function index) has =
+function_more before after function more same entries (Function index) has =
     subst (λ (l : List DeclaredFunction). is_some (of_index l index.number) ≡ true) (sym more) (still_numbered before.functions.items function index.number has)
-function_more before after function more same entry (Procedure index) has = ap (λ p. is_some (of_index p.items index.number)) same ∙ has
-function_more before after function more same entry Entry has = ap (λ e. is_some e) entry ∙ has
+function_more before after function more same entries (Procedure index) has = ap (λ p. is_some (of_index p.items index.number)) same ∙ has
+function_more before after function more same entries (Entry index) has = ap (λ e. is_some (of_index e.items index.number)) entries ∙ has
 
-pub procedure_more : (before after : Operations) (body : Vec Stmt Global) → after.procedures.items ≡ before.procedures.items ++ body ∷ [] → after.functions ≡ before.functions → after.entry ≡ before.entry
+pub procedure_more : (before after : Operations) (body : Vec Stmt Global) → after.procedures.items ≡ before.procedures.items ++ body ∷ [] → after.functions ≡ before.functions → after.entries ≡ before.entries
     → (name : OperationName) → has_operation (operation_of name) before ≡ true → has_operation (operation_of name) after ≡ true
-procedure_more before after body more same entry (Function index) has = ap (λ f. is_some (of_index f.items index.number)) same ∙ has
-procedure_more before after body more same entry (Procedure index) has =
+procedure_more before after body more same entries (Function index) has = ap (λ f. is_some (of_index f.items index.number)) same ∙ has
+procedure_more before after body more same entries (Procedure index) has =
     subst (λ (l : List (Vec Stmt Global)). is_some (of_index l index.number) ≡ true) (sym more) (still_numbered before.procedures.items body index.number has)
-procedure_more before after body more same entry Entry has = ap (λ e. is_some e) entry ∙ has
+procedure_more before after body more same entries (Entry index) has = ap (λ e. is_some (of_index e.items index.number)) entries ∙ has
 
-pub entry_more : (before after : Operations) (entry : DeclaredEntry) → after.entry ≡ Some entry → after.functions ≡ before.functions → after.procedures ≡ before.procedures
+pub entry_more : (before after : Operations) (entry : DeclaredEntry) → after.entries.items ≡ before.entries.items ++ entry ∷ [] → after.functions ≡ before.functions → after.procedures ≡ before.procedures
     → (name : OperationName) → has_operation (operation_of name) before ≡ true → has_operation (operation_of name) after ≡ true
 entry_more before after entry more functions procedures (Function index) has = ap (λ f. is_some (of_index f.items index.number)) functions ∙ has
 entry_more before after entry more functions procedures (Procedure index) has = ap (λ p. is_some (of_index p.items index.number)) procedures ∙ has
-entry_more before after entry more functions procedures Entry has = ap (λ e. is_some e) more
+entry_more before after entry more functions procedures (Entry index) has =
+    subst (λ (l : List DeclaredEntry). is_some (of_index l index.number) ≡ true) (sym more) (still_numbered before.entries.items entry index.number has)
+
+-- ---- one name more
+
+pub named_behind : {Y S : Type 0} (before after : Operations) (names more : IndexMap (String Y) OperationName S) (name : OperationName) → values more ≡ values names ++ name ∷ []
+    → ((n : OperationName) → has_operation (operation_of n) before ≡ true → has_operation (operation_of n) after ≡ true) → has_operation (operation_of name) after ≡ true → AreNamed before names → AreNamed after more
+named_behind before after names more name is still has all =
+    subst (λ (l : List OperationName). All (λ (n : OperationName). has_operation (operation_of n) after ≡ true) l) (sym is)
+    (all_last (λ (n : OperationName). has_operation (operation_of n) after ≡ true) (values names) name (named_more before after names still all) has)

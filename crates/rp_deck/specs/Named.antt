@@ -13,7 +13,7 @@ use Rattle.rp_deck.specs.declared.names.OperationName.TheVariants.{Function, Pro
 abbrev pub operation_of : OperationName → Operation
 operation_of (Function index) = operations.Function index.number
 operation_of (Procedure index) = operations.Procedure index.number
-operation_of Entry = operations.Entry 1
+operation_of (Entry index) = operations.Entry index.number
 
 module _ {Y S : Type 0} where
   -- each name stands for one of these operations

@@ -1,54 +1,108 @@
 //! Reads the lines of a script by which tasks call and interrupts occur.
 
-ghost use Rattle.std.specs.Prelude.{◌≤◌, IfOk};
-ghost use Rattle.indexmap.specs.IndexMap.{index_map_len};
+ghost use Rattle.std.specs.Prelude.{ℕ, ◌≡◌, ◌≤◌, map, option_map, IfOk, IfSome};
+ghost use Rattle.std.specs.List.{IsAmong};
+ghost use Rattle.indexmap.specs.IndexMap.{index_map_len, values};
 ghost use Rattle.indexmap.specs.IndexSet.{index_set_len};
+ghost use Rattle.rp_base.specs.Action.{IsRightOperation};
 ghost use Rattle.rp_base.specs.declared.action.Operation.TheVariants.{SetTimer};
+ghost use Rattle.rp_model.specs.Events.{event_of, step_of};
 ghost use Rattle.rp_deck.specs.Declarations.{IsComplete};
 ghost use Rattle.rp_deck.specs.Live.{IsLiveEvent, IsLiveStep};
+ghost use Rattle.rp_deck.specs.Named.{operation_of};
 ghost use Rattle.rp_deck.specs.Programs.{IsOffered};
+ghost use Rattle.rp_deck.specs.Reading.{Gives};
 ghost use Rattle.rp_deck.specs.Script.{IsRightEvent, IsStepDeclared, IsStepWithin, IsUpTo};
+ghost use Rattle.rp_deck.specs.ScriptLines.{operation_at, timer_at, argument_at, call_at, arm_at, disarm_at, interrupt_at, tick_at};
+ghost use Rattle.rp_deck.specs.ScriptViews.{names_of};
+ghost use Rattle.rp_deck.specs.Tables.{find, key_names};
+ghost use Rattle.rp_deck.specs.Words.{unread};
 
 use crate::declarations::Declared;
-use crate::names::Index;
+use crate::names::{Index, OperationName, OperationNames, place_among, place_in};
 use crate::operands::{read_dotted, read_node, read_task};
-use crate::words::{Words, read_number};
+use crate::words::Words;
 use rp_base::{DeckReason, Operation};
 use rp_model::{Event, Interrupt, Step};
 
 /// Reads the rest of `call TASK NODE OBJECT.OPERATION [ARG]`.
+#[tactic(auto, unfolding(crate::specs::ScriptLines::call_at))]
 pub fn read_call(words: &mut Words<'_>, declared: &Declared) -> Result<Event, DeckReason>
     requires { IsComplete declared.now }
+    ensures read { Gives (λ event. (event_of event, unread words.new)) result
+        (call_at (names_of declared.now) (unread words.old)) }
     ensures right { IfOk result (IsRightEvent declared.now) }
     ensures live { IfOk result IsLiveEvent }
 {
     let task = read_task(words, declared)?;
     let node = read_node(words, declared.nodes)?;
-    let (name, operation) = read_dotted(words.take()?)?;
-    let place = declared
-        .objects
-        .get_index_of(name)
-        .ok_or(DeckReason::UnknownName)?;
-    let names = declared
-        .operations_at(place)
-        .ok_or(DeckReason::UnknownName)?;
-    let operation = names.get(operation).ok_or(DeckReason::UnknownName)?;
-    let arg = match words.next() {
-        Some(word) => read_number(word).ok_or(DeckReason::BadNumber)?,
-        None => 0,
-    };
+    let called = read_operation(words, declared)?;
+    let arg = read_argument(words)?;
     Ok(Event::Submit {
         task,
         node,
-        object: place as u8 + 1,
-        operation: operation.operation(),
+        object: called.object,
+        operation: called.operation,
         arg,
     })
 }
 
+/// An operation of an object, both by number.
+#[derive(Clone, Copy, Debug, PartialEq, Eq)]
+struct Called {
+    object: u8,
+    operation: Operation,
+}
+
+/// Reads `OBJECT.OPERATION`.
+#[tactic(auto, unfolding(crate::specs::ScriptLines::operation_at))]
+fn read_operation(words: &mut Words<'_>, declared: &Declared) -> Result<Called, DeckReason>
+    requires { IsComplete declared.now }
+    ensures read { Gives (λ called. (called.object, called.operation, unread words.new)) result
+        (operation_at (names_of declared.now) (unread words.old)) }
+    ensures within { IfOk result (λ called. IsUpTo (index_set_len declared.now.objects) called.object
+        × IsRightOperation called.operation) }
+    ensures offered { IfOk result (λ called.
+        IsOffered declared.now.program called.object called.operation) }
+{
+    let (object, operation) = read_dotted(words.take()?)?;
+    let place = place_among(&declared.objects, object).ok_or(DeckReason::UnknownName)?;
+    let names = declared
+        .operations_at(place)
+        .ok_or(DeckReason::UnknownName)?;
+    let operation = operation_named(names, operation).ok_or(DeckReason::UnknownName)?;
+    Ok(Called {
+        object: place as u8 + 1,
+        operation: operation.operation(),
+    })
+}
+
+/// The operation of this name.
+fn operation_named(names: &OperationNames, name: &str) -> Option<OperationName>
+    ensures value { option_map operation_of result
+        ≡ find name.now (key_names names.now) (map operation_of (values names.now)) }
+    ensures among { IfSome result (λ operation. IsAmong (values names.now) operation) }
+{
+    names.get(name).copied()
+}
+
+/// Reads `[ARG]`, 0 if it is absent.
+#[tactic(auto, unfolding(crate::specs::ScriptLines::argument_at))]
+fn read_argument(words: &mut Words<'_>) -> Result<i64, DeckReason>
+    ensures { Gives (λ arg. (arg, unread words.new)) result (argument_at (unread words.old)) }
+{
+    if words.is_at_end() {
+        return Ok(0);
+    }
+    words.take_integer()
+}
+
 /// Reads the rest of `arm TASK NODE TIMER TIME`: the task sets the timing event.
+#[tactic(auto, unfolding(crate::specs::ScriptLines::arm_at))]
 pub fn read_arm(words: &mut Words<'_>, declared: &Declared) -> Result<Event, DeckReason>
     requires { IsComplete declared.now }
+    ensures read { Gives (λ event. (event_of event, unread words.new)) result
+        (arm_at (names_of declared.now) (unread words.old)) }
     ensures right { IfOk result (IsRightEvent declared.now) }
     ensures live { IfOk result IsLiveEvent }
 {
@@ -66,8 +120,11 @@ pub fn read_arm(words: &mut Words<'_>, declared: &Declared) -> Result<Event, Dec
 }
 
 /// Reads the rest of `disarm TASK NODE TIMER`: the task cancels the timing event.
+#[tactic(auto, unfolding(crate::specs::ScriptLines::disarm_at))]
 pub fn read_disarm(words: &mut Words<'_>, declared: &Declared) -> Result<Event, DeckReason>
     requires { IsComplete declared.now }
+    ensures read { Gives (λ event. (event_of event, unread words.new)) result
+        (disarm_at (names_of declared.now) (unread words.old)) }
     ensures right { IfOk result (IsRightEvent declared.now) }
     ensures live { IfOk result IsLiveEvent }
 {
@@ -91,18 +148,18 @@ struct Timer {
 }
 
 /// Reads the name of a timing event.
+#[tactic(auto, unfolding(crate::specs::ScriptLines::timer_at))]
 fn read_timer(words: &mut Words<'_>, declared: &Declared) -> Result<Timer, DeckReason>
     requires { IsComplete declared.now }
+    ensures read { Gives (λ timer. (timer.index.number, timer.object, unread words.new)) result
+        (timer_at (names_of declared.now) (unread words.old)) }
     ensures within { IfOk result (λ timer.
         IsUpTo (index_set_len declared.now.objects) timer.object) }
     ensures offered { IfOk result (λ timer.
         IsOffered declared.now.program timer.object (SetTimer timer.index.number)) }
 {
     let name = words.take_name()?;
-    let place = declared
-        .timers
-        .get_index_of(name)
-        .ok_or(DeckReason::UnknownName)?;
+    let place = place_in(&declared.timers, name).ok_or(DeckReason::UnknownName)?;
     let handler = declared
         .program
         .timer(place)
@@ -116,18 +173,18 @@ fn read_timer(words: &mut Words<'_>, declared: &Declared) -> Result<Timer, DeckR
 }
 
 /// Reads the rest of `irq NODE INTERRUPT OCCURRENCE`.
+#[tactic(auto, unfolding(crate::specs::ScriptLines::interrupt_at, crate::specs::ScriptLines::declared_at))]
 pub fn read_interrupt(words: &mut Words<'_>, declared: &Declared) -> Result<Step, DeckReason>
     requires { IsComplete declared.now }
+    ensures read { Gives (λ step. (step_of step, unread words.new)) result
+        (interrupt_at (names_of declared.now) (unread words.old)) }
     ensures within { IfOk result (IsStepWithin declared.now.nodes) }
     ensures declared { IfOk result (IsStepDeclared (index_map_len declared.now.interrupts)) }
     ensures live { IfOk result IsLiveStep }
 {
     let node = read_node(words, declared.nodes)?;
     let name = words.take_name()?;
-    let place = declared
-        .interrupts
-        .get_index_of(name)
-        .ok_or(DeckReason::UnknownName)?;
+    let place = place_in(&declared.interrupts, name).ok_or(DeckReason::UnknownName)?;
     let occurrence = words.take_number(1, u64::from(u32::MAX))? as u32;
     Ok(Step::Interrupt {
         node,
@@ -136,4 +193,19 @@ pub fn read_interrupt(words: &mut Words<'_>, declared: &Declared) -> Result<Step
             occurrence,
         },
     })
+}
+
+/// Reads the rest of `tick NODE NOW`.
+#[tactic(auto, unfolding(crate::specs::ScriptLines::tick_at))]
+pub fn read_tick(words: &mut Words<'_>, nodes: u8) -> Result<Step, DeckReason>
+    requires { nodes ≤ 7 }
+    ensures read { Gives (λ step. (step_of step, unread words.new)) result
+        (tick_at nodes (unread words.old)) }
+    ensures within { IfOk result (IsStepWithin nodes) }
+    ensures declared { IfOk result (λ step. (interrupts : ℕ) → IsStepDeclared interrupts step) }
+    ensures live { IfOk result IsLiveStep }
+{
+    let node = read_node(words, nodes)?;
+    let now = words.take_number(0, u64::from(u32::MAX))? as u32;
+    Ok(Step::Tick { node, now })
 }

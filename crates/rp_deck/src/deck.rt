@@ -55,12 +55,14 @@ pub enum DeckProgram {
 }
 
 impl DeckProgram {
-    ghost use Rattle.std.specs.Prelude.{◌+◌};
+    ghost use Rattle.std.specs.Prelude.{◌≡◌, ◌+◌, slice_get};
     ghost use Rattle.rp_base.specs.declared.action.Operation.TheVariants.{SetTimer};
     ghost use Rattle.rp_deck.specs.Programs.{object_count, IsOffered};
+    ghost use Rattle.rp_deck.specs.ScriptViews.{timer_handlers};
 
     /// The handler of the timing event at this place.
     pub fn timer(&self, place: usize) -> Option<Handler>
+        ensures value { result ≡ slice_get (timer_handlers self.now) place }
         ensures within { IfSome result (λ handler. (1 ≤ handler.object)
             × (handler.object ≤ object_count self.now)) }
         ensures offered { IfSome result (λ handler.

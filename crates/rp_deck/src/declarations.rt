@@ -1,8 +1,16 @@
 //! Reads the declarations of a deck.
 
-ghost use Rattle.std.specs.Prelude.{◌≡◌, Some, IfOk, IfErr, IfSome, slice_get};
-ghost use Rattle.rp_deck.specs.Declarations.{IsNodeCount, IsDraft, IsComplete};
-ghost use Rattle.rp_deck.specs.LineFaults.{IsDeckFault};
+ghost use Rattle.std.specs.Prelude.{◌≡◌, IfOk, IfErr, option_copied, slice_get};
+ghost use Rattle.rp_deck.specs.Ahead.{text_of, ahead, after_last};
+ghost use Rattle.rp_deck.specs.Declarations.{IsNodeCount, IsDraft, IsFinishable, IsComplete};
+ghost use Rattle.rp_deck.specs.Declaring.{declarations_from, declarations_of};
+ghost use Rattle.rp_deck.specs.DeckViews.{declared_text};
+ghost use Rattle.rp_deck.specs.DraftViews.{draft_text};
+ghost use Rattle.rp_deck.specs.Drafts.{nodes_line};
+ghost use Rattle.rp_deck.specs.LineFaults.{IsDeckFault, Reads};
+ghost use Rattle.rp_deck.specs.Meaning.{known};
+ghost use Rattle.rp_deck.specs.Reading.{Gives};
+ghost use Rattle.rp_deck.specs.ScriptViews.{names_of};
 
 use crate::deck::{DeckProgram, Task};
 use crate::draft::Draft;
@@ -10,6 +18,7 @@ use crate::line_error::LineError;
 use crate::lines::{Lines, TextLine};
 use crate::names::OperationNames;
 use crate::program::finish;
+use crate::words::is_word;
 use indexmap::{IndexMap, IndexSet};
 use rp_base::{DeckReason, Fault, Position};
 use rp_object::Handler;
@@ -34,37 +43,55 @@ pub struct Declared {
 impl Declared {
     /// The names of the operations of the object at this place.
     pub fn operations_at(&self, place: usize) -> Option<&OperationNames>
-        ensures { IfSome result (λ names.
-            slice_get self.now.operations.items place ≡ Some names.now) }
+        ensures { option_copied result ≡ slice_get self.now.operations.items place }
     {
         self.operations.get(place)
     }
 }
 
-/// Reads the first line that holds words, `nodes N`.
-pub fn read_nodes(lines: &mut Lines<'_>) -> Result<u8, Fault>
-    ensures nodes { IfOk result IsNodeCount }
+/// Reads the lines up to `script`. What they declare is told, or the first bad line.
+pub fn read_declarations(alloc: Global, lines: &mut Lines<'_>) -> Result<Declared, Fault>
+    ensures read { Reads (λ declared. (names_of declared, declared_text declared, ahead lines.new)) result
+        (known (declarations_of (after_last lines.old) (ahead lines.old))) }
+    ensures declared { IfOk result IsComplete }
     ensures fault { IfErr result IsDeckFault }
 {
-    let Some(mut line) = lines.next() else {
+    let draft = read_draft(alloc, lines)?;
+    match finish(alloc, draft) {
+        Ok(declared) => Ok(declared),
+        Err(error) => Err(error.at(0)),
+    }
+}
+
+/// Reads the lines up to `script`.
+#[tactic(auto, unfolding(crate::specs::Declaring::declarations_of))]
+fn read_draft(alloc: Global, lines: &mut Lines<'_>) -> Result<Draft, Fault>
+    ensures read { Reads (λ draft. (draft_text draft, ahead lines.new)) result
+        (declarations_of (after_last lines.old) (ahead lines.old)) }
+    ensures finishable { IfOk result IsFinishable }
+{
+    let Some(line) = lines.next() else {
         let line = lines.next_number();
         let reason = DeckReason::NodesExpected;
         return Err(Fault::BadDeck { line, reason });
     };
-    match node_count(&mut line) {
-        Ok(nodes) => Ok(nodes),
+    let number = line.number;
+    match node_count(line) {
+        Ok(nodes) => read_lines(Draft::new(alloc, nodes), alloc, lines),
         Err(reason) => Err(Fault::BadDeck {
-            line: line.number,
+            line: number,
             reason,
         }),
     }
 }
 
 /// How many nodes the line declares.
-fn node_count(line: &mut TextLine<'_>) -> Result<u8, DeckReason>
-    ensures { IfOk result IsNodeCount }
+#[tactic(auto, unfolding(crate::specs::Drafts::nodes_line))]
+fn node_count(mut line: TextLine<'_>) -> Result<u8, DeckReason>
+    ensures read { Gives (λ nodes. nodes) result (nodes_line (text_of line.entry)) }
+    ensures in_range { IfOk result IsNodeCount }
 {
-    if line.first != b"nodes".as_slice() {
+    if !is_word(line.first, b"nodes") {
         return Err(DeckReason::NodesExpected);
     }
     let nodes = line.words.take_number(3, 7)?;
@@ -72,32 +99,28 @@ fn node_count(line: &mut TextLine<'_>) -> Result<u8, DeckReason>
     Ok(nodes as u8)
 }
 
-/// Reads the declarations behind `nodes`, and the line `script` that ends them.
-pub fn read_declarations(alloc: Global, lines: &mut Lines<'_>, nodes: u8) -> Result<Declared, Fault>
-    requires { IsNodeCount nodes }
-    ensures declared { IfOk result IsComplete }
-    ensures fault { IfErr result IsDeckFault }
+/// Reads the lines after `nodes`, up to `script`.
+fn read_lines(mut draft: Draft, alloc: Global, lines: &mut Lines<'_>) -> Result<Draft, Fault>
+    requires { IsDraft draft }
+    ensures read { Reads (λ after. (draft_text after, ahead lines.new)) result
+        (declarations_from (after_last lines.old) (draft_text draft) (ahead lines.old)) }
+    ensures finishable { IfOk result IsFinishable }
 {
-    let mut draft = Draft::new(alloc, nodes);
     while let Some(mut line) = lines.next() {
-        if line.first == b"script".as_slice() {
-            return match end(alloc, draft, &mut line) {
-                Ok(declared) => Ok(declared),
-                Err(error) => Err(error.at(line.number)),
+        let number = line.number;
+        if draft.is_ended_by(&line) {
+            return match draft.complete(&mut line.words) {
+                Ok(()) => Ok(draft),
+                Err(reason) => Err(LineError::Bad(reason).at(number)),
             };
         }
-        draft.read_line(alloc, line, lines)?;
+        match draft.read_line(alloc, line) {
+            Ok(()) => {}
+            Err(error) => return Err(error.at(number)),
+        }
     }
-    let line = lines.next_number();
-    let reason = DeckReason::ScriptExpected;
-    Err(Fault::BadDeck { line, reason })
-}
-
-/// Ends the declarations, at `script`.
-fn end(alloc: Global, draft: Draft, line: &mut TextLine<'_>) -> Result<Declared, LineError>
-    requires { IsDraft draft }
-    ensures { IfOk result IsComplete }
-{
-    draft.complete(&mut line.words)?;
-    finish(alloc, draft)
+    Err(Fault::BadDeck {
+        line: lines.next_number(),
+        reason: draft.missing(),
+    })
 }

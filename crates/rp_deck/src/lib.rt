@@ -13,8 +13,10 @@
 //! - `program`: makes the program of what a deck declares
 //! - `line_error`: why a line of a deck was not read
 //! - `script`: reads the script of a deck
+//! - `verbs`: the first words of a script's lines
 //! - `calls`: reads the lines of a script by which tasks call and interrupts occur
 //! - `operands`: reads the words of a script's line that name nodes, tasks and positions
+//! - `laws`: laws of what a text means
 //! - `deck`: what a deck declares and asks for
 #![tactic(auto)]
 
@@ -23,6 +25,7 @@ mod deck;
 mod declarations;
 mod draft;
 mod expressions;
+mod laws;
 mod line_error;
 mod lines;
 mod names;
@@ -32,7 +35,13 @@ mod program;
 mod reading;
 mod script;
 mod statements;
+mod verbs;
 mod words;
 
 pub use deck::{Command, Deck, DeckProgram, Line, Mode, Task};
+pub use laws::{
+    commands_are_read_back, conditions_are_read_back, declarations_are_read_back,
+    expressions_are_read_back, object_decks_are_read_back, objects_are_read_back,
+    scripts_are_read_back, tally_decks_are_read_back,
+};
 pub use reading::read_deck;

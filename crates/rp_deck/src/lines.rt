@@ -1,8 +1,9 @@
 //! The lines of a deck.
 
-ghost use Rattle.std.specs.Prelude.{◌≡◌, ◌↔◌, ◌+◌, ◌-◌, ◌^◌, ◌<◌, ◌≤◌, [], length, not, IsNone, IfSome};
-ghost use Rattle.std.specs.List.{prefix_len};
-ghost use Rattle.rp_deck.specs.Lines.{is_line_feed, without_return, first_line, after_line};
+ghost use Rattle.std.specs.Prelude.{◌≡◌, ◌+◌, ◌-◌, ◌^◌, ◌<◌, ◌≤◌, ◌∷◌, ◌==◌, [], length, IfNone, IfSome};
+ghost use Rattle.rp_deck.specs.Words.{begins_with};
+ghost use Rattle.rp_deck.specs.Lines.{lines_of};
+ghost use Rattle.rp_deck.specs.LineEnds.{line_end, without_return};
 
 use crate::words::Words;
 
@@ -12,8 +13,31 @@ pub struct TextLine<'a> {
     /// Counted from 1, among all lines.
     pub number: u32,
     pub first: &'a [u8],
-    /// The words behind the first.
+    /// The words after the first.
     pub words: Words<'a>,
+}
+
+impl<'a> TextLine<'a> {
+    ghost use Rattle.std.specs.Prelude.{option_map};
+    ghost use Rattle.rp_deck.specs.Lines.{text_at};
+    ghost use Rattle.rp_deck.specs.Ahead.{text_of};
+
+    /// The line of this number and these bytes, if it holds words and is no comment.
+    #[tactic(auto, unfolding(crate::specs::Reading::word_at))]
+    fn of(number: u32, line: &'a [u8]) -> Option<Self>
+        ensures { option_map text_of result ≡ text_at number line.entry.now }
+    {
+        let mut words = Words::new(line);
+        let first = words.take().ok()?;
+        if begins_comment(first) {
+            return None;
+        }
+        Some(TextLine {
+            number,
+            first,
+            words,
+        })
+    }
 }
 
 /// The lines of a deck that are still to be read.
@@ -27,7 +51,7 @@ pub struct Lines<'a> {
 
 /// How many bytes stand before the first line feed.
 fn length_of_line(bytes: &[u8]) -> usize
-    ensures value { result ≡ prefix_len (λ byte. not (is_line_feed byte)) bytes.now }
+    ensures value { result ≡ line_end bytes.now }
     ensures within { result ≤ length bytes.now }
 {
     bytes.iter().take_while(|byte| **byte != b'\n').count()
@@ -40,8 +64,18 @@ fn without_return(line: &[u8]) -> &[u8]
     line.strip_suffix(b"\r".as_slice()).unwrap_or(line)
 }
 
+/// Whether the word begins a comment.
+fn begins_comment(word: &[u8]) -> bool
+    ensures { result ≡ begins_with (λ byte. byte == 35) word.now }
+{
+    match word {
+        [] => false,
+        [first, ..] => *first == b'#',
+    }
+}
+
 impl<'a> Lines<'a> {
-    ghost use Rattle.rp_deck.specs.Left.{left, lines_read};
+    ghost use Rattle.rp_deck.specs.Ahead.{left, lines_read, ahead, after_last, Comes};
 
     /// The lines of a text.
     pub fn new(text: &'a [u8]) -> Self
@@ -63,10 +97,12 @@ impl<'a> Lines<'a> {
     }
 
     /// The next line, without its end.
+    #[tactic(auto, using(crate::proofs::LinesLemmas::split_ended, crate::proofs::LinesLemmas::split_last))]
     fn next_line(&mut self) -> Option<&'a [u8]>
-        ensures none { IsNone result ↔ (left self.old ≡ []) }
-        ensures line { IfSome result (λ line. line.now ≡ first_line (left self.old)) }
-        ensures rest { left self.new ≡ after_line (left self.old) }
+        ensures none { IfNone result (lines_of (left self.old) ≡ []) }
+        ensures same { IfNone result (self.new ≡ self.old) }
+        ensures line { IfSome result (λ line. lines_of (left self.old)
+            ≡ line.now ∷ lines_of (left self.new)) }
         ensures count { IfSome result (λ line. lines_read self.new ≡ lines_read self.old + 1) }
         ensures shorter { IfSome result (λ line. length (left self.new) < length (left self.old)) }
     {
@@ -89,20 +125,16 @@ impl<'a> Lines<'a> {
 
     /// The next line that holds words and is no comment.
     pub fn next(&mut self) -> Option<TextLine<'a>>
-        ensures shorter { IfSome result (λ line. length (left self.new) < length (left self.old)) }
+        ensures next { Comes result (ahead self.old) (ahead self.new) }
+        ensures last { after_last self.new ≡ after_last self.old }
+        ensures end { IfNone result (lines_read self.new + 1 ≡ after_last self.old) }
         ensures number { IfSome result (λ line. line.number ≡ lines_read self.new) }
-        ensures end { IsNone result → left self.new ≡ [] }
+        ensures shorter { IfSome result (λ line. length (left self.new) < length (left self.old)) }
+        ensures within { length (left self.new) ≤ length (left self.old) }
     {
         while let Some(line) = self.next_line() {
-            let mut words = Words::new(line);
-            if let Some(first) = words.next()
-                && !first.starts_with(b"#".as_slice())
-            {
-                return Some(TextLine {
-                    number: self.count,
-                    first,
-                    words,
-                });
+            if let Some(text) = TextLine::of(self.count, line) {
+                return Some(text);
             }
         }
         None

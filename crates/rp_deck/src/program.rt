@@ -1,13 +1,22 @@
 //! Makes the program of what a deck declares.
 
-ghost use Rattle.std.specs.Prelude.{◌≡◌, ◌≤◌, ℕ, List, All, length, map, true, false, IfOk, IfSome};
+ghost use Rattle.std.specs.Prelude.{◌≡◌, ◌≤◌, ℕ, List, [], All, length, map, true, false, IfOk, IfErr, IfSome};
 ghost use Rattle.indexmap.specs.IndexMap.{values};
 ghost use Rattle.indexmap.specs.IndexSet.{index_set_len};
 ghost use Rattle.rp_object.specs.declared.program.Handler.{Handler};
 ghost use Rattle.rp_base.specs.declared.action.Operation.TheVariants.{Procedure};
 ghost use Rattle.rp_deck.specs.Named.{operation_of, AreAllNamed};
 ghost use Rattle.rp_deck.specs.Programs.{DeclaresAll, AreNamesOf};
-ghost use Rattle.rp_deck.specs.Declarations.{HasObjects, IsFinishable, IsComplete};
+ghost use Rattle.rp_object.specs.declared.program.Profile.{Profile};
+ghost use Rattle.indexmap.specs.IndexMap.{index_map_len};
+ghost use Rattle.rp_object.specs.Program.{operations_of, DeclarationFits, KeepsProfile, IsProgram};
+ghost use Rattle.rp_deck.specs.Declarations.{IsNameTable, IsHandled, procedure_counts, IsObject, HasObjects, IsFinishable, IsComplete};
+ghost use Rattle.rp_deck.specs.DeckViews.{protected_text, program_text, declared_text, IsTally, IsMadeOf};
+ghost use Rattle.rp_deck.specs.DraftViews.{object_text, draft_text};
+ghost use Rattle.rp_deck.specs.Drafts.{profile_of};
+ghost use Rattle.rp_deck.specs.Meaning.{ProgramText, protected_of, deck_of};
+ghost use Rattle.rp_deck.specs.ScriptNames.{tally_operations, object_operations, declared_names};
+ghost use Rattle.rp_deck.specs.ScriptViews.{timer_handlers, own_operations, names_of};
 
 use crate::deck::{DeckProgram, Task};
 use crate::declarations::Declared;
@@ -16,7 +25,6 @@ use crate::line_error::LineError;
 use crate::names::{Index, OperationName, OperationNames};
 use crate::objects::ObjectDraft;
 use indexmap::IndexMap;
-use rp_base::DeckReason;
 use rp_machine::TallyProgram;
 use rp_object::{Declarations, Handler, ObjectDeclaration, Program, TimingEvent};
 use std::alloc::{AllocError, Global};
@@ -33,7 +41,12 @@ struct Objects {
 /// Makes the program, whose lines were read within its limits.
 pub fn finish(alloc: Global, mut draft: Draft) -> Result<Declared, LineError>
     requires { IsFinishable draft }
-    ensures { IfOk result IsComplete }
+    ensures complete { IfOk result IsComplete }
+    ensures names { IfOk result (λ declared.
+        names_of declared ≡ declared_names (draft_text draft)) }
+    ensures text { IfOk result (λ declared.
+        declared_text declared ≡ deck_of (draft_text draft) []) }
+    ensures memory { IfErr result (λ error. error ≡ LineError.OutOfMemory) }
 {
     let drafts = mem::replace(&mut draft.drafts, Vec::new(alloc));
     let made = make(alloc, &draft, drafts)?;
@@ -51,10 +64,19 @@ pub fn finish(alloc: Global, mut draft: Draft) -> Result<Declared, LineError>
 
 /// Makes the program, of these drafts of its objects where they are not those of a tally.
 fn make(alloc: Global, draft: &Draft, drafts: Vec<ObjectDraft>) -> Result<Objects, LineError>
+    ghost profile: { Profile }
     requires some { 1 ≤ index_set_len draft.now.objects }
     requires few { index_set_len draft.now.objects ≤ 8 }
     requires drafts { draft.now.is_tally ≡ false
         → length drafts.items ≡ index_set_len draft.now.objects }
+    requires profile { profile ≡ profile_of (draft_text draft.now) }
+    requires kept { All (IsObject profile) drafts.items }
+    requires tasks { index_map_len draft.now.tasks ≤ 8 }
+    requires interrupts { IsNameTable draft.now.interrupts }
+    requires timers { IsNameTable draft.now.timers }
+    requires handled { All (IsHandled (procedure_counts drafts.items)) (values draft.now.interrupts)
+        × All (IsHandled (procedure_counts drafts.items)) (values draft.now.timers) }
+    ensures memory { IfErr result (λ error. error ≡ LineError.OutOfMemory) }
     ensures program { IfOk result (λ made. HasObjects (index_set_len draft.now.objects)
         made.program) }
     ensures declared { IfOk result (λ made. DeclaresAll
@@ -63,6 +85,11 @@ fn make(alloc: Global, draft: &Draft, drafts: Vec<ObjectDraft>) -> Result<Object
     ensures operations { IfOk result (λ made. length made.operations.items
         ≡ index_set_len draft.now.objects) }
     ensures named { IfOk result (λ made. AreNamesOf made.program made.operations.items) }
+    ensures tally { IfOk result (λ made. draft.now.is_tally ≡ true
+        → IsTally (index_set_len draft.now.objects) made.program made.operations.items) }
+    ensures objects { IfOk result (λ made. draft.now.is_tally ≡ false
+        → IsMadeOf (profile_of (draft_text draft.now)) (map object_text drafts.items)
+        (values draft.now.timers) made.program made.operations.items) }
 {
     if draft.is_tally {
         return tally(alloc, draft.objects.len() as u8);
@@ -72,6 +99,7 @@ fn make(alloc: Global, draft: &Draft, drafts: Vec<ObjectDraft>) -> Result<Object
     let interrupts = handlers_of(alloc, &draft.interrupts)?;
     let timers = timing_events(alloc, &draft.timers)?;
     let declarations = Declarations {
+        profile: draft.profile(),
         priorities,
         objects,
         interrupts,
@@ -83,11 +111,13 @@ fn make(alloc: Global, draft: &Draft, drafts: Vec<ObjectDraft>) -> Result<Object
 /// A tally of so many objects. The one operation of each is the procedure `add`.
 fn tally(alloc: Global, count: u8) -> Result<Objects, LineError>
     requires { (1 ≤ count) × (count ≤ 8) }
+    ensures memory { IfErr result (λ error. error ≡ LineError.OutOfMemory) }
     ensures program { IfOk result (λ made. HasObjects count made.program) }
     ensures declared { IfOk result (λ made. (priorities : List ℕ) (interrupts timers : List Handler)
         → DeclaresAll priorities interrupts timers made.program) }
     ensures operations { IfOk result (λ made. length made.operations.items ≡ count) }
     ensures named { IfOk result (λ made. AreNamesOf made.program made.operations.items) }
+    ensures tally { IfOk result (λ made. IsTally count made.program made.operations.items) }
 {
     let mut operations = Vec::new(alloc);
     for _ in 0..count {
@@ -101,7 +131,10 @@ fn tally(alloc: Global, count: u8) -> Result<Objects, LineError>
 
 /// The one operation of an object of a tally, the procedure `add`.
 fn tally_operations(alloc: Global) -> Result<OperationNames, LineError>
-    ensures { IfOk result (λ names. All (λ name. operation_of name ≡ Procedure 1) (values names)) }
+    ensures named { IfOk result (λ names.
+        All (λ name. operation_of name ≡ Procedure 1) (values names)) }
+    ensures text { IfOk result (λ names. own_operations names ≡ tally_operations) }
+    ensures memory { IfErr result (λ error. error ≡ LineError.OutOfMemory) }
 {
     let mut names = IndexMap::new(alloc);
     let index = Index { number: 1 };
@@ -118,16 +151,22 @@ fn protected_objects(
     declarations: Declarations,
     operations: Vec<OperationNames>,
 ) -> Result<Objects, LineError>
+    requires { IsProgram declarations }
+    ensures memory { IfErr result (λ error. error ≡ LineError.OutOfMemory) }
     ensures program { IfOk result (λ made. HasObjects (length declarations.objects.items) made.program) }
     ensures declared { IfOk result (λ made. DeclaresAll declarations.priorities.items
         declarations.interrupts.items (map (λ event. event.handler) declarations.timers.items)
         made.program) }
     ensures operations { IfOk result (λ made. made.operations ≡ operations) }
+    ensures text { IfOk result (λ made. program_text made.program
+        ≡ ProgramText.Objects declarations.profile (map protected_text declarations.objects.items)) }
+    ensures timers { IfOk result (λ made. timer_handlers made.program
+        ≡ map (λ event. event.handler) declarations.timers.items) }
     ensures named { IfOk result (λ made. AreAllNamed declarations.objects.items operations.items
         → AreNamesOf made.program made.operations.items) }
 {
     let declarations = Arc::new(alloc, declarations)?;
-    let program = Program::new(declarations).ok_or(DeckReason::TooMany)?;
+    let program = Program::new(declarations).unwrap();
     Ok(Objects {
         program: DeckProgram::Objects(program),
         operations,
@@ -139,9 +178,18 @@ fn object_declarations(
     alloc: Global,
     drafts: Vec<ObjectDraft>,
 ) -> Result<(Vec<ObjectDeclaration>, Vec<OperationNames>), AllocError>
+    ghost profile: { Profile }
+    requires { All (IsObject profile) drafts.items }
     ensures objects { IfOk result (λ made. length made.0.items ≡ length drafts.items) }
     ensures operations { IfOk result (λ made. length made.1.items ≡ length drafts.items) }
     ensures named { IfOk result (λ made. AreAllNamed made.0.items made.1.items) }
+    ensures fits { IfOk result (λ made. All DeclarationFits made.0.items) }
+    ensures keeps { IfOk result (λ made.
+        All (λ object. KeepsProfile profile (operations_of object)) made.0.items) }
+    ensures text { IfOk result (λ made. map protected_text made.0.items
+        ≡ map protected_of (map object_text drafts.items)) }
+    ensures texts { IfOk result (λ made. map own_operations made.1.items
+        ≡ map object_operations (map object_text drafts.items)) }
 {
     let mut objects = Vec::new(alloc);
     let mut operations = Vec::new(alloc);

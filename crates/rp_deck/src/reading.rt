@@ -1,40 +1,49 @@
 //! Reads a deck.
 
-ghost use Rattle.std.specs.Prelude.{◌+◌, ◌^◌, ◌<◌, length, IfOk, IfErr};
-ghost use Rattle.rp_deck.specs.LineFaults.{IsDeckFault};
+ghost use Rattle.std.specs.Prelude.{◌≡◌, ◌≤◌, ◌+◌, ◌^◌, ◌<◌, length, unwrap_or, IfOk, IfErr};
 ghost use Rattle.rp_deck.specs.Deck.{IsRightDeck};
+ghost use Rattle.rp_deck.specs.DeckViews.{deck_text};
+ghost use Rattle.rp_deck.specs.LineFaults.{IsDeckFault, Reads};
 ghost use Rattle.rp_deck.specs.Live.{IsDeckFor};
+ghost use Rattle.rp_deck.specs.Meaning.{meaning_of};
 
 use crate::deck::{Deck, Mode};
-use crate::declarations::{read_declarations, read_nodes};
+use crate::declarations::read_declarations;
 use crate::lines::Lines;
 use crate::script::read_script;
-use rp_base::{Config, Fault};
+use rp_base::{Config, Fault, Position};
 use std::alloc::Global;
 
 /// How long the log gets where the deck says nothing of it.
 const POSITIONS: u16 = 1000;
 
+/// How long the log gets.
+fn most_positions(positions: Option<Position>) -> u16
+    ensures value { result ≡ unwrap_or positions 1000 }
+    ensures right { 1 ≤ result }
+{
+    match positions {
+        Some(position) => position.get(),
+        None => POSITIONS,
+    }
+}
+
 /// Reads a deck that is to run in a mode, or tells its first bad line. A line of the script that
 /// live mode does not take is bad in it, by its first word.
 pub fn read_deck(alloc: Global, text: &[u8], mode: Mode) -> Result<Deck, Fault>
     requires { length text.now + 1 < 2 ^ 32 }
+    ensures meaning { Reads deck_text result (meaning_of mode text.now) }
     ensures deck { IfOk result IsRightDeck }
     ensures taken { IfOk result (IsDeckFor mode) }
     ensures fault { IfErr result IsDeckFault }
 {
     let mut lines = Lines::new(text);
-    let nodes = read_nodes(&mut lines)?;
-    let declared = read_declarations(alloc, &mut lines, nodes)?;
+    let declared = read_declarations(alloc, &mut lines)?;
     let script = read_script(alloc, &mut lines, &declared, mode)?;
-    let max_positions = match declared.positions {
-        Some(position) => position.get(),
-        None => POSITIONS,
-    };
     Ok(Deck {
         config: Config {
             nodes: declared.nodes,
-            max_positions,
+            max_positions: most_positions(declared.positions),
         },
         program: declared.program,
         tasks: declared.tasks,

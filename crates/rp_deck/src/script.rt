@@ -1,28 +1,33 @@
 //! Reads the script of a deck.
 
-ghost use Rattle.std.specs.Prelude.{ℕ, ◌≤◌, All, IfOk, IfErr, IfSome};
-ghost use Rattle.indexmap.specs.IndexMap.{index_map_len};
-ghost use Rattle.indexmap.specs.IndexSet.{index_set_len};
+ghost use Rattle.std.specs.Prelude.{ℕ, ◌≡◌, ◌≤◌, true, All, IfOk, IfErr, map};
+ghost use Rattle.rp_model.specs.Events.{event_of, step_of};
+ghost use Rattle.rp_deck.specs.Ahead.{ahead, text_of};
 ghost use Rattle.rp_deck.specs.Declarations.{IsComplete};
-ghost use Rattle.rp_deck.specs.LineFaults.{IsDeckFault};
-ghost use Rattle.rp_deck.specs.Live.{IsLiveEvent, IsLiveStep, IsTaken};
+ghost use Rattle.rp_deck.specs.LineFaults.{IsDeckFault, Reads};
+ghost use Rattle.rp_deck.specs.Live.{IsLiveCommand, IsTaken};
+ghost use Rattle.rp_deck.specs.Reading.{Gives};
 ghost use Rattle.rp_deck.specs.Script.{IsRightCommand, IsRightLine, IsRightEvent, IsStepDeclared, IsStepWithin, IsEventDeclared, IsEventWithin, IsCommandDeclared, IsMessage, FitsIn};
+ghost use Rattle.rp_deck.specs.ScriptLines.{script_of, command_line, command_at, is_live, lose_at, last_at, message_at, lead_at, deliver_at, position_at, step_from, again_at, stop_at, restart_at, cut_at};
+ghost use Rattle.rp_deck.specs.ScriptViews.{names_of, command_text, line_command};
+ghost use Rattle.rp_deck.specs.Words.{unread};
 ghost use Rattle.rp_deck.specs.declared.deck.DeckProgram.{DeckProgram};
 
-use crate::calls::{read_arm, read_call, read_disarm, read_interrupt};
+use crate::calls::{read_arm, read_call, read_disarm, read_interrupt, read_tick};
 use crate::deck::{Command, Line, Mode};
 use crate::declarations::Declared;
 use crate::lines::{Lines, TextLine};
 use crate::operands::{read_node, read_position, read_task};
-use crate::words::{Words, read_number};
-use rp_base::{DeckReason, Fault};
+use crate::verbs::Verb;
+use crate::words::{Words, is_word};
+use rp_base::{DeckReason, Fault, Position};
 use rp_model::{Event, Step};
 use std::alloc::Global;
 
 /// The most that a script's number of a message or of bytes may be.
 const MOST: u64 = 0x7fff_ffff_ffff_ffff;
 
-/// Reads the lines behind `script`.
+/// Reads the lines after `script`.
 pub fn read_script(
     alloc: Global,
     lines: &mut Lines<'_>,
@@ -30,6 +35,8 @@ pub fn read_script(
     mode: Mode,
 ) -> Result<Vec<Line>, Fault>
     requires { IsComplete declared.now }
+    ensures read { Reads (λ script. map line_command script.items) result
+        (script_of mode (names_of declared.now) (ahead lines.old)) }
     ensures script { IfOk result (λ script. All (IsRightLine declared.now) script.items) }
     ensures taken { IfOk result (λ script. All (λ line. IsTaken mode line.command) script.items) }
     ensures fault { IfErr result IsDeckFault }
@@ -51,125 +58,100 @@ pub fn read_script(
 }
 
 /// Reads a line of the script.
+#[tactic(auto, using(crate::proofs::ScriptLemmas::taken_by), unfolding(crate::specs::ScriptLines::command_line))]
 fn read_command(
     line: &mut TextLine<'_>,
     declared: &Declared,
     mode: Mode,
 ) -> Result<Command, DeckReason>
     requires { IsComplete declared.now }
+    ensures read { Gives command_text result
+        (command_line mode (names_of declared.now) (text_of line.old)) }
     ensures right { IfOk result (IsRightCommand declared.now) }
     ensures taken { IfOk result (IsTaken mode) }
 {
-    let command = command_of(line.first, &mut line.words, declared, mode)?;
+    let verb = Verb::named(line.first).ok_or(DeckReason::UnknownWord)?;
+    if !mode.takes(verb) {
+        return Err(DeckReason::NotInLive);
+    }
+    let command = command_of(verb, &mut line.words, declared)?;
     line.words.end()?;
     Ok(command)
 }
 
-/// Reads a command, behind its first word.
-fn command_of(
-    first: &[u8],
-    words: &mut Words<'_>,
-    declared: &Declared,
-    mode: Mode,
-) -> Result<Command, DeckReason>
+/// Reads a command, after its first word.
+fn command_of(verb: Verb, words: &mut Words<'_>, declared: &Declared) -> Result<Command, DeckReason>
     requires { IsComplete declared.now }
+    ensures read { Gives (λ command. (command_text command, unread words.new)) result
+        (command_at (names_of declared.now) verb (unread words.old)) }
     ensures right { IfOk result (IsRightCommand declared.now) }
-    ensures taken { IfOk result (IsTaken mode) }
+    ensures live { IfOk result (λ command. is_live verb ≡ true → IsLiveCommand command) }
 {
-    if let Some(event) = read_live_event(first, words, declared)? {
-        return Ok(Command::Take(event));
-    }
-    match mode {
-        Mode::Script => read_script_command(first, words, declared),
-        Mode::Live => Err(reason_in_live(first)),
-    }
-}
-
-/// Reads a line that live mode takes too, behind its first word. `None` where another line begins
-/// so.
-fn read_live_event(
-    first: &[u8],
-    words: &mut Words<'_>,
-    declared: &Declared,
-) -> Result<Option<Event>, DeckReason>
-    requires { IsComplete declared.now }
-    ensures within { IfOk result (λ event. IfSome event (IsEventWithin declared.now.nodes
-        (index_map_len declared.now.tasks) (index_set_len declared.now.objects))) }
-    ensures declared { IfOk result (λ event. IfSome event (IsEventDeclared declared.now.program
-        (index_map_len declared.now.interrupts))) }
-    ensures live { IfOk result (λ event. IfSome event IsLiveEvent) }
-{
-    let event = match first {
-        b"call" => read_call(words, declared)?,
-        b"arm" => read_arm(words, declared)?,
-        b"disarm" => read_disarm(words, declared)?,
-        b"irq" => Event::Node(read_interrupt(words, declared)?),
-        b"tick" => Event::Node(read_tick(words, declared.nodes)?),
-        _ => return Ok(None),
-    };
-    Ok(Some(event))
-}
-
-/// Why live mode does not take a line that begins with this word.
-fn reason_in_live(first: &[u8]) -> DeckReason {
-    match first {
-        b"again"
-        | b"lead"
-        | b"deliver"
-        | b"lose"
-        | b"drain"
-        | b"stop"
-        | b"restart"
-        | b"cut"
-        | b"show" => DeckReason::NotInLive,
-        _ => DeckReason::UnknownWord,
-    }
-}
-
-/// Reads a command that live mode does not take, behind its first word.
-fn read_script_command(
-    first: &[u8],
-    words: &mut Words<'_>,
-    declared: &Declared,
-) -> Result<Command, DeckReason>
-    requires { IsComplete declared.now }
-    ensures { IfOk result (IsRightCommand declared.now) }
-{
-    match first {
-        b"lose" => read_lose(words),
-        b"drain" => Ok(Command::Drain),
-        b"show" => Ok(Command::Show),
-        _ => Ok(Command::Take(read_event(first, words, declared)?)),
-    }
-}
-
-/// Reads a line that asks for an event which live mode does not take, behind its first word.
-fn read_event(first: &[u8], words: &mut Words<'_>, declared: &Declared) -> Result<Event, DeckReason>
-    requires { IsComplete declared.now }
-    ensures { IfOk result (IsRightEvent declared.now) }
-{
-    match first {
-        b"again" => read_again(words, declared),
-        b"cut" => read_cut(words, declared.nodes),
-        b"stop" => Ok(Event::Stop(read_node(words, declared.nodes)?)),
-        b"restart" => Ok(Event::Restart(read_node(words, declared.nodes)?)),
-        _ => Ok(Event::Node(read_step(first, words, declared.nodes)?)),
+    match verb {
+        Verb::Call => Ok(Command::Take(read_call(words, declared)?)),
+        Verb::Arm => Ok(Command::Take(read_arm(words, declared)?)),
+        Verb::Disarm => Ok(Command::Take(read_disarm(words, declared)?)),
+        Verb::Again => Ok(Command::Take(read_again(words, declared)?)),
+        Verb::Stop => Ok(Command::Take(read_stop(words, declared.nodes)?)),
+        Verb::Restart => Ok(Command::Take(read_restart(words, declared.nodes)?)),
+        Verb::Cut => Ok(Command::Take(read_cut(words, declared.nodes)?)),
+        Verb::Lead => Ok(Command::Take(Event::Node(read_lead(words, declared.nodes)?))),
+        Verb::Deliver => Ok(Command::Take(Event::Node(read_deliver(words)?))),
+        Verb::Interrupt => Ok(Command::Take(Event::Node(read_interrupt(words, declared)?))),
+        Verb::Tick => Ok(Command::Take(Event::Node(read_tick(words, declared.nodes)?))),
+        Verb::Lose => read_lose(words),
+        Verb::Drain => Ok(Command::Drain),
+        Verb::Show => Ok(Command::Show),
     }
 }
 
 /// Reads the rest of `again TASK NODE`.
+#[tactic(auto, unfolding(crate::specs::ScriptLines::again_at))]
 fn read_again(words: &mut Words<'_>, declared: &Declared) -> Result<Event, DeckReason>
     requires { IsComplete declared.now }
-    ensures { IfOk result (IsRightEvent declared.now) }
+    ensures read { Gives (λ event. (event_of event, unread words.new)) result
+        (again_at (names_of declared.now) (unread words.old)) }
+    ensures right { IfOk result (IsRightEvent declared.now) }
 {
     let task = read_task(words, declared)?;
     let node = read_node(words, declared.nodes)?;
     Ok(Event::Again { task, node })
 }
 
+/// Reads the rest of `stop NODE`.
+#[tactic(auto, unfolding(crate::specs::ScriptLines::stop_at))]
+fn read_stop(words: &mut Words<'_>, nodes: u8) -> Result<Event, DeckReason>
+    requires { nodes ≤ 7 }
+    ensures read { Gives (λ event. (event_of event, unread words.new)) result
+        (stop_at nodes (unread words.old)) }
+    ensures within { IfOk result (λ event. (tasks objects : ℕ)
+        → IsEventWithin nodes tasks objects event) }
+    ensures declared { IfOk result (λ event. (program : DeckProgram) (interrupts : ℕ)
+        → IsEventDeclared program interrupts event) }
+{
+    Ok(Event::Stop(read_node(words, nodes)?))
+}
+
+/// Reads the rest of `restart NODE`.
+#[tactic(auto, unfolding(crate::specs::ScriptLines::restart_at))]
+fn read_restart(words: &mut Words<'_>, nodes: u8) -> Result<Event, DeckReason>
+    requires { nodes ≤ 7 }
+    ensures read { Gives (λ event. (event_of event, unread words.new)) result
+        (restart_at nodes (unread words.old)) }
+    ensures within { IfOk result (λ event. (tasks objects : ℕ)
+        → IsEventWithin nodes tasks objects event) }
+    ensures declared { IfOk result (λ event. (program : DeckProgram) (interrupts : ℕ)
+        → IsEventDeclared program interrupts event) }
+{
+    Ok(Event::Restart(read_node(words, nodes)?))
+}
+
 /// Reads the rest of `cut KEPT lead NODE [POSITION]` or `cut KEPT deliver M`.
+#[tactic(auto, unfolding(crate::specs::ScriptLines::cut_at))]
 fn read_cut(words: &mut Words<'_>, nodes: u8) -> Result<Event, DeckReason>
     requires { nodes ≤ 7 }
+    ensures read { Gives (λ event. (event_of event, unread words.new)) result
+        (cut_at nodes (unread words.old)) }
     ensures within { IfOk result (λ event. (tasks objects : ℕ)
         → IsEventWithin nodes tasks objects event) }
     ensures declared { IfOk result (λ event. (program : DeckProgram) (interrupts : ℕ)
@@ -181,68 +163,96 @@ fn read_cut(words: &mut Words<'_>, nodes: u8) -> Result<Event, DeckReason>
     Ok(Event::Cut { step, kept })
 }
 
-/// Reads a step that may be cut, `lead NODE [POSITION]` or `deliver M`, behind its first word.
+/// Reads a step that may be cut, `lead NODE [POSITION]` or `deliver M`, after its first word.
+#[tactic(auto, unfolding(crate::specs::ScriptLines::step_from))]
 fn read_step(first: &[u8], words: &mut Words<'_>, nodes: u8) -> Result<Step, DeckReason>
     requires { nodes ≤ 7 }
+    ensures read { Gives (λ step. (step_of step, unread words.new)) result
+        (step_from nodes first.now (unread words.old)) }
     ensures within { IfOk result (IsStepWithin nodes) }
     ensures declared { IfOk result (λ step. (interrupts : ℕ) → IsStepDeclared interrupts step) }
 {
-    match first {
-        b"lead" => read_lead(words, nodes),
-        b"deliver" => Ok(Step::Deliver(words.take_number(1, MOST)?)),
-        _ => Err(DeckReason::UnknownWord),
+    if is_word(first, b"lead") {
+        read_lead(words, nodes)
+    } else if is_word(first, b"deliver") {
+        read_deliver(words)
+    } else {
+        Err(DeckReason::UnknownWord)
     }
 }
 
 /// Reads the rest of `lead NODE [POSITION]`.
+#[tactic(auto, unfolding(crate::specs::ScriptLines::lead_at))]
 fn read_lead(words: &mut Words<'_>, nodes: u8) -> Result<Step, DeckReason>
     requires { nodes ≤ 7 }
+    ensures read { Gives (λ step. (step_of step, unread words.new)) result
+        (lead_at nodes (unread words.old)) }
     ensures within { IfOk result (IsStepWithin nodes) }
     ensures declared { IfOk result (λ step. (interrupts : ℕ) → IsStepDeclared interrupts step) }
 {
     let node = read_node(words, nodes)?;
-    let position = match words.next() {
-        Some(word) => Some(read_position(word)?),
-        None => None,
-    };
+    let position = read_optional_position(words)?;
     Ok(Step::Lead { node, position })
 }
 
-/// Reads the rest of `tick NODE NOW`.
-fn read_tick(words: &mut Words<'_>, nodes: u8) -> Result<Step, DeckReason>
-    requires { nodes ≤ 7 }
-    ensures within { IfOk result (IsStepWithin nodes) }
-    ensures declared { IfOk result (λ step. (interrupts : ℕ) → IsStepDeclared interrupts step) }
-    ensures live { IfOk result IsLiveStep }
+/// Reads `[POSITION]`.
+#[tactic(auto, unfolding(crate::specs::ScriptLines::position_at))]
+fn read_optional_position(words: &mut Words<'_>) -> Result<Option<Position>, DeckReason>
+    ensures { Gives (λ position. (position, unread words.new)) result
+        (position_at (unread words.old)) }
 {
-    let node = read_node(words, nodes)?;
-    let now = words.take_number(0, u64::from(u32::MAX))? as u32;
-    Ok(Step::Tick { node, now })
+    if words.is_at_end() {
+        return Ok(None);
+    }
+    Ok(Some(read_position(words)?))
+}
+
+/// Reads the rest of `deliver M`.
+#[tactic(auto, unfolding(crate::specs::ScriptLines::deliver_at))]
+fn read_deliver(words: &mut Words<'_>) -> Result<Step, DeckReason>
+    ensures read { Gives (λ step. (step_of step, unread words.new)) result
+        (deliver_at (unread words.old)) }
+    ensures within { IfOk result (λ step. (nodes : ℕ) → IsStepWithin nodes step) }
+    ensures declared { IfOk result (λ step. (interrupts : ℕ) → IsStepDeclared interrupts step) }
+{
+    Ok(Step::Deliver(read_message(words)?))
+}
+
+/// Reads the number of a message.
+#[tactic(auto, unfolding(crate::specs::ScriptLines::message_at))]
+fn read_message(words: &mut Words<'_>) -> Result<u64, DeckReason>
+    ensures read { Gives (λ message. (message, unread words.new)) result
+        (message_at (unread words.old)) }
+    ensures message { IfOk result IsMessage }
+{
+    words.take_number(1, MOST)
 }
 
 /// Reads the rest of `lose M [LAST]`.
+#[tactic(auto, unfolding(crate::specs::ScriptLines::lose_at))]
 fn read_lose(words: &mut Words<'_>) -> Result<Command, DeckReason>
+    ensures read { Gives (λ command. (command_text command, unread words.new)) result
+        (lose_at (unread words.old)) }
     ensures within { IfOk result (λ command. (nodes tasks objects : ℕ)
         → FitsIn nodes tasks objects command) }
     ensures declared { IfOk result (λ command. (program : DeckProgram) (interrupts : ℕ)
         → IsCommandDeclared program interrupts command) }
 {
-    let first = words.take_number(1, MOST)?;
-    let last = match words.next() {
-        Some(word) => read_message(word)?,
-        None => first,
-    };
+    let first = read_message(words)?;
+    let last = read_last(words, first)?;
     Ok(Command::Lose { first, last })
 }
 
-/// Reads the number of a message.
-fn read_message(word: &[u8]) -> Result<u64, DeckReason>
-    ensures { IfOk result IsMessage }
+/// Reads `[LAST]`, the first message if it is absent.
+#[tactic(auto, unfolding(crate::specs::ScriptLines::last_at))]
+fn read_last(words: &mut Words<'_>, first: u64) -> Result<u64, DeckReason>
+    requires { IsMessage first }
+    ensures read { Gives (λ last. (last, unread words.new)) result
+        (last_at first (unread words.old)) }
+    ensures message { IfOk result IsMessage }
 {
-    let number = read_number(word).ok_or(DeckReason::BadNumber)?;
-    let number = u64::try_from(number).map_err(|_| DeckReason::BadNumber)?;
-    if number == 0 {
-        return Err(DeckReason::BadNumber);
+    if words.is_at_end() {
+        return Ok(first);
     }
-    Ok(number)
+    read_message(words)
 }

@@ -1,10 +1,13 @@
-//! The lines of a deck and their words.
+//! The words of a line, and the readers of them.
 
-ghost use Rattle.std.specs.Prelude.{◌≡◌, ◌↔◌, ◌<◌, ◌≤◌, ◌+◌, ◌^◌, [], length, IsTrue, IsNone, IfSome, IfOk, IfErr, IsOk, IsErr, OnOk, IsOkUnless, pos};
-ghost use Rattle.std.specs.Option.{SomeIff};
-ghost use Rattle.std.specs.Prelude.{not};
-ghost use Rattle.std.specs.List.{prefix_len};
-ghost use Rattle.rp_deck.specs.Words.{is_blank, IsName, IsNumber, number_read, without_blanks, first_word, after_word};
+ghost use Rattle.std.specs.Prelude.{◌≡◌, ◌≤◌, length, not, SomeIff, IfOk};
+ghost use Rattle.std.specs.Char.{is_ascii_alphabetic};
+ghost use Rattle.std.specs.List.{prefix_len, list_all};
+ghost use Rattle.std.specs.Str.{bytes_eq};
+ghost use Rattle.rp_body.specs.Store.{is_within};
+ghost use Rattle.rp_deck.specs.Words.{truth_named, begins_with, is_blank, is_of_name, is_name, IsName, number_of, without_blanks, is_at_end};
+ghost use Rattle.rp_deck.specs.Numbers.{IsNumber, number_read};
+ghost use Rattle.rp_deck.specs.Reading.{Gives, word_at, end_at, name_at, integer_at, number_at, name_of};
 
 use rp_base::DeckReason;
 use std::str;
@@ -12,7 +15,7 @@ use std::str;
 /// The most letters, digits and underscores of a name.
 const MOST_OF_NAME: usize = 16;
 
-/// Whether the byte parts words: a space or a tab.
+/// Whether the byte separates words: a space or a tab.
 fn is_blank(byte: u8) -> bool
     ensures { result ≡ is_blank byte }
 {
@@ -35,22 +38,42 @@ fn length_of_word(bytes: &[u8]) -> usize
     bytes.iter().take_while(|byte| !is_blank(**byte)).count()
 }
 
+/// Whether the word begins with a letter.
+fn begins_with_letter(word: &[u8]) -> bool
+    ensures { result ≡ begins_with is_ascii_alphabetic word.now }
+{
+    match word {
+        [] => false,
+        [first, ..] => first.is_ascii_alphabetic(),
+    }
+}
+
+/// Whether the byte may stand in a name: a letter, a digit or an underscore.
+fn is_of_name(byte: u8) -> bool
+    ensures { result ≡ is_of_name byte }
+{
+    byte.is_ascii_alphabetic() || byte.is_ascii_digit() || byte == b'_'
+}
+
+/// Whether each byte may stand in a name.
+fn are_of_name(word: &[u8]) -> bool
+    ensures { result ≡ list_all is_of_name word.now }
+{
+    word.iter().all(|byte| is_of_name(*byte))
+}
+
 /// Whether the word has a name's form: a letter, and then at most 15 letters, digits or
 /// underscores.
 pub fn is_name(word: &[u8]) -> bool
-    ensures { IsTrue result ↔ IsName word.now }
+    ensures { result ≡ is_name word.now }
 {
-    word.len() <= MOST_OF_NAME
-        && word.first().is_some_and(|byte| byte.is_ascii_alphabetic())
-        && word
-            .iter()
-            .all(|byte| byte.is_ascii_alphanumeric() || *byte == b'_')
+    word.len() <= MOST_OF_NAME && begins_with_letter(word) && are_of_name(word)
 }
 
 /// The name that the word is.
 pub fn read_name(word: &[u8]) -> Result<&str, DeckReason>
+    ensures read { Gives (λ name. name.now) result (name_of word.now) }
     ensures name { IfOk result (λ name. (name.now ≡ word.now) × IsName name.now) }
-    ensures bad { IfErr result (λ reason. (reason ≡ DeckReason.BadName) × (¬ IsName word.now)) }
 {
     if !is_name(word) {
         return Err(DeckReason::BadName);
@@ -58,14 +81,46 @@ pub fn read_name(word: &[u8]) -> Result<&str, DeckReason>
     str::from_utf8(word).map_err(|_| DeckReason::BadName)
 }
 
-/// The number that the word is: an optional `-` and decimal digits, within 64 signed bits.
-pub fn read_number(word: &[u8]) -> Option<i64>
+/// What the standard library reads as a number, but for a plus in front.
+fn parse_number(word: &[u8]) -> Option<i64>
     ensures { SomeIff result (IsNumber word.now) (number_read word.now) }
 {
     if word.first() == Some(&b'+') {
         return None;
     }
     str::from_utf8(word).ok()?.parse().ok()
+}
+
+/// The number that the word is: an optional `-` and decimal digits, within 64 signed bits.
+pub fn read_number(word: &[u8]) -> Option<i64>
+    ensures { result ≡ number_of word.now }
+{
+    parse_number(word)
+}
+
+/// Whether the number is from low to high.
+pub fn is_within(low: i64, high: i64, number: i64) -> bool
+    ensures { result ≡ is_within low high number }
+{
+    low <= number && number <= high
+}
+
+/// Whether the word is this one.
+pub fn is_word(word: &[u8], text: &[u8]) -> bool
+    ensures { result ≡ bytes_eq word.now text.now }
+{
+    word == text
+}
+
+/// The truth value that the word names.
+pub fn truth_named(word: &[u8]) -> Option<bool>
+    ensures { result ≡ truth_named word.now }
+{
+    match word {
+        b"true" => Some(true),
+        b"false" => Some(false),
+        _ => None,
+    }
 }
 
 /// The words of a line that are still to be read.
@@ -84,37 +139,40 @@ impl<'a> Words<'a> {
         Words { rest: line }
     }
 
-    /// The next word.
-    pub fn next(&mut self) -> Option<&'a [u8]>
-        ensures none { IsNone result ↔ (without_blanks (unread self.old) ≡ []) }
-        ensures word { IfSome result (λ word. word.now ≡ first_word (unread self.old)) }
-        ensures rest { IfSome result (λ word. unread self.new ≡ after_word (unread self.old)) }
+    /// The bytes from the next word on.
+    fn from_word(&self) -> &'a [u8]
+        ensures { result.now ≡ without_blanks (unread self.now) }
     {
-        let from_word = &self.rest[blanks_in_front(self.rest)..];
-        if from_word.is_empty() {
-            return None;
-        }
-        let (word, rest) = from_word.split_at(length_of_word(from_word));
-        self.rest = rest;
-        Some(word)
+        &self.rest[blanks_in_front(self.rest)..]
+    }
+
+    /// Whether no word is left.
+    pub fn is_at_end(&self) -> bool
+        ensures { result ≡ is_at_end (unread self.now) }
+    {
+        self.from_word().is_empty()
     }
 
     /// The next word, which has to be there.
+    #[tactic(auto, unfolding(crate::specs::Reading::word_at))]
     pub fn take(&mut self) -> Result<&'a [u8], DeckReason>
-        ensures missing { IsErr result ↔ (without_blanks (unread self.old) ≡ []) }
-        ensures word { IfOk result (λ word. word.now ≡ first_word (unread self.old)) }
-        ensures rest { OnOk result (unread self.new ≡ after_word (unread self.old)) }
-        ensures reason { IsOkUnless result DeckReason.WrongNumberOfWords }
+        ensures { Gives (λ word. (word.now, unread self.new)) result (word_at (unread self.old)) }
     {
-        self.next().ok_or(DeckReason::WrongNumberOfWords)
+        let from_word = self.from_word();
+        if from_word.is_empty() {
+            return Err(DeckReason::WrongNumberOfWords);
+        }
+        let (word, rest) = from_word.split_at(length_of_word(from_word));
+        self.rest = rest;
+        Ok(word)
     }
 
     /// The next word, a number from `low` to `high`.
+    #[tactic(auto, unfolding(crate::specs::Reading::number_at))]
     pub fn take_number(&mut self, low: u64, high: u64) -> Result<u64, DeckReason>
-        ensures value { IfOk result (λ number. number_read (first_word (unread self.old))
-            ≡ pos number) }
+        ensures read { Gives (λ number. (number, unread self.new)) result
+            (number_at low high (unread self.old)) }
         ensures in_range { IfOk result (λ number. (low ≤ number) × (number ≤ high)) }
-        ensures rest { OnOk result (unread self.new ≡ after_word (unread self.old)) }
     {
         let number = read_number(self.take()?).ok_or(DeckReason::BadNumber)?;
         let number = u64::try_from(number).map_err(|_| DeckReason::BadNumber)?;
@@ -125,30 +183,33 @@ impl<'a> Words<'a> {
     }
 
     /// The next word, any number.
+    #[tactic(auto, unfolding(crate::specs::Reading::integer_at))]
     pub fn take_integer(&mut self) -> Result<i64, DeckReason>
-        ensures value { IfOk result (λ number. number_read (first_word (unread self.old)) ≡ number) }
-        ensures rest { OnOk result (unread self.new ≡ after_word (unread self.old)) }
+        ensures { Gives (λ number. (number, unread self.new)) result
+            (integer_at (unread self.old)) }
     {
         read_number(self.take()?).ok_or(DeckReason::BadNumber)
     }
 
     /// The next word, a name.
+    #[tactic(auto, unfolding(crate::specs::Reading::name_at))]
     pub fn take_name(&mut self) -> Result<&'a str, DeckReason>
-        ensures word { IfOk result (λ name. name.now ≡ first_word (unread self.old)) }
+        ensures read { Gives (λ name. (name.now, unread self.new)) result
+            (name_at (unread self.old)) }
         ensures name { IfOk result (λ name. IsName name.now) }
-        ensures rest { OnOk result (unread self.new ≡ after_word (unread self.old)) }
     {
         read_name(self.take()?)
     }
 
     /// No word is left.
-    pub fn end(&mut self) -> Result<(), DeckReason>
-        ensures none { IsOk result ↔ (without_blanks (unread self.old) ≡ []) }
-        ensures reason { IsOkUnless result DeckReason.WrongNumberOfWords }
+    #[tactic(auto, unfolding(crate::specs::Reading::end_at))]
+    pub fn end(&self) -> Result<(), DeckReason>
+        ensures { Gives (λ _. tt) result (end_at (unread self.now)) }
     {
-        match self.next() {
-            Some(_) => Err(DeckReason::WrongNumberOfWords),
-            None => Ok(()),
+        if self.is_at_end() {
+            Ok(())
+        } else {
+            Err(DeckReason::WrongNumberOfWords)
         }
     }
 }

@@ -15,8 +15,8 @@ use Rattle.rp_entry.specs.Queue.{State, IsOpen, IsServiced}
 use Rattle.rp_entry.specs.Replies.{reply_of, function_reply}
 use Rattle.rp_entry.specs.Servicing.{Services}
 use Rattle.rp_entry.specs.Actions.{Request, Runs, Acts, function, procedure, open_entry, closed_entry, full_queue, handler, no_function, no_procedure, no_entry, no_handler}
-use Rattle.rp_entry.specs.Protected.{Protected, IsObject}
-use Rattle.rp_entry.proofs.Chains.{is_serviced, no_more_wait, one_end}
+use Rattle.rp_entry.specs.Protected.{Protected, IsObject, HasQueues}
+use Rattle.rp_entry.proofs.Chains.{is_serviced, right_serviced, one_end}
 
 -- the same body with the same argument
 pub runs_same : {operations : Operations} {body other : List Stmt} {arg number : ℤ} {before after : State} {outcome : CallOutcome} {served : List Answer} → body ≡ other → arg ≡ number → Runs operations body arg before outcome served after → Runs operations other number before outcome served after
@@ -29,12 +29,16 @@ acts_same {operations} {before} {after} {end} {request} {caller} {called} {told}
     subst (λ (c : Option CallOutcome). Acts operations before request c heard end) (sym p)
     (subst (λ (l : List Answer). Acts operations before request caller l end) (sym q) (subst (λ (s : State). Acts operations before request caller told s) (sym r) acts))
 
+-- the queues are right at other components too
+pub same_queues : {operations : Operations} {before : State} (store : Store) → HasQueues operations before → HasQueues operations (record { store = store; queues = before.queues })
+same_queues store right = record { short = right.short; tasks = right.tasks; apart = right.apart }
+
 -- what a body and servicing leave is an object
 pub is_object_after : {operations : Operations} {body : List Stmt} {arg : ℤ} {before after : State} {outcome : CallOutcome} {served : List Answer} → IsObject operations before → Runs operations body arg before outcome served after → limits_of after.store ≡ limits_of before.store → IsObject operations after
 is_object_after {operations} {body} {arg} {before} {after} object runs counts = record {
   fits = subst (λ (l : Limits). OperationsFit l operations) (sym counts) object.fits;
   serviced = is_serviced runs.serviced;
-  short = omega (arith, no_more_wait runs.serviced, object.short);
+  queues = right_serviced runs.serviced (same_queues runs.store object.queues);
 }
 
 -- ---- operations that are shared
@@ -66,8 +70,8 @@ runs_one_end : {operations : Operations} {body other : List Stmt} {arg : ℤ} {b
 runs_one_end {operations} {body} {other} {arg} {before} {one} {end} {outcome} {result} {told} {heard} same s r =
     let t : Runs operations body arg before result heard end = runs_same (sym same) refl r in
     let ran : ◌≡◌ {A = Store × Outcome} (s.store, s.ended) (t.store, t.ended) = sym s.run ∙ t.run in
-    let served : Services operations (record { store = s.store; queue = before.queue }) heard end =
-    subst (λ (a : Store). Services operations (record { store = a; queue = before.queue }) heard end) (sym (ap (λ p. p.0) ran)) t.serviced in
+    let served : Services operations (record { store = s.store; queues = before.queues }) heard end =
+    subst (λ (a : Store). Services operations (record { store = a; queues = before.queues }) heard end) (sym (ap (λ p. p.0) ran)) t.serviced in
     let left = one_end s.serviced served in
     let answer : outcome ≡ result = s.told ∙ ap (λ (o : Outcome). Reply (reply_of o)) (ap (λ p. p.1) ran) ∙ sym t.told in
     (ap Some answer, left.0, left.1)
@@ -93,10 +97,10 @@ acts_one_end {before = before} (open_entry f a s) (full_queue g b full) = absurd
 acts_one_end (open_entry f a s) (no_entry g) = absurd (missing f g)
 acts_one_end {before = before} (closed_entry f a room) (open_entry g b t) = absurd (a (subst (λ (e : Entry). IsOpen e before.store) (one_item g f) b))
 acts_one_end (closed_entry f a room) (closed_entry g b again) = (refl, refl, refl)
-acts_one_end {before = before} (closed_entry f a room) (full_queue g b full) = absurd (omega (arith, room, full))
+acts_one_end (closed_entry f a room) (full_queue g b full) = absurd (omega (arith, room, full, ap (λ (e : Entry). e.longest) (one_item f g)))
 acts_one_end (closed_entry f a room) (no_entry g) = absurd (missing f g)
 acts_one_end {before = before} (full_queue f a full) (open_entry g b t) = absurd (a (subst (λ (e : Entry). IsOpen e before.store) (one_item g f) b))
-acts_one_end {before = before} (full_queue f a full) (closed_entry g b room) = absurd (omega (arith, room, full))
+acts_one_end (full_queue f a full) (closed_entry g b room) = absurd (omega (arith, room, full, ap (λ (e : Entry). e.longest) (one_item f g)))
 acts_one_end (full_queue f a full) (full_queue g b again) = (refl, refl, refl)
 acts_one_end (full_queue f a full) (no_entry g) = absurd (missing f g)
 acts_one_end (no_entry f) (open_entry g b t) = absurd (missing g f)

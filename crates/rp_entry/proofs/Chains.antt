@@ -1,5 +1,7 @@
 -- Servicing as a chain of states.
-use Rattle.std.proofs.Common.{◌≡◌, ◌≤◌, ◌+◌, List, [], ◌∷◌, ◌++◌, length, get_or, Option, unwrap_or, refl, sym, ◌∙◌, ap, ap₂, subst, arith, append_assoc}
+use Rattle.std.proofs.Common.{◌≡◌, ◌+◌, inl, inr, ℕ, List, [], ◌∷◌, ◌++◌, length, get_or, set, Option, unwrap_or, refl, sym, ◌∙◌, ap, ap₂, subst, arith, append_assoc}
+use Rattle.std.proofs.lemmas.Bool.{cases_lt}
+use Rattle.std.specs.Prelude.{slice_get}
 use Rattle.rp_base.specs.declared.reply.Answer.{Answer}
 use Rattle.rp_body.specs.declared.statement.Outcome.{Outcome}
 use Rattle.rp_body.specs.Store.{Store}
@@ -7,24 +9,20 @@ use Rattle.rp_body.specs.Meaning.{body_effect}
 use Rattle.rp_entry.specs.declared.operations.Entry.{Entry}
 use Rattle.rp_entry.specs.declared.operations.Operations.{Operations}
 use Rattle.rp_entry.specs.declared.state.Waiting.{Waiting}
-use Rattle.rp_entry.specs.Queue.{State, IsServiced}
+use Rattle.rp_entry.specs.Queue.{State, IsServiced, queue_at, all_calls}
+use Rattle.rp_entry.specs.Protected.{HasQueues}
 use Rattle.rp_entry.specs.Replies.{reply_of}
 use Rattle.rp_entry.specs.Servicing.{Serves, Services, ends, goes_on}
+use Rattle.rp_entry.proofs.Queues.{one_less, right_taken}
 
 -- the list behind the first element
 abbrev rest_of : {X : Type 0} → List X → List X
 rest_of [] = []
 rest_of (x ∷ xs) = xs
 
--- some call waits
-abbrev IsFilled : List Waiting → Type 0
-IsFilled [] = ⊥
-IsFilled (call ∷ rest) = Unit {0}
-
 -- where nothing is to be serviced no call is served
 stuck : {operations : Operations} {before after : State} {answer : Answer} → IsServiced operations before → Serves operations before answer after → ⊥
-stuck serviced step =
-    subst IsFilled (sym step.first ∙ serviced step.entry step.declared step.at_barrier) tt
+stuck serviced step = serviced step.place step.ready
 
 -- servicing ends in a serviced state
 pub is_serviced : {operations : Operations} {before after : State} {told : List Answer} → Services operations before told after → IsServiced operations after
@@ -32,29 +30,41 @@ is_serviced (ends serviced) = serviced
 is_serviced (goes_on step rest) = is_serviced rest
 
 -- one call less waits
-pub one_less : {operations : Operations} {before after : State} {answer : Answer} → Serves operations before answer after → length before.queue ≡ length after.queue + 1
-one_less {after = after} step =
-    let counted = ap length step.first in
-    omega (arith, counted)
+pub one_served : {operations : Operations} {before after : State} {answer : Answer} → Serves operations before answer after → length (all_calls before.queues) ≡ length (all_calls after.queues) + 1
+one_served {before = before} step =
+    let left = ap (λ (l : List (List Waiting)). length (all_calls l)) step.left in
+    omega (arith, one_less before.queues step.place step.ready.call step.ready.rest step.ready.waits, left)
 
--- no more calls wait
-pub no_more_wait : {operations : Operations} {before after : State} {told : List Answer} → Services operations before told after → length after.queue ≤ length before.queue
-no_more_wait (ends serviced) = omega arith
-no_more_wait (goes_on step rest) = omega (arith, one_less step, no_more_wait rest)
+-- the queues stay right
+pub right_served : {operations : Operations} {before after : State} {answer : Answer} → Serves operations before answer after → HasQueues operations before → HasQueues operations after
+right_served {after = after} step right = right_taken step.place step.ready.call step.ready.rest step.ready.waits right after step.left
+
+pub right_serviced : {operations : Operations} {before after : State} {told : List Answer} → Services operations before told after → HasQueues operations before → HasQueues operations after
+right_serviced (ends serviced) right = right
+right_serviced (goes_on step rest) right = right_serviced rest (right_served step right)
 
 -- ---- one end
 
+same_place : {operations : Operations} {before one other : State} {told heard : Answer} (s : Serves operations before told one) (t : Serves operations before heard other) → s.place ≡ t.place
+same_place s t = elim (cases_lt s.place t.place) [
+  | inl below ↦ absurd (t.least s.place below s.ready)
+  | inr least ↦ elim (cases_lt t.place s.place) [ inl below ↦ absurd (s.least t.place below t.ready) | inr most ↦ omega (arith, least, most) ]
+]
+
 pub same_step : {operations : Operations} {before one other : State} {told heard : Answer} → Serves operations before told one → Serves operations before heard other → (told ≡ heard) × (one ≡ other)
 same_step {operations} {before} {one} {other} s t =
-    let entry : s.entry ≡ t.entry = ap (λ (o : Option Entry). unwrap_or o s.entry) (sym s.declared ∙ t.declared) in
-    let queue : s.call ∷ one.queue ≡ t.call ∷ other.queue = sym s.first ∙ t.first in
-    let call : s.call ≡ t.call = ap (λ (q : List Waiting). get_or q 0 s.call) queue in
+    let place : s.place ≡ t.place = same_place s t in
+    let found : slice_get operations.entries.items s.place ≡ slice_get operations.entries.items t.place = ap (slice_get operations.entries.items) place in
+    let entry : s.ready.entry ≡ t.ready.entry = ap (λ (o : Option Entry). unwrap_or o s.ready.entry) (sym s.ready.declared ∙ found ∙ t.ready.declared) in
+    let queue : s.ready.call ∷ s.ready.rest ≡ t.ready.call ∷ t.ready.rest = sym s.ready.waits ∙ ap (queue_at before.queues) place ∙ t.ready.waits in
+    let call : s.ready.call ≡ t.ready.call = ap (λ (q : List Waiting). get_or q 0 s.ready.call) queue in
+    let rest : s.ready.rest ≡ t.ready.rest = ap rest_of queue in
     let ran : ◌≡◌ {A = Store × Outcome} (one.store, s.ended) (other.store, t.ended) =
     sym s.run ∙ ap₂ (λ (e : Entry) (c : Waiting). body_effect e.body.items c.arg before.store) entry call ∙ t.run in
-    let left : ◌≡◌ {A = State} one other = ap₂ (λ (a : Store) (q : List Waiting). record { store = a; queue = q }) (ap (λ p. p.0) ran) (ap rest_of queue) in
-    let answer : ◌≡◌ {A = Answer} (record { task = s.call.task; number = s.call.number; reply = reply_of s.ended }) (record { task = t.call.task; number = t.call.number; reply = reply_of t.ended }) =
-    ap₂ (λ (c : Waiting) (o : Outcome). record { task = c.task; number = c.number; reply = reply_of o }) call (ap (λ p. p.1) ran) in
-    (s.told ∙ answer ∙ sym t.told, left)
+    let queues : one.queues ≡ other.queues = s.left ∙ ap₂ (λ (n : ℕ) (q : List Waiting). set before.queues n q) place rest ∙ sym t.left in
+    let left : ◌≡◌ {A = State} one other = ap₂ (λ (a : Store) (q : List (List Waiting)). record { store = a; queues = q }) (ap (λ p. p.0) ran) queues in
+    let answer = s.told ∙ ap₂ (λ (c : Waiting) (o : Outcome). record { task = c.task; number = c.number; reply = reply_of o }) call (ap (λ p. p.1) ran) ∙ sym t.told in
+    (answer, left)
 
 pub one_end : {operations : Operations} {before one other : State} {told heard : List Answer} → Services operations before told one → Services operations before heard other → (told ≡ heard) × (one ≡ other)
 one_end (ends serviced) (ends again) = (refl, refl)

@@ -17,7 +17,7 @@ ran_keeps : (body : List Stmt) (arg : ℤ) (before after : Store) (ended : Outco
 ran_keeps body arg before after ended run = subst (λ (ran : Store × Outcome). KeepsRanges before ran.0) run (body_keeps body arg before)
 
 serves_keep : {operations : Operations} {before after : State} {answer : Answer} → Serves operations before answer after → KeepsRanges before.store after.store
-serves_keep {before = before} {after = after} step = ran_keeps step.entry.body.items step.call.arg before.store after.store step.ended step.run
+serves_keep {before = before} {after = after} step = ran_keeps step.ready.entry.body.items step.ready.call.arg before.store after.store step.ended step.run
 
 services_keep : {operations : Operations} {before after : State} {told : List Answer} → Services operations before told after → KeepsRanges before.store after.store
 services_keep (ends {state = state} serviced) = keeps_same state.store

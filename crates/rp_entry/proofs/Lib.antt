@@ -1,8 +1,11 @@
+pub mod Permuting
+pub mod Queues
 pub mod Chains
 pub mod Acting
-pub mod Ending
+pub mod Ready
 pub mod Results
 pub mod Accounting
 pub mod Keeping
 pub mod Naming
+pub mod Joining
 pub mod Telling

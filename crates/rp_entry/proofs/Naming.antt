@@ -1,6 +1,5 @@
 -- An action keeps which Booleans there are.
 use Rattle.std.proofs.Common.{◌≡◌, ◌<◌, ◌≤◌, ◌⊎◌, inl, inr, ℕ, zero, suc, ℤ, List, length, get_or, Option, None, Some, ◌∙◌, refl, subst}
-use Rattle.std.specs.Prelude.{IfSome}
 use Rattle.std.specs.List.{All, slice_get}
 use Rattle.std.proofs.lemmas.Option.{slice_get_cases}
 use Rattle.rp_base.specs.declared.reply.Answer.{Answer}
@@ -30,8 +29,8 @@ all_at {X} P xs (suc i) x all there = found (slice_get_cases xs i).1 where
   found (inr (past, none)) = absurd (missing there none)
 
 module _ (limits : Limits) (operations : Operations) (fits : OperationsFit limits operations) where
-  entry_fits : (found : Option Entry) (entry : Entry) → found ≡ Some entry → IfSome found (EntryFits limits) → EntryFits limits entry
-  entry_fits found entry there all = subst (λ (o : Option Entry). IfSome o (EntryFits limits)) there all
+  entry_body : (index : ℕ) (entry : Entry) → of_index operations.entries.items index ≡ Some entry → KeepsLimits limits entry.body.items
+  entry_body index entry there = (all_at (EntryFits limits) operations.entries.items index entry fits.entries there).body
 
   body_keeps : (body : List Stmt) (arg : ℤ) (before after : Store) (ended : Outcome) → KeepsLimits limits body → HasBools limits before → body_effect body arg before ≡ (after, ended) → HasBoolsOf before after
   body_keeps body arg before after ended keeps has run = subst (λ (ran : Store × Outcome). HasBoolsOf before ran.0) run (booleans_kept limits body arg before has keeps.fits)
@@ -39,7 +38,7 @@ module _ (limits : Limits) (operations : Operations) (fits : OperationsFit limit
   services_keep : {before after : State} {told : List Answer} → Services operations before told after → HasBools limits before.store → HasBoolsOf before.store after.store
   services_keep (ends serviced) has name = refl
   services_keep (goes_on {before = before} {between = between} step rest) has name =
-      let one = body_keeps step.entry.body.items step.call.arg before.store between.store step.ended (entry_fits operations.entry step.entry step.declared fits.entry).body has step.run in
+      let one = body_keeps step.ready.entry.body.items step.ready.call.arg before.store between.store step.ended (entry_body (suc step.place) step.ready.entry step.ready.declared) has step.run in
       services_keep rest (λ n below. one n ∙ has n below) name ∙ one name
 
   runs_keep : {body : List Stmt} {arg : ℤ} {before after : State} {outcome : CallOutcome} {told : List Answer} → Runs operations body arg before outcome told after → KeepsLimits limits body → HasBools limits before.store → HasBoolsOf before.store after.store
@@ -50,7 +49,7 @@ module _ (limits : Limits) (operations : Operations) (fits : OperationsFit limit
   pub acts_keep_booleans : {before after : State} {request : Request} {caller : Option CallOutcome} {told : List Answer} → Acts operations before request caller told after → HasBools limits before.store → HasBoolsOf before.store after.store
   acts_keep_booleans (function there) has name = refl
   acts_keep_booleans (procedure {index = index} {body = body} there runs) has name = runs_keep runs (all_at (λ b. KeepsLimits limits b.items) operations.procedures.items index body fits.procedures there) has name
-  acts_keep_booleans (open_entry {entry = entry} there up runs) has name = runs_keep runs (entry_fits operations.entry entry there fits.entry).body has name
+  acts_keep_booleans (open_entry {index = index} {entry = entry} there up runs) has name = runs_keep runs (entry_body index entry there) has name
   acts_keep_booleans (closed_entry there shut room) has name = refl
   acts_keep_booleans (full_queue there shut full) has name = refl
   acts_keep_booleans (handler {index = index} {body = body} there runs) has name = runs_keep runs (all_at (λ b. KeepsLimits limits b.items) operations.procedures.items index body fits.procedures there) has name

@@ -1,6 +1,6 @@
 -- The replies that a protected action tells have values of 64 signed bits.
 use Rattle.std.proofs.Common.{◌≡◌, ℤ, pos, Bool, true, false, if◌then◌else◌, Option, Some, None, List, [], ◌∷◌, Vec, Global, inl, inr, refl, sym, subst}
-use Rattle.std.specs.Prelude.{IfSome, nat_lt, length, ◌++◌}
+use Rattle.std.specs.Prelude.{IfSome, ◌-◌, ℕ, zero, suc, nat_lt, length}
 use Rattle.rp_base.specs.Right.{IsReply}
 use Rattle.rp_base.specs.Sets.{Has}
 use Rattle.rp_base.specs.declared.reply.Answer.{Answer}
@@ -21,10 +21,10 @@ use Rattle.rp_entry.specs.declared.state.Waiting.{Waiting}
 use Rattle.rp_entry.specs.declared.state.CallOutcome.{CallOutcome}
 use Rattle.rp_entry.specs.declared.state.CallOutcome.TheVariants.{Reply, Waits}
 use Rattle.rp_entry.specs.Operations.{of_index}
-use Rattle.rp_entry.specs.Queue.{State, longest_queue}
+use Rattle.rp_entry.specs.Queue.{State, queue_at, all_calls}
 use Rattle.rp_entry.specs.Replies.{reply_of, function_reply}
-use Rattle.rp_entry.specs.Actions.{Request, calls_function, calls_procedure, calls_entry, event}
-use Rattle.rp_entry.specs.Results.{Acted, tells, serviced_from, ran_for, function_called, procedure_called, entry_called, event_handled, acted}
+use Rattle.rp_entry.specs.Actions.{Request, calls_function, calls_procedure, calls_entry, event, with_caller}
+use Rattle.rp_entry.specs.Results.{Acted, Next, next_call, served, serviced_from, tells, ran_for, function_called, procedure_called, entry_called, event_handled, acted}
 
 -- each of these replies fits
 abbrev pub AreReplies : List Answer → Type 0
@@ -53,25 +53,23 @@ nobody answer h = absurd h
 one_more : (answer : Answer) (rest : List Answer) → IsReply answer.reply → AreReplies rest → AreReplies (answer ∷ rest)
 one_more answer rest one others other h = elim h [ inl same ↦ subst (λ (a : Answer). IsReply a.reply) (sym same) one | inr later ↦ others other later ]
 
-serviced_fits : (entry : Option Entry) (queue : List Waiting) (store : Store) → AreReplies (serviced_from entry queue store).0
-serviced_fits entry [] store = nobody
-serviced_fits None (call ∷ rest) store = nobody
-serviced_fits (Some entry) (call ∷ rest) store =
-    let ran = body_effect entry.body.items call.arg store in
-    let later = serviced_from (Some entry) rest ran.0 in
-    let answer : Answer = record { task = call.task; number = call.number; reply = reply_of ran.1 } in
-    let stays : State = record { store = store; queue = call ∷ rest } in
-    elim (bool_value store entry.barrier) as (λ b. let left : List Answer × State = if b then (answer ∷ later.0, later.1) else ([], stays) in AreReplies left.0) [
-      | true ↦ one_more answer later.0 (body_reply_fits entry.body.items call.arg store) (serviced_fits (Some entry) rest ran.0)
-      | false ↦ nobody
-    ]
+next_fits : (later : Store → List (List Waiting) → List Answer × State) (store : Store) (queues : List (List Waiting)) (found : Option Next)
+    → ((s : Store) (q : List (List Waiting)) → AreReplies (later s q).0) → AreReplies (served later store queues found).0
+next_fits later store queues None fits = nobody
+next_fits later store queues (Some next) fits =
+    let ran = body_effect next.entry.body.items next.call.arg store in
+    one_more (record { task = next.call.task; number = next.call.number; reply = reply_of ran.1 }) (later ran.0 next.left).0 (body_reply_fits next.entry.body.items next.call.arg store) (fits ran.0 next.left)
+
+serviced_fits : (most : ℕ) (entries : List Entry) (store : Store) (queues : List (List Waiting)) → AreReplies (serviced_from most entries store queues).0
+serviced_fits zero entries store queues = nobody
+serviced_fits (suc most) entries store queues = next_fits (serviced_from most entries) store queues (next_call store entries queues) (serviced_fits most entries)
 
 ran_fits : (caller : CallOutcome → Option CallOutcome) (operations : Operations) (body : List Stmt) (arg : ℤ) (before : State)
     → ((outcome : CallOutcome) → OutcomeFits outcome → IfSome (caller outcome) OutcomeFits)
     → (let did = ran_for caller operations body arg before in TellsFitting did.caller did.told)
 ran_fits caller operations body arg before passes = record {
   own = passes (Reply (reply_of (body_effect body arg before.store).1)) (body_reply_fits body arg before.store);
-  served = serviced_fits operations.entry before.queue (body_effect body arg before.store).0;
+  served = serviced_fits (length (all_calls before.queues)) operations.entries.items (body_effect body arg before.store).0 before.queues;
 }
 
 abbrev Fits : Acted → Type 0
@@ -103,12 +101,12 @@ either_fits : (test : Bool) (one other : Acted) → Fits one → Fits other → 
 either_fits true one other left right = left
 either_fits false one other left right = right
 
-entry_call_fits : (operations : Operations) (entry : Option Entry) (call : Waiting) (before : State) → Fits (entry_called operations entry call before)
-entry_call_fits operations None call before = told_fits _ before tt
-entry_call_fits operations (Some entry) call before =
+entry_call_fits : (operations : Operations) (entry : Option Entry) (index : ℕ) (call : Waiting) (before : State) → Fits (entry_called operations entry index call before)
+entry_call_fits operations None index call before = told_fits _ before tt
+entry_call_fits operations (Some entry) index call before =
     either_fits (bool_value before.store entry.barrier) _ _
     (ran_fits (λ outcome. Some outcome) operations entry.body.items call.arg before (λ outcome fits. fits))
-    (either_fits (nat_lt (length before.queue) longest_queue) _ _ (waits_fits (record before { queue = before.queue ++ call ∷ [] })) (told_fits ProgramError before tt))
+    (either_fits (nat_lt (length (queue_at before.queues (index - 1))) entry.longest) _ _ (waits_fits (with_caller before index call)) (told_fits ProgramError before tt))
 
 event_fits : (operations : Operations) (body : Option (Vec Stmt Global)) (before : State) → Fits (event_handled operations body before)
 event_fits operations None before = record { own = tt; served = nobody }
@@ -117,5 +115,5 @@ event_fits operations (Some body) before = ran_fits (λ outcome. None) operation
 pub acted_fits : (operations : Operations) (before : State) (request : Request) → (let did = acted operations before request in TellsFitting did.caller did.told)
 acted_fits operations before (calls_function index arg) = function_call_fits (of_index operations.functions.items index) arg before
 acted_fits operations before (calls_procedure index arg) = procedure_call_fits operations (of_index operations.procedures.items index) arg before
-acted_fits operations before (calls_entry call) = entry_call_fits operations operations.entry call before
+acted_fits operations before (calls_entry index call) = entry_call_fits operations (of_index operations.entries.items index) index call before
 acted_fits operations before (event index) = event_fits operations (of_index operations.procedures.items index) before

@@ -1,11 +1,12 @@
--- Who waited, who was answered and who waits, in order (Ada Reference Manual, section 9.5.3; the order of
--- arrival: section D.4).
-use Rattle.std.specs.Prelude.{◌≡◌, ℕ, List, [], ◌∷◌, ◌++◌, map, Option, Some, None}
+-- Who waited, who was answered and who waits, in order, at each entry by itself (Ada Reference Manual, section 9.5.3;
+-- the order of arrival: section D.4).
+use Rattle.std.specs.Prelude.{◌≡◌, ℕ, ◌-◌, nat_eq, List, [], ◌∷◌, ◌++◌, map, length, Option, Some, None, if◌then◌else◌}
 use Rattle.rp_base.specs.declared.reply.Answer.{Answer}
 use Rattle.rp_entry.specs.declared.state.Waiting.{Waiting}
 use Rattle.rp_entry.specs.declared.state.CallOutcome.{CallOutcome}
 use Rattle.rp_entry.specs.declared.state.CallOutcome.TheVariants.{Reply, Waits}
 use Rattle.rp_entry.specs.Actions.{Request, calls_function, calls_procedure, calls_entry, event}
+use Rattle.rp_entry.specs.Queue.{State, queue_at}
 
 -- a waiting call by its task and number
 abbrev pub name_of : Waiting → ℕ × ℕ
@@ -19,11 +20,29 @@ answered_caller answer = (answer.task, answer.number)
 abbrev pub KeepsCallers : List Waiting → List Answer → List Waiting → Type 0
 KeepsCallers waited told waiting = map answered_caller told ++ map name_of waiting ≡ map name_of waited
 
--- what a request puts into the queue: its call, if the outcome is that it waits
+-- what a request puts into a queue: its call, if the outcome is that it waits
 abbrev pub joins : Request → Option CallOutcome → List Waiting
 joins (calls_function index arg) outcome = []
 joins (calls_procedure index arg) outcome = []
-joins (calls_entry call) None = []
-joins (calls_entry call) (Some (Reply reply)) = []
-joins (calls_entry call) (Some Waits) = call ∷ []
+joins (calls_entry index call) None = []
+joins (calls_entry index call) (Some (Reply reply)) = []
+joins (calls_entry index call) (Some Waits) = call ∷ []
 joins (event handler) outcome = []
+
+-- what it puts into the queue of the entry at this place, counted from 0
+abbrev pub joins_at : ℕ → Request → Option CallOutcome → List Waiting
+joins_at place (calls_function index arg) outcome = []
+joins_at place (calls_procedure index arg) outcome = []
+joins_at place (calls_entry index call) outcome = if nat_eq (index - 1) place then joins (calls_entry index call) outcome else []
+joins_at place (event handler) outcome = []
+
+-- the answers to the callers of the entry at this place, where these are the entries of all answers
+abbrev pub told_at : ℕ → List ℕ → List Answer → List Answer
+told_at place (entry ∷ entries) (answer ∷ told) = if nat_eq entry place then answer ∷ told_at place entries told else told_at place entries told
+told_at place _ _ = []
+
+-- Each answer is for a caller of one entry, and each entry's callers are kept, those that joined it too.
+pub record KeepsAll (before : State) (request : Request) (caller : Option CallOutcome) (told : List Answer) (after : State) : Type 0 where
+  pub entries : List ℕ
+  pub each : length entries ≡ length told
+  pub kept : (place : ℕ) → KeepsCallers (queue_at before.queues place ++ joins_at place request caller) (told_at place entries told) (queue_at after.queues place)

@@ -1,5 +1,5 @@
 -- The operations of a protected object, and which of them keep the limits (the limits are this project's own).
-use Rattle.std.specs.Prelude.{ℕ, zero, suc, ◌<◌, ◌≤◌, IsTrue, Option, None, List, length, slice_get, IfSome}
+use Rattle.std.specs.Prelude.{ℕ, zero, suc, ◌<◌, ◌≤◌, IsTrue, Option, None, List, length, slice_get}
 use Rattle.std.specs.List.{All}
 use Rattle.rp_body.specs.declared.components.Limits.{Limits}
 use Rattle.rp_body.specs.Check.{expr_fits, cond_fits, KeepsLimits}
@@ -18,19 +18,31 @@ abbrev pub FunctionFits : Limits → Function → Type 0
 FunctionFits limits (Value expr) = IsTrue (expr_fits limits expr)
 FunctionFits limits (Truth test) = IsTrue (cond_fits limits test)
 
--- the barrier of an entry names a Boolean that is counted (a simple barrier: Ada Reference Manual, section D.7), and its body keeps the limits of bodies
+-- the longest queue that an entry may have
+abbrev pub longest_queue : ℕ
+longest_queue = 8
+
+-- the barrier of an entry names a Boolean that is counted (a simple barrier: Ada Reference Manual, section D.7), its
+-- longest queue is 1 to 8 calls (Max_Entry_Queue_Length), and its body keeps the limits of bodies
 pub record EntryFits (limits : Limits) (entry : Entry) : Type 0 where
   pub barrier : entry.barrier < limits.bools
+  pub some_room : 1 ≤ entry.longest
+  pub room : entry.longest ≤ longest_queue
   pub body : KeepsLimits limits entry.body.items
 
 -- the most functions, and the most procedures, of an object
 abbrev pub most_operations : ℕ
 most_operations = 8
 
--- there are no more, and each function, each procedure's body and the entry do so
+-- the most entries of an object
+abbrev pub most_entries : ℕ
+most_entries = 4
+
+-- there are no more, and each function, each procedure's body and each entry do so
 pub record OperationsFit (limits : Limits) (operations : Operations) : Type 0 where
   pub function_count : length operations.functions.items ≤ most_operations
   pub procedure_count : length operations.procedures.items ≤ most_operations
+  pub entry_count : length operations.entries.items ≤ most_entries
   pub functions : All (FunctionFits limits) operations.functions.items
   pub procedures : All (λ body. KeepsLimits limits body.items) operations.procedures.items
-  pub entry : IfSome operations.entry (EntryFits limits)
+  pub entries : All (EntryFits limits) operations.entries.items

@@ -1,6 +1,6 @@
 -- What a protected action comes to, as a function of the operations, the state and the request: the result of
 -- exactly the actions of Actions (this project's own way of saying it).
-use Rattle.std.specs.Prelude.{ℤ, pos, ◌++◌, nat_lt, List, [], ◌∷◌, length, Option, Some, None, Vec, if◌then◌else◌}
+use Rattle.std.specs.Prelude.{ℕ, zero, suc, ◌-◌, ℤ, pos, nat_lt, List, [], ◌∷◌, length, Option, Some, None, Vec, if◌then◌else◌}
 use Rattle.std.specs.declared.alloc.Global.{Global}
 use Rattle.rp_base.specs.declared.reply.Reply.TheVariants.{ProgramError, NoSuchOperation}
 use Rattle.rp_base.specs.declared.reply.Answer.{Answer}
@@ -14,9 +14,9 @@ use Rattle.rp_entry.specs.declared.state.Waiting.{Waiting}
 use Rattle.rp_entry.specs.declared.state.CallOutcome.{CallOutcome}
 use Rattle.rp_entry.specs.declared.state.CallOutcome.TheVariants.{Reply, Waits}
 use Rattle.rp_entry.specs.Operations.{of_index}
-use Rattle.rp_entry.specs.Queue.{State, longest_queue}
+use Rattle.rp_entry.specs.Queue.{State, queue_at, all_calls}
 use Rattle.rp_entry.specs.Replies.{reply_of, function_reply}
-use Rattle.rp_entry.specs.Actions.{Request, calls_function, calls_procedure, calls_entry, event}
+use Rattle.rp_entry.specs.Actions.{Request, calls_function, calls_procedure, calls_entry, event, with_caller}
 
 -- the outcome of the caller, if there is one, the answers of the callers that were served, and the state after
 pub record Acted : Type 0 where
@@ -28,22 +28,54 @@ pub record Acted : Type 0 where
 abbrev pub tells : CallOutcome → State → Acted
 tells outcome state = record { caller = Some outcome; told = []; after = state }
 
--- servicing of these calls at these components: the answers told, and the state it ends in
-abbrev pub serviced_from : Option Entry → List Waiting → Store → List Answer × State
-serviced_from entry [] store = ([], record { store = store; queue = [] })
-serviced_from None (call ∷ rest) store = ([], record { store = store; queue = call ∷ rest })
-serviced_from (Some entry) (call ∷ rest) store =
-    if bool_value store entry.barrier
-    then (let ran = body_effect entry.body.items call.arg store in
-    let later = serviced_from (Some entry) rest ran.0 in
-    (record { task = call.task; number = call.number; reply = reply_of ran.1 } ∷ later.0, later.1))
-    else ([], record { store = store; queue = call ∷ rest })
+-- the call to be served next, its entry, and the queues without it
+pub record Next : Type 0 where
+  pub entry : Entry
+  pub call : Waiting
+  pub left : List (List Waiting)
 
--- a body runs for a caller, if there is one, and the queue is serviced
+-- the same, with the queue of an entry before the others
+abbrev pub behind : List Waiting → Option Next → Option Next
+behind queue None = None
+behind queue (Some next) = Some (record next { left = queue ∷ next.left })
+
+-- the call to be served next at these components, if there is one: the first of the first open entry that has a caller
+abbrev pub next_call : Store → List Entry → List (List Waiting) → Option Next
+next_call store [] queues = None
+next_call store (entry ∷ entries) [] = None
+next_call store (entry ∷ entries) ([] ∷ queues) = behind [] (next_call store entries queues)
+next_call store (entry ∷ entries) ((call ∷ rest) ∷ queues) =
+    if bool_value store entry.barrier
+    then Some (record { entry = entry; call = call; left = rest ∷ queues })
+    else behind (call ∷ rest) (next_call store entries queues)
+
+-- the answers told, and the state in which servicing ends
+abbrev pub Serviced : Type 0
+Serviced = List Answer × State
+
+-- the body runs for the call, if there is one, and servicing goes on with what that leaves
+abbrev pub served : (Store → List (List Waiting) → Serviced) → Store → List (List Waiting) → Option Next → Serviced
+served later store queues None = ([], record { store = store; queues = queues })
+served later store queues (Some next) =
+    let ran = body_effect next.entry.body.items next.call.arg store in
+    let others = later ran.0 next.left in
+    (record { task = next.call.task; number = next.call.number; reply = reply_of ran.1 } ∷ others.0, others.1)
+
+-- servicing of queues in which no more than so many calls wait, at these components
+abbrev pub serviced_from : ℕ → List Entry → Store → List (List Waiting) → Serviced
+serviced_from zero entries store queues = ([], record { store = store; queues = queues })
+serviced_from (suc most) entries store queues =
+    served (serviced_from most entries) store queues (next_call store entries queues)
+
+-- servicing of all calls that wait
+abbrev pub serviced : Operations → Store → List (List Waiting) → Serviced
+serviced operations store queues = serviced_from (length (all_calls queues)) operations.entries.items store queues
+
+-- a body runs for a caller, if there is one, and the queues are serviced
 abbrev pub ran_for : (CallOutcome → Option CallOutcome) → Operations → List Stmt → ℤ → State → Acted
 ran_for caller operations body arg before =
     let ran = body_effect body arg before.store in
-    let left = serviced_from operations.entry before.queue ran.0 in
+    let left = serviced operations ran.0 before.queues in
     record { caller = caller (Reply (reply_of ran.1)); told = left.0; after = left.1 }
 
 -- a call of a function, if there is one of this index
@@ -56,12 +88,12 @@ abbrev pub procedure_called : Operations → Option (Vec Stmt Global) → ℤ �
 procedure_called operations None arg before = tells (Reply NoSuchOperation) before
 procedure_called operations (Some body) arg before = ran_for (λ outcome. Some outcome) operations body.items arg before
 
--- a call of the entry, if there is one
-abbrev pub entry_called : Operations → Option Entry → Waiting → State → Acted
-entry_called operations None call before = tells (Reply NoSuchOperation) before
-entry_called operations (Some entry) call before =
+-- a call of an entry, if there is one of this index
+abbrev pub entry_called : Operations → Option Entry → ℕ → Waiting → State → Acted
+entry_called operations None index call before = tells (Reply NoSuchOperation) before
+entry_called operations (Some entry) index call before =
     if bool_value before.store entry.barrier then ran_for (λ outcome. Some outcome) operations entry.body.items call.arg before
-    else if nat_lt (length before.queue) longest_queue then tells Waits (record before { queue = before.queue ++ call ∷ [] })
+    else if nat_lt (length (queue_at before.queues (index - 1))) entry.longest then tells Waits (with_caller before index call)
     else tells (Reply ProgramError) before
 
 -- an event, if it has a handler
@@ -73,5 +105,5 @@ event_handled operations (Some body) before = ran_for (λ outcome. None) operati
 abbrev pub acted : Operations → State → Request → Acted
 acted operations before (calls_function index arg) = function_called (of_index operations.functions.items index) arg before
 acted operations before (calls_procedure index arg) = procedure_called operations (of_index operations.procedures.items index) arg before
-acted operations before (calls_entry call) = entry_called operations operations.entry call before
+acted operations before (calls_entry index call) = entry_called operations (of_index operations.entries.items index) index call before
 acted operations before (event index) = event_handled operations (of_index operations.procedures.items index) before

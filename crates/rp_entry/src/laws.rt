@@ -1,6 +1,6 @@
 //! What follows from the rules of a protected object alone.
 
-ghost use Rattle.std.specs.Prelude.{◌≡◌, ◌↔◌, List, ◌++◌, Option};
+ghost use Rattle.std.specs.Prelude.{◌≡◌, ◌↔◌, List, length, Option};
 ghost use Rattle.rp_base.specs.declared.reply.Answer.{Answer};
 ghost use Rattle.rp_body.specs.declared.components.Limits.{Limits};
 ghost use Rattle.rp_body.specs.Ranges.{KeepsRanges, HasBools, HasBoolsOf};
@@ -11,7 +11,7 @@ ghost use Rattle.rp_entry.specs.Queue.{State};
 ghost use Rattle.rp_entry.specs.Servicing.{Services};
 ghost use Rattle.rp_entry.specs.Actions.{Request, Acts};
 ghost use Rattle.rp_entry.specs.Results.{Acted, acted};
-ghost use Rattle.rp_entry.specs.Accounting.{KeepsCallers, joins};
+ghost use Rattle.rp_entry.specs.Accounting.{KeepsAll};
 
 /// Servicing has an end from every state, and one alone, with the same answers told on the way.
 pub fn servicing_has_one_end()
@@ -62,11 +62,13 @@ pub fn actions_keep_booleans()
         → HasBoolsOf before.store after.store }
 {}
 
-/// Nobody who waits is forgotten or passed by: those that an action answers, and behind them those
-/// that wait after it, are those that waited before, and the action's own call where it waits.
+/// Nobody who waits is forgotten or passed by at an entry that has its queue: of each entry, those
+/// that an action answers, and behind them those that wait after it, are those that waited before,
+/// and the action's own call where it waits there.
 pub fn actions_account_for_callers()
     ensures { (operations : Operations) (before after : State) (request : Request)
         (caller : Option CallOutcome) (told : List Answer)
+        → length before.queues ≡ length operations.entries.items
         → Acts operations before request caller told after
-        → KeepsCallers (before.queue ++ joins request caller) told after.queue }
+        → KeepsAll before request caller told after }
 {}

@@ -1,8 +1,8 @@
-//! One protected object of an Ada program: its components, its operations and its entry queue.
+//! One protected object of an Ada program: its components, its operations and its entry queues.
 //!
 //! In reading order:
 //! - `operations`: the operations of a protected object
-//! - `state`: the state of a protected object, and the servicing of its entry queue
+//! - `state`: the state of a protected object, and the servicing of its entry queues
 //! - `object`: a protected object
 //! - `laws`: what follows from the rules of a protected object alone
 #![tactic(auto)]
@@ -18,4 +18,4 @@ pub use laws::{
 };
 pub use object::Object;
 pub use operations::{Entry, Function, Operations, of_index};
-pub use state::{CallOutcome, Done, Waiting};
+pub use state::{CallOutcome, Done, Queue, Waiting};

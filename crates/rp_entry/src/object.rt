@@ -1,23 +1,24 @@
 //! A protected object.
 
-ghost use Rattle.std.specs.Prelude.{◌≡◌, [], option_to_list, Some, None, SomeIff};
+ghost use Rattle.std.specs.Prelude.{◌≡◌, ◌↔◌, IsTrue, [], Some, None, SomeIff, IfOk};
 ghost use Rattle.std.specs.Arc.{arc_value};
 ghost use Rattle.rp_body.specs.Store.{limits_of};
 ghost use Rattle.rp_entry.specs.Operations.{OperationsFit};
-ghost use Rattle.rp_entry.specs.Queue.{IsServiced};
+ghost use Rattle.rp_base.specs.Sets.{Has};
+ghost use Rattle.rp_entry.specs.Queue.{IsServiced, empty_queues, tasks_waiting};
 ghost use Rattle.rp_entry.specs.Actions.{Acts, calls_function, calls_procedure, calls_entry, event};
 
 use crate::operations::{Operations, of_index};
-use crate::state::{CallOutcome, Done, State, Waiting};
+use crate::state::{CallOutcome, Done, Queue, State, Waiting};
 use rp_base::{Answers, Reply, TaskId};
 use rp_body::Components;
-use std::alloc::Global;
+use std::alloc::{AllocError, Global};
 use std::marker::Model;
 use std::sync::Arc;
 
-/// A protected object with functions, procedures and at most one entry. Each call is a whole
-/// protected action with the servicing of the entry queue, and takes no memory (Ada Reference
-/// Manual, sections 9.5.1 and 9.5.3).
+/// A protected object with functions, procedures and entries. Each call is a whole protected action
+/// with the servicing of the entry queues, and takes no memory (Ada Reference Manual, sections 9.5.1
+/// and 9.5.3).
 #[derive(Debug, Drop)]
 pub struct Object {
     operations: Arc<Operations, Global>,
@@ -42,24 +43,29 @@ impl Model for Object {
 
 impl Object {
     /// The object of these operations, which other objects may share, and components, with nobody
-    /// waiting, or `None` where there are more than 8 functions or 8 procedures, an operation does
-    /// not keep the limits of the language, or the barrier names no Boolean component. It takes no
-    /// memory.
-    pub fn new(operations: Arc<Operations, Global>, components: Components) -> Option<Self>
-        ensures { SomeIff result (OperationsFit (limits_of components) (arc_value operations))
+    /// waiting, or `None` where there are more than 8 functions, 8 procedures or 4 entries, an
+    /// operation does not keep the limits of the language, a longest queue is not 1 to 8 calls, or a
+    /// barrier names no Boolean component. It takes the memory of the queues.
+    pub fn new(
+        alloc: Global,
+        operations: Arc<Operations, Global>,
+        components: Components,
+    ) -> Result<Option<Self>, AllocError>
+        ensures { IfOk result (λ object.
+            SomeIff object (OperationsFit (limits_of components) (arc_value operations))
             (record {
               operations = arc_value operations;
-              state = record { store = components; queue = [] };
-            }) }
+              state = record {
+                store = components;
+                queues = empty_queues (arc_value operations).entries.items;
+              };
+            })) }
     {
-        if operations.fit(&components.limits()) {
-            Some(Object {
-                operations,
-                state: State::new(components),
-            })
-        } else {
-            None
+        if !operations.fit(&components.limits()) {
+            return Ok(None);
         }
+        let state = State::new(alloc, components, &operations.entries)?;
+        Ok(Some(Object { operations, state }))
     }
 
     /// The components.
@@ -69,11 +75,19 @@ impl Object {
         self.state.components()
     }
 
-    /// The call that waits in the entry queue, if there is one.
-    pub fn waiting(&self) -> Option<Waiting>
-        ensures { option_to_list result ≡ self.now.state.queue }
+    /// The calls that wait, at each entry in order.
+    pub fn queues(&self) -> &[Queue]
+        ensures { result.now ≡ self.now.state.queues }
     {
-        self.state.waiting()
+        self.state.queues()
+    }
+
+    /// Whether a call of the task waits at one of the entries, so that `entry` may not be called for
+    /// it.
+    pub fn is_waiting(&self, task: TaskId) -> bool
+        ensures { IsTrue result ↔ Has task (tasks_waiting self.now.state) }
+    {
+        self.state.is_waiting(task)
     }
 
     /// Calls the function of this index, counted from 1: its value, or Constraint_Error where the
@@ -108,27 +122,29 @@ impl Object {
         }
     }
 
-    /// Calls the entry, as the `number`th call of the task. It runs at once where the entry is
-    /// open, and else waits in the queue; ProgramError where a call waits already, which goes on
-    /// waiting. NoSuchOperation where the object has no entry, and nothing changes.
-    pub fn entry(&mut self, task: TaskId, number: u32, arg: i64) -> Done
+    /// Calls the entry of this index, counted from 1, as the `number`th call of the task, no call of
+    /// which waits. It runs at once where the entry is open, and else waits behind the others of the
+    /// entry; ProgramError where as many wait already as may, and they go on waiting.
+    /// NoSuchOperation where there is no such entry, and nothing changes.
+    pub fn entry(&mut self, index: u8, task: TaskId, number: u32, arg: i64) -> Done
+        requires free { ¬ Has task (tasks_waiting self.old.state) }
         ensures action { Acts self.old.operations self.old.state
-            (calls_entry (record { task = task; number = number; arg = arg }))
+            (calls_entry index (record { task = task; number = number; arg = arg }))
             (Some result.outcome) result.served self.new.state }
         ensures serviced { IsServiced self.new.operations self.new.state }
         ensures operations { self.new.operations ≡ self.old.operations }
     {
         let operations: &Operations = &self.operations;
-        let Some(entry) = &operations.entry else {
+        let Some(entry) = of_index(&operations.entries, index) else {
             return Done::alone(CallOutcome::Reply(Reply::NoSuchOperation));
         };
         if self.state.is_open(entry) {
             return self.state.run(operations, &entry.body, arg);
         }
-        if self.state.is_full() {
+        if !self.state.has_room(index, entry) {
             return Done::alone(CallOutcome::Reply(Reply::ProgramError));
         }
-        self.state.enqueue(Waiting { task, number, arg });
+        self.state.enqueue(index, Waiting { task, number, arg });
         Done::alone(CallOutcome::Waits)
     }
 

@@ -13,6 +13,12 @@ use rp_body::{Components, Cond, Expr, Limits, Stmt, check, truth, value};
 /// The most functions, and the most procedures, of an object.
 const MOST_OPERATIONS: usize = 8;
 
+/// The most entries of an object.
+const MOST_ENTRIES: usize = 4;
+
+/// The longest queue that an entry may have.
+pub(crate) const LONGEST_QUEUE: u8 = 8;
+
 /// A function: one expression or one condition, which reads the components and changes none.
 #[derive(Debug, Drop)]
 pub enum Function {
@@ -27,20 +33,22 @@ pub enum Function {
 pub struct Entry {
     /// The name of the Boolean component that opens the entry where it is True.
     pub barrier: u8,
+    /// The most calls that wait at the entry, 1 to 8 (Ada Reference Manual, section D.4).
+    pub longest: u8,
     /// What an accepted call runs.
     pub body: Vec<Stmt>,
 }
 
 /// The operations of an object. Functions are named by their indices from 1 in this order, and so
-/// are procedures.
+/// are procedures and entries.
 #[derive(Debug, Drop)]
 pub struct Operations {
     /// The functions.
     pub functions: Vec<Function>,
     /// The bodies of the procedures.
     pub procedures: Vec<Vec<Stmt>>,
-    /// The entry, if there is one.
-    pub entry: Option<Entry>,
+    /// The entries, of which the first open one that has a caller is served first.
+    pub entries: Vec<Entry>,
 }
 
 impl Function {
@@ -70,29 +78,29 @@ impl Function {
 }
 
 impl Entry {
-    /// Whether the barrier names a Boolean that is counted and the body keeps the limits.
+    /// Whether the barrier names a Boolean that is counted, the longest queue is 1 to 8 calls and the
+    /// body keeps the limits.
     fn fits(&self, limits: &Limits) -> bool
         ensures { IsTrue result ↔ EntryFits limits.now self.now }
     {
-        self.barrier < limits.bools && check(&self.body, limits)
+        self.barrier < limits.bools
+            && matches!(self.longest, 1..=LONGEST_QUEUE)
+            && check(&self.body, limits)
     }
 }
 
 impl Operations {
-    /// Whether there are at most 8 functions and 8 procedures, and each function, each body and the
-    /// entry keep the limits.
+    /// Whether there are at most 8 functions, 8 procedures and 4 entries, and each function, each body
+    /// and each entry keep the limits.
     pub fn fit(&self, limits: &Limits) -> bool
         ensures { IsTrue result ↔ OperationsFit limits.now self.now }
     {
-        let entry_fits = match &self.entry {
-            Some(entry) => entry.fits(limits),
-            None => true,
-        };
         self.functions.len() <= MOST_OPERATIONS
             && self.procedures.len() <= MOST_OPERATIONS
+            && self.entries.len() <= MOST_ENTRIES
             && functions_fit(&self.functions, limits)
             && procedures_fit(&self.procedures, limits)
-            && entry_fits
+            && entries_fit(&self.entries, limits)
     }
 }
 
@@ -114,6 +122,18 @@ fn procedures_fit(procedures: &[Vec<Stmt>], limits: &Limits) -> bool
 {
     for body in procedures {
         if !check(body, limits) {
+            return false;
+        }
+    }
+    true
+}
+
+/// Whether each entry keeps the limits.
+fn entries_fit(entries: &[Entry], limits: &Limits) -> bool
+    ensures { IsTrue result ↔ All (EntryFits limits.now) entries.now }
+{
+    for entry in entries {
+        if !entry.fits(limits) {
             return false;
         }
     }

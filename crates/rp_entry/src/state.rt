@@ -1,20 +1,23 @@
-//! The state of a protected object, and the servicing of its entry queue.
+//! The state of a protected object, and the servicing of its entry queues.
 
-ghost use Rattle.std.specs.Prelude.{◌≡◌, ◌↔◌, ◌≤◌, ◌<◌, [], ◌∷◌, ◌++◌, length, IsTrue, IfSome, IfNone, option_to_list};
+ghost use Rattle.std.specs.Prelude.{ℕ, ◌≡◌, ◌≢◌, ◌↔◌, ◌≤◌, ◌<◌, ◌-◌, [], ◌∷◌, ◌++◌, length, slice_get, IsTrue, IfSome, IfNone, IfOk};
 ghost use Rattle.rp_body.specs.Store.{limits_of};
 ghost use Rattle.rp_body.specs.Check.{KeepsLimits};
-ghost use Rattle.rp_entry.specs.Operations.{OperationsFit};
-ghost use Rattle.rp_entry.specs.Queue.{longest_queue, IsOpen, IsServiced};
+ghost use Rattle.rp_entry.specs.Operations.{OperationsFit, longest_queue};
+ghost use Rattle.rp_entry.specs.Queue.{IsOpen, IsReady, IsServiced, queue_at, empty_queues, has_task, is_waiting};
+ghost use Rattle.rp_entry.specs.Protected.{HasQueues};
 ghost use Rattle.rp_entry.specs.Replies.{reply_of};
 ghost use Rattle.rp_entry.specs.Servicing.{Serves, Services};
-ghost use Rattle.rp_entry.specs.Actions.{Runs};
+ghost use Rattle.rp_entry.specs.Actions.{Runs, with_caller};
 
-use crate::operations::{Entry, Operations};
+use crate::operations::{Entry, LONGEST_QUEUE, Operations};
+use circular_buffer::HeapCircularBuffer;
 use rp_base::{Answer, Answers, Reply, TaskId};
 use rp_body::{Components, Outcome, Stmt, run};
+use std::alloc::{AllocError, Global};
 use std::marker::Model;
 
-/// A call of the entry that waits in its queue: the `number`th call of the task.
+/// A call that waits at an entry: the `number`th call of the task.
 #[derive(Clone, Copy, Debug, PartialEq, Eq)]
 pub struct Waiting {
     pub task: TaskId,
@@ -27,12 +30,12 @@ pub struct Waiting {
 pub enum CallOutcome {
     /// It is over, with this reply.
     Reply(Reply),
-    /// It waits in the entry queue.
+    /// It waits at the entry that it called.
     Waits,
 }
 
 /// What a protected action tells: its own caller's outcome, and the answers of the callers that
-/// were served from the entry queue, in the order in which they were served.
+/// were served from the entry queues, in the order in which they were served.
 #[derive(Debug, Drop)]
 pub struct Done {
     pub outcome: CallOutcome,
@@ -62,33 +65,108 @@ fn reply_of(outcome: Outcome) -> Reply
     }
 }
 
-/// The components of an object and its entry queue, which has room for one call.
+/// The calls that wait at one entry, the first one first: at most 8.
+#[derive(Debug, Drop)]
+pub struct Queue {
+    calls: HeapCircularBuffer<Waiting>,
+}
+
+impl Model for Queue {
+    ghost use Rattle.std.specs.Prelude.{◌≡◌, List};
+    ghost use Rattle.rp_entry.specs.Operations.{longest_queue};
+    ghost use Rattle.rp_entry.specs.declared.state.Waiting.{Waiting};
+
+    ghost Value = { List Waiting };
+
+    ghost view = { λ q. q.calls.items };
+
+    ghost invariant = { λ q. q.calls.capacity ≡ longest_queue };
+}
+
+impl Queue {
+    /// Nobody waits, and there is room for 8 calls.
+    fn new(alloc: Global) -> Result<Self, AllocError>
+        ensures { IfOk result (λ q. q ≡ []) }
+    {
+        Ok(Queue {
+            calls: HeapCircularBuffer::with_capacity(alloc, usize::from(LONGEST_QUEUE))?,
+        })
+    }
+
+    /// How many calls wait, at most 8.
+    pub fn len(&self) -> usize
+        ensures value { result ≡ length self.now }
+        ensures within { result ≤ longest_queue }
+    {
+        self.calls.len()
+    }
+
+    /// Whether nobody waits.
+    pub fn is_empty(&self) -> bool
+        ensures { IsTrue result ↔ (self.now ≡ []) }
+    {
+        self.calls.len() == 0
+    }
+
+    /// The call at a place, counted from 0 in order of arrival, or `None` where fewer wait.
+    pub fn get(&self, place: usize) -> Option<Waiting>
+        ensures { result ≡ slice_get self.now place }
+    {
+        self.calls.get(place).copied()
+    }
+
+    /// Whether a call of the task waits.
+    fn has_task(&self, task: TaskId) -> bool
+        ensures { result ≡ has_task task self.now }
+    {
+        self.calls.iter().any(|call| call.task == task)
+    }
+
+    /// Puts a call behind the others.
+    fn push(&mut self, call: Waiting)
+        requires { length self.old < longest_queue }
+        ensures { self.new ≡ self.old ++ call ∷ [] }
+    {
+        self.calls.push_back(call);
+    }
+
+    /// Takes out the first call.
+    fn pop(&mut self) -> Waiting
+        requires { self.old ≢ [] }
+        ensures { self.old ≡ result ∷ self.new }
+    {
+        self.calls.pop_front().unwrap()
+    }
+}
+
+/// The components of an object, and a queue for each of its entries.
 #[derive(Debug, Drop)]
 pub struct State {
     components: Components,
-    waiting: Option<Waiting>,
+    queues: Vec<Queue>,
 }
 
 impl Model for State {
-    ghost use Rattle.std.specs.Prelude.{option_to_list};
-    ghost use Rattle.rp_entry.specs.Queue as queues;
+    ghost use Rattle.rp_entry.specs.Queue as waiting;
 
-    ghost Value = { queues.State };
+    ghost Value = { waiting.State };
 
-    ghost coded = { queues.state_code };
+    ghost coded = { waiting.state_code };
 
-    ghost view = { λ s. record { store = s.components; queue = option_to_list s.waiting } };
+    ghost view = { λ s. record { store = s.components; queues = s.queues.items } };
 }
 
 impl State {
-    /// Nobody waits.
-    pub fn new(components: Components) -> Self
-        ensures { result ≡ record { store = components; queue = [] } }
+    /// Nobody waits, and there is room for all that may.
+    pub fn new(alloc: Global, components: Components, entries: &[Entry]) -> Result<Self, AllocError>
+        ensures { IfOk result (λ state. state
+            ≡ record { store = components; queues = empty_queues entries.now }) }
     {
-        State {
-            components,
-            waiting: None,
+        let mut queues = Vec::new(alloc);
+        for _ in entries {
+            queues.push(Queue::new(alloc)?)?;
         }
+        Ok(State { components, queues })
     }
 
     /// The components.
@@ -98,11 +176,18 @@ impl State {
         &self.components
     }
 
-    /// The call that waits, if there is one.
-    pub fn waiting(&self) -> Option<Waiting>
-        ensures { option_to_list result ≡ self.now.queue }
+    /// The queues, in order of their entries.
+    pub fn queues(&self) -> &[Queue]
+        ensures { result.now ≡ self.now.queues }
     {
-        self.waiting
+        &self.queues
+    }
+
+    /// Whether a call of the task waits at one of the entries.
+    pub fn is_waiting(&self, task: TaskId) -> bool
+        ensures { result ≡ is_waiting task self.now.queues }
+    {
+        self.queues.iter().any(|queue| queue.has_task(task))
     }
 
     /// Whether the entry is open.
@@ -112,35 +197,59 @@ impl State {
         self.components.bool(entry.barrier).unwrap_or(false)
     }
 
-    /// Whether no further call can wait.
-    pub fn is_full(&self) -> bool
-        ensures { IsTrue result ↔ (longest_queue ≤ length self.now.queue) }
+    /// Whether one more call can wait at the entry of this index, counted from 1.
+    pub fn has_room(&self, index: u8, entry: &Entry) -> bool
+        requires there { 1 ≤ index }
+        requires declared { index ≤ length self.now.queues }
+        ensures { IsTrue result
+            ↔ (length (queue_at self.now.queues (index - 1)) < entry.now.longest) }
     {
-        self.waiting.is_some()
+        self.queues[usize::from(index) - 1].len() < usize::from(entry.longest)
     }
 
-    /// Puts a call into the queue, behind the others.
-    pub fn enqueue(&mut self, call: Waiting)
-        requires { length self.old.queue < longest_queue }
-        ensures { self.new ≡ record self.old { queue = self.old.queue ++ call ∷ [] } }
+    /// Puts a call into the queue of the entry of this index, counted from 1, behind the others.
+    pub fn enqueue(&mut self, index: u8, call: Waiting)
+        requires there { 1 ≤ index }
+        requires declared { index ≤ length self.old.queues }
+        requires room { length (queue_at self.old.queues (index - 1)) < longest_queue }
+        ensures { self.new ≡ with_caller self.old index call }
     {
-        self.waiting = Some(call);
+        self.queues[usize::from(index) - 1].push(call);
     }
 
-    /// Serves the first call, if the entry is open and a call waits.
+    /// The place of the first open entry that has a caller, counted from 0. It looks at each barrier
+    /// at most once.
+    fn next_ready(&self, operations: &Operations) -> Option<usize>
+        requires { length self.now.queues ≡ length operations.now.entries.items }
+        ensures ready { IfSome result (λ place. IsReady operations.now.entries.items self.now place) }
+        ensures least { IfSome result (λ place. (other : ℕ) → other < place
+            → ¬ IsReady operations.now.entries.items self.now other) }
+        ensures none { IfNone result (IsServiced operations.now self.now) }
+    {
+        for (place, entry) in operations.entries.iter().enumerate() {
+            if self.is_open(entry) && !self.queues[place].is_empty() {
+                return Some(place);
+            }
+        }
+        None
+    }
+
+    /// Serves the first caller of the first open entry that has one.
     fn serve_next(&mut self, operations: &Operations) -> Option<Answer>
-        requires { OperationsFit (limits_of self.old.store) operations.now }
+        requires fits { OperationsFit (limits_of self.old.store) operations.now }
+        requires each { length self.old.queues ≡ length operations.now.entries.items }
         ensures served { IfSome result (λ answer. Serves operations.now self.old answer self.new) }
         ensures serviced { IfNone result (IsServiced operations.now self.old) }
         ensures unchanged { IfNone result (self.new ≡ self.old) }
         ensures counts { limits_of self.new.store ≡ limits_of self.old.store }
     {
-        let entry = operations.entry.as_ref()?;
-        if !self.is_open(entry) {
-            return None;
-        }
-        let call = self.waiting.take()?;
-        let outcome = run(&entry.body, &mut self.components, call.arg);
+        let place = self.next_ready(operations)?;
+        let call = self.queues[place].pop();
+        let outcome = run(
+            &operations.entries[place].body,
+            &mut self.components,
+            call.arg,
+        );
         Some(Answer {
             task: call.task,
             number: call.number,
@@ -148,10 +257,10 @@ impl State {
         })
     }
 
-    /// Serves calls until none waits at an open barrier. The barrier is looked at before each.
+    /// Serves calls until none waits at an open barrier. The barriers are looked at before each.
     fn service(&mut self, operations: &Operations) -> Answers
         requires fits { OperationsFit (limits_of self.old.store) operations.now }
-        requires short { length self.old.queue ≤ longest_queue }
+        requires queues { HasQueues operations.now self.old }
         ensures chain { Services operations.now self.old result self.new }
         ensures counts { limits_of self.new.store ≡ limits_of self.old.store }
     {
@@ -162,11 +271,11 @@ impl State {
         served
     }
 
-    /// Runs a body for a caller, and then services the queue, also where the body raised.
+    /// Runs a body for a caller, and then services the queues, also where the body raised.
     pub fn run(&mut self, operations: &Operations, body: &[Stmt], arg: i64) -> Done
         requires fits { OperationsFit (limits_of self.old.store) operations.now }
         requires body { KeepsLimits (limits_of self.old.store) body.now }
-        requires short { length self.old.queue ≤ longest_queue }
+        requires queues { HasQueues operations.now self.old }
         ensures runs { Runs operations.now body.now arg self.old
             result.outcome result.served self.new }
         ensures counts { limits_of self.new.store ≡ limits_of self.old.store }

@@ -16,33 +16,33 @@ type Case = (&'static str, Input<'static>, usize, u64);
 const CASES: [Case; 15] = [
     (
         "the first call of task 1, procedure 1 of object 1 with 5",
-        Input::Receive(b"\x01\x01\x11\x01\x01\x01\0\0\0\x01\x01\x02\x01\0\0\0\0\0\0\0\x05"),
+        Input::Receive(b"\x02\x01\x11\x01\x01\x01\0\0\0\x01\x01\x02\x01\0\0\0\0\0\0\0\x05"),
         0,
         0,
     ),
     ("the word to lead", Input::Lead(None), 3, 10),
     (
         "its own Prepare",
-        Input::Receive(b"\x01\x02\x01\x01\0\x01\0\0\0\0\0\0\0\x09"),
+        Input::Receive(b"\x02\x02\x01\x01\0\x01\0\0\0\0\0\0\0\x09"),
         1,
         22,
     ),
     (
         "a promise",
-        Input::Receive(b"\x01\x03\x02\x01\0\x01\0\0\0\0\0\0\0\x09\0"),
+        Input::Receive(b"\x02\x03\x02\x01\0\x01\0\0\0\0\0\0\0\x09\0"),
         0,
         22,
     ),
     (
         "the second promise",
-        Input::Receive(b"\x01\x03\x03\x01\0\x01\0\0\0\0\0\0\0\x09\0"),
+        Input::Receive(b"\x02\x03\x03\x01\0\x01\0\0\0\0\0\0\0\x09\0"),
         3,
         22,
     ),
     (
         "its own Accept",
         Input::Receive(
-            b"\x01\x04\x01\x01\0\x01\0\0\0\0\0\0\0\x09\x01\x01\0\0\0\x01\x01\x02\x01\0\0\0\0\0\0\0\x05",
+            b"\x02\x04\x01\x01\0\x01\0\0\0\0\0\0\0\x09\x01\x01\0\0\0\x01\x01\x02\x01\0\0\0\0\0\0\0\x05",
         ),
         1,
         51,
@@ -50,7 +50,7 @@ const CASES: [Case; 15] = [
     (
         "a vote",
         Input::Receive(
-            b"\x01\x05\x02\x01\0\x01\0\0\0\0\0\0\0\x09\x01\x01\0\0\0\x01\x01\x02\x01\0\0\0\0\0\0\0\x05",
+            b"\x02\x05\x02\x01\0\x01\0\0\0\0\0\0\0\x09\x01\x01\0\0\0\x01\x01\x02\x01\0\0\0\0\0\0\0\x05",
         ),
         0,
         51,
@@ -58,38 +58,38 @@ const CASES: [Case; 15] = [
     (
         "the second vote",
         Input::Receive(
-            b"\x01\x05\x03\x01\0\x01\0\0\0\0\0\0\0\x09\x01\x01\0\0\0\x01\x01\x02\x01\0\0\0\0\0\0\0\x05",
+            b"\x02\x05\x03\x01\0\x01\0\0\0\0\0\0\0\x09\x01\x01\0\0\0\x01\x01\x02\x01\0\0\0\0\0\0\0\x05",
         ),
         3,
         72,
     ),
     (
         "a question",
-        Input::Receive(b"\x01\x07\x02\x01\0\x01"),
+        Input::Receive(b"\x02\x07\x02\x01\0\x01"),
         1,
         72,
     ),
     (
         "a decision",
-        Input::Receive(b"\x01\x06\x02\x01\0\x02\0"),
+        Input::Receive(b"\x02\x06\x02\x01\0\x02\0"),
         0,
         77,
     ),
     (
         "a Prepare in a higher ballot",
-        Input::Receive(b"\x01\x02\x03\x01\0\x01\0\0\0\0\0\0\0\x0b"),
+        Input::Receive(b"\x02\x02\x03\x01\0\x01\0\0\0\0\0\0\0\x0b"),
         1,
         89,
     ),
     (
         "a Prepare below it",
-        Input::Receive(b"\x01\x02\x02\x01\0\x01\0\0\0\0\0\0\0\x0a"),
+        Input::Receive(b"\x02\x02\x02\x01\0\x01\0\0\0\0\0\0\0\x0a"),
         1,
         89,
     ),
     (
         "a Nack",
-        Input::Receive(b"\x01\x08\x02\x01\0\x01\0\0\0\0\0\0\0\x09\0\0\0\0\0\0\0\x0a"),
+        Input::Receive(b"\x02\x08\x02\x01\0\x01\0\0\0\0\0\0\0\x09\0\0\0\0\0\0\0\x0a"),
         0,
         89,
     ),
@@ -228,14 +228,14 @@ fn a_cut_that_memory_refused_gives_the_node_back(rt: HostRuntime) -> Result<(), 
 
 /// What node 3 hears of ballot 9 at position 1 from node 1: a Prepare, an Accept and a decision.
 const HEARD: [&[u8]; 3] = [
-    b"\x01\x02\x01\x03\0\x01\0\0\0\0\0\0\0\x09",
-    b"\x01\x04\x01\x03\0\x01\0\0\0\0\0\0\0\x09\x01\x01\0\0\0\x01\x01\x02\x01\0\0\0\0\0\0\0\x05",
-    b"\x01\x06\x01\x03\0\x01\x01\x01\0\0\0\x01\x01\x02\x01\0\0\0\0\0\0\0\x05",
+    b"\x02\x02\x01\x03\0\x01\0\0\0\0\0\0\0\x09",
+    b"\x02\x04\x01\x03\0\x01\0\0\0\0\0\0\0\x09\x01\x01\0\0\0\x01\x01\x02\x01\0\0\0\0\0\0\0\x05",
+    b"\x02\x06\x01\x03\0\x01\x01\x01\0\0\0\x01\x01\x02\x01\0\0\0\0\0\0\0\x05",
 ];
 
 /// What it answers: a promise and a vote.
 const ANSWERS: &[u8] =
-    b"\x01\x03\x03\x01\0\x01\0\0\0\0\0\0\0\x09\0\x01\x05\x03\x01\0\x01\0\0\0\0\0\0\0\x09\x01\x01\0\0\0\x01\x01\x02\x01\0\0\0\0\0\0\0\x05";
+    b"\x02\x03\x03\x01\0\x01\0\0\0\0\0\0\0\x09\0\x02\x05\x03\x01\0\x01\0\0\0\0\0\0\0\x09\x01\x01\0\0\0\x01\x01\x02\x01\0\0\0\0\0\0\0\x05";
 
 /// What comes of packets that a node hears, opened anew each time that its device fails.
 #[derive(Drop)]

@@ -7,26 +7,38 @@ use std::alloc::Global;
 use std::process::Abort;
 use std::test::*;
 
-const STARTED: [u8; 10] = [1, 1, 0, 0, 0, 0, 0, 0, 0, 9];
+/// A `Started` of version 1.
+const OLD_STARTED: [u8; 10] = [1, 1, 0, 0, 0, 0, 0, 0, 0, 9];
+
+const STARTED: [u8; 10] = [2, 1, 0, 0, 0, 0, 0, 0, 0, 9];
 
 const VOTED: [u8; 29] = [
-    1, 3, 0, 1, 0, 0, 0, 0, 0, 0, 0, 9, 1, 1, 0, 0, 0, 1, 1, 2, 1, 0, 0, 0, 0, 0, 0, 0, 5,
+    2, 3, 0, 1, 0, 0, 0, 0, 0, 0, 0, 9, 1, 1, 0, 0, 0, 1, 1, 2, 1, 0, 0, 0, 0, 0, 0, 0, 5,
 ];
+
+const PROMISED: [u8; 12] = [2, 2, 0, 1, 0, 0, 0, 0, 0, 0, 0, 9];
 
 /// A `Started` and the first 11 bytes of a `Promised`.
 const TORN: [u8; 21] = [
-    1, 1, 0, 0, 0, 0, 0, 0, 0, 9, 1, 2, 0, 1, 0, 0, 0, 0, 0, 0, 0,
+    2, 1, 0, 0, 0, 0, 0, 0, 0, 9, 2, 2, 0, 1, 0, 0, 0, 0, 0, 0, 0,
 ];
 
 /// A `Started` and a `Promised` with ballot 0.
 const WRONG: [u8; 22] = [
-    1, 1, 0, 0, 0, 0, 0, 0, 0, 9, 1, 2, 0, 1, 0, 0, 0, 0, 0, 0, 0, 0,
+    2, 1, 0, 0, 0, 0, 0, 0, 0, 9, 2, 2, 0, 1, 0, 0, 0, 0, 0, 0, 0, 0,
 ];
 
 fn started() -> Result<Rec, Fail>
     ensures { IfOk result IsRightRecord }
 {
     Ok(Rec::Started(Ballot::new(9).ok_or("a ballot")?))
+}
+
+fn promised() -> Result<Rec, Fail>
+    ensures { IfOk result IsRightRecord }
+{
+    let ballot = Ballot::new(9).ok_or("a ballot")?;
+    Ok(Rec::Promised(Position::first(), ballot))
 }
 
 /// A vote for the first call of task 1, of procedure 1 of object 1 with 5.
@@ -126,6 +138,26 @@ fn whole_records_are_told_and_the_rest_is_cut(rt: HostRuntime) -> Result<(), Fai
         opens(&rt, rt.alloc(), device, records, *cut_bytes)?;
     }
     Ok(())
+}
+
+#[test]
+fn a_device_of_version_1_goes_on_in_version_2(rt: HostRuntime) -> Result<(), Fail> {
+    let (started, promised) = (started()?, promised()?);
+    let mut device = MemDevice::new(rt.alloc());
+    appends(&mut device, &OLD_STARTED)?;
+    let Opened {
+        mut store,
+        records,
+        cut_bytes,
+    } = opened(&rt, rt.alloc(), device)?;
+    assert_eq!(rt; (records.as_slice(), cut_bytes), ([started].as_slice(), 0));
+    puts(&rt, &mut store, &promised)?;
+    let mut device = store.close();
+    let bytes = read(rt.alloc(), &mut device)?;
+    assert_eq!(rt; bytes.len(), 22);
+    assert!(rt; bytes.as_slice().starts_with(OLD_STARTED.as_slice()));
+    assert!(rt; bytes.as_slice().ends_with(PROMISED.as_slice()));
+    opens(&rt, rt.alloc(), device, &[started, promised], 0)
 }
 
 #[test]

@@ -1,70 +1,40 @@
 -- One object's protected action, as the program's.
-use Rattle.std.proofs.Common.{◌≡◌, ◌<◌, ◌≤◌, ◌+◌, ◌-◌, ℕ, zero, suc, ℤ, List, [], ◌∷◌, ◌++◌, length, get_or, set, Option, Some, None, map, refl, sym, ◌∙◌, ap, subst, arith, length-append, length-set}
+use Rattle.std.proofs.Common.{◌≡◌, ◌<◌, ◌≤◌, ◌+◌, ◌-◌, ℕ, zero, suc, ℤ, List, [], ◌∷◌, ◌++◌, length, get_or, set, Option, Some, None, map, inl, inr, refl, sym, ◌∙◌, ap, subst, arith, length-append, length-set}
+use Rattle.std.specs.Prelude.{slice_get, flat_map}
+use Rattle.std.specs.List.{AllZip, AllByRecursion}
 use Rattle.std.proofs.lemmas.List.{length-map, set-get_or}
-use Rattle.std.proofs.lemmas.List.Elements.{All-set}
-use Rattle.std.proofs.lemmas.List.Sums.{sum_by-set}
+use Rattle.std.proofs.lemmas.List.Elements.{recursion_from_All}
 use Rattle.std.proofs.lemmas.Option.{slice_get_read}
+use Rattle.rp_base.specs.Number.{IsTask}
+use Rattle.rp_base.specs.Sets.{Has, IsSet}
+use Rattle.rp_base.proofs.Members.{mapped_has, has_mapped, has_split, has_left, has_right}
+use Rattle.rp_base.specs.declared.action.Action.TheVariants.{Call}
+use Rattle.rp_base.specs.declared.action.Operation.{Operation}
 use Rattle.rp_base.specs.declared.reply.Answer.{Answer}
 use Rattle.rp_entry.specs.declared.operations.Operations.{Operations}
+use Rattle.rp_entry.specs.declared.state.Waiting.{Waiting}
 use Rattle.rp_entry.specs.declared.state.CallOutcome.{CallOutcome}
+use Rattle.rp_entry.specs.declared.state.CallOutcome.TheVariants.{Reply, Waits}
 use Rattle.rp_entry.specs.Operations.{of_index}
-use Rattle.rp_entry.specs.Queue.{State, longest_queue}
+use Rattle.rp_entry.specs.Queue.{all_calls, tasks_waiting}
 use Rattle.rp_entry.specs.Protected.{Protected}
-use Rattle.rp_entry.specs.Servicing.{Services, ends, goes_on}
-use Rattle.rp_entry.specs.Actions.{Request, Acts, event, function, procedure, open_entry, closed_entry, full_queue, handler, no_function, no_procedure, no_entry, no_handler}
+use Rattle.rp_entry.specs.Actions.{Request, Acts, calls_entry, event}
 use Rattle.rp_entry.specs.Results.{Acted}
-use Rattle.rp_entry.specs.Accounting.{name_of, answered_caller, joins}
+use Rattle.rp_entry.specs.Accounting.{joins}
+use Rattle.rp_entry.proofs.Permuting.{Perm, mapped_permuted, length_permuted, has_permuted, set_permuted, back}
+use Rattle.rp_entry.proofs.Queues.{few_tasks}
 use Rattle.rp_entry.proofs.Results.{acts_acted}
-use Rattle.rp_entry.proofs.Accounting.{acts_account}
-use Rattle.rp_entry.proofs.Chains.{no_more_wait}
+use Rattle.rp_machine.specs.Calls.{CallName, call_of, MayApply}
+use Rattle.rp_object.specs.declared.program.ObjectDeclaration.{ObjectDeclaration}
 use Rattle.rp_object.specs.declared.program.Declarations.{Declarations}
-use Rattle.rp_object.specs.State.{ProgramState, Running}
-use Rattle.rp_object.specs.Step.{object_acts, asks, with_object}
-use Rattle.rp_object.specs.Held.{IsHeld, waiting_count}
-
--- ---- queues
-
--- as many are answered and wait as waited, and the call that joins them
-pub acts_length : {operations : Operations} {before after : State} {request : Request} {caller : Option CallOutcome} {told : List Answer}
-    → Acts operations before request caller told after → length told + length after.queue ≡ length before.queue + length (joins request caller)
-acts_length {before = before} {after = after} {request = request} {caller = caller} {told = told} acts =
-    let same = ap length (acts_account acts) in
-    let left : length (map answered_caller told ++ map name_of after.queue) ≡ length told + length after.queue = omega (arith, length-append (map answered_caller told) (map name_of after.queue), length-map told answered_caller, length-map after.queue name_of) in
-    let right : length (map name_of (before.queue ++ joins request caller)) ≡ length before.queue + length (joins request caller) = omega (arith, length-map (before.queue ++ joins request caller) name_of, length-append before.queue (joins request caller)) in
-    omega (arith, same, left, right)
-
--- no queue grows too long
-pub acts_short : {operations : Operations} {before after : State} {request : Request} {caller : Option CallOutcome} {told : List Answer}
-    → Acts operations before request caller told after → length before.queue ≤ longest_queue → length after.queue ≤ longest_queue
-acts_short (function f) short = short
-acts_short (procedure f runs) short = omega (arith, no_more_wait runs.serviced, short)
-acts_short (open_entry f a runs) short = omega (arith, no_more_wait runs.serviced, short)
-acts_short {before = before} (closed_entry {call = call} f a room) short = omega (arith, length-append before.queue (call ∷ []), room)
-acts_short (full_queue f a full) short = short
-acts_short (handler f runs) short = omega (arith, no_more_wait runs.serviced, short)
-acts_short (no_function f) short = short
-acts_short (no_procedure f) short = short
-acts_short (no_entry f) short = short
-acts_short (no_handler f) short = short
-
--- no more are served than wait
-served_length : {operations : Operations} {before after : State} {told : List Answer} → Services operations before told after → length told ≤ length before.queue
-served_length (ends serviced) = omega arith
-served_length (goes_on step rest) = omega (arith, served_length rest, ap length step.first)
-
--- at most one is served
-pub told_short : {operations : Operations} {before after : State} {request : Request} {caller : Option CallOutcome} {told : List Answer}
-    → Acts operations before request caller told after → length before.queue ≤ longest_queue → length told ≤ 1
-told_short (function f) short = omega arith
-told_short (procedure f runs) short = omega (arith, served_length runs.serviced, short)
-told_short (open_entry f a runs) short = omega (arith, served_length runs.serviced, short)
-told_short (closed_entry f a room) short = omega arith
-told_short (full_queue f a full) short = omega arith
-told_short (handler f runs) short = omega (arith, served_length runs.serviced, short)
-told_short (no_function f) short = omega arith
-told_short (no_procedure f) short = omega arith
-told_short (no_entry f) short = omega arith
-told_short (no_handler f) short = omega arith
+use Rattle.rp_object.specs.Program.{DeclarationFits}
+use Rattle.rp_object.specs.State.{ProgramState, Running, name_of}
+use Rattle.rp_object.specs.Step.{Result, object_acts, asks, with_object, called, own_answer, waiting_at, tasks_of}
+use Rattle.rp_object.specs.Reached.{HaveQueues}
+use Rattle.rp_object.specs.Held.{IsMade, IsHeld, tasks_at, waiting_count}
+use Rattle.rp_object.specs.MachineLaws.Queues.{acts_many}
+use Rattle.rp_object.specs.MachineLaws.Distinct.{set_right}
+use Rattle.rp_object.specs.MachineLaws.Accounting.{map_append, one_leaves, among, has_each, called_leaves}
 
 -- ---- one object among the others
 
@@ -109,23 +79,114 @@ asks_still {held} {now} is {from} {number} same equal object caller told some wi
     ∙ ap (λ (l : List Protected). record { caller = caller; told = told; after = record held.state { objects = l } }) (ap (set held.state.objects (from - 1)) read ∙ set-get_or held.state.objects (from - 1) object)
     ∙ ap (λ (r : Running). record { caller = caller; told = told; after = r.state }) is
 
-module _ {program : Declarations} {timers : List (Option ℤ)} where
-  -- the queue at a place is short
-  pub short_at : (objects : List Protected) (place : ℕ) (object : Protected) → IsHeld program objects timers → place < length objects → object ≡ get_or objects place object
-      → length object.state.queue ≤ longest_queue
-  short_at objects place object held below read = subst (λ (o : Protected). length o.state.queue ≤ longest_queue) (sym read) (held.short place object below)
+-- ---- a task waits at one place at most
 
-  -- an action keeps what is held
-  pub held_after : (objects : List Protected) (place : ℕ) (object new : Protected) (request : Request) (caller : Option CallOutcome) (told : List Answer)
-      → IsHeld program objects timers → place < length objects → object ≡ get_or objects place object
-      → Acts object.operations object.state request caller told new.state
-      → IsHeld program (set objects place new) timers
-  held_after objects place object new request caller told held below read acts = record {
-    right = held.right;
-    all_objects = length-set objects place new ∙ held.all_objects;
-    all_timers = held.all_timers;
-    short = All-set (λ (o : Protected). length o.state.queue ≤ longest_queue) objects place new (acts_short acts (short_at objects place object held below read)) held.short;
+-- those that wait and a request's own call, if it is to wait, are of distinct tasks
+pub record MayJoin (objects : List Protected) (request : Request) (caller : Option CallOutcome) : Type 0 where
+  pub tasks : (task : ℕ) → Has task (tasks_of (map name_of (joins request caller) ++ flat_map waiting_at objects)) → IsTask task
+  pub apart : IsSet (tasks_of (map name_of (joins request caller) ++ flat_map waiting_at objects))
+
+-- each object has its queues
+made_each : (declared : List ObjectDeclaration) (objects : List Protected) → AllByRecursion DeclarationFits declared → AllZip IsMade declared objects → HaveQueues objects
+made_each [] [] fits made = tt
+made_each [] (o ∷ objects) fits made = absurd made
+made_each (d ∷ declared) [] fits made = absurd made
+made_each (d ∷ declared) (o ∷ objects) fits made =
+    (made.0.queues ∙ fits.0.entries ∙ ap (λ (p : Operations). length p.entries.items) (sym made.0.operations), made_each declared objects fits.1 made.1)
+
+still_made : (declared : List ObjectDeclaration) (objects : List Protected) (place : ℕ) (object new : Protected) → AllZip IsMade declared objects → slice_get objects place ≡ Some object
+    → new.operations ≡ object.operations → length new.state.queues ≡ length object.state.queues → AllZip IsMade declared (set objects place new)
+still_made [] [] place object new made there operations queues = absurd (cc)
+still_made [] (o ∷ objects) place object new made there operations queues = absurd made
+still_made (d ∷ declared) [] place object new made there operations queues = absurd made
+still_made (d ∷ declared) (o ∷ objects) zero object new made there operations queues =
+    let is : o ≡ object = cc in (
+      record {
+        operations = operations ∙ ap (λ (p : Protected). p.operations) (sym is) ∙ made.0.operations;
+        queues = queues ∙ ap (λ (p : Protected). length p.state.queues) (sym is) ∙ made.0.queues;
+      },
+      made.1,
+    )
+still_made (d ∷ declared) (o ∷ objects) (suc place) object new made there operations queues = (made.0, still_made declared objects place object new made.1 there operations queues)
+
+module _ {program : Declarations} {timers : List (Option ℤ)} where
+  -- nobody joins them
+  pub nobody_joins : (objects : List Protected) (request : Request) (caller : Option CallOutcome) → IsHeld program objects timers → joins request caller ≡ [] → MayJoin objects request caller
+  nobody_joins objects request caller held none =
+      let all : tasks_of (flat_map waiting_at objects) ≡ tasks_of (map name_of (joins request caller) ++ flat_map waiting_at objects) = ap (λ (l : List Waiting). tasks_of (map name_of l ++ flat_map waiting_at objects)) (sym none) in
+      record {
+        tasks = λ task has. held.tasks task (subst (λ (l : List ℕ). Has task l) (sym all) has);
+        apart = subst (λ (l : List ℕ). IsSet l) all held.apart;
+      }
+
+  -- a call of a task that waits nowhere may
+  pub caller_joins : (objects : List Protected) (index : ℕ) (call : Waiting) (caller : Option CallOutcome) → IsHeld program objects timers → IsTask call.task → ¬ Has call.task (tasks_at objects) → MayJoin objects (calls_entry index call) caller
+  caller_joins objects index call None held task free = nobody_joins objects (calls_entry index call) None held refl
+  caller_joins objects index call (Some (Reply reply)) held task free = nobody_joins objects (calls_entry index call) (Some (Reply reply)) held refl
+  caller_joins objects index call (Some Waits) held task free = record {
+    tasks = λ other has. elim has [ inl is ↦ subst IsTask (sym is) task | inr was ↦ held.tasks other was ];
+    apart = (free, held.apart);
   }
+
+  pub held_each : (objects : List Protected) → IsHeld program objects timers → HaveQueues objects
+  held_each objects held = made_each program.objects.items objects (recursion_from_All DeclarationFits program.objects.items held.right.objects) held.made
+
+  module _ (objects : List Protected) (place : ℕ) (object new : Protected) (request : Request) (caller : Option CallOutcome) (told : List Answer) (held : IsHeld program objects timers)
+      (below : place < length objects) (read : object ≡ get_or objects place object) (acts : Acts object.operations object.state request caller told new.state) where
+    at_place : slice_get objects place ≡ Some object
+    at_place = slice_get_read objects (length objects) place object refl below read
+
+    -- those that wait, the one that joins them, those that are answered and those that wait after
+    leaves : Perm (map name_of (joins request caller) ++ flat_map waiting_at objects) (map call_of told ++ flat_map waiting_at (set objects place new))
+    leaves = among objects place object new (map name_of (joins request caller)) (map call_of told) at_place (one_leaves (has_each objects place object (held_each objects held) at_place) acts)
+
+    -- an action keeps what is held
+    pub held_after : new.operations ≡ object.operations → MayJoin objects request caller → IsHeld program (set objects place new) timers
+    held_after operations may =
+        let task_of : CallName → ℕ = λ call. call.task in
+        let answered = map call_of told in
+        let waiting = flat_map waiting_at (set objects place new) in
+        let perm = mapped_permuted task_of leaves in
+        let apart : tasks_of (answered ++ waiting) ≡ tasks_of answered ++ tasks_of waiting = map_append task_of answered waiting in
+        record {
+          right = held.right;
+          all_objects = length-set objects place new ∙ held.all_objects;
+          made = still_made program.objects.items objects place object new held.made at_place operations (acts_many acts);
+          all_timers = held.all_timers;
+          tasks = λ task has. may.tasks task (has_permuted task (back perm) (subst (λ (l : List ℕ). Has task l) (sym apart) (has_right task (tasks_of answered) (tasks_of waiting) has)));
+          apart = set_right task_of answered waiting (set_permuted perm may.apart);
+        }
+
+    -- who is answered where nobody joins waited
+    pub answered_count : joins request caller ≡ [] → length told + waiting_count (set objects place new) ≡ waiting_count objects
+    answered_count none =
+        let waiting = flat_map waiting_at (set objects place new) in
+        omega (arith, length_permuted leaves, ap (λ (l : List Waiting). length (map name_of l ++ flat_map waiting_at objects)) none, length-append (map call_of told) waiting, length-map told call_of)
+
+  -- no more wait than there are tasks
+  pub count_short : (objects : List Protected) → IsHeld program objects timers → waiting_count objects ≤ 8
+  count_short objects held = omega (arith, few_tasks (tasks_at objects) held.apart held.tasks, length-map (flat_map waiting_at objects) (λ (call : CallName). call.task))
+
+  -- a call of a task that waits nowhere has its own answer and those of others, no more than there are tasks
+  pub few_answers : (state : ProgramState) (call : Waiting) (object : ℕ) (operation : Operation) (outcome : CallOutcome) (told : List Answer) (after : ProgramState)
+      → IsHeld program state.objects timers → IsTask call.task → ¬ Has call.task (tasks_at state.objects)
+      → called program state call object operation ≡ record { caller = Some outcome; told = told; after = after }
+      → length (own_answer (name_of call) (Some outcome)) + length told ≤ 8
+  few_answers state call object operation outcome told after held task free does =
+      let all = flat_map waiting_at state.objects in
+      let own = own_answer (name_of call) (Some outcome) in
+      let waiting = flat_map waiting_at after.objects in
+      let perm : Perm (name_of call ∷ all) (map call_of (own ++ told) ++ waiting) = subst (λ (r : Result). Perm (name_of call ∷ all) (map call_of (own_answer (name_of call) r.caller ++ r.told) ++ flat_map waiting_at r.after.objects)) does
+      (called_leaves program state (sym held.all_objects) (held_each state.objects held) call object operation) in
+      let inside : (other : ℕ) → Has other (call.task ∷ tasks_at state.objects) → IsTask other = λ other has. elim has [ inl is ↦ subst IsTask (sym is) task | inr was ↦ held.tasks other was ] in
+      let few = few_tasks (call.task ∷ tasks_at state.objects) (free, held.apart) inside in
+      omega (arith, few, length_permuted perm, length-append (map call_of (own ++ told)) waiting, length-map (own ++ told) call_of, length-append own told, length-map all (λ (c : CallName). c.task))
+
+-- no call of the action's own task waits
+pub task_free : (waiting : List CallName) (task number object : ℕ) (operation : Operation) (arg : ℤ) → MayApply waiting (Call task number object operation arg) → ¬ Has task (tasks_of waiting)
+task_free waiting task number object operation arg may has =
+    let other = mapped_has (λ (call : CallName). call.task) task waiting has in
+    may (record { task = task; number = number }) other.0 (inl refl) other.1 other.2
 
 -- the place of an object that is there
 pub place_below : {held now : Running} → held ≡ now → {from number : ℕ} → from ≡ number → 1 ≤ number → number ≤ length now.state.objects → from - 1 < length held.state.objects
@@ -133,12 +194,46 @@ place_below {held} {now} is {from} {number} same some within =
     let there : number ≤ length held.state.objects = subst (λ (r : Running). number ≤ length r.state.objects) (sym is) within in
     omega (arith, same, some, there)
 
--- who is answered at an event waited at its object
-pub events_count : {held now : Running} → held ≡ now → {place index : ℕ} → (object new : Protected) → {told : List Answer} → place < length held.state.objects → object ≡ get_or held.state.objects place object
+-- who is answered at an event waited
+pub events_count : {program : Declarations} {timers : List (Option ℤ)} {held now : Running} → held ≡ now → {place index : ℕ} → (object new : Protected) → {told : List Answer} → IsHeld program held.state.objects timers → place < length held.state.objects → object ≡ get_or held.state.objects place object
     → Acts object.operations object.state (event index) None told new.state
     → length told + waiting_count (set held.state.objects place new) ≡ waiting_count now.state.objects
-events_count {held} {now} is {place} {index} object new {told} below read acts =
-    let waits : Protected → ℕ = λ o. length o.state.queue in
-    let one : waits (get_or held.state.objects place object) ≡ waits object = ap waits (sym read) in
-    let all : waiting_count held.state.objects ≡ waiting_count now.state.objects = ap (λ (r : Running). waiting_count r.state.objects) is in
-    omega (arith, acts_length acts, sum_by-set waits held.state.objects place new object below, one, all)
+events_count {held = held} is {place} {index} object new {told} holds below read acts =
+    answered_count held.state.objects place object new (event index) None told holds below read acts refl ∙ ap (λ (r : Running). waiting_count r.state.objects) is
+
+-- ---- who waits at one object
+
+tasks_named : (calls : List Waiting) → tasks_of (map name_of calls) ≡ map (λ (call : Waiting). call.task) calls
+tasks_named [] = refl
+tasks_named (call ∷ rest) = ap (λ (l : List ℕ). call.task ∷ l) (tasks_named rest)
+
+-- a task that waits at an object waits at one of all
+pub task_among : (objects : List Protected) (place : ℕ) (object : Protected) (task : ℕ) → place < length objects → object ≡ get_or objects place object → Has task (tasks_waiting object.state) → Has task (tasks_at objects)
+task_among objects place object task below read has = among_them objects place (slice_get_read objects (length objects) place object refl below read) where
+  among_them : (os : List Protected) (i : ℕ) → slice_get os i ≡ Some object → Has task (tasks_at os)
+  among_them [] i there = absurd (cc)
+  among_them (one ∷ rest) zero there =
+      let is : one ≡ object = cc in
+      let here : Has task (tasks_of (waiting_at one)) = subst (λ (l : List ℕ). Has task l) (sym (ap (λ (o : Protected). tasks_of (waiting_at o)) is ∙ tasks_named (all_calls object.state.queues))) has in
+      subst (λ (l : List ℕ). Has task l) (sym (map_append (λ (call : CallName). call.task) (waiting_at one) (flat_map waiting_at rest))) (has_left task (tasks_of (waiting_at one)) (tasks_at rest) here)
+  among_them (one ∷ rest) (suc i) there =
+      subst (λ (l : List ℕ). Has task l) (sym (map_append (λ (call : CallName). call.task) (waiting_at one) (flat_map waiting_at rest))) (has_right task (tasks_of (waiting_at one)) (tasks_at rest) (among_them rest i there))
+
+none_at : (rest : List Protected) (one : Protected) (task : ℕ) → ¬ Has task (tasks_waiting one.state) → ¬ Has task (tasks_at rest) → ¬ Has task (tasks_at (one ∷ rest))
+none_at rest one task here others has =
+    elim (has_split task (tasks_of (waiting_at one)) (tasks_at rest) (subst (λ (l : List ℕ). Has task l) (map_append (λ (call : CallName). call.task) (waiting_at one) (flat_map waiting_at rest)) has)) [
+      | inl h ↦ here (subst (λ (l : List ℕ). Has task l) (tasks_named (all_calls one.state.queues)) h)
+      | inr h ↦ others h
+    ]
+
+-- a task that waits at no object waits at none of all
+pub none_among : (objects : List Protected) (task : ℕ) → ((k : ℕ) → k < length objects → (d : Protected) → ¬ Has task (tasks_waiting (get_or objects k d).state)) → ¬ Has task (tasks_at objects)
+none_among [] task none has = absurd has
+none_among (one ∷ rest) task none has = none_at rest one task (none 0 (omega arith) one) (none_among rest task (λ k below d. none (suc k) (omega (arith, below)) d)) has
+
+-- where the action's own task waits nowhere, it may be applied
+pub may_call : (waiting : List CallName) (task number object : ℕ) (operation : Operation) (arg : ℤ) → ¬ Has task (tasks_of waiting) → MayApply waiting (Call task number object operation arg)
+may_call waiting task number object operation arg free own other mine theirs same = elim mine [
+  | inl is ↦ free (subst (λ (t : ℕ). Has t (tasks_of waiting)) (sym same ∙ ap (λ (call : CallName). call.task) is) (has_mapped (λ (call : CallName). call.task) other waiting theirs))
+  | inr none ↦ absurd none
+]

@@ -4,7 +4,7 @@ use Rattle.std.specs.Prelude.{int_le, slice_get, ◌↔◌}
 use Rattle.rp_base.specs.Sets.{Has}
 use Rattle.rp_entry.specs.Operations.{of_index}
 use Rattle.rp_object.specs.Timers.{Setting, is_before, due_from, with_setting, sorted}
-use Rattle.rp_object.specs.MachineLaws.Permuting.{Perm, same, behind, swap, chain, back, has_permuted}
+use Rattle.rp_entry.proofs.Permuting.{Perm, same, behind, swap, chain, back, has_permuted}
 
 -- ---- the list of those that are due
 

@@ -1,28 +1,34 @@
 -- The start of a program.
-use Rattle.std.proofs.Common.{◌≡◌, ◌≤◌, ◌<◌, ℕ, zero, suc, ℤ, List, [], ◌∷◌, length, get_or, map, Option, sym, ◌∙◌, ap, ap₂, subst, arith}
+use Rattle.std.proofs.Common.{◌≡◌, ℕ, ℤ, List, [], ◌∷◌, length, map, Option, refl, sym, ◌∙◌, ap, ap₂, subst}
 use Rattle.std.proofs.lemmas.List.{length-map}
-use Rattle.std.specs.List.{All}
+use Rattle.std.specs.List.{AllZip, AllByRecursion}
+use Rattle.std.proofs.lemmas.List.Elements.{recursion_from_All}
+use Rattle.rp_base.specs.Sets.{Has, IsSet}
 use Rattle.rp_entry.specs.Protected.{Protected}
-use Rattle.rp_entry.specs.Queue.{longest_queue}
 use Rattle.rp_object.specs.declared.program.ObjectDeclaration.{ObjectDeclaration}
 use Rattle.rp_object.specs.declared.program.Declarations.{Declarations}
-use Rattle.rp_object.specs.Program.{IsProgram}
+use Rattle.rp_object.specs.Program.{operations_of, DeclarationFits, IsProgram}
 use Rattle.rp_object.specs.State.{Running, first_object, unset, first_state}
-use Rattle.rp_object.specs.Held.{IsHeld}
+use Rattle.rp_object.specs.Step.{tasks_of}
+use Rattle.rp_object.specs.Held.{IsMade, IsHeld, tasks_at}
+use Rattle.rp_object.specs.MachineLaws.First.{nobody}
 
-nobody_waits : (declared : List ObjectDeclaration) (k : ℕ) (d : Protected) → k < length (map first_object declared) → length (get_or (map first_object declared) k d).state.queue ≤ longest_queue
-nobody_waits [] k d below = absurd (omega (arith, below))
-nobody_waits (one ∷ rest) zero d below = omega arith
-nobody_waits (one ∷ rest) (suc k) d below = nobody_waits rest k d (omega (arith, below))
+made_first : (declared : List ObjectDeclaration) → AllByRecursion DeclarationFits declared → AllZip IsMade declared (map first_object declared)
+made_first [] fits = tt
+made_first (one ∷ rest) fits = (record { operations = refl; queues = length-map (operations_of one).entries.items (λ entry. []) ∙ sym fits.0.entries }, made_first rest fits.1)
 
 -- the start is held
 pub held_first : (program : Declarations) (objects : List Protected) (timers : List (Option ℤ)) → IsProgram program → objects ≡ map first_object program.objects.items → length timers ≡ length program.timers.items → IsHeld program objects timers
-held_first program objects timers right first long = record {
-  right = right;
-  all_objects = ap length first ∙ length-map program.objects.items first_object;
-  all_timers = long;
-  short = subst (λ (l : List Protected). All (λ (o : Protected). length o.state.queue ≤ longest_queue) l) (sym first) (λ k d below. nobody_waits program.objects.items k d below);
-}
+held_first program objects timers right first long =
+    let none : tasks_at objects ≡ [] = ap (λ (l : List Protected). tasks_at l) first ∙ ap tasks_of (nobody program.objects.items) in
+    record {
+      right = right;
+      all_objects = ap length first ∙ length-map program.objects.items first_object;
+      made = subst (λ (l : List Protected). AllZip IsMade program.objects.items l) (sym first) (made_first program.objects.items (recursion_from_All DeclarationFits program.objects.items right.objects));
+      all_timers = long;
+      tasks = λ task has. absurd (subst (λ (l : List ℕ). Has task l) none has);
+      apart = subst (λ (l : List ℕ). IsSet l) (sym none) tt;
+    }
 
 -- what is put together is the start
 pub starts_so : (program declared : Declarations) (objects : List Protected) (timers : List (Option ℤ)) → declared ≡ program → objects ≡ map first_object declared.objects.items → timers ≡ map unset declared.timers.items

@@ -1,13 +1,10 @@
 -- Timing events that fire one after another.
-use Rattle.std.proofs.Common.{◌≡◌, ◌≤◌, ℕ, ℤ, List, [], ◌∷◌, ◌++◌, length, Option, None, refl, sym, ◌∙◌, ap, arith, append_assoc, append-nil}
-use Rattle.std.proofs.lemmas.List.Sums.{sum_by-le}
+use Rattle.std.proofs.Common.{◌≡◌, ℕ, List, [], ◌∷◌, ◌++◌, None, refl, sym, ◌∙◌, ap, append_assoc, append-nil}
 use Rattle.rp_base.specs.declared.reply.Answer.{Answer}
-use Rattle.rp_entry.specs.Protected.{Protected}
 use Rattle.rp_object.specs.declared.program.Declarations.{Declarations}
 use Rattle.rp_object.specs.State.{ProgramState}
 use Rattle.rp_object.specs.Timers.{due_events}
 use Rattle.rp_object.specs.Step.{Result, fires, fire, with_timer}
-use Rattle.rp_object.specs.Held.{IsHeld, waiting_count}
 
 -- what came before, and then this
 abbrev pub behind : List Answer → Result → Result
@@ -42,7 +39,3 @@ pub fired_all : (program : Declarations) (state : ProgramState) (so_far : List A
     → behind so_far (fire_due program state) ≡ result → result ≡ record { caller = None; told = so_far; after = state }
 fired_all program state so_far result none so =
     sym so ∙ ap (λ (l : List ℕ). behind so_far (fire program state l)) none ∙ ap (λ (l : List Answer). record { caller = None; told = l; after = state }) (append-nil so_far)
-
--- no more than 8 calls wait
-pub count_short : {program : Declarations} {timers : List (Option ℤ)} (objects : List Protected) → IsHeld program objects timers → waiting_count objects ≤ 8
-count_short objects held = omega (arith, sum_by-le (λ (o : Protected). length o.state.queue) 1 objects held.short, held.all_objects, held.right.object_count)

@@ -1,13 +1,14 @@
 -- The text that shows the state of a program (this project's own).
-use Rattle.std.specs.Prelude.{ℕ, suc, ℤ, Bool, true, false, Option, Some, None, List, [], ◌∷◌, ◌++◌, String, string_bytes, codes, decimal, if◌then◌else◌, is_some}
+use Rattle.std.specs.Prelude.{ℕ, suc, ℤ, Bool, true, false, Option, Some, None, List, [], ◌∷◌, ◌++◌, String, string_bytes, codes, decimal, flat_map}
 use Rattle.std.specs.declared.alloc.Global.{Global}
 use Rattle.std.specs.Fmt.{signed_decimal}
 use Rattle.rp_body.specs.Store.{Store, int_value, bool_value}
 use Rattle.rp_entry.specs.declared.state.Waiting.{Waiting}
 use Rattle.rp_entry.specs.Protected.{Protected}
 use Rattle.rp_object.specs.declared.program.ObjectDeclaration.{ObjectDeclaration}
+use Rattle.rp_object.specs.declared.program.Profile.{Profile}
+use Rattle.rp_object.specs.declared.program.Profile.TheVariants.{Ravenscar, Jorvik}
 use Rattle.rp_object.specs.declared.program.TimingEvent.{TimingEvent}
-use Rattle.rp_object.specs.Program.{operations_of}
 use Rattle.rp_object.specs.State.{Running}
 
 -- ` NAME=VALUE` for each whole number, from a place on
@@ -24,23 +25,34 @@ abbrev pub bools_text : Store → ℕ → List (String Global) → List ℕ
 bools_text store place [] = []
 bools_text store place (name ∷ rest) = codes " " ++ (string_bytes name ++ (codes "=" ++ (truth_text (bool_value store place) ++ bools_text store (suc place) rest)))
 
--- the calls that wait, or ` none`
+-- a call that waits
+abbrev pub call_text : Waiting → List ℕ
+call_text call = codes " task " ++ (decimal call.task ++ (codes " call " ++ (decimal call.number ++ (codes " arg " ++ signed_decimal call.arg))))
+
+-- the calls that wait at an entry, in order of arrival, or ` none`
 abbrev pub queue_text : List Waiting → List ℕ
 queue_text [] = codes " none"
-queue_text (call ∷ rest) = codes " task " ++ (decimal call.task ++ (codes " call " ++ (decimal call.number ++ (codes " arg " ++ signed_decimal call.arg))))
+queue_text (call ∷ rest) = flat_map call_text (call ∷ rest)
 
--- the queue of an object that has an entry
-abbrev pub entry_text : ObjectDeclaration → List Waiting → List ℕ
-entry_text declared queue = if is_some (operations_of declared).entry then codes " queue" ++ queue_text queue else []
+-- the name of an entry, which is shown where there may be several
+abbrev pub entry_text : Profile → List ℕ → List ℕ
+entry_text Ravenscar name = []
+entry_text Jorvik name = codes " " ++ name
+
+-- the queue of each entry, in order
+abbrev pub queues_text : Profile → List (String Global) → List (List Waiting) → List ℕ
+queues_text profile (name ∷ names) (queue ∷ queues) = codes " queue" ++ (entry_text profile (string_bytes name) ++ (queue_text queue ++ queues_text profile names queues))
+queues_text profile _ _ = []
 
 -- the line of an object
-abbrev pub object_line : ObjectDeclaration → Protected → List ℕ
-object_line declared object =
-    codes "object " ++ (string_bytes declared.name ++ (ints_text object.state.store 0 declared.ints.items ++ (bools_text object.state.store 0 declared.bools.items ++ (entry_text declared object.state.queue ++ codes "\n"))))
+abbrev pub object_line : Profile → ObjectDeclaration → Protected → List ℕ
+object_line profile declared object =
+    codes "object "
+    ++ (string_bytes declared.name ++ (ints_text object.state.store 0 declared.ints.items ++ (bools_text object.state.store 0 declared.bools.items ++ (queues_text profile declared.entries.items object.state.queues ++ codes "\n"))))
 
-abbrev pub object_lines : List ObjectDeclaration → List Protected → List ℕ
-object_lines (declared ∷ rest) (object ∷ objects) = object_line declared object ++ object_lines rest objects
-object_lines _ _ = []
+abbrev pub object_lines : Profile → List ObjectDeclaration → List Protected → List ℕ
+object_lines profile (declared ∷ rest) (object ∷ objects) = object_line profile declared object ++ object_lines profile rest objects
+object_lines profile _ _ = []
 
 abbrev pub time_text : Option ℤ → List ℕ
 time_text None = codes " off"
@@ -57,4 +69,4 @@ timer_lines _ _ = []
 -- a line for each object, the line of the clock, and a line for each timing event
 abbrev pub objects_image : Running → List ℕ
 objects_image running =
-    object_lines running.program.objects.items running.state.objects ++ (codes "clock " ++ (decimal running.state.clock ++ (codes "\n" ++ timer_lines running.program.timers.items running.state.timers)))
+    object_lines running.program.profile running.program.objects.items running.state.objects ++ (codes "clock " ++ (decimal running.state.clock ++ (codes "\n" ++ timer_lines running.program.timers.items running.state.timers)))

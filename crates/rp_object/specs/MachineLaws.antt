@@ -1,8 +1,7 @@
 -- A program that runs keeps the laws of a machine.
-pub mod Permuting
+pub mod Queues
 pub mod Accounting
 pub mod Distinct
-pub mod Queues
 pub mod Keeping
 pub mod First
 pub mod Words

@@ -11,6 +11,8 @@ use Rattle.rp_body.specs.Ranges.{IsInRange, IsNumbered}
 use Rattle.rp_entry.specs.declared.operations.Operations.{Operations}
 use Rattle.rp_entry.specs.Operations.{of_index, OperationsFit}
 use Rattle.rp_object.specs.declared.program.Handler.{Handler}
+use Rattle.rp_object.specs.declared.program.Profile.{Profile}
+use Rattle.rp_object.specs.declared.program.Profile.TheVariants.{Ravenscar, Jorvik}
 use Rattle.rp_object.specs.declared.program.ObjectDeclaration.{ObjectDeclaration}
 use Rattle.rp_object.specs.declared.program.Declarations.{Declarations}
 
@@ -18,12 +20,11 @@ use Rattle.rp_object.specs.declared.program.Declarations.{Declarations}
 abbrev pub operations_of : ObjectDeclaration → Operations
 operations_of declaration = arc_value declaration.operations
 
--- the object has the function, the procedure or the entry, whose index is 1; a timing event is no operation of
--- an object
+-- the object has the function, the procedure or the entry; a timing event is no operation of an object
 abbrev pub has_operation : Operation → Operations → Bool
 has_operation (Function index) operations = is_some (of_index operations.functions.items index)
 has_operation (Procedure index) operations = is_some (of_index operations.procedures.items index)
-has_operation (Entry index) operations = nat_eq index 1 && is_some operations.entry
+has_operation (Entry index) operations = is_some (of_index operations.entries.items index)
 has_operation (SetTimer index) operations = false
 has_operation (CancelTimer index) operations = false
 
@@ -77,13 +78,14 @@ most_declared = 8
 abbrev pub EndsFit : Store → Type 0
 EndsFit store = (name : ℕ) → IfSome (get store.ints name) (λ component. FitsSigned w64 component.low × FitsSigned w64 component.high)
 
--- an object has its ceiling, at most 8 components of each kind, named by the numbers from 0, a name for each component, ranges of 64 bits, first values in their ranges, and operations that fit the components
+-- an object has its ceiling, at most 8 components of each kind, named by the numbers from 0, a name for each component and each entry, ranges of 64 bits, first values in their ranges, and operations that fit the components
 pub record DeclarationFits (declared : ObjectDeclaration) : Type 0 where
   pub ceiling : IsPriority declared.ceiling
   pub few_ints : length declared.ints.items ≤ most_declared
   pub few_bools : length declared.bools.items ≤ most_declared
   pub ints : length declared.ints.items ≡ len declared.components.ints
   pub bools : length declared.bools.items ≡ len declared.components.bools
+  pub entries : length declared.entries.items ≡ length (operations_of declared).entries.items
   pub numbered : IsNumbered declared.components
   pub ends : EndsFit declared.components
   pub in_range : IsInRange declared.components
@@ -93,7 +95,13 @@ pub record DeclarationFits (declared : ObjectDeclaration) : Type 0 where
 abbrev pub is_handler : Declarations → Handler → Bool
 is_handler program handler = object_has program handler.object (Procedure handler.procedure)
 
--- A right program: each kind is declared at most 8 times, priorities are in their range, each object fits, and each handler is there.
+-- under the Ravenscar profile an object has at most one entry, at which one call waits (Max_Protected_Entries and
+-- Max_Entry_Queue_Length, section D.13); under Jorvik its operations' own limits are all
+abbrev pub KeepsProfile : Profile → Operations → Type 0
+KeepsProfile Ravenscar operations = (length operations.entries.items ≤ 1) × All (λ entry. entry.longest ≡ 1) operations.entries.items
+KeepsProfile Jorvik operations = Unit {0}
+
+-- A right program: each kind is declared at most 8 times, priorities are in their range, each object fits and keeps the profile, and each handler is there.
 pub record IsProgram (program : Declarations) : Type 0 where
   pub task_count : length program.priorities.items ≤ most_declared
   pub object_count : length program.objects.items ≤ most_declared
@@ -101,5 +109,6 @@ pub record IsProgram (program : Declarations) : Type 0 where
   pub timer_count : length program.timers.items ≤ most_declared
   pub tasks : All IsPriority program.priorities.items
   pub objects : All DeclarationFits program.objects.items
+  pub profile : All (λ declared. KeepsProfile program.profile (operations_of declared)) program.objects.items
   pub interrupts : All (λ handler. is_handler program handler ≡ true) program.interrupts.items
   pub timers : All (λ timer. is_handler program timer.handler ≡ true) program.timers.items

@@ -1,21 +1,20 @@
 -- The states that a program reaches: what its start has and every action keeps (Ada Reference Manual, section 9.5.3; the limits are
 -- this project's own).
-use Rattle.std.specs.Prelude.{◌≡◌, ℕ, ◌<◌, ◌≤◌, ◌^◌, FitsSigned, IfSome, None, List, [], length, map}
+use Rattle.std.specs.Prelude.{◌≡◌, ◌<◌, ◌^◌, FitsSigned, IfSome, List, [], ◌∷◌, length}
 use Rattle.std.specs.Int.{w64}
 use Rattle.std.specs.List.{All, AllZip}
 use Rattle.rp_base.specs.Number.{IsTask}
 use Rattle.rp_base.specs.Action.{IsCount}
-use Rattle.rp_base.specs.Sets.{IsSet}
+use Rattle.rp_base.specs.Sets.{Has, IsSet}
 use Rattle.rp_body.specs.Ranges.{HasRangesOf, HasBoolsOf, IsInRange}
 use Rattle.rp_entry.specs.declared.state.Waiting.{Waiting}
-use Rattle.rp_entry.specs.Queue.{longest_queue, IsServiced}
-use Rattle.rp_entry.specs.Protected.{Protected}
-use Rattle.rp_machine.specs.Calls.{CallName}
+use Rattle.rp_entry.specs.Queue.{IsServiced, all_calls}
+use Rattle.rp_entry.specs.Protected.{Protected, IsShort}
 use Rattle.rp_object.specs.declared.program.ObjectDeclaration.{ObjectDeclaration}
 use Rattle.rp_object.specs.declared.program.Declarations.{Declarations}
 use Rattle.rp_object.specs.Program.{operations_of}
 use Rattle.rp_object.specs.State.{Running}
-use Rattle.rp_object.specs.Step.{objects_waiting}
+use Rattle.rp_object.specs.Step.{tasks_waiting}
 
 -- the numbers of a call fit their types
 pub record IsCall (call : Waiting) : Type 0 where
@@ -24,20 +23,20 @@ pub record IsCall (call : Waiting) : Type 0 where
   pub arg : FitsSigned w64 call.arg
 
 -- the object is the declared one: its operations, its components' names and their ranges are those declared, the values lie in
--- their ranges, and one call at most waits, where there is an entry and its barrier is closed (section 9.5.3)
+-- their ranges, each entry has its queue, which is not too long, and nobody waits at an open barrier (section 9.5.3)
 pub record IsObjectOf (declared : ObjectDeclaration) (object : Protected) : Type 0 where
   pub operations : object.operations ≡ operations_of declared
   pub ranges : HasRangesOf declared.components object.state.store
   pub bools : HasBoolsOf declared.components object.state.store
   pub values : IsInRange object.state.store
-  pub calls : All IsCall object.state.queue
-  pub short : length object.state.queue ≤ longest_queue
-  pub no_entry : (operations_of declared).entry ≡ None → object.state.queue ≡ []
+  pub queues : AllZip IsShort (operations_of declared).entries.items object.state.queues
+  pub calls : (call : Waiting) → Has call (all_calls object.state.queues) → IsCall call
   pub serviced : IsServiced (operations_of declared) object.state
 
--- the tasks of the calls that wait
-abbrev pub tasks_waiting : Running → List ℕ
-tasks_waiting running = map (λ (call : CallName). call.task) (objects_waiting running)
+-- each of these objects has a queue for each of its entries
+abbrev pub HaveQueues : List Protected → Type 0
+HaveQueues [] = Unit {0}
+HaveQueues (object ∷ rest) = (length object.state.queues ≡ length object.operations.entries.items) × HaveQueues rest
 
 -- The state is one of the program's: each object is as declared, each timing event that is declared is there, times and clock fit
 -- their types, and no task waits twice.

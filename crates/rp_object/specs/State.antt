@@ -1,7 +1,8 @@
 -- The state of a program: its protected objects, its timing events and the clock.
-use Rattle.std.specs.Prelude.{ℕ, ℤ, Option, None, List, [], map, refl}
+use Rattle.std.specs.Prelude.{ℕ, ℤ, Option, None, List, map, refl}
 use Rattle.std.specs.Coded.{Coded, code_by, coded×, coded_ℕ, coded_ℤ, coded_list, coded_option}
 use Rattle.rp_entry.specs.Protected.{Protected, protected_code}
+use Rattle.rp_entry.specs.Queue.{empty_queues}
 use Rattle.rp_machine.specs.Calls.{CallName}
 use Rattle.rp_entry.specs.declared.state.Waiting.{Waiting}
 use Rattle.rp_object.specs.contracts.program.Declarations as declared
@@ -10,7 +11,7 @@ use Rattle.rp_object.specs.declared.program.TimingEvent.{TimingEvent}
 use Rattle.rp_object.specs.declared.program.Declarations.{Declarations}
 use Rattle.rp_object.specs.Program.{operations_of}
 
--- the objects, each with its operations, components and queue, the time for which each timing event is set, if it is, and the clock; objects and timing events stand in order of their numbers from 1
+-- the objects, each with its operations, components and queues, the time for which each timing event is set, if it is, and the clock; objects and timing events stand in order of their numbers from 1
 pub record ProgramState : Type 0 where
   pub objects : List Protected
   pub timers : List (Option ℤ)
@@ -23,7 +24,7 @@ pub record Running : Type 0 where
 
 -- an object at the start: its components have their first values, and nobody waits
 abbrev pub first_object : ObjectDeclaration → Protected
-first_object declared = record { operations = operations_of declared; state = record { store = declared.components; queue = [] } }
+first_object declared = record { operations = operations_of declared; state = record { store = declared.components; queues = empty_queues (operations_of declared).entries.items } }
 
 -- a timing event that is not set
 abbrev pub unset : TimingEvent → Option ℤ

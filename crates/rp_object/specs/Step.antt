@@ -11,6 +11,7 @@ use Rattle.rp_entry.specs.declared.state.CallOutcome.{CallOutcome}
 use Rattle.rp_entry.specs.declared.state.CallOutcome.TheVariants.{Reply, Waits}
 use Rattle.rp_entry.specs.Operations.{of_index}
 use Rattle.rp_entry.specs.Protected.{Protected}
+use Rattle.rp_entry.specs.Queue.{all_calls}
 use Rattle.rp_entry.specs.Actions.{Request, calls_function, calls_procedure, calls_entry, event}
 use Rattle.rp_entry.specs.Results.{acted}
 use Rattle.rp_machine.specs.Calls.{CallName}
@@ -65,7 +66,7 @@ asks_within program before call object request =
 abbrev pub allowed : Declarations → ProgramState → Waiting → ℕ → Operation → Result
 allowed program before call object (Function index) = asks_within program before call object (calls_function index call.arg)
 allowed program before call object (Procedure index) = asks_within program before call object (calls_procedure index call.arg)
-allowed program before call object (Entry index) = asks_within program before call object (calls_entry call)
+allowed program before call object (Entry index) = asks_within program before call object (calls_entry index call)
 allowed program before call object (SetTimer index) = ends_with (Reply (Value (pos 0))) (with_timer before index (Some call.arg))
 allowed program before call object (CancelTimer index) = ends_with (Reply (Truth (is_set before index))) (with_timer before index None)
 
@@ -125,10 +126,17 @@ objects_next running action = record running { state = (program_step running.pro
 abbrev pub objects_answers : Running → Action → List Answer
 objects_answers running action = answers_of action (program_step running.program running.state action)
 
--- the calls that wait at one object
+-- the calls that wait at one object, entry by entry
 abbrev pub waiting_at : Protected → List CallName
-waiting_at object = map name_of object.state.queue
+waiting_at object = map name_of (all_calls object.state.queues)
 
 -- the calls that wait, by the numbers of their objects
 abbrev pub objects_waiting : Running → List CallName
 objects_waiting running = flat_map waiting_at running.state.objects
+
+-- their tasks
+abbrev pub tasks_of : List CallName → List ℕ
+tasks_of calls = map (λ (call : CallName). call.task) calls
+
+abbrev pub tasks_waiting : Running → List ℕ
+tasks_waiting running = tasks_of (objects_waiting running)

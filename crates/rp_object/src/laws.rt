@@ -9,17 +9,18 @@ ghost use Rattle.rp_machine.specs.Calls.{calls_of, AccountsFor};
 ghost use Rattle.rp_machine.specs.Replay.{replay_state};
 ghost use Rattle.rp_object.specs.declared.program.Declarations.{Declarations};
 ghost use Rattle.rp_object.specs.Program.{IsProgram};
-ghost use Rattle.rp_object.specs.Reached.{IsStateOf};
+ghost use Rattle.rp_object.specs.Reached.{IsStateOf, HaveQueues};
 ghost use Rattle.rp_object.specs.State.{Running, first_state};
 ghost use Rattle.rp_object.specs.Timers.{due_from, sorted, InOrder};
 ghost use Rattle.rp_object.specs.Step.{objects_next, objects_answers, objects_waiting};
 
-/// Nobody who waits is forgotten or answered twice: where each declared object is there and no call
-/// waits twice, the answers to an action are for distinct calls, its own or ones that waited, and exactly
+/// Nobody who waits is forgotten or answered twice: where each declared object is there with a queue
+/// for each of its entries, and no call waits twice, the answers to an action are for distinct calls, its own or ones that waited, and exactly
 /// the others of these wait after it.
 pub fn actions_account_for_callers()
     ensures { (running : Running) (action : Action)
         → length running.program.objects.items ≡ length running.state.objects
+        → HaveQueues running.state.objects
         → IsSet (calls_of action ++ objects_waiting running)
         → AccountsFor (objects_waiting running) action (objects_answers running action)
         (objects_waiting (objects_next running action)) }

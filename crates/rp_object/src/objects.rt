@@ -3,11 +3,13 @@
 ghost use Rattle.std.specs.Prelude.{◌≡◌, ◌↔◌, ◌≤◌, max, IsTrue, Some, None, IfSome, IfNone, IfOk, map, List, [], ◌∷◌, ◌++◌, ◌+◌, length, option_to_list};
 ghost use Rattle.rp_base.specs.declared.reply.Answer.{Answer};
 ghost use Rattle.rp_entry.specs.Actions.{calls_function, calls_procedure, calls_entry, event};
-ghost use Rattle.rp_object.specs.State.{Running, unset, first_object, first_state};
+ghost use Rattle.rp_base.specs.Sets.{Has};
+ghost use Rattle.rp_machine.specs.Calls.{MayApply};
+ghost use Rattle.rp_object.specs.State.{Running, unset, first_object, first_state, name_of};
 ghost use Rattle.std.specs.Arc.{arc_value};
 ghost use Rattle.std.specs.List.{All};
 ghost use Rattle.rp_object.specs.Program.{is_declared, interrupt_handler, DeclarationFits};
-ghost use Rattle.rp_object.specs.Step.{Result, asks, is_set, with_timer, called, allowed, handled, fires, ticked, own_answer, objects_next, objects_answers};
+ghost use Rattle.rp_object.specs.Step.{Result, asks, is_set, with_timer, called, allowed, handled, fires, ticked, own_answer, objects_next, objects_answers, objects_waiting, tasks_waiting};
 ghost use Rattle.rp_object.specs.Timers.{due_events};
 ghost use Rattle.rp_object.specs.Image.{objects_image};
 ghost use Rattle.rp_object.specs.Held.{waiting_count};
@@ -15,7 +17,7 @@ ghost use Rattle.rp_object.specs.Held.{waiting_count};
 use crate::image::{write_objects, write_timers};
 use crate::program::{Declarations, Handler, ObjectDeclaration, Program, TimingEvent};
 use rp_base::{Action, Answer, Answers, Operation, Reply, TaskId};
-use rp_entry::{CallOutcome, Done, Object, of_index};
+use rp_entry::{CallOutcome, Done, Object, Waiting, of_index};
 use std::alloc::{AllocError, Global};
 use std::marker::Model;
 use std::sync::Arc;
@@ -65,9 +67,32 @@ impl Objects {
         })
     }
 
+    /// Whether no call of the action's task waits, so that `apply` may be called.
+    pub fn may_apply(&self, action: &Action) -> bool
+        ensures { IsTrue result ↔ MayApply (objects_waiting self.now) action.now }
+    {
+        match *action {
+            Action::Call { task, .. } => !self.is_waiting(task),
+            Action::Noop | Action::Interrupt { .. } | Action::Tick { .. } => true,
+        }
+    }
+
+    /// Whether a call of the task waits at one of the objects.
+    fn is_waiting(&self, task: TaskId) -> bool
+        ensures { IsTrue result ↔ Has task (tasks_waiting self.now) }
+    {
+        for object in &self.objects {
+            if object.is_waiting(task) {
+                return true;
+            }
+        }
+        false
+    }
+
     /// Applies an action, and gives the answers that come of it: the caller's, and then those of the
-    /// callers that were served. It takes no memory.
+    /// callers that were served. It takes no memory. No call of the action's task waits.
     pub fn apply(&mut self, action: &Action) -> Answers
+        requires free { MayApply (objects_waiting self.old) action.now }
         ensures next { self.new ≡ objects_next self.old action.now }
         ensures answers { result ≡ objects_answers self.old action.now }
     {
@@ -80,7 +105,8 @@ impl Objects {
                 operation,
                 arg,
             } => {
-                let done = self.call(task, number, object, operation, arg);
+                let call = Waiting { task, number, arg };
+                let done = self.call(call, object, operation);
                 answers_of(task, number, &done)
             }
             Action::Interrupt { source, .. } => self.interrupt(source),
@@ -94,7 +120,13 @@ impl Objects {
         ensures { IfOk result (λ text. text.items ≡ objects_image self.now) }
     {
         let mut text = String::new(alloc);
-        write_objects(&mut text, &self.declarations.objects, &self.objects)?;
+        let declared = &self.declarations.objects;
+        write_objects(
+            &mut text,
+            self.declarations.profile,
+            declared,
+            &self.objects,
+        )?;
         writeln!(text, "clock {}", self.clock)?;
         write_timers(&mut text, &self.declarations.timers, &self.timers)?;
         Ok(text.into_bytes())
@@ -106,7 +138,6 @@ impl Objects {
         requires declared { object ≤ length self.now.state.objects }
         ensures action { asks self.now.state object (calls_function index arg)
             ≡ record { caller = Some result.outcome; told = result.served; after = self.now.state } }
-        ensures served { length result.served ≤ 1 }
     {
         let reply = self.objects[usize::from(object) - 1].function(index, arg);
         Done {
@@ -121,23 +152,22 @@ impl Objects {
         requires declared { object ≤ length self.old.state.objects }
         ensures action { asks self.old.state object (calls_procedure index arg)
             ≡ record { caller = Some result.outcome; told = result.served; after = self.new.state } }
-        ensures served { length result.served ≤ 1 }
         ensures program { self.new.program ≡ self.old.program }
     {
         self.objects[usize::from(object) - 1].procedure(index, arg)
     }
 
-    /// Calls the entry of the object.
-    fn entry(&mut self, object: u8, task: TaskId, number: u32, arg: i64) -> Done
+    /// Calls an entry of the object.
+    fn entry(&mut self, object: u8, index: u8, call: Waiting) -> Done
         requires there { 1 ≤ object }
         requires declared { object ≤ length self.old.state.objects }
-        ensures action { asks self.old.state object
-            (calls_entry (record { task = task; number = number; arg = arg }))
+        requires free { ¬ Has call.task (tasks_waiting self.old) }
+        ensures action { asks self.old.state object (calls_entry index call)
             ≡ record { caller = Some result.outcome; told = result.served; after = self.new.state } }
-        ensures served { length result.served ≤ 1 }
         ensures program { self.new.program ≡ self.old.program }
     {
-        self.objects[usize::from(object) - 1].entry(task, number, arg)
+        let asked = &mut self.objects[usize::from(object) - 1];
+        asked.entry(index, call.task, call.number, call.arg)
     }
 
     /// Runs a handler.
@@ -168,57 +198,43 @@ impl Objects {
         was
     }
 
-    /// The `number`th call of the task: what is not declared is refused before anything else.
-    fn call(
-        &mut self,
-        task: TaskId,
-        number: u32,
-        object: u8,
-        operation: Operation,
-        arg: i64,
-    ) -> Done
-        ensures action { called self.old.program self.old.state
-            (record { task = task; number = number; arg = arg }) object operation
+    /// A call of a task: what is not declared is refused before anything else.
+    fn call(&mut self, call: Waiting, object: u8, operation: Operation) -> Done
+        requires free { ¬ Has call.task (tasks_waiting self.old) }
+        ensures action { called self.old.program self.old.state call object operation
             ≡ record { caller = Some result.outcome; told = result.served; after = self.new.state } }
-        ensures served { length result.served ≤ 1 }
+        ensures few { length (own_answer (name_of call) (Some result.outcome))
+            + length result.served ≤ 8 }
         ensures program { self.new.program ≡ self.old.program }
     {
-        if self.declarations.declares(task, object, operation) {
-            self.allowed(task, number, object, operation, arg)
+        if self.declarations.declares(call.task, object, operation) {
+            self.allowed(call, object, operation)
         } else {
             Done::alone(CallOutcome::Reply(Reply::NoSuchOperation))
         }
     }
 
     /// A call of what is declared. Timing events are not checked against the ceiling.
-    fn allowed(
-        &mut self,
-        task: TaskId,
-        number: u32,
-        object: u8,
-        operation: Operation,
-        arg: i64,
-    ) -> Done
-        requires declared { IsTrue (is_declared self.old.program task object operation) }
-        ensures action { allowed self.old.program self.old.state
-            (record { task = task; number = number; arg = arg }) object operation
+    fn allowed(&mut self, call: Waiting, object: u8, operation: Operation) -> Done
+        requires declared { IsTrue (is_declared self.old.program call.task object operation) }
+        requires free { ¬ Has call.task (tasks_waiting self.old) }
+        ensures action { allowed self.old.program self.old.state call object operation
             ≡ record { caller = Some result.outcome; told = result.served; after = self.new.state } }
-        ensures served { length result.served ≤ 1 }
         ensures program { self.new.program ≡ self.old.program }
     {
-        let within = self.declarations.is_within_ceiling(task, object);
+        let within = self.declarations.is_within_ceiling(call.task, object);
         match operation {
             Operation::SetTimer(timer) => {
-                self.set_timer(timer, Some(arg));
+                self.set_timer(timer, Some(call.arg));
                 Done::alone(CallOutcome::Reply(Reply::Value(0)))
             }
             Operation::CancelTimer(timer) => {
                 let was_set = self.set_timer(timer, None);
                 Done::alone(CallOutcome::Reply(Reply::Truth(was_set)))
             }
-            Operation::Function(index) if within => self.function(object, index, arg),
-            Operation::Procedure(index) if within => self.procedure(object, index, arg),
-            Operation::Entry(_) if within => self.entry(object, task, number, arg),
+            Operation::Function(index) if within => self.function(object, index, call.arg),
+            Operation::Procedure(index) if within => self.procedure(object, index, call.arg),
+            Operation::Entry(index) if within => self.entry(object, index, call),
             _ => Done::alone(CallOutcome::Reply(Reply::ProgramError)),
         }
     }
@@ -320,7 +336,7 @@ fn first_objects(alloc: Global, declared: &[ObjectDeclaration]) -> Result<Vec<Ob
     for declaration in declared {
         let operations = declaration.operations.clone()?;
         let components = declaration.components.clone()?;
-        objects.push(Object::new(operations, components).unwrap())?;
+        objects.push(Object::new(alloc, operations, components)?.unwrap())?;
     }
     Ok(objects)
 }
@@ -338,9 +354,10 @@ fn no_times(alloc: Global, declared: &[TimingEvent]) -> Result<Vec<Option<i64>>,
 
 /// The answer to a call, if it does not wait, and behind it those to the callers that were served.
 fn answers_of(task: TaskId, number: u32, done: &Done) -> Answers
-    requires { length done.now.served ≤ 1 }
-    ensures { result ≡ own_answer (record { task = task; number = number }) (Some done.now.outcome)
-        ++ done.now.served }
+    requires { length (own_answer (record { task = task; number = number })
+        (Some done.now.outcome)) + length done.now.served ≤ 8 }
+    ensures { result ≡ own_answer (record { task = task; number = number })
+        (Some done.now.outcome) ++ done.now.served }
 {
     let mut answers = Answers::new();
     if let CallOutcome::Reply(reply) = done.outcome {

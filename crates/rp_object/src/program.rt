@@ -3,13 +3,13 @@
 ghost use Rattle.std.specs.Prelude.{◌≡◌, ◌↔◌, true, IsTrue, IsSome, IfSome, IfOk};
 ghost use Rattle.std.specs.Arc.{arc_value};
 ghost use Rattle.std.specs.List.{All};
-ghost use Rattle.rp_object.specs.Program.{has_operation, object_has, is_offered, is_declared, is_within_ceiling, is_handler, IsPriority, EndsFit, DeclarationFits, IsProgram};
+ghost use Rattle.rp_object.specs.Program.{has_operation, object_has, is_offered, is_declared, is_within_ceiling, is_handler, IsPriority, EndsFit, DeclarationFits, KeepsProfile, operations_of, IsProgram};
 ghost use Rattle.rp_object.specs.OneProof.{one_proof};
 ghost use Rattle.rp_body.specs.Ranges.{IsInRange};
 
 use rp_base::{Operation, TaskId};
 use rp_body::Components;
-use rp_entry::{Operations, of_index};
+use rp_entry::{Entry, Operations, of_index};
 use std::alloc::{AllocError, Global};
 use std::sync::Arc;
 
@@ -24,6 +24,15 @@ pub struct Handler {
     pub procedure: u8,
 }
 
+/// What a program may declare.
+#[derive(Clone, Copy, Debug, PartialEq, Eq)]
+pub enum Profile {
+    /// An object has one entry at most, at which one call waits at most (section D.13).
+    Ravenscar,
+    /// An object has up to 4 entries, at each of which up to 8 calls wait.
+    Jorvik,
+}
+
 /// A protected object: its components are named by their places in the lists of names, and have their
 /// first values.
 #[derive(Debug, Drop)]
@@ -36,6 +45,8 @@ pub struct ObjectDeclaration {
     /// The names of the Boolean components.
     pub bools: Vec<String>,
     pub components: Components,
+    /// The names of the entries.
+    pub entries: Vec<String>,
     pub operations: Arc<Operations, Global>,
 }
 
@@ -49,6 +60,7 @@ pub struct TimingEvent {
 /// What is declared, each kind numbered from 1 in this order.
 #[derive(Debug, Drop)]
 pub struct Declarations {
+    pub profile: Profile,
     /// The base priorities of the tasks, 1 to 30.
     pub priorities: Vec<u8>,
     pub objects: Vec<ObjectDeclaration>,
@@ -66,8 +78,9 @@ pub struct Program {
 
 impl Program {
     /// The program of these declarations, or `None` where they do not keep the limits: at most 8 of each
-    /// kind, priorities and ceilings 1 to 30, a name for each component, first values in their ranges,
-    /// operations that fit the components, and handlers that are there. It takes no memory.
+    /// kind, priorities and ceilings 1 to 30, a name for each component and each entry, first values in
+    /// their ranges, operations that fit the components and keep the profile, and handlers that are
+    /// there. It takes no memory.
     pub fn new(declarations: Arc<Declarations, Global>) -> Option<Self>
         ensures right { IsSome result ↔ IsProgram (arc_value declarations) }
         ensures same { IfSome result (λ program. program.declarations ≡ declarations) }
@@ -106,6 +119,7 @@ impl ObjectDeclaration {
             && self.bools.len() <= MOST
             && self.ints.len() == usize::from(limits.ints)
             && self.bools.len() == usize::from(limits.bools)
+            && self.entries.len() == self.operations.entries.len()
             && is_in_range(&self.components)
             && self.operations.fit(&limits)
     }
@@ -157,6 +171,41 @@ fn objects_fit(objects: &[ObjectDeclaration]) -> bool
     true
 }
 
+/// Whether the operations of each object keep the profile.
+fn objects_keep(profile: Profile, objects: &[ObjectDeclaration]) -> bool
+    ensures { IsTrue result
+        ↔ All (λ declared. KeepsProfile profile (operations_of declared)) objects.now }
+{
+    for object in objects {
+        if !keeps_profile(profile, &object.operations) {
+            return false;
+        }
+    }
+    true
+}
+
+/// Whether the operations keep the profile.
+fn keeps_profile(profile: Profile, operations: &Operations) -> bool
+    ensures { IsTrue result ↔ KeepsProfile profile operations.now }
+{
+    match profile {
+        Profile::Ravenscar => operations.entries.len() <= 1 && are_single(&operations.entries),
+        Profile::Jorvik => true,
+    }
+}
+
+/// Whether at each entry one call waits at most.
+fn are_single(entries: &[Entry]) -> bool
+    ensures { IsTrue result ↔ All (λ entry. entry.longest ≡ 1) entries.now }
+{
+    for entry in entries {
+        if entry.longest != 1 {
+            return false;
+        }
+    }
+    true
+}
+
 impl Declarations {
     /// Whether they keep the limits.
     fn is_program(&self) -> bool
@@ -168,6 +217,7 @@ impl Declarations {
             && self.timers.len() <= MOST
             && are_priorities(&self.priorities)
             && objects_fit(&self.objects)
+            && objects_keep(self.profile, &self.objects)
             && self.interrupts_are_handled()
             && self.timers_are_handled()
     }
@@ -259,7 +309,7 @@ fn has_operation(operations: &Operations, operation: Operation) -> bool
     match operation {
         Operation::Function(index) => of_index(&operations.functions, index).is_some(),
         Operation::Procedure(index) => of_index(&operations.procedures, index).is_some(),
-        Operation::Entry(index) => index == 1 && operations.entry.is_some(),
+        Operation::Entry(index) => of_index(&operations.entries, index).is_some(),
         Operation::SetTimer(_) | Operation::CancelTimer(_) => false,
     }
 }

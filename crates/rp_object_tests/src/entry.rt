@@ -1,4 +1,4 @@
-use rp_base::{Answer, Reply, TaskId};
+use rp_base::{Answers, Reply, TaskId};
 use rp_body::{Components, Cond, Expr, Ranged, Stmt};
 use rp_entry::*;
 use std::alloc::{AllocError, Global};
@@ -46,23 +46,63 @@ fn gate_operations(alloc: Global) -> Result<Operations, AllocError> {
     pass.push(Stmt::Put(0, Cond::Constant(false)))?;
     pass.push(Stmt::Set(0, add(alloc, Expr::Int(0), Expr::Number(1))?))?;
     pass.push(Stmt::Out(Expr::Int(0)))?;
+    let mut entries = Vec::new(alloc);
+    entries.push(Entry {
+        barrier: 0,
+        longest: 1,
+        body: pass,
+    })?;
     Ok(Operations {
         functions,
         procedures,
-        entry: Some(Entry {
-            barrier: 0,
-            body: pass,
-        }),
+        entries,
     })
 }
 
 /// The gate with n at this value.
 fn gate(alloc: Global, n: i64, up: bool) -> Result<Object, Fail> {
-    Ok(Object::new(
-        Arc::new(alloc, gate_operations(alloc)?)?,
-        gate_components(n, up),
-    )
-    .ok_or("a gate")?)
+    Ok(object(alloc, gate_operations(alloc)?, gate_components(n, up))?.ok_or("a gate")?)
+}
+
+/// The object of these operations and components, if they fit.
+fn object(
+    alloc: Global,
+    operations: Operations,
+    components: Components,
+) -> Result<Option<Object>, AllocError> {
+    let shared = Arc::new(alloc, operations).map_err(|_| AllocError)?;
+    Object::new(alloc, shared, components)
+}
+
+/// Calls an entry for a task that does not wait.
+fn enter(object: &mut Object, index: u8, task: u8, arg: i64) -> Result<Done, Fail> {
+    let task = TaskId::new(task).ok_or("a task")?;
+    if object.is_waiting(task) {
+        return Err(Fail::from("a task that waits"));
+    }
+    Ok(object.entry(index, task, 1, arg))
+}
+
+/// The tasks and arguments of the calls that wait at the entry of this place.
+fn waiting_at(alloc: Global, object: &Object, place: usize) -> Result<Vec<(u8, i64)>, Fail> {
+    let mut calls = Vec::new(alloc);
+    if let Some(queue) = object.queues().get(place) {
+        for place in 0..queue.len() {
+            if let Some(call) = queue.get(place) {
+                calls.push((call.task.get(), call.arg))?;
+            }
+        }
+    }
+    Ok(calls)
+}
+
+/// The tasks that are answered, and their replies.
+fn told(alloc: Global, answers: &Answers) -> Result<Vec<(u8, Reply)>, Fail> {
+    let mut all = Vec::new(alloc);
+    for answer in answers.as_slice() {
+        all.push((answer.task.get(), answer.reply))?;
+    }
+    Ok(all)
 }
 
 /// The values of n and up.
@@ -71,45 +111,35 @@ fn values(gate: &Object) -> (Option<i64>, Option<bool>) {
     (components.int(0).map(|n| n.value), components.bool(0))
 }
 
-/// The first call of task 1, as it waits and as it is answered.
-fn first_call(arg: i64) -> Waiting {
-    Waiting {
-        task: TaskId::first(),
-        number: 1,
-        arg,
-    }
-}
-
-fn answered(reply: Reply) -> Answer {
-    Answer {
-        task: TaskId::first(),
-        number: 1,
-        reply,
-    }
-}
-
 #[test]
 fn a_waiting_caller_stays_and_a_raised_body_serves_it(rt: HostRuntime) -> Result<(), Fail> {
-    let mut gate = gate(rt.alloc(), 0, false)?;
-    let second = TaskId::new(2).ok_or("task 2")?;
+    let alloc = rt.alloc();
+    let mut gate = gate(alloc, 0, false)?;
 
-    let done = gate.entry(TaskId::first(), 1, 7);
+    let done = enter(&mut gate, 1, 1, 7)?;
     assert_eq!(rt; done.outcome, CallOutcome::Waits);
     assert!(rt; done.served.is_empty());
-    assert_eq!(rt; gate.waiting(), Some(first_call(7)));
+    assert_eq!(rt;
+        waiting_at(alloc, &gate, 0)?.as_slice(),
+        [(1, 7)].as_slice()
+    );
+    assert!(rt; gate.is_waiting(TaskId::first()));
 
-    let done = gate.entry(second, 1, 8);
+    let done = enter(&mut gate, 1, 2, 8)?;
     assert_eq!(rt; done.outcome, CallOutcome::Reply(Reply::ProgramError));
     assert!(rt; done.served.is_empty());
-    assert_eq!(rt; gate.waiting(), Some(first_call(7)));
+    assert_eq!(rt;
+        waiting_at(alloc, &gate, 0)?.as_slice(),
+        [(1, 7)].as_slice()
+    );
 
     let done = gate.procedure(BURST, 0);
     assert_eq!(rt; done.outcome, CallOutcome::Reply(Reply::ConstraintError));
     assert_eq!(rt;
-        done.served.as_slice(),
-        [answered(Reply::Value(1))].as_slice()
+        told(alloc, &done.served)?.as_slice(),
+        [(1, Reply::Value(1))].as_slice()
     );
-    assert_eq!(rt; gate.waiting(), None);
+    assert!(rt; waiting_at(alloc, &gate, 0)?.is_empty());
     assert_eq!(rt; values(&gate), (Some(1), Some(false)));
     Ok(())
 }
@@ -118,13 +148,13 @@ fn a_waiting_caller_stays_and_a_raised_body_serves_it(rt: HostRuntime) -> Result
 fn a_served_body_raises_to_its_own_caller(rt: HostRuntime) -> Result<(), Fail> {
     for (n, reply, after) in [(0, Reply::Value(1), 1), (4, Reply::ConstraintError, 4)] {
         let mut gate = gate(rt.alloc(), n, false)?;
-        assert_eq!(rt;
-            gate.entry(TaskId::first(), 1, 0).outcome,
-            CallOutcome::Waits
-        );
+        assert_eq!(rt; enter(&mut gate, 1, 1, 0)?.outcome, CallOutcome::Waits);
         let done = gate.procedure(LIFT, 0);
         assert_eq!(rt; done.outcome, CallOutcome::Reply(Reply::Value(0)));
-        assert_eq!(rt; done.served.as_slice(), [answered(reply)].as_slice());
+        assert_eq!(rt;
+            told(rt.alloc(), &done.served)?.as_slice(),
+            [(1, reply)].as_slice()
+        );
         assert_eq!(rt; values(&gate), (Some(after), Some(false)));
     }
     Ok(())
@@ -134,12 +164,12 @@ fn a_served_body_raises_to_its_own_caller(rt: HostRuntime) -> Result<(), Fail> {
 fn an_event_has_no_caller_and_its_exception_no_effect(rt: HostRuntime) -> Result<(), Fail> {
     for handler in [LIFT, BURST] {
         let mut gate = gate(rt.alloc(), 0, false)?;
-        assert_eq!(rt;
-            gate.entry(TaskId::first(), 1, 0).outcome,
-            CallOutcome::Waits
-        );
+        assert_eq!(rt; enter(&mut gate, 1, 1, 0)?.outcome, CallOutcome::Waits);
         let served = gate.handler(handler);
-        assert_eq!(rt; served.as_slice(), [answered(Reply::Value(1))].as_slice());
+        assert_eq!(rt;
+            told(rt.alloc(), &served)?.as_slice(),
+            [(1, Reply::Value(1))].as_slice()
+        );
         assert_eq!(rt; values(&gate), (Some(1), Some(false)));
         assert!(rt; gate.handler(handler).is_empty());
         assert_eq!(rt; values(&gate), (Some(1), Some(true)));
@@ -151,11 +181,11 @@ fn an_event_has_no_caller_and_its_exception_no_effect(rt: HostRuntime) -> Result
 fn an_open_entry_runs_its_call_at_once(rt: HostRuntime) -> Result<(), Fail> {
     for (n, reply, after) in [(2, Reply::Value(3), 3), (4, Reply::ConstraintError, 4)] {
         let mut gate = gate(rt.alloc(), n, true)?;
-        let done = gate.entry(TaskId::first(), 1, 0);
+        let done = enter(&mut gate, 1, 1, 0)?;
         assert_eq!(rt; done.outcome, CallOutcome::Reply(reply));
         assert!(rt; done.served.is_empty());
         assert_eq!(rt; values(&gate), (Some(after), Some(false)));
-        assert_eq!(rt; gate.waiting(), None);
+        assert!(rt; waiting_at(rt.alloc(), &gate, 0)?.is_empty());
     }
     Ok(())
 }
@@ -178,49 +208,95 @@ fn functions_and_absent_operations_reply_and_change_nothing(rt: HostRuntime) -> 
         assert!(rt; done.served.is_empty());
         assert!(rt; gate.handler(index).is_empty());
     }
+    for index in [0, 2, 5] {
+        let done = enter(&mut gate, index, 1, 0)?;
+        assert_eq!(rt; done.outcome, CallOutcome::Reply(Reply::NoSuchOperation));
+        assert!(rt; done.served.is_empty());
+    }
     assert_eq!(rt; values(&gate), (Some(1), Some(true)));
     Ok(())
 }
 
+/// The Boolean up, the procedures lift, which puts it up, and raise, which puts it up and raises, and
+/// two entries when up: pass, at which so many wait, which counts to 2 and then puts up down, and late,
+/// which gives 7.
+fn two_entries(alloc: Global, longest: u8) -> Result<Object, Fail> {
+    let mut operations = gate_operations(alloc)?;
+    let down = vec![in alloc; Stmt::Put(0, Cond::Constant(false))]?;
+    let full = Cond::Equal(Expr::Int(0), Expr::Number(2));
+    let pass = vec![in alloc;
+        Stmt::Set(0, add(alloc, Expr::Int(0), Expr::Number(1))?),
+        Stmt::Out(Expr::Int(0)),
+        Stmt::If(full, down, Vec::new(alloc)),
+    ]?;
+    let late = vec![in alloc; Stmt::Out(Expr::Number(7))]?;
+    operations.entries = vec![in alloc;
+        Entry {
+            barrier: 0,
+            longest,
+            body: pass,
+        },
+        Entry {
+            barrier: 0,
+            longest: 1,
+            body: late,
+        },
+    ]?;
+    Ok(object(alloc, operations, gate_components(0, false))?.ok_or("a gate")?)
+}
+
 #[test]
-fn an_object_without_an_entry_has_none_to_call(rt: HostRuntime) -> Result<(), Fail> {
-    let mut operations = gate_operations(rt.alloc())?;
-    operations.entry = None;
-    let mut gate = Object::new(Arc::new(rt.alloc(), operations)?, gate_components(0, true)).ok_or(
-        "a gate",
-    )?;
-    let done = gate.entry(TaskId::first(), 1, 0);
-    assert_eq!(rt; done.outcome, CallOutcome::Reply(Reply::NoSuchOperation));
-    assert_eq!(rt; gate.waiting(), None);
+fn the_first_caller_of_the_first_open_entry_is_served_first(rt: HostRuntime) -> Result<(), Fail> {
+    let alloc = rt.alloc();
+    let mut gate = two_entries(alloc, 2)?;
+    for (index, task) in [(2, 3), (1, 2), (1, 1)] {
+        assert_eq!(rt;
+            enter(&mut gate, index, task, 0)?.outcome,
+            CallOutcome::Waits
+        );
+    }
+    let done = gate.procedure(LIFT, 0);
+    let wanted = [(2, Reply::Value(1)), (1, Reply::Value(2))];
+    assert_eq!(rt; told(alloc, &done.served)?.as_slice(), wanted.as_slice());
+    assert!(rt; waiting_at(alloc, &gate, 0)?.is_empty());
+    assert_eq!(rt;
+        waiting_at(alloc, &gate, 1)?.as_slice(),
+        [(3, 0)].as_slice()
+    );
+
+    assert_eq!(rt;
+        told(alloc, &gate.handler(BURST))?.as_slice(),
+        [(3, Reply::Value(7))].as_slice()
+    );
+    assert_eq!(rt; values(&gate), (Some(2), Some(true)));
     Ok(())
 }
 
 #[test]
 fn operations_that_do_not_fit_make_no_object(rt: HostRuntime) -> Result<(), Fail> {
     let alloc = rt.alloc();
-    assert!(rt;
-        Object::new(
-            Arc::new(alloc, gate_operations(alloc)?)?,
-            gate_components(0, false)
-        )
-        .is_some()
-    );
+    assert!(rt; object(alloc, gate_operations(alloc)?, gate_components(0, false))?.is_some());
 
     let mut unknown = gate_operations(alloc)?;
     unknown.functions.push(Function::Truth(Cond::Bool(1)))?;
-    assert!(rt; Object::new(Arc::new(alloc, unknown)?, gate_components(0, false)).is_none());
+    assert!(rt; object(alloc, unknown, gate_components(0, false))?.is_none());
 
     let mut wild = gate_operations(alloc)?;
-    let mut body = Vec::new(alloc);
-    body.push(Stmt::Set(1, Expr::Arg))?;
-    wild.procedures.push(body)?;
-    assert!(rt; Object::new(Arc::new(alloc, wild)?, gate_components(0, false)).is_none());
+    wild.procedures
+        .push(vec![in alloc; Stmt::Set(1, Expr::Arg)]?)?;
+    assert!(rt; object(alloc, wild, gate_components(0, false))?.is_none());
 
-    let mut barred = gate_operations(alloc)?;
-    barred.entry = Some(Entry {
-        barrier: 1,
-        body: Vec::new(alloc),
-    });
-    assert!(rt; Object::new(Arc::new(alloc, barred)?, gate_components(0, false)).is_none());
+    for (barrier, longest, count) in [(1, 1, 1), (0, 0, 1), (0, 9, 1), (0, 1, 5)] {
+        let mut barred = gate_operations(alloc)?;
+        barred.entries = Vec::new(alloc);
+        for _ in 0..count {
+            barred.entries.push(Entry {
+                barrier,
+                longest,
+                body: Vec::new(alloc),
+            })?;
+        }
+        assert!(rt; object(alloc, barred, gate_components(0, false))?.is_none());
+    }
     Ok(())
 }

@@ -1,4 +1,4 @@
-use rp_base::{Action, Answer, Operation, Reply, TaskId};
+use rp_base::{Action, Answer, Answers, Operation, Reply, TaskId};
 use rp_body::{Components, Cond, Expr, Ranged, Stmt};
 use rp_entry::{Entry, Operations};
 use rp_machine::Numbered;
@@ -44,7 +44,7 @@ fn counter(alloc: Global) -> Result<ObjectDeclaration, AllocError> {
     let operations = Operations {
         functions: Vec::new(alloc),
         procedures,
-        entry: None,
+        entries: Vec::new(alloc),
     };
     Ok(ObjectDeclaration {
         name: String::from_str(alloc, "box")?,
@@ -52,6 +52,7 @@ fn counter(alloc: Global) -> Result<ObjectDeclaration, AllocError> {
         ints,
         bools: Vec::new(alloc),
         components,
+        entries: Vec::new(alloc),
         operations: Arc::new(alloc, operations)?,
     })
 }
@@ -68,20 +69,26 @@ fn gate(alloc: Global) -> Result<ObjectDeclaration, AllocError> {
     procedures.push(lift)?;
     let mut pass = Vec::new(alloc);
     pass.push(Stmt::Put(0, Cond::Constant(false)))?;
+    let mut entries = Vec::new(alloc);
+    entries.push(Entry {
+        barrier: 0,
+        longest: 1,
+        body: pass,
+    })?;
     let operations = Operations {
         functions: Vec::new(alloc),
         procedures,
-        entry: Some(Entry {
-            barrier: 0,
-            body: pass,
-        }),
+        entries,
     };
+    let mut names = Vec::new(alloc);
+    names.push(String::from_str(alloc, "pass")?)?;
     Ok(ObjectDeclaration {
         name: String::from_str(alloc, "gate")?,
         ceiling: 10,
         ints: Vec::new(alloc),
         bools,
         components,
+        entries: names,
         operations: Arc::new(alloc, operations)?,
     })
 }
@@ -113,6 +120,7 @@ fn program(alloc: Global) -> Result<Program, Fail> {
         })?;
     }
     let declarations = Declarations {
+        profile: Profile::Ravenscar,
         priorities,
         objects,
         interrupts,
@@ -130,6 +138,14 @@ fn call(task: u8, number: u32, object: u8, operation: Operation, arg: i64) -> Re
         operation,
         arg,
     })
+}
+
+/// Applies an action whose task does not wait.
+fn applied(objects: &mut Objects, action: &Action) -> Result<Answers, Fail> {
+    if !objects.may_apply(action) {
+        return Err(Fail::from("a task that waits"));
+    }
+    Ok(objects.apply(action))
 }
 
 /// The answer to a call of the task.
@@ -151,23 +167,28 @@ fn events_that_are_due_together_fire_in_order_and_the_clock_stays(
         (2, Operation::SetTimer(1), 9, Reply::Value(0)),
         (3, Operation::SetTimer(1), 5, Reply::Value(0)),
     ] {
-        let told = objects.apply(&call(EQUAL, number, BOX, operation, arg)?);
+        let told = applied(&mut objects, &call(EQUAL, number, BOX, operation, arg)?)?;
         assert_eq!(rt; told.as_slice(), [answer(EQUAL, number, reply)?].as_slice());
     }
-    assert!(rt; objects.apply(&Action::Tick { now: 7 }).is_empty());
-    assert!(rt; objects.apply(&Action::Tick { now: 3 }).is_empty());
-    let told = objects.apply(&call(EQUAL, 4, BOX, Operation::CancelTimer(1), 0)?);
+    assert!(rt; applied(&mut objects, &Action::Tick { now: 7 })?.is_empty());
+    assert!(rt; applied(&mut objects, &Action::Tick { now: 3 })?.is_empty());
+    let told = applied(
+        &mut objects,
+        &call(EQUAL, 4, BOX, Operation::CancelTimer(1), 0)?,
+    )?;
     assert_eq!(rt;
         told.as_slice(),
         [answer(EQUAL, 4, Reply::Truth(false))?].as_slice()
     );
     assert!(rt;
-        objects
-            .apply(&Action::Interrupt {
+        applied(
+            &mut objects,
+            &Action::Interrupt {
                 source: 2,
                 occurrence: 1
-            })
-            .is_empty()
+            }
+        )?
+        .is_empty()
     );
     let image = objects.image(rt.alloc())?;
     let wanted =
@@ -179,32 +200,35 @@ fn events_that_are_due_together_fire_in_order_and_the_clock_stays(
 #[test]
 fn a_caller_waits_and_is_answered_by_who_opens(rt: HostRuntime) -> Result<(), Fail> {
     let mut objects = Objects::start(rt.alloc(), &program(rt.alloc())?)?;
+    assert!(rt; applied(&mut objects, &call(EQUAL, 1, GATE, Operation::Entry(1), 7)?)?.is_empty());
     assert!(rt;
-        objects
-            .apply(&call(EQUAL, 1, GATE, Operation::Entry(1), 7)?)
-            .is_empty()
-    );
-    assert!(rt;
-        objects
-            .apply(&call(EQUAL, 1, BOX, Operation::SetTimer(2), 9)?)
-            .len()
+        applied(
+            &mut objects,
+            &call(OTHER, 1, BOX, Operation::SetTimer(2), 9)?
+        )?
+        .len()
             == 1
     );
     assert!(rt;
-        objects
-            .apply(&Action::Interrupt {
+        applied(
+            &mut objects,
+            &Action::Interrupt {
                 source: 1,
                 occurrence: 1
-            })
-            .is_empty()
+            }
+        )?
+        .is_empty()
     );
     let image = objects.image(rt.alloc())?;
     let wanted =
         "object box n=1\nobject gate up=false queue task 1 call 1 arg 7\nclock 0\ntimer x off\ntimer y at 9\n";
     assert_eq!(rt; image.as_slice(), wanted.as_bytes());
-    let told = objects.apply(&call(EQUAL, 2, GATE, Operation::Procedure(1), 0)?);
+    let told = applied(
+        &mut objects,
+        &call(OTHER, 2, GATE, Operation::Procedure(1), 0)?,
+    )?;
     let wanted = [
-        answer(EQUAL, 2, Reply::Value(0))?,
+        answer(OTHER, 2, Reply::Value(0))?,
         answer(EQUAL, 1, Reply::Value(0))?,
     ];
     assert_eq!(rt; told.as_slice(), wanted.as_slice());
@@ -219,6 +243,7 @@ fn what_is_not_declared_is_refused_before_the_ceiling(rt: HostRuntime) -> Result
         (ABOVE, GATE, Operation::Procedure(2), Reply::NoSuchOperation),
         (ABOVE, GATE, Operation::Function(1), Reply::NoSuchOperation),
         (ABOVE, BOX, Operation::Procedure(1), Reply::Value(0)),
+        (ABOVE, GATE, Operation::Entry(2), Reply::NoSuchOperation),
         (ABOVE, BOX, Operation::Entry(1), Reply::NoSuchOperation),
         (ABOVE, GATE, Operation::SetTimer(1), Reply::NoSuchOperation),
         (ABOVE, BOX, Operation::SetTimer(3), Reply::NoSuchOperation),
@@ -231,7 +256,7 @@ fn what_is_not_declared_is_refused_before_the_ceiling(rt: HostRuntime) -> Result
         ),
         (EQUAL, GATE, Operation::Procedure(1), Reply::Value(0)),
     ] {
-        let told = objects.apply(&call(task, 1, object, operation, 0)?);
+        let told = applied(&mut objects, &call(task, 1, object, operation, 0)?)?;
         assert_eq!(rt; told.as_slice(), [answer(task, 1, reply)?].as_slice());
     }
     Ok(())

@@ -8,12 +8,12 @@ use Rattle.std.proofs.lemmas.List.{append-nil}
 use Rattle.rp_base.specs.declared.record.Rec.{Rec}
 use Rattle.rp_codec.specs.Record.{record_text, IsRecord}
 use Rattle.rp_store.specs.Disk.{Disk, appended, stopped, AppendFailed}
-use Rattle.rp_store.specs.Records.{records_text, AreRecordsOf}
+use Rattle.rp_store.specs.Records.{AreRecordsOf}
 use Rattle.rp_store.specs.Stored.{Stored, IsNotPut}
 use Rattle.rp_base.specs.declared.config.Config.{Config}
 use Rattle.rp_base.specs.declared.fault.Fault.{Fault}
 use Rattle.rp_base.specs.declared.fault.Fault.TheVariants.{OutOfMemory, Device, Failed}
-use Rattle.rp_store.proofs.Whole.{before_put, after_put, only_records}
+use Rattle.rp_store.proofs.Whole.{before_put, after_put, are_alone}
 use Rattle.rp_model.specs.Parts.{NodePart}
 use Rattle.rp_model.specs.Parts.{Running}
 use Rattle.rp_model.specs.Effect.{cut_part, stop_part}
@@ -23,7 +23,7 @@ use Rattle.rp_replica.specs.Held.{Held, part_of}
 use Rattle.rp_replica.specs.Kept.{HoldsPart, HoldsOnly, HoldsItsRecords, HoldsCut}
 use Rattle.rp_replica.specs.Turning.{Stops}
 use Rattle.rp_replica.specs.Cutting.{MayWrite, Cuts, FailsInCut}
-use Rattle.rp_replica.proofs.Keeping.{counts_more}
+use Rattle.rp_replica.proofs.Keeping.{counts_more, front_alone}
 
 no_bytes : (torn : List ℕ) → 0 ≡ length torn → torn ≡ []
 no_bytes [] e = refl
@@ -37,15 +37,13 @@ taken_all (suc n) (b ∷ bytes) within = ap suc (taken_all n bytes (omega arith)
 -- the device of a replica that works holds its part
 pub holds_now : (most : ℕ) (disk : Disk) (records : List Rec) (running : Option Running) → IsOnDisk most disk false records
     → HoldsPart most disk (record { records = records; torn = 0; running = running })
-holds_now most disk records running d =
-    let text : disk.contents ≡ records_text d.all = d.contents ∙ ap (λ (t : List ℕ). records_text d.all ++ t) (d.whole refl) ∙ append-nil (records_text d.all) in
-    record {
-      all = d.all;
-      torn = [];
-      found = subst (λ (contents : List ℕ). AreRecordsOf contents d.all []) (sym text) (only_records d.all d.each);
-      records = d.counted;
-      bytes = refl;
-    }
+holds_now most disk records running d = record {
+  all = d.all;
+  torn = [];
+  found = subst (λ (contents : List ℕ). AreRecordsOf contents d.all []) (sym (front_alone most disk records d)) d.found;
+  records = d.counted;
+  bytes = refl;
+}
 
 module _ (most kept : ℕ) (part : NodePart) (rec : Rec) where
   cut_by : (b : Bool) → nat_le (length (record_text rec)) kept ≡ b → cut_part kept part (Some rec) ≡ cond b (record part { records = part.records ++ rec ∷ []; running = None }) (record part { torn = kept; running = None })
@@ -57,15 +55,14 @@ module _ (most kept : ℕ) (part : NodePart) (rec : Rec) where
       → HoldsPart most after (cut_part kept part (Some rec))
   cut_holds disk after h untorn right in_log is =
       let none : h.torn ≡ [] = no_bytes h.torn (sym untorn ∙ h.bytes) in
-      let text : disk.contents ≡ records_text h.all = h.found.whole ∙ ap (λ (t : List ℕ). records_text h.all ++ t) none ∙ append-nil (records_text h.all) in
-      let contents : after.contents ≡ records_text h.all ++ take kept (record_text rec) = is ∙ ap (λ (t : List ℕ). t ++ take kept (record_text rec)) text in
+      let found : AreRecordsOf disk.contents h.all [] = subst (AreRecordsOf disk.contents h.all) none h.found in
       elim (cases_lt kept (length (record_text rec))) [
         | inl less ↦
             subst (HoldsPart most after) (sym (cut_by false (lt-leb (length (record_text rec)) kept less)))
             (record {
               all = h.all;
               torn = take kept (record_text rec);
-              found = subst (λ (t : List ℕ). AreRecordsOf t h.all (take kept (record_text rec))) (sym contents) (before_put h.all rec kept h.found.each right less);
+              found = subst (λ (t : List ℕ). AreRecordsOf t h.all (take kept (record_text rec))) (sym is) (before_put disk.contents h.all rec kept found right less);
               records = h.records;
               bytes = sym (taken_all kept (record_text rec) (omega arith));
             })
@@ -74,7 +71,7 @@ module _ (most kept : ℕ) (part : NodePart) (rec : Rec) where
             (record {
               all = h.all ++ rec ∷ [];
               torn = [];
-              found = subst (λ (t : List ℕ). AreRecordsOf t (h.all ++ rec ∷ []) []) (sym contents) (after_put h.all rec kept h.found.each right whole);
+              found = subst (λ (t : List ℕ). AreRecordsOf t (h.all ++ rec ∷ []) []) (sym is) (after_put disk.contents h.all rec kept found right whole);
               records = ap (λ (rs : List Rec). rs ++ rec ∷ []) h.records ∙ counts_more most h.all rec in_log;
               bytes = untorn;
             })
@@ -85,21 +82,20 @@ module _ (most kept : ℕ) (part : NodePart) (rec : Rec) where
       → HoldsOnly after (cut_part kept part (Some rec))
   cut_only disk after h untorn right is =
       let none : h.torn ≡ [] = no_bytes h.torn (sym untorn ∙ h.bytes) in
-      let text : disk.contents ≡ records_text part.records = h.found.whole ∙ ap (λ (t : List ℕ). records_text part.records ++ t) none ∙ append-nil (records_text part.records) in
-      let contents : after.contents ≡ records_text part.records ++ take kept (record_text rec) = is ∙ ap (λ (t : List ℕ). t ++ take kept (record_text rec)) text in
+      let found : AreRecordsOf disk.contents part.records [] = subst (AreRecordsOf disk.contents part.records) none h.found in
       elim (cases_lt kept (length (record_text rec))) [
         | inl less ↦
             subst (HoldsOnly after) (sym (cut_by false (lt-leb (length (record_text rec)) kept less)))
             (record {
               torn = take kept (record_text rec);
-              found = subst (λ (t : List ℕ). AreRecordsOf t part.records (take kept (record_text rec))) (sym contents) (before_put part.records rec kept h.found.each right less);
+              found = subst (λ (t : List ℕ). AreRecordsOf t part.records (take kept (record_text rec))) (sym is) (before_put disk.contents part.records rec kept found right less);
               bytes = sym (taken_all kept (record_text rec) (omega arith));
             })
         | inr whole ↦
             subst (HoldsOnly after) (sym (cut_by true (le-leb (length (record_text rec)) kept whole)))
             (record {
               torn = [];
-              found = subst (λ (t : List ℕ). AreRecordsOf t (part.records ++ rec ∷ []) []) (sym contents) (after_put part.records rec kept h.found.each right whole);
+              found = subst (λ (t : List ℕ). AreRecordsOf t (part.records ++ rec ∷ []) []) (sym is) (after_put disk.contents part.records rec kept found right whole);
               bytes = untorn;
             })
       ]
@@ -131,12 +127,12 @@ module _ {S : Type 0} (held : Held S) (stands : IsOnDisk held.config.max_positio
   pub held_now : HoldsPart held.config.max_positions held.disk (part_of held)
   held_now = holds_now held.config.max_positions held.disk held.records (Some held.running) works
 
-  -- and no other record where its contents are the texts of its records
+  -- and no other record where it holds texts of its records and nothing else
   only_now : HoldsItsRecords held → HoldsOnly held.disk (part_of held)
   only_now only = record {
     torn = [];
-    found = subst (λ (contents : List ℕ). AreRecordsOf contents held.records []) (sym only)
-        (only_records held.records (subst (AllByRecursion IsRecord) (sym works.counted) (all_that (is_in_log held.config.max_positions) works.all works.each)));
+    found = are_alone held.disk.contents held.records only
+        (subst (AllByRecursion IsRecord) (sym works.counted) (all_that (is_in_log held.config.max_positions) works.all works.found.each));
     bytes = refl;
   }
 

@@ -17,8 +17,7 @@ use Rattle.rp_base.specs.Records.{or_else, started_of, learned_at}
 use Rattle.rp_base.proofs.MoreRecords.{started_push, learned_push}
 use Rattle.rp_codec.specs.Record.{record_text, IsRecord}
 use Rattle.rp_store.specs.Disk.{Disk, appended, synced, AppendFailed}
-use Rattle.rp_store.specs.Records.{records_text}
-use Rattle.rp_store.proofs.Whole.{text-end, all_end}
+use Rattle.rp_store.proofs.Whole.{one_more}
 use Rattle.rp_proposer.specs.Proposing.{ProposerPart}
 use Rattle.rp_learner.specs.Learning.{Learning}
 use Rattle.rp_log.specs.Contents.{Contents}
@@ -38,21 +37,25 @@ pub counts_more : (most : ℕ) (all : List Rec) (rec : Rec) → is_in_log most r
 counts_more most all rec in_log =
     sym (filter-append (is_in_log most) all (rec ∷ []) ∙ ap (λ (b : Bool). records_in_log most all ++ (if b then rec ∷ [] else [])) in_log)
 
+-- a device that has not failed holds the records alone
+pub front_alone : (most : ℕ) (disk : Disk) (records : List Rec) (d : IsOnDisk most disk false records) → disk.contents ≡ d.front
+front_alone most disk records d = d.contents ∙ ap (λ (t : List ℕ). d.front ++ t) (d.whole refl) ∙ append-nil d.front
+
 -- a record more is written
 pub disk_more : (most : ℕ) (disk after : Disk) (records : List Rec) (rec : Rec) → IsOnDisk most disk false records → IsRecord rec → is_in_log most rec ≡ true
     → after ≡ synced (appended (record_text rec) disk) → IsOnDisk most after false (records ++ rec ∷ [])
 disk_more most disk after records rec d right in_log is =
-    let text : disk.contents ≡ records_text d.all = d.contents ∙ ap (λ (t : List ℕ). records_text d.all ++ t) (d.whole refl) ∙ append-nil (records_text d.all) in
-    let whole : after.contents ≡ records_text (d.all ++ rec ∷ []) =
-    ap (λ (k : Disk). k.contents) is ∙ ap (λ (t : List ℕ). t ++ record_text rec) text ∙ sym (text-end d.all rec) in
-    let long : length after.contents ≡ length (records_text (d.all ++ rec ∷ [])) = ap length whole in
+    let whole : after.contents ≡ d.front ++ record_text rec =
+    ap (λ (k : Disk). k.contents) is ∙ ap (λ (t : List ℕ). t ++ record_text rec) (front_alone most disk records d) in
+    let long : length after.contents ≡ length (d.front ++ record_text rec) = ap length whole in
     let stable : after.stable ≡ length after.contents = ap (λ (k : Disk). k.stable) is ∙ sym (ap (λ (k : Disk). length k.contents) is) in
     record {
       all = d.all ++ rec ∷ [];
+      front = d.front ++ record_text rec;
       torn = [];
-      contents = whole ∙ sym (append-nil (records_text (d.all ++ rec ∷ [])));
+      found = one_more d.front d.all rec d.found right;
+      contents = whole ∙ sym (append-nil (d.front ++ record_text rec));
       counted = ap (λ (rs : List Rec). rs ++ rec ∷ []) d.counted ∙ counts_more most d.all rec in_log;
-      each = all_end d.all rec d.each right;
       kept = omega (arith, long, stable);
       whole = λ e. refl;
       stable = λ e. stable;
@@ -60,18 +63,17 @@ disk_more most disk after records rec d right in_log is =
 
 -- a record was to be written, and the device failed
 pub disk_failed : (most : ℕ) (disk after : Disk) (records : List Rec) (bytes : List ℕ) → IsOnDisk most disk false records → AppendFailed bytes disk after → IsOnDisk most after true records
-disk_failed most disk after records bytes d failed =
-    let text : disk.contents ≡ records_text d.all = d.contents ∙ ap (λ (t : List ℕ). records_text d.all ++ t) (d.whole refl) ∙ append-nil (records_text d.all) in
-    record {
-      all = d.all;
-      torn = take failed.contents.0 bytes;
-      contents = failed.contents.1 ∙ ap (λ (t : List ℕ). t ++ take failed.contents.0 bytes) text;
-      counted = d.counted;
-      each = d.each;
-      kept = omega (arith, d.kept, failed.stable);
-      whole = λ e. absurd (cc);
-      stable = λ e. absurd (cc);
-    }
+disk_failed most disk after records bytes d failed = record {
+  all = d.all;
+  front = d.front;
+  torn = take failed.contents.0 bytes;
+  found = d.found;
+  contents = failed.contents.1 ∙ ap (λ (t : List ℕ). t ++ take failed.contents.0 bytes) (front_alone most disk records d);
+  counted = d.counted;
+  kept = omega (arith, d.kept, failed.stable);
+  whole = λ e. absurd (cc);
+  stable = λ e. absurd (cc);
+}
 
 -- ---- an answer tells nothing of what is started or learned
 

@@ -89,7 +89,7 @@ all_right [] rec all right = (right, tt)
 all_right (other ∷ rest) rec all right = (all.0, all_right rest rec all.1 right)
 
 pub rights : (most : ℕ) (disk : Disk) (failed : Bool) (records : List Rec) → IsOnDisk most disk failed records → AllByRecursion IsRightRecord records
-rights most disk failed records stands = subst (λ (rs : List Rec). AllByRecursion IsRightRecord rs) (sym stands.counted) (right_records (is_in_log most) stands.all stands.each)
+rights most disk failed records stands = subst (λ (rs : List Rec). AllByRecursion IsRightRecord rs) (sym stands.counted) (right_records (is_in_log most) stands.all stands.found.each)
 
 -- what it learned is right
 pub learned_is_right : (most : ℕ) (disk : Disk) (failed : Bool) (records : List Rec) (learned : Contents) (i : ℕ) (v : Action) → IsOnDisk most disk failed records → IsRight v

@@ -8,7 +8,6 @@ use Rattle.rp_base.specs.declared.config.Config.{Config}
 use Rattle.rp_base.specs.declared.record.Rec.{Rec}
 use Rattle.rp_base.specs.Config.{IsRightConfig}
 use Rattle.rp_store.specs.Disk.{Disk}
-use Rattle.rp_store.specs.Records.{records_text}
 use Rattle.rp_store.specs.Opening.{IsOpened}
 use Rattle.rp_proposer.specs.Proposing.{ProposerPart, restored}
 use Rattle.rp_learner.specs.Learning.{Learning}
@@ -36,18 +35,18 @@ pub tied_fresh : {S : Type 0} (me : ℕ) (config : Config) (old disk : Disk) (al
     → IsRightConfig config → me ≤ config.nodes → IsOpened old all cut_bytes disk → records ≡ records_in_log config.max_positions all → proposer ≡ restored me config.nodes records
     → IsLearner config records (length log.taken) learner [] → IsApplied records log applied → Tied me config disk false records proposer learner [] log applied
 tied_fresh me config old disk all cut_bytes records proposer learner log applied right member opened counted fresh learns applies =
-    let long : length disk.contents ≡ length (records_text all) = ap length opened.contents in
     let stable : disk.stable ≡ length disk.contents = opened.stable in
     record {
       sizes = right;
       member = member;
       stands = record {
         all = all;
+        front = disk.contents;
         torn = [];
-        contents = opened.contents ∙ sym (append-nil (records_text all));
+        found = opened.kept;
+        contents = sym (append-nil disk.contents);
         counted = counted;
-        each = opened.kept.each;
-        kept = omega (arith, long, stable);
+        kept = omega (arith, stable);
         whole = λ e. refl;
         stable = λ e. stable;
       };

@@ -10,7 +10,7 @@ use Rattle.rp_base.specs.declared.fault.PacketReason.{PacketReason}
 use Rattle.rp_codec.specs.Message.{Message}
 use Rattle.rp_codec.specs.Decoding.{IsReportText}
 use Rattle.rp_codec.specs.Reading.{all_of}
-use Rattle.rp_codec.proofs.Decoded.{whole_again}
+use Rattle.rp_codec.proofs.Decoded.{whole_read}
 use Rattle.rp_replica.specs.Held.{Held}
 use Rattle.rp_replica.specs.Inputs.{packet_given, effect_if_given}
 use Rattle.rp_replica.specs.Turning.{StopsIf}
@@ -18,7 +18,7 @@ use Rattle.rp_replica.specs.Turning.{StopsIf}
 module _ {S : Type 0} (next : S → Action → S) (answers : S → Action → List Answer) (held : Held S) (bytes : List ℕ) where
   wanting : IsReportText bytes → held.failed ≡ false → StopsIf (effect_if_given next answers held (packet_given (all_of bytes))) held held OutOfMemory
   wanting (m, packet, report, text) working =
-      let read : all_of bytes ≡ Ok m = ap all_of text ∙ whole_again m packet in
+      let read : all_of bytes ≡ Ok m = whole_read m bytes packet text in
       subst (λ (r : Result Message PacketReason). StopsIf (effect_if_given next answers held (packet_given r)) held held OutOfMemory) (sym read) (refl, working)
 
   -- nothing has changed, and the bytes are a packet's text

@@ -2,7 +2,7 @@
 use Rattle.std.specs.Prelude.{◌≡◌, ℕ, Option, List, length}
 use Rattle.rp_base.specs.declared.record.Rec.{Rec}
 use Rattle.rp_store.specs.Disk.{Disk}
-use Rattle.rp_store.specs.Records.{records_text, AreRecordsOf}
+use Rattle.rp_store.specs.Records.{AreTextsOf, AreRecordsOf}
 use Rattle.rp_model.specs.Parts.{NodePart}
 use Rattle.rp_model.specs.Parts.{records_in_log}
 use Rattle.rp_model.specs.Effect.{cut_part}
@@ -23,9 +23,9 @@ pub record HoldsOnly (disk : Disk) (part : NodePart) : Type 0 where
   pub found : AreRecordsOf disk.contents part.records torn
   pub bytes : part.torn ≡ length torn
 
--- the device of a replica holds the texts of its records and nothing else
+-- the device of a replica holds texts of its records and nothing else
 abbrev pub HoldsItsRecords : {S : Type 0} → Held S → Type 0
-HoldsItsRecords held = held.disk.contents ≡ records_text held.records
+HoldsItsRecords held = AreTextsOf held.records held.disk.contents
 
 -- The device holds what a stop within the write of this record, or of none, leaves of the node's part, and
 -- no other records where it held no others before.

@@ -13,7 +13,7 @@ use Rattle.rp_base.specs.Promises.{Promise, HeardVote}
 use Rattle.rp_base.specs.Proposals.{Proposal}
 use Rattle.rp_codec.specs.Record.{IsRecord}
 use Rattle.rp_store.specs.Disk.{Disk}
-use Rattle.rp_store.specs.Records.{records_text}
+use Rattle.rp_store.specs.Records.{AreRecordsOf}
 use Rattle.rp_proposer.specs.Proposing.{ProposerPart, AreInWindow}
 use Rattle.rp_learner.specs.Learning.{Learning}
 use Rattle.rp_learner.specs.Places.{window}
@@ -23,15 +23,16 @@ use Rattle.rp_log.specs.Recorded.{LearnedAlike}
 use Rattle.rp_machine.specs.Numbered.{Applied}
 use Rattle.rp_model.specs.Parts.{is_in_log, records_in_log}
 
--- The device holds all records of the node in order, of which those within the log count, and behind them
--- what is torn: nothing, unless it has failed. All records are stable, and nothing else unless it has failed.
+-- The device holds all records of the node in order, of which those within the log count, in front, and behind
+-- them what is torn: nothing, unless it has failed. All records are stable, and nothing else unless it has failed.
 pub record IsOnDisk (most : ℕ) (disk : Disk) (failed : Bool) (records : List Rec) : Type 0 where
   pub all : List Rec
+  pub front : List ℕ
   pub torn : List ℕ
-  pub contents : disk.contents ≡ records_text all ++ torn
+  pub found : AreRecordsOf front all []
+  pub contents : disk.contents ≡ front ++ torn
   pub counted : records ≡ records_in_log most all
-  pub each : AllByRecursion IsRecord all
-  pub kept : length (records_text all) ≤ disk.stable
+  pub kept : length front ≤ disk.stable
   pub whole : failed ≡ false → torn ≡ []
   pub stable : failed ≡ false → disk.stable ≡ length disk.contents
 

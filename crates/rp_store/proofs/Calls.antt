@@ -1,14 +1,14 @@
 -- What the calls of a device leave, one behind another.
-use Rattle.std.proofs.Common.{◌≡◌, ◌⊎◌, inl, inr, ℕ, ◌+◌, ◌<◌, ◌≤◌, List, ◌++◌, length, take, Result, Ok, Err, refl, sym, ap, subst, ◌∙◌, length-append, arith}
+use Rattle.std.proofs.Common.{◌≡◌, ◌⊎◌, inl, inr, ℕ, suc, ◌+◌, ◌<◌, ◌≤◌, List, ◌++◌, length, take, Result, Ok, Err, refl, sym, ap, subst, ◌∙◌, length-append, arith}
 use Rattle.std.specs.Prelude.{IfErr, OnErr, IsErrAnd}
 use Rattle.std.proofs.lemmas.List.{take_all, take_at}
 use Rattle.rp_base.specs.declared.fault.Fault.{Fault}
 use Rattle.rp_base.specs.declared.fault.Fault.TheVariants.{OutOfMemory, Device}
 use Rattle.rp_base.specs.declared.record.Rec.{Rec}
-use Rattle.rp_store.specs.Disk.{Disk, appended, read_once, ReadFailed, AppendFailed, SyncFailed, CutFailed, IsReadAtMost, KeepsFront, IsTrimmed}
+use Rattle.rp_store.specs.Disk.{Disk, appended, synced, read_once, ReadFailed, AppendFailed, SyncFailed, CutFailed, IsReadAtMost, KeepsFront, IsTrimmed}
 use Rattle.rp_store.specs.Records.{records_text, AreRecordsOf, KeepsRecords}
-use Rattle.rp_store.specs.Opening.{IsNotOpened}
-use Rattle.rp_store.proofs.Whole.{keeps_records}
+use Rattle.rp_store.specs.Opening.{IsOpened, IsNotOpened}
+use Rattle.rp_store.proofs.Whole.{keeps_records, texts_long, whole_long, without_torn}
 
 -- an append, and a sync that fails
 pub sync_failed : (bytes : List ℕ) (old mid new : Disk) → mid ≡ appended bytes old → SyncFailed mid new → AppendFailed bytes old new
@@ -71,11 +71,32 @@ read_refused old new e (inr is) refused failed =
 
 -- where the whole records end
 pub whole_length : (contents : List ℕ) (records : List Rec) (torn : List ℕ) → AreRecordsOf contents records torn → length contents ≡ length (records_text records) + length torn
-whole_length contents records torn are = ap length are.whole ∙ length-append (records_text records) torn
+whole_length contents records torn are = whole_long contents records torn are
 
 -- what is left without the torn end
-pub trimmed : (contents : List ℕ) (records : List Rec) (torn : List ℕ) (whole : ℕ) → AreRecordsOf contents records torn → length (records_text records) ≡ whole → take whole contents ≡ records_text records
-trimmed contents records torn whole are ends = ap (λ (l : List ℕ). take whole l) are.whole ∙ take_at (records_text records) torn whole ends
+pub trimmed : (contents : List ℕ) (records : List Rec) (torn : List ℕ) (whole : ℕ) → AreRecordsOf contents records torn → length (records_text records) ≡ whole → contents ≡ take whole contents ++ torn
+trimmed contents records torn whole are ends =
+    let left : take whole contents ≡ are.texts = ap (λ (l : List ℕ). take whole l) are.whole ∙ take_at are.texts torn whole (texts_long records are.texts are.are ∙ ends) in
+    are.whole ∙ ap (λ (l : List ℕ). l ++ torn) (sym left)
+
+-- a read, a trim and a sync
+pub opened : (old read mid new : Disk) (records : List Rec) (torn : List ℕ) (whole cut_bytes : ℕ) → read ≡ read_once old → AreRecordsOf old.contents records torn → length (records_text records) ≡ whole → length torn ≡ cut_bytes
+    → IsTrimmed whole cut_bytes read mid → new ≡ synced mid → IsOpened old records cut_bytes new
+opened old read mid new records torn whole cut_bytes same are ends size t is =
+    let trim = subst (λ (d : Disk). IsTrimmed whole cut_bytes d mid) same t in
+    let left : new.contents ≡ take whole old.contents = ap (λ (d : Disk). d.contents) is ∙ trim.contents in
+    let parts : old.contents ≡ new.contents ++ torn = trimmed old.contents records torn whole are ends ∙ ap (λ (l : List ℕ). l ++ torn) (sym left) in
+    record {
+      found = (torn, are, sym size);
+      contents = parts;
+      kept = without_torn old.contents new.contents records torn are parts;
+      stable = ap (λ (d : Disk). d.stable) is ∙ ap length (sym (ap (λ (d : Disk). d.contents) is));
+      failures = ap (λ (d : Disk). d.failures) is ∙ trim.failures;
+      appends = ap (λ (d : Disk). d.appends) is ∙ trim.appends;
+      syncs = ap (λ (d : Disk). d.syncs) is ∙ ap suc trim.syncs;
+      reads = ap (λ (d : Disk). d.reads) is ∙ trim.reads;
+      cuts = ap (λ (d : Disk). d.cuts) is ∙ trim.cuts;
+    }
 
 -- a trim, and a sync that fails
 pub settle_failed : (len torn : ℕ) (old mid new : Disk) → IsTrimmed len torn old mid → SyncFailed mid new → KeepsFront len old new

@@ -1,17 +1,17 @@
 -- What opening a device does (this project's own).
-use Rattle.std.specs.Prelude.{◌≡◌, ℕ, suc, ◌<◌, nat_lt, if◌then◌else◌, List, [], length}
+use Rattle.std.specs.Prelude.{◌≡◌, ℕ, suc, ◌<◌, nat_lt, if◌then◌else◌, List, [], ◌++◌, length}
 use Rattle.rp_base.specs.declared.fault.Fault.{Fault}
 use Rattle.rp_base.specs.declared.fault.Fault.TheVariants.{OutOfMemory, Device}
 use Rattle.rp_base.specs.declared.record.Rec.{Rec}
 use Rattle.rp_store.specs.Disk.{Disk, IsReadAtMost}
-use Rattle.rp_store.specs.Records.{records_text, AreRecordsOf, KeepsRecords}
+use Rattle.rp_store.specs.Records.{AreRecordsOf, KeepsRecords}
 
 -- The whole records of the device are told and kept, what was torn behind them is cut off, and all
 -- that is left is stable. It was read once and synced once, cut only where something was torn, and
 -- nothing was appended.
 pub record IsOpened (old : Disk) (records : List Rec) (cut_bytes : ℕ) (new : Disk) : Type 0 where
   pub found : (torn : List ℕ) × AreRecordsOf old.contents records torn × (cut_bytes ≡ length torn)
-  pub contents : new.contents ≡ records_text records
+  pub contents : old.contents ≡ new.contents ++ found.0
   pub kept : AreRecordsOf new.contents records []
   pub stable : new.stable ≡ length new.contents
   pub failures : new.failures ≡ old.failures

@@ -1,7 +1,6 @@
 //! What a stop inside a call leaves.
 
 ghost use Rattle.std.specs.Prelude.{◌≡◌, ℕ, ◌<◌, ◌≤◌, List, [], ◌∷◌, ◌++◌, length, take};
-ghost use Rattle.std.specs.List.{AllByRecursion};
 ghost use Rattle.rp_base.specs.declared.record.Rec.{Rec};
 ghost use Rattle.rp_codec.specs.Record.{record_text, IsRecord};
 ghost use Rattle.rp_store.specs.Records.{records_text, AreRecordsOf};
@@ -16,13 +15,13 @@ pub fn one_reading()
 /// A stop inside `put`, or a failure there, leaves the old contents and some beginning of the
 /// record's text: the old records with what is torn behind them, or those and the new one.
 pub fn stop_inside_put()
-    ensures before { (records : List Rec) (r : Rec) (kept : ℕ)
-        → AllByRecursion IsRecord records → IsRecord r → kept < length (record_text r)
-        → AreRecordsOf (records_text records ++ take kept (record_text r))
+    ensures before { (contents : List ℕ) (records : List Rec) (r : Rec) (kept : ℕ)
+        → AreRecordsOf contents records [] → IsRecord r → kept < length (record_text r)
+        → AreRecordsOf (contents ++ take kept (record_text r))
         records (take kept (record_text r)) }
-    ensures after { (records : List Rec) (r : Rec) (kept : ℕ)
-        → AllByRecursion IsRecord records → IsRecord r → length (record_text r) ≤ kept
-        → AreRecordsOf (records_text records ++ take kept (record_text r)) (records ++ r ∷ []) [] }
+    ensures after { (contents : List ℕ) (records : List Rec) (r : Rec) (kept : ℕ)
+        → AreRecordsOf contents records [] → IsRecord r → length (record_text r) ≤ kept
+        → AreRecordsOf (contents ++ take kept (record_text r)) (records ++ r ∷ []) [] }
 {}
 
 /// A stop inside `open` leaves some front of the contents, no shorter than what was stable: each

@@ -96,10 +96,10 @@ fn write<D: Device>(device: &mut D, text: &[u8]) -> Result<(), Fault>
 impl<D: Device> Store<D> {
     ghost use Rattle.rp_store.specs.Stored.{IsPut, IsNotPut};
 
-    /// Reads the records of a device, cuts off what is torn behind them, and syncs, so that all
-    /// that it read is stable. It appends nothing. Refused with `OutOfMemory`, and then nothing
-    /// has changed, or with `Device` where the device failed: it holds each whole record that it held,
-    /// and behind them some beginning of what was torn.
+    /// Reads the records of a device, of version 1 and 2 in any order, cuts off what is torn behind
+    /// them, and syncs, so that all that it read is stable. It appends nothing. Refused with
+    /// `OutOfMemory`, and then nothing has changed, or with `Device` where the device failed: it holds
+    /// each whole record that it held, and behind them some beginning of what was torn.
     pub fn open(alloc: Global, device: D) -> Result<Opened<D>, (Fault, D)>
         ensures ok { IfOk result (λ opened. IsOpened (D.disk device)
             opened.records.items opened.cut_bytes (D.disk opened.store.device)) }
@@ -121,9 +121,9 @@ impl<D: Device> Store<D> {
         }
     }
 
-    /// Appends the record's text and syncs. It never cuts, and reads nothing. It takes no memory
-    /// but the device's, and costs what the text is long, whatever the device holds. The record is
-    /// a right one: opening would cut off any other, and all records behind it. Refused with
+    /// Appends the record's text, of version 2, and syncs. It never cuts, and reads nothing. It takes
+    /// no memory but the device's, and costs what the text is long, whatever the device holds. The
+    /// record is a right one: opening would cut off any other, and all records behind it. Refused with
     /// `Failed` where the device failed since it was opened, or with `OutOfMemory`: then nothing has
     /// changed. After `Device`, some beginning of the text may stand at the end.
     #[inline(always)]

@@ -75,8 +75,8 @@ fn an_action_is_right_within_its_ranges(rt: HostRuntime) {
         (0, 1, Operation::Procedure(8), false),
         (1, 9, Operation::Procedure(8), false),
         (1, 1, Operation::Procedure(9), false),
-        (1, 1, Operation::Entry(1), true),
-        (1, 1, Operation::Entry(2), false),
+        (1, 1, Operation::Entry(4), true),
+        (1, 1, Operation::Entry(5), false),
     ];
     for (number, object, operation, right) in cases {
         let call = Action::Call {

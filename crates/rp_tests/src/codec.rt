@@ -7,35 +7,35 @@ use std::process::Abort;
 use std::test::*;
 
 const CALL: [u8; 21] = [
-    1, 1, 17, 1, 1, 1, 0, 0, 0, 1, 1, 2, 1, 0, 0, 0, 0, 0, 0, 0, 5,
+    2, 1, 17, 1, 1, 1, 0, 0, 0, 1, 1, 2, 1, 0, 0, 0, 0, 0, 0, 0, 5,
 ];
 
-const PREPARE: [u8; 14] = [1, 2, 1, 1, 0, 1, 0, 0, 0, 0, 0, 0, 0, 9];
+const PREPARE: [u8; 14] = [2, 2, 1, 1, 0, 1, 0, 0, 0, 0, 0, 0, 0, 9];
 
-const PROMISE: [u8; 15] = [1, 3, 2, 1, 0, 1, 0, 0, 0, 0, 0, 0, 0, 9, 0];
+const PROMISE: [u8; 15] = [2, 3, 2, 1, 0, 1, 0, 0, 0, 0, 0, 0, 0, 9, 0];
 
 const PROMISE_WITH_VOTE: [u8; 40] = [
-    1, 3, 2, 1, 0, 1, 0, 0, 0, 0, 0, 0, 0, 10, 1, 0, 0, 0, 0, 0, 0, 0, 9, 1, 1, 0, 0, 0, 1, 1, 2,
+    2, 3, 2, 1, 0, 1, 0, 0, 0, 0, 0, 0, 0, 10, 1, 0, 0, 0, 0, 0, 0, 0, 9, 1, 1, 0, 0, 0, 1, 1, 2,
     1, 0, 0, 0, 0, 0, 0, 0, 5,
 ];
 
 const ACCEPT: [u8; 31] = [
-    1, 4, 1, 2, 0, 1, 0, 0, 0, 0, 0, 0, 0, 9, 1, 1, 0, 0, 0, 1, 1, 2, 1, 0, 0, 0, 0, 0, 0, 0, 5,
+    2, 4, 1, 2, 0, 1, 0, 0, 0, 0, 0, 0, 0, 9, 1, 1, 0, 0, 0, 1, 1, 2, 1, 0, 0, 0, 0, 0, 0, 0, 5,
 ];
 
 const ACCEPTED: [u8; 31] = [
-    1, 5, 2, 1, 0, 1, 0, 0, 0, 0, 0, 0, 0, 9, 1, 1, 0, 0, 0, 1, 1, 2, 1, 0, 0, 0, 0, 0, 0, 0, 5,
+    2, 5, 2, 1, 0, 1, 0, 0, 0, 0, 0, 0, 0, 9, 1, 1, 0, 0, 0, 1, 1, 2, 1, 0, 0, 0, 0, 0, 0, 0, 5,
 ];
 
 const DECIDED: [u8; 23] = [
-    1, 6, 1, 2, 0, 1, 1, 1, 0, 0, 0, 1, 1, 2, 1, 0, 0, 0, 0, 0, 0, 0, 5,
+    2, 6, 1, 2, 0, 1, 1, 1, 0, 0, 0, 1, 1, 2, 1, 0, 0, 0, 0, 0, 0, 0, 5,
 ];
 
 const NACK: [u8; 22] = [
-    1, 8, 3, 1, 0, 1, 0, 0, 0, 0, 0, 0, 0, 9, 0, 0, 0, 0, 0, 0, 0, 10,
+    2, 8, 3, 1, 0, 1, 0, 0, 0, 0, 0, 0, 0, 9, 0, 0, 0, 0, 0, 0, 0, 10,
 ];
 
-const REPLY: [u8; 17] = [1, 9, 1, 17, 0, 0, 0, 1, 1, 0, 0, 0, 0, 0, 0, 0, 5];
+const REPLY: [u8; 17] = [2, 9, 1, 17, 0, 0, 0, 1, 1, 0, 0, 0, 0, 0, 0, 0, 5];
 
 fn node(number: u8) -> Result<Party, Fail> {
     Ok(Party::Node(NodeId::new(number).ok_or("a node")?))
@@ -56,7 +56,31 @@ fn call() -> Action {
     }
 }
 
-/// The packet has these bytes, is read from them, and from no proper front of them.
+/// The bytes with each of them set to each other value are refused for a reason, or are the text of
+/// the packet that is read from them. Where the first of them says version 1, that text differs from
+/// the one of version 2 in it alone, since there is no entry in the packet.
+fn changed_bytes_are_read_as_they_are(
+    rt: &impl Abort,
+    alloc: Global,
+    bytes: &[u8],
+) -> Result<(), Fail> {
+    let mut changed = Vec::from_slice(alloc, bytes)?;
+    for place in 0..bytes.len() {
+        for value in 0..=255u8 {
+            changed[place] = value;
+            if let Ok(packet) = decode(alloc, changed.as_slice())? {
+                let mut text = encode(alloc, &packet)?;
+                text[0] = changed[0];
+                assert_eq!(rt; text.as_slice(), changed.as_slice());
+            }
+        }
+        changed[place] = bytes[place];
+    }
+    Ok(())
+}
+
+/// The packet has these bytes, is read from them, and from no proper front of them. In version 1 it
+/// has the same but for the first.
 fn both_ways(
     rt: &impl Abort,
     alloc: Global,
@@ -72,7 +96,7 @@ fn both_ways(
     encode_onto(&packet, &mut run)?;
     assert_eq!(rt; &run[..PREPARE.len()], &PREPARE[..]);
     assert_eq!(rt; &run[PREPARE.len()..], bytes);
-    assert_eq!(rt; decode(alloc, bytes)?, Ok(packet));
+    assert_eq!(rt; decode(alloc, bytes)?, Ok(packet.clone()?));
     for end in 0..bytes.len() {
         assert_eq!(rt; decode(alloc, &bytes[..end])?, Err(PacketReason::Short));
         assert_eq!(rt; packet_len(&bytes[..end]), None);
@@ -81,7 +105,10 @@ fn both_ways(
     run.extend_from_slice(bytes)?;
     run.push(0)?;
     assert_eq!(rt; packet_len(run.as_slice()), Some(bytes.len()));
-    Ok(())
+    run[0] = 1;
+    assert_eq!(rt; packet_len(run.as_slice()), Some(bytes.len()));
+    assert_eq!(rt; decode(alloc, &run[..bytes.len()])?, Ok(packet));
+    changed_bytes_are_read_as_they_are(rt, alloc, bytes)
 }
 
 #[test]
@@ -167,27 +194,27 @@ fn nodes_vote_and_learn(rt: HostRuntime) -> Result<(), Fail> {
 fn each_spoiled_prepare_has_its_reason(rt: HostRuntime) -> Result<(), Fail> {
     let cases: [(&[u8], PacketReason); 7] = [
         (
-            &[1, 2, 1, 1, 0, 1, 0, 0, 0, 0, 0, 0, 0],
+            &[2, 2, 1, 1, 0, 1, 0, 0, 0, 0, 0, 0, 0],
             PacketReason::Short,
         ),
         (
-            &[1, 2, 1, 1, 0, 1, 0, 0, 0, 0, 0, 0, 0, 9, 0],
+            &[2, 2, 1, 1, 0, 1, 0, 0, 0, 0, 0, 0, 0, 9, 0],
             PacketReason::Long,
         ),
         (
-            &[2, 2, 1, 1, 0, 1, 0, 0, 0, 0, 0, 0, 0, 9],
+            &[3, 2, 1, 1, 0, 1, 0, 0, 0, 0, 0, 0, 0, 9],
             PacketReason::Version,
         ),
         (
-            &[1, 11, 1, 1, 0, 1, 0, 0, 0, 0, 0, 0, 0, 9],
+            &[2, 11, 1, 1, 0, 1, 0, 0, 0, 0, 0, 0, 0, 9],
             PacketReason::Kind,
         ),
         (
-            &[1, 2, 1, 1, 0, 1, 0, 0, 0, 0, 0, 0, 0, 8],
+            &[2, 2, 1, 1, 0, 1, 0, 0, 0, 0, 0, 0, 0, 8],
             PacketReason::Field,
         ),
         (
-            &[1, 2, 1, 1, 0, 1, 0, 0, 0, 0, 0, 0, 0, 16],
+            &[2, 2, 1, 1, 0, 1, 0, 0, 0, 0, 0, 0, 0, 16],
             PacketReason::Field,
         ),
         (&[], PacketReason::Short),
@@ -198,13 +225,49 @@ fn each_spoiled_prepare_has_its_reason(rt: HostRuntime) -> Result<(), Fail> {
     Ok(())
 }
 
-const ASK: [u8; 6] = [1, 7, 2, 1, 0, 2];
+/// The text of this version in which task 1 calls an entry, by this byte.
+fn entry_call(version: u8, index: u8) -> [u8; 21] {
+    [
+        version, 1, 17, 1, 1, 1, 0, 0, 0, 1, 1, 3, index, 0, 0, 0, 0, 0, 0, 0, 0,
+    ]
+}
+
+#[test]
+fn an_entry_is_read_by_the_version_of_its_text(rt: HostRuntime) -> Result<(), Fail> {
+    let cases: [(u8, u8, Result<u8, PacketReason>); 7] = [
+        (1, 0, Ok(1)),
+        (2, 1, Ok(1)),
+        (2, 2, Ok(2)),
+        (1, 2, Err(PacketReason::Field)),
+        (2, 0, Err(PacketReason::Field)),
+        (2, 5, Err(PacketReason::Field)),
+        (3, 1, Err(PacketReason::Version)),
+    ];
+    for (version, index, wanted) in cases {
+        let found = match decode(rt.alloc(), &entry_call(version, index))? {
+            Ok(packet) => match packet.body() {
+                Body::Call {
+                    action: Action::Call {
+                        operation: Operation::Entry(entry),
+                        ..
+                    },
+                } => Ok(*entry),
+                _ => return Err("a call of an entry".into()),
+            },
+            Err(reason) => Err(reason),
+        };
+        assert_eq!(rt; found, wanted);
+    }
+    Ok(())
+}
+
+const ASK: [u8; 6] = [2, 7, 2, 1, 0, 2];
 
 const REPORT: [u8; 26] = [
-    1, 10, 1, 32, 0, 1, 0, 1, 1, 1, 1, 0, 0, 0, 1, 1, 2, 1, 0, 0, 0, 0, 0, 0, 0, 5,
+    2, 10, 1, 32, 0, 1, 0, 1, 1, 1, 1, 0, 0, 0, 1, 1, 2, 1, 0, 0, 0, 0, 0, 0, 0, 5,
 ];
 
-const REPORT_OF_NONE: [u8; 9] = [1, 10, 1, 32, 0, 2, 0, 1, 0];
+const REPORT_OF_NONE: [u8; 9] = [2, 10, 1, 32, 0, 2, 0, 1, 0];
 
 fn report(alloc: Global, first: u16, applied: u16, told: &[Action]) -> Result<Body, Fail> {
     Ok(Body::Report {
@@ -258,17 +321,17 @@ fn a_report_tells_at_most_200_actions(rt: HostRuntime) -> Result<(), Fail> {
 #[test]
 fn each_spoiled_ask_or_report_has_its_reason(rt: HostRuntime) -> Result<(), Fail> {
     let cases: [(&[u8], PacketReason); 11] = [
-        (&[1, 7, 2, 1, 0], PacketReason::Short),
-        (&[1, 7, 2, 1, 0, 2, 0], PacketReason::Long),
+        (&[2, 7, 2, 1, 0], PacketReason::Short),
+        (&[2, 7, 2, 1, 0, 2, 0], PacketReason::Long),
         (&[0, 7, 2, 1, 0, 2], PacketReason::Version),
-        (&[1, 7, 2, 1, 0, 0], PacketReason::Field),
-        (&[1, 7, 2, 17, 0, 2], PacketReason::Field),
-        (&[1, 10, 1, 32, 0, 2, 0, 2, 1], PacketReason::Short),
-        (&[1, 10, 1, 32, 0, 2, 0, 1, 0, 0], PacketReason::Long),
-        (&[2, 10, 1, 32, 0, 2, 0, 1, 0], PacketReason::Version),
-        (&[1, 11, 1, 32, 0, 2, 0, 1, 0], PacketReason::Kind),
-        (&[1, 10, 1, 32, 0, 2, 0, 1, 1, 0], PacketReason::Field),
-        (&[1, 10, 1, 32, 0, 2, 0, 2, 1, 4], PacketReason::Field),
+        (&[2, 7, 2, 1, 0, 0], PacketReason::Field),
+        (&[2, 7, 2, 17, 0, 2], PacketReason::Field),
+        (&[2, 10, 1, 32, 0, 2, 0, 2, 1], PacketReason::Short),
+        (&[2, 10, 1, 32, 0, 2, 0, 1, 0, 0], PacketReason::Long),
+        (&[3, 10, 1, 32, 0, 2, 0, 1, 0], PacketReason::Version),
+        (&[2, 11, 1, 32, 0, 2, 0, 1, 0], PacketReason::Kind),
+        (&[2, 10, 1, 32, 0, 2, 0, 1, 1, 0], PacketReason::Field),
+        (&[2, 10, 1, 32, 0, 2, 0, 2, 1, 4], PacketReason::Field),
     ];
     for (bytes, reason) in &cases {
         assert_eq!(rt; decode(rt.alloc(), bytes)?, Err(*reason));
@@ -300,16 +363,16 @@ fn a_packet_tells_its_parts(rt: HostRuntime) -> Result<(), Fail> {
     Ok(())
 }
 
-const STARTED: [u8; 10] = [1, 1, 0, 0, 0, 0, 0, 0, 0, 9];
+const STARTED: [u8; 10] = [2, 1, 0, 0, 0, 0, 0, 0, 0, 9];
 
-const PROMISED: [u8; 12] = [1, 2, 0, 1, 0, 0, 0, 0, 0, 0, 0, 9];
+const PROMISED: [u8; 12] = [2, 2, 0, 1, 0, 0, 0, 0, 0, 0, 0, 9];
 
 const VOTED: [u8; 29] = [
-    1, 3, 0, 1, 0, 0, 0, 0, 0, 0, 0, 9, 1, 1, 0, 0, 0, 1, 1, 2, 1, 0, 0, 0, 0, 0, 0, 0, 5,
+    2, 3, 0, 1, 0, 0, 0, 0, 0, 0, 0, 9, 1, 1, 0, 0, 0, 1, 1, 2, 1, 0, 0, 0, 0, 0, 0, 0, 5,
 ];
 
 const LEARNED: [u8; 21] = [
-    1, 4, 0, 1, 1, 1, 0, 0, 0, 1, 1, 2, 1, 0, 0, 0, 0, 0, 0, 0, 5,
+    2, 4, 0, 1, 1, 1, 0, 0, 0, 1, 1, 2, 1, 0, 0, 0, 0, 0, 0, 0, 5,
 ];
 
 #[test]
@@ -330,6 +393,8 @@ fn each_record_has_its_text_and_is_read_from_its_front(rt: HostRuntime) -> Resul
         }
         bytes.extend_from_slice(&STARTED)?;
         assert_eq!(rt; decode_front(bytes.as_slice()), Some((*rec, text.len())));
+        bytes[0] = 1;
+        assert_eq!(rt; decode_front(bytes.as_slice()), Some((*rec, text.len())));
     }
     Ok(())
 }
@@ -338,11 +403,11 @@ fn each_record_has_its_text_and_is_read_from_its_front(rt: HostRuntime) -> Resul
 fn no_record_is_read_where_none_begins(rt: HostRuntime) {
     let cases: [&[u8]; 6] = [
         &[],
-        &[2, 1, 0, 0, 0, 0, 0, 0, 0, 9],
-        &[1, 0, 0, 0, 0, 0, 0, 0, 0, 9],
-        &[1, 5, 0, 0, 0, 0, 0, 0, 0, 9],
-        &[1, 1, 0, 0, 0, 0, 0, 0, 0, 16],
-        &[1, 2, 0, 1, 0, 0, 0, 0, 0, 0, 0, 0],
+        &[3, 1, 0, 0, 0, 0, 0, 0, 0, 9],
+        &[2, 0, 0, 0, 0, 0, 0, 0, 0, 9],
+        &[2, 5, 0, 0, 0, 0, 0, 0, 0, 9],
+        &[2, 1, 0, 0, 0, 0, 0, 0, 0, 16],
+        &[2, 2, 0, 1, 0, 0, 0, 0, 0, 0, 0, 0],
     ];
     for bytes in &cases {
         assert_eq!(rt; decode_front(bytes), None);

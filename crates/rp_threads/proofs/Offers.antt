@@ -9,6 +9,7 @@ use Rattle.rp_base.proofs.Members.{has_split}
 use Rattle.rp_codec.specs.Decoding.{BeginsWithPacket}
 use Rattle.rp_codec.specs.Message.{Message, IsPacket}
 use Rattle.rp_codec.specs.Text.{text_of}
+use Rattle.rp_codec.proofs.VersionLaws.{latest_before}
 use Rattle.rp_codec.specs.declared.packet.Party.{Party}
 use Rattle.rp_replica.specs.Packets.{texts_of}
 use Rattle.rp_replica.specs.declared.sent.Sent.{Sent}
@@ -89,7 +90,7 @@ module _ {S P : Type 0} (next : S → Action → S) (answers : S → Action → 
   }
 
   begins : (m : Message) (rest : List ℕ) → IsPacket m → BeginsWithPacket (text_of m ++ rest)
-  begins m rest right = (m, rest, right, refl)
+  begins m rest right = (m, rest, right, latest_before m rest (text_of m ++ rest) refl)
 
   nothing_left : (left : List ℕ) (packets : List Message) → left ≡ texts_of packets → ((m : Message) → Has m packets → IsPacket m) → (BeginsWithPacket left → ⊥) → left ≡ []
   nothing_left left [] texts right none = texts

@@ -14,7 +14,7 @@ use std::test::Fail;
 
 /// Task 1 calls node 1 for the first time: procedure 1 of object 1 with 5.
 const CALL: [u8; 21] = [
-    1, 1, 17, 1, 1, 1, 0, 0, 0, 1, 1, 2, 1, 0, 0, 0, 0, 0, 0, 0, 5,
+    2, 1, 17, 1, 1, 1, 0, 0, 0, 1, 1, 2, 1, 0, 0, 0, 0, 0, 0, 0, 5,
 ];
 
 /// The first task's first call, to node 1.
@@ -138,11 +138,11 @@ fn one_call_is_decided_by_seats(rt: HostRuntime) -> Result<(), Fail> {
     let reply = told.reply.ok_or("a reply is in the box")?;
     assert_eq!(rt;
         reply.as_slice(),
-        b"\x01\x09\x01\x11\0\0\0\x01\x01\0\0\0\0\0\0\0\x05".as_slice()
+        b"\x02\x09\x01\x11\0\0\0\x01\x01\0\0\0\0\0\0\0\x05".as_slice()
     );
     assert_eq!(rt;
         told.report.as_slice(),
-        b"\x01\x0a\x01\x20\0\x01\0\x01\x01\x01\x01\0\0\0\x01\x01\x02\x01\0\0\0\0\0\0\0\x05".as_slice()
+        b"\x02\x0a\x01\x20\0\x01\0\x01\x01\x01\x01\0\0\0\x01\x01\x02\x01\0\0\0\0\0\0\0\x05".as_slice()
     );
     Ok(())
 }

@@ -108,7 +108,7 @@ fn an_empty_line_lets_a_node_lead(rt: HostRuntime) -> Result<(), Fail> {
     let packet = made.packet.ok_or("it asks itself for a promise")?;
     assert_eq!(rt;
         packet.as_slice(),
-        b"\x01\x02\x01\x01\0\x01\0\0\0\0\0\0\0\x09".as_slice()
+        b"\x02\x02\x01\x01\0\x01\0\0\0\0\0\0\0\x09".as_slice()
     );
     Ok(())
 }
@@ -123,7 +123,7 @@ fn a_task_makes_its_first_call_in_its_first_turn(rt: HostRuntime) -> Result<(), 
     let packet = made.packet.ok_or("the call is in its box")?;
     assert_eq!(rt;
         packet.as_slice(),
-        b"\x01\x01\x11\x01\x01\x01\0\0\0\x01\x01\x02\x01\0\0\0\0\0\0\0\x05".as_slice()
+        b"\x02\x01\x11\x01\x01\x01\0\0\0\x01\x01\x02\x01\0\0\0\0\0\0\0\x05".as_slice()
     );
     Ok(())
 }

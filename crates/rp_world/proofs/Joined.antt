@@ -6,7 +6,9 @@ use Rattle.std.proofs.lemmas.List.{append_assoc, append-nil, length-append, leng
 use Rattle.std.proofs.Math.Seq.{drop-append_seam, drop-nil, take-append_seam}
 use Rattle.rp_codec.specs.Message.{Message, IsPacket}
 use Rattle.rp_codec.specs.Reading.{Read, packet_at}
-use Rattle.rp_codec.specs.Text.{text_of, head_text, body_text}
+use Rattle.rp_codec.specs.Text.{text_of, head_text, body_text_at}
+use Rattle.rp_codec.specs.declared.version.Version.TheVariants.{V2}
+use Rattle.rp_codec.proofs.VersionLaws.{has_text}
 use Rattle.rp_codec.proofs.PacketLaws.{packet_again}
 use Rattle.rp_replica.specs.Packets.{texts_of}
 use Rattle.rp_world.specs.Messages.{with_rest, packets_in, AreTexts, ends_of, AreMessages}
@@ -16,7 +18,7 @@ read_back : (ms : List Message) (rest : List ℕ) → AllByRecursion IsPacket ms
 read_back [] rest each = refl
 read_back (m ∷ ms) rest each =
     ap (λ (r : Read Message). with_rest r (λ (b : List ℕ). packets_in (length ms) b))
-    (ap packet_at (append_assoc (text_of m) (texts_of ms) rest) ∙ packet_again m (texts_of ms ++ rest) each.0)
+    (ap packet_at (append_assoc (text_of m) (texts_of ms) rest) ∙ packet_again V2 m (texts_of ms ++ rest) each.0 (has_text m))
     ∙ ap (λ (others : List Message). m ∷ others) (read_back ms rest each.1)
 
 pub read_texts : (bytes : List ℕ) (count : ℕ) (t : AreTexts bytes count) → packets_in count bytes ≡ t.packets
@@ -179,7 +181,7 @@ get_rear (x ∷ xs) ys (suc k) more = let e : k - length xs ≡ suc k - suc (len
 -- each packet has four bytes and more
 pub few_texts : (ms : List Message) → 4 * length ms ≤ length (texts_of ms)
 few_texts [] = omega arith
-few_texts (m ∷ ms) = omega (arith, few_texts ms, length-append (text_of m) (texts_of ms), length-append (head_text m) (body_text m.body))
+few_texts (m ∷ ms) = omega (arith, few_texts ms, length-append (text_of m) (texts_of ms), length-append (head_text m) (body_text_at V2 m.body))
 
 -- a text lies within them all
 pub text_within : (ms : List Message) (place : ℕ) (n : Next ms place) → length (texts_of (take place ms)) + length (text_of n.m) ≤ length (texts_of ms)

@@ -1,5 +1,5 @@
 -- The part of a node that rests is read off its device.
-use Rattle.std.proofs.Common.{◌≡◌, ℕ, zero, suc, ◌-◌, ◌≤◌, ◌<◌, ◌/◌, ◌^◌, Option, Bool, true, false, if◌then◌else◌, Ok, Err, List, [], ◌∷◌, ◌++◌, length, refl, sym, ap, ◌∙◌, append_assoc, length-append, arith}
+use Rattle.std.proofs.Common.{◌≡◌, ℕ, zero, suc, ◌-◌, ◌≤◌, ◌<◌, ◌/◌, ◌^◌, Option, Bool, true, false, if◌then◌else◌, Ok, Err, List, [], ◌∷◌, ◌++◌, length, refl, sym, ap, subst, ◌∙◌, append_assoc, length-append, arith}
 use Rattle.std.specs.Prelude.{nat_lt}
 use Rattle.std.specs.Int.{Width, byte_len, byte_at, bytes_high_first, cast_unsigned, w16, w32, w64}
 use Rattle.std.specs.List.{AllByRecursion}
@@ -12,15 +12,18 @@ use Rattle.rp_base.specs.declared.action.Operation.{Operation}
 use Rattle.rp_base.specs.declared.action.Operation.TheVariants as operations
 use Rattle.rp_base.specs.declared.record.Rec.{Rec}
 use Rattle.rp_base.specs.declared.record.Rec.TheVariants.{Started, Promised, Voted, Learned}
-use Rattle.rp_codec.specs.Text.{number_text, operation_text, action_text}
+use Rattle.rp_codec.specs.declared.version.Version.{Version}
+use Rattle.rp_codec.specs.declared.version.Version.TheVariants.{V1, V2}
+use Rattle.rp_codec.specs.Version.{version_number}
+use Rattle.rp_codec.specs.Text.{number_text, entry_byte, operation_text_at, action_text_at}
 use Rattle.rp_codec.specs.Reading.{Read}
-use Rattle.rp_codec.specs.Record.{record_text, IsRecord, BeginsWithRecord}
+use Rattle.rp_codec.specs.Record.{record_text_at, IsRecord, BeginsWithRecord}
 use Rattle.rp_codec.specs.RecordReading.{record_at}
 use Rattle.rp_codec.proofs.Steps.{IsBytes}
-use Rattle.rp_codec.proofs.RecordLaws.{record_again, front_found}
+use Rattle.rp_codec.proofs.RecordLaws.{record_read, record_long_at, front_found}
 use Rattle.rp_store.specs.Disk.{Disk}
-use Rattle.rp_store.specs.Records.{records_text, AreRecordsOf}
-use Rattle.rp_store.proofs.Whole.{record_long, all_end, text-end}
+use Rattle.rp_store.specs.Records.{records_text, AreTextsOf, AreRecordsOf}
+use Rattle.rp_store.proofs.Whole.{record_long, none_torn, whole_long}
 use Rattle.rp_model.specs.Parts.{NodePart, Running as Known, records_in_log}
 use Rattle.rp_replica.specs.Held.{Held}
 use Rattle.rp_world.specs.declared.node.Node.{Node}
@@ -58,46 +61,55 @@ text_passes : (w : Width) (n : ℕ) → Passes (number_text w n)
 unfolding number_text
 text_passes w n = number_passes (byte_len w) n
 
-operation_passes : (operation : Operation) → IsRightOperation operation → Passes (operation_text operation)
-operation_passes (operations.Function i) is = byte_passes 1 (i ∷ []) (omega arith) (byte_passes i [] (omega (arith, is.1)) none_pass)
-operation_passes (operations.Procedure i) is = byte_passes 2 (i ∷ []) (omega arith) (byte_passes i [] (omega (arith, is.1)) none_pass)
-operation_passes (operations.Entry i) is = byte_passes 3 (0 ∷ []) (omega arith) (byte_passes 0 [] (omega arith) none_pass)
-operation_passes (operations.SetTimer i) is = byte_passes 4 (i ∷ []) (omega arith) (byte_passes i [] (omega (arith, is.1)) none_pass)
-operation_passes (operations.CancelTimer i) is = byte_passes 5 (i ∷ []) (omega arith) (byte_passes i [] (omega (arith, is.1)) none_pass)
+entry_small : (v : Version) (i : ℕ) → i ≤ 4 → entry_byte v i < 256
+entry_small V1 i small = omega arith
+entry_small V2 i small = omega arith
 
-action_passes : (action : Action) → IsRight action → Passes (action_text action)
-action_passes actions.Noop is = byte_passes 0 [] (omega arith) none_pass
-action_passes (actions.Call task number object operation arg) is =
-    both_pass ((1 ∷ task ∷ number_text w32 number) ++ (object ∷ operation_text operation)) (number_text w64 (cast_unsigned w64 arg))
-    (both_pass (1 ∷ task ∷ number_text w32 number) (object ∷ operation_text operation)
+operation_passes : (v : Version) (operation : Operation) → IsRightOperation operation → Passes (operation_text_at v operation)
+operation_passes v (operations.Function i) is = byte_passes 1 (i ∷ []) (omega arith) (byte_passes i [] (omega (arith, is.1)) none_pass)
+operation_passes v (operations.Procedure i) is = byte_passes 2 (i ∷ []) (omega arith) (byte_passes i [] (omega (arith, is.1)) none_pass)
+operation_passes v (operations.Entry i) is = byte_passes 3 (entry_byte v i ∷ []) (omega arith) (byte_passes (entry_byte v i) [] (entry_small v i is.1) none_pass)
+operation_passes v (operations.SetTimer i) is = byte_passes 4 (i ∷ []) (omega arith) (byte_passes i [] (omega (arith, is.1)) none_pass)
+operation_passes v (operations.CancelTimer i) is = byte_passes 5 (i ∷ []) (omega arith) (byte_passes i [] (omega (arith, is.1)) none_pass)
+
+action_passes : (v : Version) (action : Action) → IsRight action → Passes (action_text_at v action)
+action_passes v actions.Noop is = byte_passes 0 [] (omega arith) none_pass
+action_passes v (actions.Call task number object operation arg) is =
+    both_pass ((1 ∷ task ∷ number_text w32 number) ++ (object ∷ operation_text_at v operation)) (number_text w64 (cast_unsigned w64 arg))
+    (both_pass (1 ∷ task ∷ number_text w32 number) (object ∷ operation_text_at v operation)
     (byte_passes 1 (task ∷ number_text w32 number) (omega arith) (byte_passes task (number_text w32 number) (omega (arith, is.0.1)) (text_passes w32 number)))
-    (byte_passes object (operation_text operation) (omega (arith, is.2.1)) (operation_passes operation is.3)))
+    (byte_passes object (operation_text_at v operation) (omega (arith, is.2.1)) (operation_passes v operation is.3)))
     (text_passes w64 (cast_unsigned w64 arg))
-action_passes (actions.Interrupt source occurrence) is =
+action_passes v (actions.Interrupt source occurrence) is =
     byte_passes 2 (source ∷ number_text w32 occurrence) (omega arith) (byte_passes source (number_text w32 occurrence) (omega (arith, is.0.1)) (text_passes w32 occurrence))
-action_passes (actions.Tick now) is = byte_passes 3 (number_text w32 now) (omega arith) (text_passes w32 now)
+action_passes v (actions.Tick now) is = byte_passes 3 (number_text w32 now) (omega arith) (text_passes w32 now)
 
-kind_passes : (kind : ℕ) → kind < 256 → Passes (1 ∷ kind ∷ [])
-kind_passes kind small = byte_passes 1 (kind ∷ []) (omega arith) (byte_passes kind [] small none_pass)
+version_small : (v : Version) → version_number v < 256
+version_small V1 = omega arith
+version_small V2 = omega arith
 
-record_passes : (r : Rec) → IsRecord r → Passes (record_text r)
-record_passes (Started ballot) is = both_pass (1 ∷ 1 ∷ []) (number_text w64 ballot) (kind_passes 1 (omega arith)) (text_passes w64 ballot)
-record_passes (Promised position ballot) is =
-    both_pass ((1 ∷ 2 ∷ []) ++ number_text w16 position) (number_text w64 ballot)
-    (both_pass (1 ∷ 2 ∷ []) (number_text w16 position) (kind_passes 2 (omega arith)) (text_passes w16 position)) (text_passes w64 ballot)
-record_passes (Voted position ballot action) is =
-    both_pass ((1 ∷ 3 ∷ []) ++ number_text w16 position ++ number_text w64 ballot) (action_text action)
-    (both_pass ((1 ∷ 3 ∷ []) ++ number_text w16 position) (number_text w64 ballot)
-    (both_pass (1 ∷ 3 ∷ []) (number_text w16 position) (kind_passes 3 (omega arith)) (text_passes w16 position)) (text_passes w64 ballot))
-    (action_passes action is.right)
-record_passes (Learned position action) is =
-    both_pass ((1 ∷ 4 ∷ []) ++ number_text w16 position) (action_text action)
-    (both_pass (1 ∷ 4 ∷ []) (number_text w16 position) (kind_passes 4 (omega arith)) (text_passes w16 position))
-    (action_passes action is.right)
+kind_passes : (v : Version) (kind : ℕ) → kind < 256 → Passes (version_number v ∷ kind ∷ [])
+kind_passes v kind small = byte_passes (version_number v) (kind ∷ []) (version_small v) (byte_passes kind [] small none_pass)
 
-records_pass : (rs : List Rec) → AllByRecursion IsRecord rs → Passes (records_text rs)
-records_pass [] all = none_pass
-records_pass (r ∷ rs) all = both_pass (record_text r) (records_text rs) (record_passes r all.0) (records_pass rs all.1)
+record_passes : (v : Version) (r : Rec) → IsRecord r → Passes (record_text_at v r)
+record_passes v (Started ballot) is = both_pass (version_number v ∷ 1 ∷ []) (number_text w64 ballot) (kind_passes v 1 (omega arith)) (text_passes w64 ballot)
+record_passes v (Promised position ballot) is =
+    both_pass ((version_number v ∷ 2 ∷ []) ++ number_text w16 position) (number_text w64 ballot)
+    (both_pass (version_number v ∷ 2 ∷ []) (number_text w16 position) (kind_passes v 2 (omega arith)) (text_passes w16 position)) (text_passes w64 ballot)
+record_passes v (Voted position ballot action) is =
+    both_pass ((version_number v ∷ 3 ∷ []) ++ number_text w16 position ++ number_text w64 ballot) (action_text_at v action)
+    (both_pass ((version_number v ∷ 3 ∷ []) ++ number_text w16 position) (number_text w64 ballot)
+    (both_pass (version_number v ∷ 3 ∷ []) (number_text w16 position) (kind_passes v 3 (omega arith)) (text_passes w16 position)) (text_passes w64 ballot))
+    (action_passes v action is.right)
+record_passes v (Learned position action) is =
+    both_pass ((version_number v ∷ 4 ∷ []) ++ number_text w16 position) (action_text_at v action)
+    (both_pass (version_number v ∷ 4 ∷ []) (number_text w16 position) (kind_passes v 4 (omega arith)) (text_passes w16 position))
+    (action_passes v action is.right)
+
+texts_pass : (rs : List Rec) (bytes : List ℕ) → AllByRecursion IsRecord rs → AreTextsOf rs bytes → Passes bytes
+texts_pass [] bytes all none = subst Passes (sym none) none_pass
+texts_pass (r ∷ rs) bytes all (after, (v, has, parts), are) =
+    subst Passes (sym parts) (both_pass (record_text_at v r) after (record_passes v r all.0) (texts_pass rs after all.1 are))
 
 -- ---- the front of bytes
 
@@ -126,9 +138,9 @@ front_of (b ∷ rest) =
     ]
 
 begins_too : (xs : List ℕ) → BeginsWithRecord (byte_front xs) → BeginsWithRecord xs
-begins_too xs (r, rest, is, parts) =
+begins_too xs (r, rest, is, (v, has, parts)) =
     let f = front_of xs in
-    (r, rest ++ f.0, is, f.1 ∙ ap (λ (l : List ℕ). l ++ f.0) parts ∙ append_assoc (record_text r) rest f.0)
+    (r, rest ++ f.0, is, (v, has, f.1 ∙ ap (λ (l : List ℕ). l ++ f.0) parts ∙ append_assoc (record_text_at v r) rest f.0))
 
 -- ---- the reading of what a device holds
 
@@ -136,30 +148,26 @@ read_none : (most : ℕ) (bytes : List ℕ) → IsBytes bytes → (BeginsWithRec
 read_none most bytes are none (Ok (r, rest)) is = let f = front_found bytes rest r are is in absurd (none (r, rest, f.0, f.1))
 read_none most bytes are none (Err reason) is = refl
 
-reads : (most : ℕ) (all : List Rec) (tail : List ℕ) → AllByRecursion IsRecord all → IsBytes tail → (BeginsWithRecord tail → ⊥) → length (records_text all) ≤ most
-    → records_read most (records_text all ++ tail) ≡ all
-reads zero [] tail each are none enough = refl
-reads (suc most) [] tail each are none enough = read_none most tail are none (record_at tail) refl
-reads zero (r ∷ rs) tail each are none enough = absurd (omega (arith, record_long r, length-append (record_text r) (records_text rs), enough))
-reads (suc most) (r ∷ rs) tail each are none enough =
-    let again : record_at ((record_text r ++ records_text rs) ++ tail) ≡ Ok (r, records_text rs ++ tail) =
-    ap record_at (append_assoc (record_text r) (records_text rs) tail) ∙ record_again r (records_text rs ++ tail) each.0 in
-    let deeper = reads most rs tail each.1 are none (omega (arith, record_long r, length-append (record_text r) (records_text rs), enough)) in
+reads : (most : ℕ) (all : List Rec) (texts tail : List ℕ) → AllByRecursion IsRecord all → AreTextsOf all texts → IsBytes tail → (BeginsWithRecord tail → ⊥) → length texts ≤ most
+    → records_read most (texts ++ tail) ≡ all
+reads zero [] texts tail each are bytes none enough = refl
+reads (suc most) [] texts tail each are bytes none enough =
+    ap (λ (l : List ℕ). records_read (suc most) (l ++ tail)) are ∙ read_none most tail bytes none (record_at tail) refl
+reads zero (r ∷ rs) texts tail each (after, (v, has, parts), are) bytes none enough =
+    absurd (omega (arith, record_long r, record_long_at v r, ap length parts, length-append (record_text_at v r) after, enough))
+reads (suc most) (r ∷ rs) texts tail each (after, (v, has, parts), are) bytes none enough =
+    let again : record_at (texts ++ tail) ≡ Ok (r, after ++ tail) =
+    record_read r (after ++ tail) (texts ++ tail) each.0 (v, has, ap (λ (l : List ℕ). l ++ tail) parts ∙ append_assoc (record_text_at v r) after tail) in
+    let deeper = reads most rs after tail each.1 are bytes none (omega (arith, record_long r, record_long_at v r, ap length parts, length-append (record_text_at v r) after, enough)) in
     ap (λ (read : Read Rec). with_others read (λ rest. records_read most rest)) again ∙ ap (λ (l : List Rec). r ∷ l) deeper
-
-none_behind : (contents : List ℕ) (all : List Rec) (torn : List ℕ) → AreRecordsOf contents all torn → BeginsWithRecord torn → ⊥
-none_behind contents all torn are (r, rest, is, parts) =
-    let more = are.longest (all ++ r ∷ []) rest (all_end all r are.each is)
-    (are.whole ∙ ap (λ (l : List ℕ). records_text all ++ l) parts ∙ sym (append_assoc (records_text all) (record_text r) rest) ∙ ap (λ (l : List ℕ). l ++ rest) (sym (text-end all r))) in
-    absurd (omega (arith, more, ap length (text-end all r), length-append (records_text all) (record_text r), record_long r))
 
 -- the records that a device holds are those that are read
 pub all_read : (disk : Disk) (all : List Rec) (torn : List ℕ) → AreRecordsOf disk.contents all torn → records_on disk ≡ all
 all_read disk all torn are =
-    let front : byte_front disk.contents ≡ records_text all ++ byte_front torn = ap byte_front are.whole ∙ records_pass all are.each torn in
+    let front : byte_front disk.contents ≡ are.texts ++ byte_front torn = ap byte_front are.whole ∙ texts_pass all are.texts are.each are.are torn in
     ap (records_read (length disk.contents)) front
-    ∙ reads (length disk.contents) all (byte_front torn) are.each (front_bytes torn) (λ begins. none_behind disk.contents all torn are (begins_too torn begins))
-    (omega (arith, ap length are.whole, length-append (records_text all) torn))
+    ∙ reads (length disk.contents) all are.texts (byte_front torn) are.each are.are (front_bytes torn) (λ begins. none_torn disk.contents all torn are (begins_too torn begins))
+    (omega (arith, ap length are.whole, length-append are.texts torn))
 
 -- so a device that rests is the part of one node alone
 pub resting_is : (most : ℕ) (disk : Disk) (part : NodePart) → RestsAs most disk part → part ≡ resting_part most disk
@@ -168,7 +176,7 @@ resting_is most disk part rests =
     let read = all_read disk all rests.holds.torn rests.holds.found in
     let records : part.records ≡ records_in_log most (records_on disk) = rests.holds.records ∙ ap (records_in_log most) (sym read) in
     let torn : part.torn ≡ length disk.contents - length (records_text (records_on disk)) =
-    omega (arith, rests.holds.bytes, ap length rests.holds.found.whole, length-append (records_text all) rests.holds.torn, ap (λ (rs : List Rec). length (records_text rs)) read) in
+    omega (arith, rests.holds.bytes, whole_long disk.contents all rests.holds.torn rests.holds.found, ap (λ (rs : List Rec). length (records_text rs)) read) in
     ap (λ (rs : List Rec). let p : NodePart = record { records = rs; torn = part.torn; running = part.running } in p) records
     ∙ ap (λ (n : ℕ). let p : NodePart = record { records = records_in_log most (records_on disk); torn = n; running = part.running } in p) torn
     ∙ ap (λ (o : Option Known). let p : NodePart = record { records = records_in_log most (records_on disk); torn = length disk.contents - length (records_text (records_on disk)); running = o } in p) rests.stopped

@@ -1,14 +1,13 @@
 -- What stands for a node's part once it stops or starts again.
 use Rattle.std.proofs.Common.{◌≡◌, ℕ, min, Bool, true, false, Result, Ok, Err, Option, Some, List, [], ◌∷◌, ◌++◌, length, take, inl, inr, refl, sym, ap, subst, ◌∙◌, arith}
-use Rattle.std.proofs.lemmas.List.{length-append, length-take}
+use Rattle.std.proofs.lemmas.List.{length-take}
 use Rattle.rp_base.specs.declared.config.Config.{Config}
 use Rattle.rp_base.specs.declared.fault.Fault.{Fault}
 use Rattle.rp_base.specs.declared.fault.Fault.TheVariants.{OutOfMemory, Device}
 use Rattle.rp_base.specs.declared.record.Rec.{Rec}
-use Rattle.rp_codec.specs.Record.{record_text}
 use Rattle.rp_store.specs.Disk.{Disk}
-use Rattle.rp_store.specs.Records.{records_text, AreRecordsOf}
-use Rattle.rp_store.proofs.Whole.{record_long, same_reading}
+use Rattle.rp_store.specs.Records.{records_text, AreTextsOf, AreRecordsOf}
+use Rattle.rp_store.proofs.Whole.{texts_long, whole_long, alone, no_records, same_reading}
 use Rattle.rp_model.specs.Parts.{NodePart}
 use Rattle.rp_model.specs.Parts.{Running as Known}
 use Rattle.rp_model.specs.Effect.{goes_on_as, stop_part, stops_while, stop_effect, restart_while, restart_part}
@@ -43,13 +42,7 @@ if_err (Err fault) so = so
 -- how many bytes a device holds that rests
 pub resting_length : (most : ℕ) (disk : Disk) (part : NodePart) → RestsAs most disk part → length disk.contents ≡ stored_length part
 resting_length most disk part rests =
-    omega (arith, ap length rests.only.found.whole, length-append (records_text part.records) rests.only.torn, rests.only.bytes)
-
-no_records : (all : List Rec) (torn : List ℕ) → [] ≡ records_text all ++ torn → all ≡ []
-no_records [] torn is = refl
-no_records (r ∷ rs) torn is =
-    let long = ap length is ∙ length-append (records_text (r ∷ rs)) torn in
-    absurd (omega (arith, long, length-append (record_text r) (records_text rs), record_long r))
+    omega (arith, whole_long disk.contents part.records rests.only.torn rests.only.found, rests.only.bytes)
 
 module _ {S : Type 0} (member : Member S) (old : Disk) (held : Held S) (count cut_bytes : ℕ) (opens : Opens member.me member.config member.begin old held count cut_bytes) where
   -- a replica that was opened is this part, where the device held no other records
@@ -62,13 +55,15 @@ module _ {S : Type 0} (member : Member S) (old : Disk) (held : Held S) (count cu
     working = ap (λ (h : Held S). h.failed) opens.starts;
     known = ap (λ (rs : List Rec). let part : NodePart = record { records = rs; torn = 0; running = Some fresh_running } in part) (is ∙ sym (ap (λ (h : Held S). h.records) opens.starts))
         ∙ ap (λ (known : Known). let part : NodePart = record { records = held.records; torn = 0; running = Some known } in part) (sym (ap (λ (h : Held S). h.running) opens.starts));
-    only = opens.opened.contents ∙ ap records_text (sym only ∙ is ∙ sym (ap (λ (h : Held S). h.records) opens.starts));
+    only = subst (λ (rs : List Rec). AreTextsOf rs held.disk.contents) (sym only ∙ is ∙ sym (ap (λ (h : Held S). h.records) opens.starts))
+        (alone held.disk.contents opens.all opens.opened.kept);
   }
 
   -- over an empty device, a fresh one
   pub runs_fresh : old.contents ≡ [] → RunsAs member held fresh_node
   runs_fresh empty =
-      let none = no_records opens.all opens.opened.found.0 (sym empty ∙ opens.opened.found.1.whole) in
+      let found = subst (λ (l : List ℕ). AreRecordsOf l opens.all opens.opened.found.0) empty opens.opened.found.1 in
+      let none : opens.all ≡ [] = sym (same_reading [] [] opens.opened.found.0 [] opens.all no_records found).0 in
       runs [] (ap (records_in_log member.config.max_positions) (sym none)) (sym none)
 
   -- over a device that rests, the part that starts again, and the numbers are its own
@@ -120,7 +115,7 @@ length_while member held part true rests = resting_length member.config.max_posi
 length_while member held part false runs =
     let records : held.records ≡ part.records = ap (λ (p : NodePart). p.records) (sym runs.known) in
     let torn : part.torn ≡ 0 = ap (λ (p : NodePart). p.torn) runs.known in
-    omega (arith, ap length runs.only, ap (λ (rs : List Rec). length (records_text rs)) records, torn)
+    omega (arith, texts_long held.records held.disk.contents runs.only, ap (λ (rs : List Rec). length (records_text rs)) records, torn)
 
 -- how many bytes it holds
 pub length_of : {S : Type 0} (member : Member S) (held : Held S) (part : NodePart) → StandsWhile member held part held.failed → length held.disk.contents ≡ stored_length part

@@ -9,8 +9,10 @@ use Rattle.rp_base.specs.declared.record.Rec.{Rec}
 use Rattle.rp_base.specs.declared.reply.Answer.{Answer}
 use Rattle.rp_codec.specs.Record.{record_text}
 use Rattle.rp_store.specs.Disk.{Disk}
-use Rattle.rp_store.specs.Records.{records_text}
-use Rattle.rp_store.proofs.Whole.{text-end}
+use Rattle.rp_store.specs.Records.{AreTextsOf}
+use Rattle.rp_codec.specs.declared.version.Version.TheVariants.{V2}
+use Rattle.rp_codec.proofs.RecordLaws.{has_latest}
+use Rattle.rp_store.proofs.Whole.{texts_end}
 use Rattle.rp_model.specs.Parts.{NodePart}
 use Rattle.rp_model.specs.Parts.{Turn, with_record}
 use Rattle.rp_model.specs.Effect.{Setting, Done, NodeInput, running_effect, turned, turned_if, node_effect, cut_part, stop_part}
@@ -40,10 +42,10 @@ cut_stopped kept part (Some rec) =
       | false ↦ refl
     ]
 
--- the texts of the records with one more behind them
-holds_more : (disk : Disk) (records : List Rec) (written : Option Rec) → disk.contents ≡ records_text records → (with_text disk written).contents ≡ records_text (with_record records written)
+-- texts of the records with one more behind them
+holds_more : (disk : Disk) (records : List Rec) (written : Option Rec) → AreTextsOf records disk.contents → AreTextsOf (with_record records written) (with_text disk written).contents
 holds_more disk records None only = only
-holds_more disk records (Some rec) only = ap (λ (l : List ℕ). l ++ record_text rec) only ∙ sym (text-end records rec)
+holds_more disk records (Some rec) only = texts_end records rec V2 disk.contents (has_latest rec) only
 
 module _ {S : Type 0} (next : S → Action → S) (answers : S → Action → List Answer) (member : Member S) (old : Held S) (part : NodePart) (runs : RunsAs member old part) where
   -- an input comes to the same for the part and for the replica

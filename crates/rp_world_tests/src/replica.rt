@@ -1,7 +1,7 @@
 ghost use Rattle.std.specs.Prelude.{◌≤◌};
 
 use rp_base::{Config, Fault, NodeId, PacketReason, Position};
-use rp_codec::packet_len;
+use rp_codec::{decode_front, packet_len};
 use rp_machine::{Machine, Tally, TallyProgram};
 use rp_model::Dropped;
 use rp_replica::*;
@@ -11,17 +11,22 @@ use std::test::Fail;
 
 /// Task 1 calls node 1 for the first time: procedure 1 of object 1 with 5.
 const CALL: [u8; 21] = [
-    1, 1, 17, 1, 1, 1, 0, 0, 0, 1, 1, 2, 1, 0, 0, 0, 0, 0, 0, 0, 5,
+    2, 1, 17, 1, 1, 1, 0, 0, 0, 1, 1, 2, 1, 0, 0, 0, 0, 0, 0, 0, 5,
+];
+
+/// Its second call, with 7, in a text of version 1.
+const OLD_CALL: [u8; 21] = [
+    1, 1, 17, 1, 1, 1, 0, 0, 0, 2, 1, 2, 1, 0, 0, 0, 0, 0, 0, 0, 7,
 ];
 
 /// Node 1 asks node 3 to vote for that call at position 1 in ballot 9.
 const ACCEPT: [u8; 31] = [
-    1, 4, 1, 3, 0, 1, 0, 0, 0, 0, 0, 0, 0, 9, 1, 1, 0, 0, 0, 1, 1, 2, 1, 0, 0, 0, 0, 0, 0, 0, 5,
+    2, 4, 1, 3, 0, 1, 0, 0, 0, 0, 0, 0, 0, 9, 1, 1, 0, 0, 0, 1, 1, 2, 1, 0, 0, 0, 0, 0, 0, 0, 5,
 ];
 
 /// Two votes in ballot 9 at position 1, for nothing and for tick 7.
 const VOTES: [u8; 30] = [
-    1, 3, 0, 1, 0, 0, 0, 0, 0, 0, 0, 9, 0, 1, 3, 0, 1, 0, 0, 0, 0, 0, 0, 0, 9, 3, 0, 0, 0, 7,
+    2, 3, 0, 1, 0, 0, 0, 0, 0, 0, 0, 9, 0, 2, 3, 0, 1, 0, 0, 0, 0, 0, 0, 0, 9, 3, 0, 0, 0, 7,
 ];
 
 /// A node of three over a device that holds these bytes.
@@ -63,6 +68,21 @@ fn take_texts(alloc: Global, sent: &Sent, texts: &mut Vec<Vec<u8>>) -> Result<()
     Ok(())
 }
 
+/// The texts of the records that these bytes are, in version 1.
+fn in_version_1(alloc: Global, bytes: &[u8]) -> Result<Vec<u8>, Fault> {
+    let mut old = Vec::new(alloc);
+    let mut rest = bytes;
+    for _ in 0..100 {
+        let Some((_, len)) = decode_front(rest) else {
+            break;
+        };
+        old.push(1)?;
+        old.extend_from_slice(rest.get(1..len).ok_or(Fault::Device)?)?;
+        rest = rest.get(len..).ok_or(Fault::Device)?;
+    }
+    Ok(old)
+}
+
 /// Three nodes, and the texts of all packets that were sent.
 #[derive(Drop)]
 struct Nodes<M: Machine, D: Device> {
@@ -102,6 +122,41 @@ impl<M: Machine, D: Device> Nodes<M, D> {
         }
         Ok(())
     }
+
+    /// A call comes to node 1, which then leads, and all is delivered.
+    fn decide(&mut self, alloc: Global, call: &[u8]) -> Result<(), Fault> {
+        self.texts.push(call.to_vec(alloc)?)?;
+        self.deliver(alloc)?;
+        let leader = self.nodes.first_mut().ok_or(Fault::BadConfig)?;
+        let sent = leader.turn(alloc, &Input::Lead(None))?;
+        take_texts(alloc, &sent, &mut self.texts)?;
+        self.deliver(alloc)
+    }
+
+    /// What each node shows.
+    fn images(&self, alloc: Global) -> Result<Vec<Vec<u8>>, Fault> {
+        let mut images = Vec::new(alloc);
+        for node in &self.nodes {
+            images.push(node.image(alloc)?)?;
+        }
+        Ok(images)
+    }
+
+    /// The nodes closed, and opened over their records in version 1 on other devices.
+    fn reopened(self, alloc: Global, program: &M::Program, devices: Vec<D>) -> Result<Self, Fault> {
+        let Nodes { nodes, .. } = self;
+        let mut again = Vec::new(alloc);
+        for (number, (node, device)) in (1..=3).zip(nodes.into_iter().zip(devices)) {
+            let bytes = node.close().read(alloc)?;
+            let old = in_version_1(alloc, &bytes)?;
+            again.push(opened(alloc, number, 1000, program, device, &old)?.replica)?;
+        }
+        Ok(Nodes {
+            nodes: again,
+            texts: Vec::new(alloc),
+            delivered: 0,
+        })
+    }
 }
 
 /// What a run leaves: the packets, what each node stored, applied and shows, and the report of node 2.
@@ -121,25 +176,20 @@ fn one_call<M: Machine, D: Device>(
     devices: Vec<D>,
 ) -> Result<Left, Fault> {
     let mut run: Nodes<M, D> = Nodes::new(alloc, program, devices)?;
-    run.texts.push(CALL.to_vec(alloc)?)?;
-    run.deliver(alloc)?;
-    let leader = run.nodes.first_mut().ok_or(Fault::BadConfig)?;
-    let sent = leader.turn(alloc, &Input::Lead(None))?;
-    take_texts(alloc, &sent, &mut run.texts)?;
-    run.deliver(alloc)?;
+    run.decide(alloc, &CALL)?;
+    let images = run.images(alloc)?;
     let second = run.nodes.get_mut(1).ok_or(Fault::BadConfig)?;
     let report = second.report(alloc, Position::first())?.bytes;
     let mut left = Left {
         texts: run.texts,
         stored: Vec::new(alloc),
         applied: Vec::new(alloc),
-        images: Vec::new(alloc),
+        images,
         report,
     };
     for node in &run.nodes {
         left.stored.push(node.stored())?;
         left.applied.push(node.applied())?;
-        left.images.push(node.image(alloc)?)?;
     }
     Ok(left)
 }
@@ -148,16 +198,12 @@ fn one_call<M: Machine, D: Device>(
 fn one_call_is_decided_by_three_replicas(rt: HostRuntime) -> Result<(), Fail> {
     let alloc = rt.alloc();
     let program = TallyProgram::new(1).ok_or("one object")?;
-    let mut devices = Vec::new(alloc);
-    for _ in 0..3 {
-        devices.push(MemDevice::new(alloc))?;
-    }
-    let left = one_call::<Tally, MemDevice>(alloc, &program, devices)?;
+    let left = one_call::<Tally, MemDevice>(alloc, &program, three_devices(alloc)?)?;
     assert_eq!(rt; left.texts.len(), 16);
     assert_eq!(rt; left.texts[9].as_slice(), ACCEPT.as_slice());
     assert_eq!(rt;
         left.texts[15].as_slice(),
-        b"\x01\x09\x01\x11\0\0\0\x01\x01\0\0\0\0\0\0\0\x05".as_slice()
+        b"\x02\x09\x01\x11\0\0\0\x01\x01\0\0\0\0\0\0\0\x05".as_slice()
     );
     assert_eq!(rt; left.stored.as_slice(), [72, 62, 62].as_slice());
     assert_eq!(rt; left.applied.as_slice(), [1, 1, 1].as_slice());
@@ -167,8 +213,52 @@ fn one_call_is_decided_by_three_replicas(rt: HostRuntime) -> Result<(), Fail> {
     }
     assert_eq!(rt;
         left.report.as_slice(),
-        b"\x01\x0a\x02\x20\0\x01\0\x01\x01\x01\x01\0\0\0\x01\x01\x02\x01\0\0\0\0\0\0\0\x05".as_slice()
+        b"\x02\x0a\x02\x20\0\x01\0\x01\x01\x01\x01\0\0\0\x01\x01\x02\x01\0\0\0\0\0\0\0\x05".as_slice()
     );
+    Ok(())
+}
+
+/// What the nodes show once they are opened over their records in version 1, after the first call and
+/// after a second one.
+fn goes_on_from_version_1<M: Machine, D: Device>(
+    alloc: Global,
+    program: &M::Program,
+    devices: Vec<D>,
+    others: Vec<D>,
+) -> Result<[Vec<Vec<u8>>; 2], Fault> {
+    let mut run: Nodes<M, D> = Nodes::new(alloc, program, devices)?;
+    run.decide(alloc, &CALL)?;
+    let mut run = run.reopened(alloc, program, others)?;
+    let first = run.images(alloc)?;
+    run.decide(alloc, &OLD_CALL)?;
+    let second = run.images(alloc)?;
+    Ok([first, second])
+}
+
+fn three_devices(alloc: Global) -> Result<Vec<MemDevice>, Fault> {
+    let mut devices = Vec::new(alloc);
+    for _ in 0..3 {
+        devices.push(MemDevice::new(alloc))?;
+    }
+    Ok(devices)
+}
+
+#[test]
+fn replicas_go_on_from_records_of_version_1(rt: HostRuntime) -> Result<(), Fail> {
+    let alloc = rt.alloc();
+    let program = TallyProgram::new(1).ok_or("one object")?;
+    let [first, second] = goes_on_from_version_1::<Tally, MemDevice>(
+        alloc,
+        &program,
+        three_devices(alloc)?,
+        three_devices(alloc)?,
+    )?;
+    for (images, wanted) in [(first, "tally o1=5\n"), (second, "tally o1=12\n")] {
+        assert_eq!(rt; images.len(), 3);
+        for image in &images {
+            assert_eq!(rt; image.as_slice(), wanted.as_bytes());
+        }
+    }
     Ok(())
 }
 
@@ -192,21 +282,21 @@ fn what_is_foreign_changes_nothing(rt: HostRuntime) -> Result<(), Fail> {
     let cases: [(&str, &[u8]); 6] = [
         (
             "for another node",
-            b"\x01\x02\x01\x02\0\x01\0\0\0\0\0\0\0\x09",
+            b"\x02\x02\x01\x02\0\x01\0\0\0\0\0\0\0\x09",
         ),
         (
             "from a node above 3",
-            b"\x01\x02\x04\x03\0\x01\0\0\0\0\0\0\0\x0c",
+            b"\x02\x02\x04\x03\0\x01\0\0\0\0\0\0\0\x0c",
         ),
-        ("above the log", b"\x01\x02\x01\x03\0\x02\0\0\0\0\0\0\0\x09"),
+        ("above the log", b"\x02\x02\x01\x03\0\x02\0\0\0\0\0\0\0\x09"),
         (
             "in another's ballot",
-            b"\x01\x02\x01\x03\0\x01\0\0\0\0\0\0\0\x0a",
+            b"\x02\x02\x01\x03\0\x01\0\0\0\0\0\0\0\x0a",
         ),
-        ("asked above the log", b"\x01\x07\x01\x03\0\x02"),
+        ("asked above the log", b"\x02\x07\x01\x03\0\x02"),
         (
             "a reply",
-            b"\x01\x09\x01\x11\0\0\0\x01\x01\0\0\0\0\0\0\0\x05",
+            b"\x02\x09\x01\x11\0\0\0\x01\x01\0\0\0\0\0\0\0\x05",
         ),
     ];
     for (name, text) in cases {
@@ -219,7 +309,7 @@ fn what_is_foreign_changes_nothing(rt: HostRuntime) -> Result<(), Fail> {
         assert!(rt; matches!(dropped, Dropped::Foreign), "{name}");
         assert_eq!(rt; (packets, stored), (0, 0), "{name}");
     }
-    let unknown = hears::<Tally, MemDevice>(alloc, &program, MemDevice::new(alloc), b"\x01\x0b");
+    let unknown = hears::<Tally, MemDevice>(alloc, &program, MemDevice::new(alloc), b"\x02\x0b");
     assert_eq!(rt; unknown.err(), Some(Fault::BadPacket(PacketReason::Kind)));
     Ok(())
 }
@@ -267,13 +357,13 @@ fn a_replica_opens_over_what_its_device_holds(rt: HostRuntime) -> Result<(), Fai
     let cases: [(&str, &[u8], u64, u64); 3] = [
         (
             "a torn promise",
-            b"\x01\x01\0\0\0\0\0\0\0\x09\x01\x02\0\x01",
+            b"\x02\x01\0\0\0\0\0\0\0\x09\x02\x02\0\x01",
             1,
             4,
         ),
         (
             "above the log",
-            b"\x01\x04\0\x02\x00\x01\x04\0\x01\x00",
+            b"\x02\x04\0\x02\x00\x02\x04\0\x01\x00",
             2,
             0,
         ),
@@ -302,8 +392,8 @@ fn answer_over<M: Machine, D: Device>(
 fn of_two_votes_in_a_ballot_the_first_is_told(rt: HostRuntime) -> Result<(), Fail> {
     let alloc = rt.alloc();
     let program = TallyProgram::new(1).ok_or("one object")?;
-    let prepare = b"\x01\x02\x02\x03\0\x01\0\0\0\0\0\0\0\x0a";
-    let promise = b"\x01\x03\x03\x02\0\x01\0\0\0\0\0\0\0\x0a\x01\0\0\0\0\0\0\0\x09\x00";
+    let prepare = b"\x02\x02\x02\x03\0\x01\0\0\0\0\0\0\0\x0a";
+    let promise = b"\x02\x03\x03\x02\0\x01\0\0\0\0\0\0\0\x0a\x01\0\0\0\0\0\0\0\x09\x00";
     let device = MemDevice::new(alloc);
     let answer = answer_over::<Tally, MemDevice>(alloc, &program, device, &VOTES, prepare)?;
     assert_eq!(rt; answer.as_slice(), promise.as_slice());
@@ -361,7 +451,7 @@ fn the_least_free_position_is_led_until_the_log_is_full(rt: HostRuntime) -> Resu
     let alloc = rt.alloc();
     let program = TallyProgram::new(1).ok_or("one object")?;
     // position 2 is learned
-    let learned = b"\x01\x04\0\x02\x00";
+    let learned = b"\x02\x04\0\x02\x00";
     let device = MemDevice::new(alloc);
     let (positions, fault) = positions_led::<Tally, MemDevice>(alloc, &program, device, learned)?;
     assert_eq!(rt; positions.as_slice(), [1, 3].as_slice());

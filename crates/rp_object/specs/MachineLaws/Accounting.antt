@@ -17,18 +17,19 @@ use Rattle.rp_entry.specs.declared.operations.Operations.{Operations}
 use Rattle.rp_entry.specs.declared.operations.Function.{Function as Called}
 use Rattle.rp_entry.specs.declared.operations.Entry.{Entry as Gate}
 use Rattle.rp_entry.specs.declared.state.CallOutcome.TheVariants.{Reply, Waits}
-use Rattle.rp_entry.specs.Queue.{State, longest_queue}
+use Rattle.rp_entry.specs.Queue.{State, queue_at, all_calls}
 use Rattle.rp_entry.specs.Replies.{reply_of, function_reply}
 use Rattle.rp_entry.specs.declared.state.Waiting.{Waiting}
 use Rattle.rp_entry.specs.declared.state.CallOutcome.{CallOutcome}
 use Rattle.rp_entry.specs.Operations.{of_index}
 use Rattle.rp_entry.specs.Protected.{Protected}
-use Rattle.rp_entry.specs.Actions.{Request, calls_function, calls_procedure, calls_entry, event}
+use Rattle.rp_entry.specs.Actions.{Request, Acts, calls_function, calls_procedure, calls_entry, event, with_caller}
 use Rattle.rp_entry.specs.Results.{acted, tells, ran_for, function_called, procedure_called, entry_called}
 use Rattle.rp_entry.specs.Accounting.{joins}
 use Rattle.rp_entry.specs.Accounting as entry
 use Rattle.rp_entry.proofs.Results.{is_acted}
-use Rattle.rp_entry.proofs.Accounting.{acts_account}
+use Rattle.rp_entry.proofs.Accounting.{acts_leave}
+use Rattle.rp_entry.proofs.Permuting.{Perm, same, behind, chain, permuted, mapped_permuted, in_front, at_end, some_first, back, has_permuted, set_permuted, has_left, has_right, has_either, set_left, apart}
 use Rattle.rp_machine.specs.Calls.{CallName, call_of, calls_of, AccountsFor}
 use Rattle.rp_object.specs.State.{ProgramState, name_of}
 use Rattle.rp_object.specs.declared.program.Handler.{Handler}
@@ -36,7 +37,8 @@ use Rattle.rp_object.specs.declared.program.Declarations.{Declarations}
 use Rattle.rp_object.specs.Program.{operations_of, has_operation, is_some_and, object_has, is_offered, is_declared, is_within_ceiling, interrupt_handler, timer_handler}
 use Rattle.rp_object.specs.Timers.{due_events}
 use Rattle.rp_object.specs.Step.{Result, waiting_at, object_acts, asks, ends_with, asks_within, allowed, called, handled, fires, fire, with_timer, program_step, own_answer, answers_of}
-use Rattle.rp_object.specs.MachineLaws.Permuting.{Perm, same, behind, chain, permuted, in_front, some_first, back, has_permuted, set_permuted, has_left, has_right, has_either, set_left, apart}
+use Rattle.rp_object.specs.Reached.{HaveQueues}
+use Rattle.rp_object.specs.MachineLaws.Queues.{acts_many}
 
 -- a call by its task and number
 abbrev named : ℕ × ℕ → CallName
@@ -50,76 +52,101 @@ answers_same : (told : List Answer) → map named (map entry.answered_caller tol
 answers_same [] = refl
 answers_same (answer ∷ rest) = ap (λ (l : List CallName). call_of answer ∷ l) (answers_same rest)
 
-map_append : {A B : Type 0} (f : A → B) (xs ys : List A) → map f (xs ++ ys) ≡ map f xs ++ map f ys
+pub map_append : {A B : Type 0} (f : A → B) (xs ys : List A) → map f (xs ++ ys) ≡ map f xs ++ map f ys
 map_append f [] ys = refl
 map_append f (x ∷ xs) ys = ap (λ l. f x ∷ l) (map_append f xs ys)
 
 -- those that wait at one object, and the call that joins them
-one_accounts : (object : Protected) (request : Request) → (let did = acted object.operations object.state request in
-    map name_of object.state.queue ++ map name_of (joins request did.caller) ≡ map call_of did.told ++ map name_of did.after.queue)
-one_accounts object request =
-    let did = acted object.operations object.state request in
-    let pairs = acts_account (is_acted object.operations object.state request) in
-    sym (map_append name_of object.state.queue (joins request did.caller)) ∙ sym (names_same (object.state.queue ++ joins request did.caller)) ∙ sym (ap (map named) pairs)
-    ∙ map_append named (map entry.answered_caller did.told) (map entry.name_of did.after.queue)
-    ∙ ap (λ (l : List CallName). l ++ map named (map entry.name_of did.after.queue)) (answers_same did.told) ∙ ap (λ (l : List CallName). map call_of did.told ++ l) (names_same did.after.queue)
+pub one_leaves : {operations : Operations} {before after : State} {request : Request} {caller : Option CallOutcome} {told : List Answer} → length before.queues ≡ length operations.entries.items → Acts operations before request caller told after
+    → Perm (map name_of (joins request caller) ++ map name_of (all_calls before.queues)) (map call_of told ++ map name_of (all_calls after.queues))
+one_leaves {before = before} {after = after} {request = request} {caller = caller} {told = told} each acts =
+    let own = joins request caller in
+    let waited = all_calls before.queues in
+    let waiting = all_calls after.queues in
+    chain (permuted (sym (map_append name_of own waited) ∙ sym (names_same (own ++ waited))))
+    (chain (mapped_permuted named (acts_leave each acts))
+    (permuted (map_append named (map entry.answered_caller told) (map entry.name_of waiting)
+    ∙ ap (λ (l : List CallName). l ++ map named (map entry.name_of waiting)) (answers_same told) ∙ ap (λ (l : List CallName). map call_of told ++ l) (names_same waiting))))
 
-abbrev all_waiting : List Protected → List CallName
+abbrev pub all_waiting : List Protected → List CallName
 all_waiting objects = flat_map waiting_at objects
 
 -- the same of all objects
-among : (objects : List Protected) (place : ℕ) (object new : Protected) (more told : List CallName) → slice_get objects place ≡ Some object
-    → waiting_at object ++ more ≡ told ++ waiting_at new → Perm (more ++ all_waiting objects) (told ++ all_waiting (set objects place new))
+pub among : (objects : List Protected) (place : ℕ) (object new : Protected) (more told : List CallName) → slice_get objects place ≡ Some object
+    → Perm (more ++ waiting_at object) (told ++ waiting_at new) → Perm (more ++ all_waiting objects) (told ++ all_waiting (set objects place new))
 among [] place object new more told there accounts = absurd (cc)
 among (one ∷ rest) zero object new more told there accounts =
     let is : one ≡ object = cc in
-    let first : waiting_at one ++ more ≡ told ++ waiting_at new = ap (λ (o : Protected). waiting_at o ++ more) is ∙ accounts in
-    chain (some_first more (waiting_at one) (all_waiting rest))
-    (permuted (sym (append_assoc (waiting_at one) more (all_waiting rest)) ∙ ap (λ (l : List CallName). l ++ all_waiting rest) first ∙ append_assoc told (waiting_at new) (all_waiting rest)))
+    let first : Perm (more ++ waiting_at one) (told ++ waiting_at new) = subst (λ (o : Protected). Perm (more ++ waiting_at o) (told ++ waiting_at new)) (sym is) accounts in
+    chain (permuted (sym (append_assoc more (waiting_at one) (all_waiting rest))))
+    (chain (at_end (all_waiting rest) first) (permuted (append_assoc told (waiting_at new) (all_waiting rest))))
 among (one ∷ rest) (suc place) object new more told there accounts =
     chain (some_first more (waiting_at one) (all_waiting rest))
     (chain (in_front (waiting_at one) (among rest place object new more told there accounts)) (some_first (waiting_at one) told (all_waiting (set rest place new))))
 
+-- each object has its queues
+pub has_each : (objects : List Protected) (place : ℕ) (object : Protected) → HaveQueues objects → slice_get objects place ≡ Some object → length object.state.queues ≡ length object.operations.entries.items
+has_each [] place object each there = absurd (cc)
+has_each (one ∷ rest) zero object each there = let is : one ≡ object = cc in subst (λ (o : Protected). length o.state.queues ≡ length o.operations.entries.items) is each.0
+has_each (one ∷ rest) (suc place) object each there = has_each rest place object each.1 there
+
+still_each : (objects : List Protected) (place : ℕ) (new : Protected) → HaveQueues objects → length new.state.queues ≡ length new.operations.entries.items → HaveQueues (set objects place new)
+still_each [] place new each many = tt
+still_each (one ∷ rest) zero new each many = (many, each.1)
+still_each (one ∷ rest) (suc place) new each many = (each.0, still_each rest place new each.1 many)
+
 joins_none : (request : Request) → joins request None ≡ []
 joins_none (calls_function index arg) = refl
 joins_none (calls_procedure index arg) = refl
-joins_none (calls_entry call) = refl
+joins_none (calls_entry index call) = refl
 joins_none (event handler) = refl
 
 -- the calls that an action of an object leaves and answers
 abbrev Accounts : ProgramState → Request → Result → Type 0
 Accounts before request result = Perm (map name_of (joins request result.caller) ++ all_waiting before.objects) (map call_of result.told ++ all_waiting result.after.objects)
 
-object_accounts : (before : ProgramState) (number : ℕ) (request : Request) (found : Option Protected) → of_index before.objects number ≡ found → Accounts before request (object_acts before number request found)
-object_accounts before number request None none = permuted (ap (λ (l : List Waiting). map name_of l ++ all_waiting before.objects) (joins_none request))
-object_accounts before zero request (Some object) there = absurd (cc)
-object_accounts before (suc place) request (Some object) there =
+object_accounts : (before : ProgramState) (number : ℕ) (request : Request) (found : Option Protected) → HaveQueues before.objects → of_index before.objects number ≡ found → Accounts before request (object_acts before number request found)
+object_accounts before number request None each none = permuted (ap (λ (l : List Waiting). map name_of l ++ all_waiting before.objects) (joins_none request))
+object_accounts before zero request (Some object) each there = absurd (cc)
+object_accounts before (suc place) request (Some object) each there =
     let did = acted object.operations object.state request in
     let new : Protected = record object { state = did.after } in
     let where_is : suc place - 1 ≡ place = omega arith in
-    chain (among before.objects place object new (map name_of (joins request did.caller)) (map call_of did.told) there (one_accounts object request))
+    chain (among before.objects place object new (map name_of (joins request did.caller)) (map call_of did.told) there (one_leaves (has_each before.objects place object each there) (is_acted object.operations object.state request)))
     (permuted (ap (λ n. map call_of did.told ++ all_waiting (set before.objects n new)) (sym where_is)))
 
 -- what an object is asked for
-pub asked_accounts : (before : ProgramState) (number : ℕ) (request : Request) → Accounts before request (asks before number request)
-asked_accounts before number request = object_accounts before number request (of_index before.objects number) refl
+pub asked_accounts : (before : ProgramState) (number : ℕ) (request : Request) → HaveQueues before.objects → Accounts before request (asks before number request)
+asked_accounts before number request each = object_accounts before number request (of_index before.objects number) each refl
+
+-- each object has its queues still
+object_each : (before : ProgramState) (number : ℕ) (request : Request) (found : Option Protected) → HaveQueues before.objects → of_index before.objects number ≡ found → HaveQueues (object_acts before number request found).after.objects
+object_each before number request None each none = each
+object_each before zero request (Some object) each there = absurd (cc)
+object_each before (suc place) request (Some object) each there =
+    let did = acted object.operations object.state request in
+    still_each before.objects (suc place - 1) (record object { state = did.after }) each (acts_many (is_acted object.operations object.state request) ∙ has_each before.objects place object each there)
+
+handled_each : (before : ProgramState) (found : Option Handler) → HaveQueues before.objects → HaveQueues (handled before found).after.objects
+handled_each before None each = each
+handled_each before (Some handler) each = object_each before handler.object (event handler.procedure) (of_index before.objects handler.object) each refl
 
 -- the calls that a handler leaves and answers
 abbrev Leaves : ProgramState → Result → Type 0
 Leaves before result = Perm (all_waiting before.objects) (map call_of result.told ++ all_waiting result.after.objects)
 
-pub handled_accounts : (before : ProgramState) (found : Option Handler) → Leaves before (handled before found)
-handled_accounts before None = same
-handled_accounts before (Some handler) = asked_accounts before handler.object (event handler.procedure)
+pub handled_accounts : (before : ProgramState) (found : Option Handler) → HaveQueues before.objects → Leaves before (handled before found)
+handled_accounts before None each = same
+handled_accounts before (Some handler) each = asked_accounts before handler.object (event handler.procedure) each
 
 -- the calls that timing events leave and answer
-pub fire_accounts : (program : Declarations) (before : ProgramState) (numbers : List ℕ) → Leaves before (fire program before numbers)
-fire_accounts program before [] = same
-fire_accounts program before (number ∷ rest) =
+pub fire_accounts : (program : Declarations) (before : ProgramState) (numbers : List ℕ) → HaveQueues before.objects → Leaves before (fire program before numbers)
+fire_accounts program before [] each = same
+fire_accounts program before (number ∷ rest) each =
     let one = fires program before number in
     let others = fire program one.after rest in
-    chain (handled_accounts (with_timer before number None) (timer_handler program number))
-    (chain (in_front (map call_of one.told) (fire_accounts program one.after rest))
+    chain (handled_accounts (with_timer before number None) (timer_handler program number) each)
+    (chain (in_front (map call_of one.told) (fire_accounts program one.after rest (handled_each (with_timer before number None) (timer_handler program number) each)))
     (permuted (sym (append_assoc (map call_of one.told) (map call_of others.told) (all_waiting others.after.objects)) ∙ ap (λ (l : List CallName). l ++ all_waiting others.after.objects) (sym (map_append call_of one.told others.told)))))
 
 -- ---- calls
@@ -135,14 +162,15 @@ procedure_over operations before arg None = (NoSuchOperation, refl)
 procedure_over operations before arg (Some body) = (reply_of (body_effect body.items arg before.store).1, refl)
 
 -- one of an entry is over or waits
-entry_told : (operations : Operations) (found : Option Gate) (call : Waiting) (before : State) → (c : CallOutcome) × ((entry_called operations found call before).caller ≡ Some c)
-entry_told operations None call before = (Reply NoSuchOperation, refl)
-entry_told operations (Some entry) call before =
+entry_told : (operations : Operations) (found : Option Gate) (index : ℕ) (call : Waiting) (before : State) → (c : CallOutcome) × ((entry_called operations found index call before).caller ≡ Some c)
+entry_told operations None index call before = (Reply NoSuchOperation, refl)
+entry_told operations (Some entry) index call before =
     let ran = ran_for (λ outcome. Some outcome) operations entry.body.items call.arg before in
-    let waits = tells Waits (record before { queue = before.queue ++ call ∷ [] }) in
-    elim (bool_value before.store entry.barrier) as (λ b. (c : CallOutcome) × ((cond b ran (cond (nat_lt (length before.queue) longest_queue) waits (tells (Reply ProgramError) before))).caller ≡ Some c)) [
+    let waits = tells Waits (with_caller before index call) in
+    let room = nat_lt (length (queue_at before.queues (index - 1))) entry.longest in
+    elim (bool_value before.store entry.barrier) as (λ b. (c : CallOutcome) × ((cond b ran (cond room waits (tells (Reply ProgramError) before))).caller ≡ Some c)) [
       | true ↦ (Reply (reply_of (body_effect entry.body.items call.arg before.store).1), refl)
-      | false ↦ elim (nat_lt (length before.queue) longest_queue) as (λ b. (c : CallOutcome) × ((cond b waits (tells (Reply ProgramError) before)).caller ≡ Some c)) [ true ↦ (Waits, refl) | false ↦ (Reply ProgramError, refl) ]
+      | false ↦ elim room as (λ b. (c : CallOutcome) × ((cond b waits (tells (Reply ProgramError) before)).caller ≡ Some c)) [ true ↦ (Waits, refl) | false ↦ (Reply ProgramError, refl) ]
     ]
 
 -- the call and those that wait, those that are answered and those that wait after
@@ -153,12 +181,12 @@ over_leaves : (before : ProgramState) (call : Waiting) (result : Result) (r : To
 over_leaves before call result r over leaves =
     subst (λ (c : Option CallOutcome). Perm (name_of call ∷ all_waiting before.objects) (map call_of (own_answer (name_of call) c ++ result.told) ++ all_waiting result.after.objects)) (sym over) (behind leaves)
 
-told_leaves : (before : ProgramState) (call : Waiting) (result : Result) (c : CallOutcome) → result.caller ≡ Some c → Accounts before (calls_entry call) result → CallLeaves before call result
-told_leaves before call result (Reply r) is accounts =
-    over_leaves before call result r is (subst (λ (c : Option CallOutcome). Perm (map name_of (joins (calls_entry call) c) ++ all_waiting before.objects) (map call_of result.told ++ all_waiting result.after.objects)) is accounts)
-told_leaves before call result Waits is accounts =
+told_leaves : (before : ProgramState) (index : ℕ) (call : Waiting) (result : Result) (c : CallOutcome) → result.caller ≡ Some c → Accounts before (calls_entry index call) result → CallLeaves before call result
+told_leaves before index call result (Reply r) is accounts =
+    over_leaves before call result r is (subst (λ (c : Option CallOutcome). Perm (map name_of (joins (calls_entry index call) c) ++ all_waiting before.objects) (map call_of result.told ++ all_waiting result.after.objects)) is accounts)
+told_leaves before index call result Waits is accounts =
     subst (λ (c : Option CallOutcome). Perm (name_of call ∷ all_waiting before.objects) (map call_of (own_answer (name_of call) c ++ result.told) ++ all_waiting result.after.objects)) (sym is)
-    (subst (λ (c : Option CallOutcome). Perm (map name_of (joins (calls_entry call) c) ++ all_waiting before.objects) (map call_of result.told ++ all_waiting result.after.objects)) is accounts)
+    (subst (λ (c : Option CallOutcome). Perm (map name_of (joins (calls_entry index call) c) ++ all_waiting before.objects) (map call_of result.told ++ all_waiting result.after.objects)) is accounts)
 
 -- an object that is there tells its caller
 asked_there : (before : ProgramState) (number : ℕ) (request : Request) (object : Protected) → of_index before.objects number ≡ Some object → (asks before number request).caller ≡ (acted object.operations object.state request).caller
@@ -178,7 +206,7 @@ declared_there : {X : Type 0} (test : X → Bool) (found : Option X) → is_some
 declared_there test None holds = absurd (cc)
 declared_there test (Some x) holds = (x, refl)
 
-module _ (program : Declarations) (before : ProgramState) (long : length program.objects.items ≡ length before.objects) (call : Waiting) (object : ℕ) where
+module _ (program : Declarations) (before : ProgramState) (long : length program.objects.items ≡ length before.objects) (each : HaveQueues before.objects) (call : Waiting) (object : ℕ) where
   object_there : (operation : Operation) → object_has program object operation ≡ true → (o : Protected) × (of_index before.objects object ≡ Some o)
   object_there operation has =
       let declared = declared_there (λ d. has_operation operation (operations_of d)) (of_index program.objects.items object) has in
@@ -191,15 +219,15 @@ module _ (program : Declarations) (before : ProgramState) (long : length program
   allowed_leaves (Function index) has =
       let o = object_there (Function index) has in
       let over = function_over o.0.operations o.0.state index call.arg (of_index o.0.operations.functions.items index) in
-      within_leaves (calls_function index call.arg) (over_leaves before call (asks before object (calls_function index call.arg)) over.0 (asked_there before object (calls_function index call.arg) o.0 o.1 ∙ over.1) (asked_accounts before object (calls_function index call.arg)))
+      within_leaves (calls_function index call.arg) (over_leaves before call (asks before object (calls_function index call.arg)) over.0 (asked_there before object (calls_function index call.arg) o.0 o.1 ∙ over.1) (asked_accounts before object (calls_function index call.arg) each))
   allowed_leaves (Procedure index) has =
       let o = object_there (Procedure index) has in
       let over = procedure_over o.0.operations o.0.state call.arg (of_index o.0.operations.procedures.items index) in
-      within_leaves (calls_procedure index call.arg) (over_leaves before call (asks before object (calls_procedure index call.arg)) over.0 (asked_there before object (calls_procedure index call.arg) o.0 o.1 ∙ over.1) (asked_accounts before object (calls_procedure index call.arg)))
+      within_leaves (calls_procedure index call.arg) (over_leaves before call (asks before object (calls_procedure index call.arg)) over.0 (asked_there before object (calls_procedure index call.arg) o.0 o.1 ∙ over.1) (asked_accounts before object (calls_procedure index call.arg) each))
   allowed_leaves (Entry index) has =
       let o = object_there (Entry index) has in
-      let told = entry_told o.0.operations o.0.operations.entry call o.0.state in
-      within_leaves (calls_entry call) (told_leaves before call (asks before object (calls_entry call)) told.0 (asked_there before object (calls_entry call) o.0 o.1 ∙ told.1) (asked_accounts before object (calls_entry call)))
+      let told = entry_told o.0.operations (of_index o.0.operations.entries.items index) index call o.0.state in
+      within_leaves (calls_entry index call) (told_leaves before index call (asks before object (calls_entry index call)) told.0 (asked_there before object (calls_entry index call) o.0 o.1 ∙ told.1) (asked_accounts before object (calls_entry index call) each))
   allowed_leaves (SetTimer index) has = same
   allowed_leaves (CancelTimer index) has = same
 
@@ -207,7 +235,7 @@ module _ (program : Declarations) (before : ProgramState) (long : length program
   second true b holds = holds
   second false b holds = absurd (cc)
 
-  called_leaves : (operation : Operation) → CallLeaves before call (called program before call object operation)
+  pub called_leaves : (operation : Operation) → CallLeaves before call (called program before call object operation)
   called_leaves operation =
       let declared = is_declared program call.task object operation in
       elim declared as (λ b. declared ≡ b → CallLeaves before call (cond b (allowed program before call object operation) (ends_with (Reply NoSuchOperation) before))) [
@@ -216,12 +244,12 @@ module _ (program : Declarations) (before : ProgramState) (long : length program
       ] refl
 
 -- those that waited and the action's own call are those that are answered and those that wait after it
-pub step_leaves : (program : Declarations) (before : ProgramState) (action : Action) → length program.objects.items ≡ length before.objects
+pub step_leaves : (program : Declarations) (before : ProgramState) (action : Action) → length program.objects.items ≡ length before.objects → HaveQueues before.objects
     → (let result = program_step program before action in Perm (calls_of action ++ all_waiting before.objects) (map call_of (answers_of action result) ++ all_waiting result.after.objects))
-step_leaves program before Noop long = same
-step_leaves program before (Call task number object operation arg) long = called_leaves program before long (record { task = task; number = number; arg = arg }) object operation
-step_leaves program before (Interrupt source occurrence) long = handled_accounts before (interrupt_handler program source)
-step_leaves program before (Tick now) long = fire_accounts program (record before { clock = max before.clock now }) (due_events (max before.clock now) before.timers)
+step_leaves program before Noop long each = same
+step_leaves program before (Call task number object operation arg) long each = called_leaves program before long each (record { task = task; number = number; arg = arg }) object operation
+step_leaves program before (Interrupt source occurrence) long each = handled_accounts before (interrupt_handler program source) each
+step_leaves program before (Tick now) long each = fire_accounts program (record before { clock = max before.clock now }) (due_events (max before.clock now) before.timers) each
 
 -- so the answers are for distinct calls, the action's own or ones that waited, and exactly the others wait
 pub step_accounts : (waited : List CallName) (action : Action) (told : List Answer) (waiting : List CallName) → IsSet (calls_of action ++ waited) → Perm (calls_of action ++ waited) (map call_of told ++ waiting)

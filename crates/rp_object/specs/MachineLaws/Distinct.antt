@@ -5,14 +5,6 @@ use Rattle.rp_base.specs.declared.action.Action.{Action}
 use Rattle.rp_base.specs.declared.action.Action.TheVariants.{Noop, Call, Interrupt, Tick}
 use Rattle.rp_base.proofs.Members.{has_mapped, mapped_has}
 use Rattle.rp_machine.specs.Calls.{CallName, calls_of, MayApply}
-use Rattle.rp_object.specs.MachineLaws.Permuting.{Perm, same, behind, swap, chain}
-
--- what is made of each, in another order
-pub mapped_permuted : {A B : Type 0} (f : A → B) {xs ys : List A} → Perm xs ys → Perm (map f xs) (map f ys)
-mapped_permuted f same = same
-mapped_permuted f (behind p) = behind (mapped_permuted f p)
-mapped_permuted f swap = swap
-mapped_permuted f (chain p q) = chain (mapped_permuted f p) (mapped_permuted f q)
 
 -- distinct values are made of distinct things
 pub set_of_mapped : {A B : Type 0} (f : A → B) (xs : List A) → IsSet (map f xs) → IsSet xs

@@ -1,26 +1,28 @@
 -- The start of a program is one of its states.
-use Rattle.std.proofs.Common.{◌≡◌, ℕ, List, [], ◌∷◌, ◌++◌, map, IfSome, FitsSigned, w64, refl, sym, subst, arith}
+use Rattle.std.proofs.Common.{◌≡◌, ℕ, List, [], ◌∷◌, ◌++◌, map, IfSome, FitsSigned, w64, refl, sym, ◌∙◌, ap, subst, arith}
 use Rattle.std.specs.Prelude.{flat_map}
 use Rattle.std.specs.List.{AllZip, AllByRecursion}
 use Rattle.std.proofs.lemmas.List.{length-map}
-use Rattle.std.proofs.lemmas.List.Elements.{All-nil, All-from_recursion, recursion_from_All}
-use Rattle.rp_base.specs.Sets.{IsSet}
+use Rattle.std.proofs.lemmas.List.Elements.{All-from_recursion, recursion_from_All}
+use Rattle.rp_base.specs.Sets.{Has, IsSet}
+use Rattle.rp_entry.specs.declared.state.Waiting.{Waiting}
+use Rattle.rp_entry.proofs.Ready.{first_is_object, no_call}
 use Rattle.rp_machine.specs.Calls.{CallName, AccountsFor, MayApply, calls_of}
 use Rattle.rp_base.specs.declared.action.Action.{Action}
 use Rattle.rp_object.specs.declared.program.ObjectDeclaration.{ObjectDeclaration}
 use Rattle.rp_object.specs.declared.program.TimingEvent.{TimingEvent}
 use Rattle.rp_object.specs.declared.program.Declarations.{Declarations}
-use Rattle.rp_object.specs.Program.{DeclarationFits, IsProgram}
-use Rattle.rp_object.specs.State.{Running, first_object, unset, first_state}
+use Rattle.rp_object.specs.Program.{operations_of, DeclarationFits, IsProgram}
+use Rattle.rp_object.specs.State.{Running, first_object, unset, first_state, name_of}
 use Rattle.rp_object.specs.Step.{waiting_at, objects_waiting, objects_next, objects_answers}
-use Rattle.rp_object.specs.Reached.{IsCall, IsObjectOf, IsStateOf}
+use Rattle.rp_object.specs.Reached.{IsObjectOf, IsStateOf}
 use Rattle.rp_object.specs.MachineLaws.Accounting.{step_leaves, step_accounts}
 use Rattle.rp_object.specs.MachineLaws.Distinct.{set_of_mapped, tasks_apart}
-use Rattle.rp_object.specs.MachineLaws.Keeping.{as_many}
+use Rattle.rp_object.specs.MachineLaws.Keeping.{as_many, have_queues}
 
-nobody : (declared : List ObjectDeclaration) → flat_map waiting_at (map first_object declared) ≡ []
+pub nobody : (declared : List ObjectDeclaration) → flat_map waiting_at (map first_object declared) ≡ []
 nobody [] = refl
-nobody (one ∷ rest) = nobody rest
+nobody (one ∷ rest) = ap (λ (l : List Waiting). map name_of l ++ flat_map waiting_at (map first_object rest)) (no_call (operations_of one).entries.items) ∙ nobody rest
 
 -- nobody waits at the start
 pub nobody_first : (program : Declarations) → objects_waiting (first_state program) ≡ []
@@ -32,10 +34,9 @@ first_one declared fits = record {
   ranges = λ name. refl;
   bools = λ name. refl;
   values = fits.in_range;
-  calls = All-nil IsCall;
-  short = omega arith;
-  no_entry = λ none. refl;
-  serviced = λ gate there up. refl;
+  queues = (first_is_object (operations_of declared) declared.components fits.operations).queues.short;
+  calls = λ call has. absurd (subst (λ (l : List Waiting). Has call l) (no_call (operations_of declared).entries.items) has);
+  serviced = (first_is_object (operations_of declared) declared.components fits.operations).serviced;
 }
 
 first_ones : (declared : List ObjectDeclaration) → AllByRecursion DeclarationFits declared → AllZip IsObjectOf declared (map first_object declared)
@@ -62,7 +63,7 @@ pub state_accounts : (program : Declarations) (running : Running) (action : Acti
 state_accounts program running action is may =
     let own = running.program in
     let objects = subst (λ (p : Declarations). AllZip IsObjectOf p.objects.items running.state.objects) (sym is.declared) is.objects in
-    let leaves = step_leaves own running.state action (as_many own.objects.items running.state.objects objects) in
+    let leaves = step_leaves own running.state action (as_many own.objects.items running.state.objects objects) (have_queues own.objects.items running.state.objects objects) in
     let task_of : CallName → ℕ = λ call. call.task in
     step_accounts (objects_waiting running) action (objects_answers running action) (objects_waiting (objects_next running action))
     (set_of_mapped task_of (calls_of action ++ objects_waiting running) (tasks_apart (objects_waiting running) action may is.tasks)) leaves

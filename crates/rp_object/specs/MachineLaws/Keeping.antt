@@ -17,9 +17,11 @@ use Rattle.rp_entry.specs.declared.state.Waiting.{Waiting}
 use Rattle.rp_entry.specs.declared.state.CallOutcome.TheVariants.{Reply}
 use Rattle.rp_entry.specs.Operations.{of_index, OperationsFit}
 use Rattle.rp_entry.specs.Queue.{IsServiced}
-use Rattle.rp_entry.specs.Protected.{Protected}
+use Rattle.rp_entry.specs.Protected.{Protected, IsShort}
 use Rattle.rp_entry.specs.Actions.{Request, calls_function, calls_procedure, calls_entry, event}
 use Rattle.rp_entry.specs.Results.{acted}
+use Rattle.rp_entry.proofs.Permuting.{mapped_permuted, set_permuted}
+use Rattle.rp_entry.proofs.Queues.{as_many as queues_many}
 use Rattle.rp_entry.proofs.Results.{is_acted}
 use Rattle.rp_entry.proofs.Keeping.{acts_keep}
 use Rattle.rp_entry.proofs.Naming.{acts_keep_booleans}
@@ -31,11 +33,10 @@ use Rattle.rp_object.specs.Program.{operations_of, is_declared, is_within_ceilin
 use Rattle.rp_object.specs.State.{ProgramState, Running}
 use Rattle.rp_object.specs.Timers.{due_events}
 use Rattle.rp_object.specs.Step.{object_acts, asks, ends_with, asks_within, allowed, called, handled, fires, fire, with_timer, program_step, objects_next, objects_answers, objects_waiting}
-use Rattle.rp_object.specs.Reached.{IsCall, IsObjectOf, IsStateOf}
+use Rattle.rp_object.specs.Reached.{IsCall, IsObjectOf, IsStateOf, HaveQueues}
 use Rattle.rp_object.specs.MachineLaws.Accounting.{step_leaves}
-use Rattle.rp_object.specs.MachineLaws.Distinct.{mapped_permuted, set_right, tasks_apart}
-use Rattle.rp_object.specs.MachineLaws.Permuting.{set_permuted}
-use Rattle.rp_object.specs.MachineLaws.Queues.{IsRightRequest, acts_go, short_still, calls_still, none_still, acts_serviced}
+use Rattle.rp_object.specs.MachineLaws.Distinct.{set_right, tasks_apart}
+use Rattle.rp_object.specs.MachineLaws.Queues.{IsRightRequest, acts_short, acts_calls, acts_serviced}
 
 -- ---- one object
 
@@ -46,8 +47,8 @@ object_kept declared object request fits right is =
     let limits = limits_of declared.components in
     let operations : OperationsFit limits object.operations = subst (OperationsFit limits) (sym is.operations) fits.operations in
     let has : HasBools limits object.state.store = λ name below. is.bools name ∙ (fits.numbered.bools name).1 below in
-    let goes = acts_go acts in
     let after = (acted object.operations object.state request).after in
+    let short : AllZip IsShort object.operations.entries.items object.state.queues = subst (λ (o : Operations). AllZip IsShort o.entries.items object.state.queues) (sym is.operations) is.queues in
     let before : IsServiced object.operations object.state = subst (λ (o : Operations). IsServiced o object.state) (sym is.operations) is.serviced in
     let serviced : IsServiced (operations_of declared) after = subst (λ (o : Operations). IsServiced o after) is.operations (acts_serviced acts before) in
     record {
@@ -55,9 +56,8 @@ object_kept declared object request fits right is =
       ranges = λ name. (acts_keep acts).ranges name ∙ is.ranges name;
       bools = λ name. acts_keep_booleans limits object.operations operations acts has name ∙ is.bools name;
       values = (acts_keep acts).values is.values;
-      calls = calls_still goes right is.calls;
-      short = short_still goes is.short;
-      no_entry = λ none. none_still goes (ap (λ (o : Operations). o.entry) is.operations ∙ none) (is.no_entry none);
+      queues = subst (λ (o : Operations). AllZip IsShort o.entries.items after.queues) is.operations (acts_short acts short);
+      calls = acts_calls (queues_many object.operations.entries.items object.state.queues short) acts right is.calls;
       serviced = serviced;
     }
 
@@ -126,7 +126,7 @@ module _ (program : Declarations) (right : IsProgram program) where
     allowed_keeps : (operation : Operation) → Keeps program (allowed program before call object operation).after
     allowed_keeps (Function index) = within_keeps (calls_function index call.arg) tt
     allowed_keeps (Procedure index) = within_keeps (calls_procedure index call.arg) tt
-    allowed_keeps (Entry index) = within_keeps (calls_entry call) fits
+    allowed_keeps (Entry index) = within_keeps (calls_entry index call) fits
     allowed_keeps (SetTimer index) = timer_keeps before index (Some call.arg) fits.arg keeps
     allowed_keeps (CancelTimer index) = timer_keeps before index None tt keeps
 
@@ -151,6 +151,15 @@ as_many [] (o ∷ objects) each = absurd each
 as_many (d ∷ declared) [] each = absurd each
 as_many (d ∷ declared) (o ∷ objects) each = ap suc (as_many declared objects each.1)
 
+-- and has its queues
+pub have_queues : (declared : List ObjectDeclaration) (objects : List Protected) → AllZip IsObjectOf declared objects → HaveQueues objects
+have_queues [] [] each = tt
+have_queues [] (o ∷ objects) each = absurd each
+have_queues (d ∷ declared) [] each = absurd each
+have_queues (d ∷ declared) (o ∷ objects) each =
+    let many = queues_many (operations_of d).entries.items o.state.queues each.0.queues in
+    (many ∙ ap (λ (p : Operations). length p.entries.items) (sym each.0.operations), have_queues declared objects each.1)
+
 -- an action keeps a state one of the program's
 pub next_is_state : (program : Declarations) (running : Running) (action : Action) → IsProgram program → IsStateOf program running → IsRight action → MayApply (objects_waiting running) action → IsStateOf program (objects_next running action)
 next_is_state program running action right is fits may =
@@ -159,7 +168,7 @@ next_is_state program running action right is fits may =
     let right_own : IsProgram own = subst IsProgram (sym is.declared) right in
     let start : Keeps own before = subst (λ (p : Declarations). Keeps p before) (sym is.declared) (record { objects = is.objects; all_timers = is.all_timers; times = is.times; clock = is.clock }) in
     let kept : Keeps program (program_step own before action).after = subst (λ (p : Declarations). Keeps p (program_step own before action).after) is.declared (step_keeps own right_own before action fits start) in
-    let leaves = step_leaves own before action (as_many own.objects.items before.objects start.objects) in
+    let leaves = step_leaves own before action (as_many own.objects.items before.objects start.objects) (have_queues own.objects.items before.objects start.objects) in
     let task_of : CallName → ℕ = λ call. call.task in
     record {
       declared = is.declared;

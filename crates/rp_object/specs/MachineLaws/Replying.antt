@@ -59,7 +59,7 @@ within_fits program before call object request =
 allowed_fits : (program : Declarations) (before : ProgramState) (call : Waiting) (object : ℕ) (operation : Operation) → Fits (allowed program before call object operation)
 allowed_fits program before call object (Function index) = within_fits program before call object (calls_function index call.arg)
 allowed_fits program before call object (Procedure index) = within_fits program before call object (calls_procedure index call.arg)
-allowed_fits program before call object (Entry index) = within_fits program before call object (calls_entry call)
+allowed_fits program before call object (Entry index) = within_fits program before call object (calls_entry index call)
 allowed_fits program before call object (SetTimer index) = ends_fits (Value (pos 0)) (with_timer before index (Some call.arg)) (fits_signed (pos 0) refl)
 allowed_fits program before call object (CancelTimer index) = ends_fits (Truth (is_set before index)) (with_timer before index None) tt
 

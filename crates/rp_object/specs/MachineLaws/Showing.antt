@@ -1,6 +1,6 @@
 -- The image shows the state: each part of it can be read off, and what comes behind it.
-use Rattle.std.proofs.Common.{◌≡◌, ◌≢◌, ◌≤◌, ◌<◌, ◌+◌, inl, inr, ℕ, suc, ℤ, Bool, true, false, cond, List, [], ◌∷◌, ◌++◌, length, get_or, codes, decimal, Option, Some, None, String, Global, string_bytes, FitsSigned, w64, refl, sym, ◌∙◌, ap, subst, arith}
-use Rattle.std.specs.Prelude.{IfSome, is_some}
+use Rattle.std.proofs.Common.{◌≡◌, ◌≢◌, ◌≤◌, ◌<◌, ◌+◌, ◌⊎◌, append_assoc, inl, inr, ℕ, suc, ℤ, Bool, true, false, List, [], ◌∷◌, ◌++◌, length, get_or, codes, decimal, Option, Some, None, String, Global, string_bytes, FitsSigned, w64, refl, sym, ◌∙◌, ap, subst, arith}
+use Rattle.std.specs.Prelude.{IfSome, flat_map}
 use Rattle.std.specs.Fmt.{signed_decimal}
 use Rattle.std.specs.List.{AllZip, AllByRecursion}
 use Rattle.std.proofs.lemmas.Bool.{cases_eq}
@@ -8,16 +8,19 @@ use Rattle.std.proofs.lemmas.List.{append_cancel_left}
 use Rattle.std.proofs.lemmas.List.Elements.{recursion_from_All}
 use Rattle.std.proofs.Math.Logic.{⊎_elim}
 use Rattle.rp_body.specs.Store.{Store, int_value, bool_value}
-use Rattle.rp_entry.specs.declared.operations.Entry.{Entry}
+use Rattle.rp_base.specs.Sets.{Has}
+use Rattle.rp_base.proofs.Members.{has_left, has_right}
 use Rattle.rp_entry.specs.declared.state.Waiting.{Waiting}
-use Rattle.rp_entry.specs.Queue.{longest_queue}
+use Rattle.rp_entry.specs.Queue.{all_calls}
+use Rattle.rp_entry.proofs.Queues.{as_many as queues_many}
+use Rattle.rp_object.specs.declared.program.Profile.{Profile}
 use Rattle.rp_entry.specs.Protected.{Protected}
 use Rattle.rp_object.specs.declared.program.ObjectDeclaration.{ObjectDeclaration}
 use Rattle.rp_object.specs.declared.program.TimingEvent.{TimingEvent}
 use Rattle.rp_object.specs.declared.program.Declarations.{Declarations}
 use Rattle.rp_object.specs.Program.{operations_of, DeclarationFits, IsProgram}
 use Rattle.rp_object.specs.State.{ProgramState, Running}
-use Rattle.rp_object.specs.Image.{ints_text, truth_text, bools_text, queue_text, object_line, object_lines, time_text, timer_line, timer_lines, objects_image}
+use Rattle.rp_object.specs.Image.{ints_text, truth_text, bools_text, call_text, queue_text, entry_text, queues_text, object_line, object_lines, time_text, timer_line, timer_lines, objects_image}
 use Rattle.rp_object.specs.Reached.{IsCall, IsObjectOf, IsStateOf}
 use Rattle.rp_object.specs.MachineLaws.Words.{EndsWord, ends_before, read_signed, read_count, regroup}
 use Rattle.rp_object.specs.MachineLaws.Stores.{values_fit, same_ints, same_bools}
@@ -81,9 +84,9 @@ read_bools (name ∷ names) one other place s t e =
       rest.1,
     )
 
--- ---- the queue
+-- ---- the queues
 
-read_call : (c d : Waiting) (s t : List ℕ) → IsCall c → IsCall d → EndsWord s → EndsWord t → queue_text (c ∷ []) ++ s ≡ queue_text (d ∷ []) ++ t → (c ≡ d) × (s ≡ t)
+read_call : (c d : Waiting) (s t : List ℕ) → IsCall c → IsCall d → EndsWord s → EndsWord t → call_text c ++ s ≡ call_text d ++ t → (c ≡ d) × (s ≡ t)
 read_call c d s t p q u v e =
     let x = signed_decimal c.arg in
     let y = signed_decimal d.arg in
@@ -99,39 +102,78 @@ read_call c d s t p q u v e =
     let arg = read_signed c.arg d.arg s t p.arg q.arg u v third in
     ((λ i. record { task = task.0 i; number = number.0 i; arg = arg.0 i }), arg.1)
 
-read_queue : (one other : List Waiting) (s t : List ℕ) → AllByRecursion IsCall one → AllByRecursion IsCall other → length one ≤ longest_queue → length other ≤ longest_queue
-    → EndsWord s → EndsWord t → queue_text one ++ s ≡ queue_text other ++ t → (one ≡ other) × (s ≡ t)
-read_queue [] [] s t p q short few u v e = (refl, append_cancel_left (codes " none") s t e)
-read_queue [] (d ∷ rest) s t p q short few u v e = let wrong : 110 ≡ 116 = ap (λ (l : List ℕ). get_or l 1 0) e in absurd (omega (arith, wrong))
-read_queue (c ∷ rest) [] s t p q short few u v e = let wrong : 116 ≡ 110 = ap (λ (l : List ℕ). get_or l 1 0) e in absurd (omega (arith, wrong))
-read_queue (c ∷ []) (d ∷ []) s t p q short few u v e =
-    let call = read_call c d s t p.0 q.0 u v e in
-    (ap (λ (w : Waiting). w ∷ []) call.0, call.1)
-read_queue (c ∷ []) (d ∷ other ∷ rest) s t p q short few u v e = absurd (omega (arith, few))
-read_queue (c ∷ other ∷ rest) (d ∷ others) s t p q short few u v e = absurd (omega (arith, short))
+-- the text begins with a line feed, or with a blank and the letter of ` queue`
+abbrev EndsQueue : List ℕ → Type 0
+EndsQueue s = EndsWord s × ((get_or s 0 0 ≡ 10) ⊎ (get_or s 1 0 ≡ 113))
 
--- what is written of the queue, where there is an entry
-abbrev gate_text : Option Entry → List Waiting → List ℕ
-gate_text entry queue = cond (is_some entry) (codes " queue" ++ queue_text queue) []
+-- so no call begins there
+no_call_there : (s rest : List ℕ) (call : Waiting) → EndsQueue s → s ≡ call_text call ++ rest → ⊥
+no_call_there s rest call ends e = ⊎_elim
+    (λ (line : get_or s 0 0 ≡ 10). let blank : get_or s 0 0 ≡ 32 = ap (λ (l : List ℕ). get_or l 0 0) e in omega (arith, line, blank))
+    (λ (queue : get_or s 1 0 ≡ 113). let task : get_or s 1 0 ≡ 116 = ap (λ (l : List ℕ). get_or l 1 0) e in omega (arith, queue, task))
+    ends.1
 
-gate_ends : (entry : Option Entry) (queue : List Waiting) → EndsWord (gate_text entry queue ++ codes "\n")
-gate_ends None queue = inr refl
-gate_ends (Some gate) queue = inl refl
+abbrev AreCalls : List Waiting → Type 0
+AreCalls calls = (call : Waiting) → Has call calls → IsCall call
 
-read_gate : (entry : Option Entry) (one other : List Waiting) (s t : List ℕ) → AllByRecursion IsCall one → AllByRecursion IsCall other → length one ≤ longest_queue → length other ≤ longest_queue
-    → (entry ≡ None → one ≡ []) → (entry ≡ None → other ≡ []) → EndsWord s → EndsWord t → gate_text entry one ++ s ≡ gate_text entry other ++ t → (one ≡ other) × (s ≡ t)
-read_gate None one other s t p q short few nobody none u v e = (nobody refl ∙ sym (none refl), e)
-read_gate (Some gate) one other s t p q short few nobody none u v e =
-    read_queue one other s t p q short few u v (append_cancel_left (codes " queue") (queue_text one ++ s) (queue_text other ++ t) e)
+calls_end : (calls : List Waiting) (s : List ℕ) → EndsWord s → EndsWord (flat_map call_text calls ++ s)
+calls_end [] s gap = gap
+calls_end (call ∷ calls) s gap = inl refl
+
+read_calls : (one other : List Waiting) (s t : List ℕ) → AreCalls one → AreCalls other → EndsQueue s → EndsQueue t → flat_map call_text one ++ s ≡ flat_map call_text other ++ t → (one ≡ other) × (s ≡ t)
+read_calls [] [] s t p q u v e = (refl, e)
+read_calls [] (d ∷ others) s t p q u v e = absurd (no_call_there s (flat_map call_text others ++ t) d u (e ∙ append_assoc (call_text d) (flat_map call_text others) t))
+read_calls (c ∷ calls) [] s t p q u v e = absurd (no_call_there t (flat_map call_text calls ++ s) c v (sym e ∙ append_assoc (call_text c) (flat_map call_text calls) s))
+read_calls (c ∷ calls) (d ∷ others) s t p q u v e =
+    let left = flat_map call_text calls in
+    let right = flat_map call_text others in
+    let first = read_call c d (left ++ s) (right ++ t) (p c (inl refl)) (q d (inl refl)) (calls_end calls s u.0) (calls_end others t v.0)
+    (sym (append_assoc (call_text c) left s) ∙ e ∙ append_assoc (call_text d) right t) in
+    let rest = read_calls calls others s t (λ call has. p call (inr has)) (λ call has. q call (inr has)) u v first.1 in
+    ((λ i. first.0 i ∷ rest.0 i), rest.1)
+
+read_queue : (one other : List Waiting) (s t : List ℕ) → AreCalls one → AreCalls other → EndsQueue s → EndsQueue t → queue_text one ++ s ≡ queue_text other ++ t → (one ≡ other) × (s ≡ t)
+read_queue [] [] s t p q u v e = (refl, append_cancel_left (codes " none") s t e)
+read_queue [] (d ∷ rest) s t p q u v e = let wrong : 110 ≡ 116 = ap (λ (l : List ℕ). get_or l 1 0) e in absurd (omega (arith, wrong))
+read_queue (c ∷ rest) [] s t p q u v e = let wrong : 116 ≡ 110 = ap (λ (l : List ℕ). get_or l 1 0) e in absurd (omega (arith, wrong))
+read_queue (c ∷ calls) (d ∷ others) s t p q u v e = read_calls (c ∷ calls) (d ∷ others) s t p q u v e
+
+-- the text begins with a line feed
+abbrev EndsLine : List ℕ → Type 0
+EndsLine s = EndsWord s × (get_or s 0 0 ≡ 10)
+
+module _ (profile : Profile) where
+  queues_end : (names : List (String Global)) (queues : List (List Waiting)) (s : List ℕ) → EndsLine s → EndsQueue (queues_text profile names queues ++ s)
+  queues_end [] queues s line = (line.0, inl line.1)
+  queues_end (name ∷ names) [] s line = (line.0, inl line.1)
+  queues_end (name ∷ names) (queue ∷ queues) s line = (inl refl, inr refl)
+
+  read_queues : (names : List (String Global)) (one other : List (List Waiting)) (s t : List ℕ) → length one ≡ length names → length other ≡ length names → AreCalls (all_calls one) → AreCalls (all_calls other)
+      → EndsLine s → EndsLine t → queues_text profile names one ++ s ≡ queues_text profile names other ++ t → (one ≡ other) × (s ≡ t)
+  read_queues [] [] [] s t l m p q u v e = (refl, e)
+  read_queues [] [] (b ∷ other) s t l m p q u v e = absurd (omega (arith, m))
+  read_queues [] (a ∷ one) other s t l m p q u v e = absurd (omega (arith, l))
+  read_queues (name ∷ names) [] other s t l m p q u v e = absurd (omega (arith, l))
+  read_queues (name ∷ names) (a ∷ one) [] s t l m p q u v e = absurd (omega (arith, m))
+  read_queues (name ∷ names) (a ∷ one) (b ∷ other) s t l m p q u v e =
+      let word = entry_text profile (string_bytes name) in
+      let left = queues_text profile names one in
+      let right = queues_text profile names other in
+      let first = append_cancel_left (codes " queue") ((word ++ (queue_text a ++ left)) ++ s) ((word ++ (queue_text b ++ right)) ++ t) e in
+      let named = append_cancel_left word ((queue_text a ++ left) ++ s) ((queue_text b ++ right) ++ t) (regroup word (queue_text a ++ left) s word (queue_text b ++ right) t first) in
+      let queue = read_queue a b (left ++ s) (right ++ t) (λ call has. p call (has_left call a (all_calls one) has)) (λ call has. q call (has_left call b (all_calls other) has))
+      (queues_end names one s u) (queues_end names other t v) (regroup (queue_text a) left s (queue_text b) right t named) in
+      let rest = read_queues names one other s t (omega (arith, l)) (omega (arith, m)) (λ call has. p call (has_right call a (all_calls one) has)) (λ call has. q call (has_right call b (all_calls other) has)) u v queue.1 in
+      ((λ i. queue.0 i ∷ rest.0 i), rest.1)
 
 -- ---- objects
 
-module _ (declared : ObjectDeclaration) (fits : DeclarationFits declared) where
-  abbrev entry_of : Option Entry
-  entry_of = (operations_of declared).entry
+module _ (profile : Profile) (declared : ObjectDeclaration) (fits : DeclarationFits declared) where
+  abbrev shown : Protected → List ℕ
+  shown object = queues_text profile declared.entries.items object.state.queues
 
   abbrev behind_bools : Protected → List ℕ
-  behind_bools object = gate_text entry_of object.state.queue ++ codes "\n"
+  behind_bools object = shown object ++ codes "\n"
 
   abbrev behind_ints : Protected → List ℕ
   behind_ints object = bools_text object.state.store 0 declared.bools.items ++ behind_bools object
@@ -139,44 +181,48 @@ module _ (declared : ObjectDeclaration) (fits : DeclarationFits declared) where
   abbrev behind_name : Protected → List ℕ
   behind_name object = ints_text object.state.store 0 declared.ints.items ++ behind_ints object
 
-  same_object : (one other : Protected) → one.operations ≡ other.operations → one.state.store.ints ≡ other.state.store.ints → one.state.store.bools ≡ other.state.store.bools → one.state.queue ≡ other.state.queue → one ≡ other
-  same_object one other operations ints bools queue =
-      λ i. record { operations = operations i; state = record { store = record { ints = ints i; bools = bools i }; queue = queue i } }
+  same_object : (one other : Protected) → one.operations ≡ other.operations → one.state.store.ints ≡ other.state.store.ints → one.state.store.bools ≡ other.state.store.bools → one.state.queues ≡ other.state.queues → one ≡ other
+  same_object one other operations ints bools queues =
+      λ i. record { operations = operations i; state = record { store = record { ints = ints i; bools = bools i }; queues = queues i } }
 
-  read_object : (one other : Protected) (s t : List ℕ) → IsObjectOf declared one → IsObjectOf declared other → object_line declared one ++ s ≡ object_line declared other ++ t → (one ≡ other) × (s ≡ t)
+  -- each entry that is named has its queue
+  many : (object : Protected) → IsObjectOf declared object → length object.state.queues ≡ length declared.entries.items
+  many object is = queues_many (operations_of declared).entries.items object.state.queues is.queues ∙ sym fits.entries
+
+  read_object : (one other : Protected) (s t : List ℕ) → IsObjectOf declared one → IsObjectOf declared other → object_line profile declared one ++ s ≡ object_line profile declared other ++ t → (one ≡ other) × (s ≡ t)
   read_object one other s t p q e =
       let name = string_bytes declared.name in
       let first = append_cancel_left (codes "object ") ((name ++ behind_name one) ++ s) ((name ++ behind_name other) ++ t) e in
       let named = append_cancel_left name (behind_name one ++ s) (behind_name other ++ t) (regroup name (behind_name one) s name (behind_name other) t first) in
+      let line : EndsLine (codes "\n") = (inr refl, refl) in
       let ends : (o : Protected) (r : List ℕ) → EndsWord (behind_ints o ++ r) =
-      λ o r. ends_before (behind_ints o) r (bools_end o.state.store 0 declared.bools.items (behind_bools o) (gate_ends entry_of o.state.queue)) in
+      λ o r. ends_before (behind_ints o) r (bools_end o.state.store 0 declared.bools.items (behind_bools o) (queues_end profile declared.entries.items o.state.queues (codes "\n") line).0) in
       let ints = read_ints declared.ints.items one.state.store other.state.store 0 (behind_ints one ++ s) (behind_ints other ++ t)
       (values_fit declared.components one.state.store fits.ends p.ranges p.values) (values_fit declared.components other.state.store fits.ends q.ranges q.values) (ends one s) (ends other t)
       (regroup (ints_text one.state.store 0 declared.ints.items) (behind_ints one) s (ints_text other.state.store 0 declared.ints.items) (behind_ints other) t named) in
       let bools = read_bools declared.bools.items one.state.store other.state.store 0 (behind_bools one ++ s) (behind_bools other ++ t)
       (regroup (bools_text one.state.store 0 declared.bools.items) (behind_bools one) s (bools_text other.state.store 0 declared.bools.items) (behind_bools other) t ints.1) in
-      let queue = read_gate entry_of one.state.queue other.state.queue (codes "\n" ++ s) (codes "\n" ++ t)
-      (recursion_from_All IsCall one.state.queue p.calls) (recursion_from_All IsCall other.state.queue q.calls) p.short q.short p.no_entry q.no_entry (inr refl) (inr refl)
-      (regroup (gate_text entry_of one.state.queue) (codes "\n") s (gate_text entry_of other.state.queue) (codes "\n") t bools.1) in (
+      let queues = read_queues profile declared.entries.items one.state.queues other.state.queues (codes "\n" ++ s) (codes "\n" ++ t) (many one p) (many other q) p.calls q.calls (inr refl, refl) (inr refl, refl)
+      (regroup (shown one) (codes "\n") s (shown other) (codes "\n") t bools.1) in (
         same_object one other (p.operations ∙ sym q.operations)
             (same_ints declared fits one.state.store other.state.store p.ranges q.ranges (λ k below. ints.0 k (omega arith) (omega (arith, below))))
             (same_bools declared fits one.state.store other.state.store p.bools q.bools (λ k below. bools.0 k (omega arith) (omega (arith, below))))
-            queue.0,
-        append_cancel_left (codes "\n") s t queue.1,
+            queues.0,
+        append_cancel_left (codes "\n") s t queues.1,
       )
 
-read_objects : (declared : List ObjectDeclaration) (one other : List Protected) (s t : List ℕ) → AllByRecursion DeclarationFits declared → AllZip IsObjectOf declared one → AllZip IsObjectOf declared other
-    → object_lines declared one ++ s ≡ object_lines declared other ++ t → (one ≡ other) × (s ≡ t)
-read_objects [] [] [] s t fits p q e = (refl, e)
-read_objects [] [] (b ∷ other) s t fits p q e = absurd q
-read_objects [] (a ∷ one) other s t fits p q e = absurd p
-read_objects (d ∷ declared) [] other s t fits p q e = absurd p
-read_objects (d ∷ declared) (a ∷ one) [] s t fits p q e = absurd q
-read_objects (d ∷ declared) (a ∷ one) (b ∷ other) s t fits p q e =
-    let left = object_lines declared one in
-    let right = object_lines declared other in
-    let first = read_object d fits.0 a b (left ++ s) (right ++ t) p.0 q.0 (regroup (object_line d a) left s (object_line d b) right t e) in
-    let rest = read_objects declared one other s t fits.1 p.1 q.1 first.1 in
+read_objects : (profile : Profile) (declared : List ObjectDeclaration) (one other : List Protected) (s t : List ℕ) → AllByRecursion DeclarationFits declared → AllZip IsObjectOf declared one → AllZip IsObjectOf declared other
+    → object_lines profile declared one ++ s ≡ object_lines profile declared other ++ t → (one ≡ other) × (s ≡ t)
+read_objects profile [] [] [] s t fits p q e = (refl, e)
+read_objects profile [] [] (b ∷ other) s t fits p q e = absurd q
+read_objects profile [] (a ∷ one) other s t fits p q e = absurd p
+read_objects profile (d ∷ declared) [] other s t fits p q e = absurd p
+read_objects profile (d ∷ declared) (a ∷ one) [] s t fits p q e = absurd q
+read_objects profile (d ∷ declared) (a ∷ one) (b ∷ other) s t fits p q e =
+    let left = object_lines profile declared one in
+    let right = object_lines profile declared other in
+    let first = read_object profile d fits.0 a b (left ++ s) (right ++ t) p.0 q.0 (regroup (object_line profile d a) left s (object_line profile d b) right t e) in
+    let rest = read_objects profile declared one other s t fits.1 p.1 q.1 first.1 in
     ((λ i. first.0 i ∷ rest.0 i), rest.1)
 
 -- ---- timing events
@@ -222,7 +268,7 @@ same_shown program right one other p q e =
     let fit : Option ℤ → Type 0 = λ time. IfSome time (FitsSigned w64) in
     let left = codes "\n" ++ timer_lines timers one.timers in
     let right_part = codes "\n" ++ timer_lines timers other.timers in
-    let objects = read_objects declared one.objects other.objects (codes "clock " ++ (decimal one.clock ++ left)) (codes "clock " ++ (decimal other.clock ++ right_part))
+    let objects = read_objects program.profile declared one.objects other.objects (codes "clock " ++ (decimal one.clock ++ left)) (codes "clock " ++ (decimal other.clock ++ right_part))
     (recursion_from_All DeclarationFits declared right.objects) p.objects q.objects e in
     let first = append_cancel_left (codes "clock ") (decimal one.clock ++ left) (decimal other.clock ++ right_part) objects.1 in
     let clock = read_count one.clock other.clock left right_part p.clock q.clock (inr refl) (inr refl) first in

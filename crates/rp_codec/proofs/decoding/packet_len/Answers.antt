@@ -20,13 +20,13 @@ returns-in-Ok-clause-valid c =
     (λ _. (c.in-Ok.ensures.0, c.skip_packet.new.reader, found.0, found.1), λ _. refl)
 
 pub returns-in-Ok-clause-value : goal.returns-in-Ok-clause-value
-returns-in-Ok-clause-value c = λ p rest packet parts.
+returns-in-Ok-clause-value c = λ p rest packet text.
     let bytes : IsBytes c.args.bytes.now = λ i. omega (arith, c.type_inv.bytes i) in
     let read = ap packet_at (sym c.new-reader.ensures) ∙ c.in-Ok.ensures.1 in
-    let same = front_only c.args.bytes.now c.skip_packet.new.reader c.in-Ok.ensures.0 read p rest packet parts in
+    let same = front_only c.args.bytes.now c.skip_packet.new.reader c.in-Ok.ensures.0 read p rest packet text in
     let long = front_length c.args.bytes.now c.skip_packet.new.reader c.in-Ok.ensures.0 bytes read in
-    let text = ap (λ (m : Message). length (text_of m)) same in
-    let used : length c.args.bytes.now - c.len.result ≡ length (text_of p) = omega (arith, c.len.ensures, long, text) in
+    let same_long = ap (λ (m : Message). length (text_of m)) same in
+    let used : length c.args.bytes.now - c.len.result ≡ length (text_of p) = omega (arith, c.len.ensures, long, same_long) in
     rw used refl
 
 pub returns-in-Err-clause-valid : goal.returns-in-Err-clause-valid
@@ -34,5 +34,5 @@ returns-in-Err-clause-valid c =
     (λ e. absurd cc, λ begins. absurd (front_none c.args.bytes.now _ (ap packet_at (sym c.new-reader.ensures) ∙ c.in-Err.ensures) begins))
 
 pub returns-in-Err-clause-value : goal.returns-in-Err-clause-value
-returns-in-Err-clause-value c = λ p rest packet parts.
-    absurd (front_none c.args.bytes.now _ (ap packet_at (sym c.new-reader.ensures) ∙ c.in-Err.ensures) (p, rest, packet, parts))
+returns-in-Err-clause-value c = λ p rest packet text.
+    absurd (front_none c.args.bytes.now _ (ap packet_at (sym c.new-reader.ensures) ∙ c.in-Err.ensures) (p, rest, packet, text))

@@ -20,13 +20,13 @@ returns-in-Ok-clause-valid c =
     (λ _. (c.in-Ok.rec, c.read_record.new.reader, found.0, found.1), λ _. refl)
 
 pub returns-in-Ok-clause-value : goal.returns-in-Ok-clause-value
-returns-in-Ok-clause-value c = λ r rest is parts.
+returns-in-Ok-clause-value c = λ r rest is text.
     let bytes : IsBytes c.args.bytes.now = λ i. omega (arith, c.type_inv.bytes i) in
     let read = ap record_at (sym c.new-reader.ensures) ∙ c.in-Ok.ensures in
-    let same = front_only c.args.bytes.now c.read_record.new.reader c.in-Ok.rec read r rest is parts in
+    let same = front_only c.args.bytes.now c.read_record.new.reader c.in-Ok.rec read r rest is text in
     let long = front_length c.args.bytes.now c.read_record.new.reader c.in-Ok.rec bytes read in
-    let text = ap (λ (s : Rec). length (record_text s)) same in
-    let used : length c.args.bytes.now - c.len.result ≡ length (record_text r) = omega (arith, c.len.ensures, long, text) in
+    let same_long = ap (λ (s : Rec). length (record_text s)) same in
+    let used : length c.args.bytes.now - c.len.result ≡ length (record_text r) = omega (arith, c.len.ensures, long, same_long) in
     rw (same, used) refl
 
 pub returns-in-Err-clause-valid : goal.returns-in-Err-clause-valid
@@ -34,5 +34,5 @@ returns-in-Err-clause-valid c =
     (λ e. absurd cc, λ begins. absurd (front_none c.args.bytes.now _ (ap record_at (sym c.new-reader.ensures) ∙ c.in-Err.ensures) begins))
 
 pub returns-in-Err-clause-value : goal.returns-in-Err-clause-value
-returns-in-Err-clause-value c = λ r rest is parts.
-    absurd (front_none c.args.bytes.now _ (ap record_at (sym c.new-reader.ensures) ∙ c.in-Err.ensures) (r, rest, is, parts))
+returns-in-Err-clause-value c = λ r rest is text.
+    absurd (front_none c.args.bytes.now _ (ap record_at (sym c.new-reader.ensures) ∙ c.in-Err.ensures) (r, rest, is, text))

@@ -22,7 +22,7 @@ returns c =
     let e4 = joined 8 r3 value r4 c.in_ok-value.ensures.cases.0 c.in_ok-value.ensures.cases.1 in
     let ended : r4 ≡ [] = nil_from_length r4 (omega (arith, c.if-bytes-ne17.false, c.in_ok-head.ensures.cases.2, c.in_ok-number.ensures.cases.2, c.in_ok-tag.ensures.cases.2, c.in_ok-value.ensures.cases.2)) in
     let to : get_or head 3 0 ≡ 16 + c.in_ok-task.task = omega (arith, c.in_ok-task.ensures.value, c.if-head-lt-TASK_BASE.false) in
-    let h : head ≡ 1 ∷ 9 ∷ c.in_ok-from.from ∷ (16 + c.in_ok-task.task) ∷ [] =
+    let h : head ≡ 2 ∷ 9 ∷ c.in_ok-from.from ∷ (16 + c.in_ok-task.task) ∷ [] =
     four head _ _ _ _ (front_long 4 c.args.bytes.now head r1 c.in_ok-head.ensures.cases.0 c.in_ok-head.ensures.cases.2) c.if-head-ne-VERSION.false c.if-head-ne9.false (sym c.in_ok-from.ensures.value) to in
     let t : tag ≡ 1 ∷ [] = one tag _ (front_long 1 r2 tag r3 c.in_ok-tag.ensures.cases.0 c.in_ok-tag.ensures.cases.2) c.if-tag-ne1.false in
     let z : ℤ = cast_signed w64 (cast_unsigned w64 c.value_of.result) in

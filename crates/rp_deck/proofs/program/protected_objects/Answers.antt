@@ -6,5 +6,5 @@ use Rattle.rp_deck.proofs.program.protected_objects.Goals as goal
 
 pub returns-clause-named : goal.returns-clause-named
 returns-clause-named c =
-    let same : arc_value c.in_ok-program.program.declarations ≡ c.args.declarations = search rules in
+    let same : arc_value c.unwrap-program.result.declarations ≡ c.args.declarations = search rules in
     λ all. subst (λ declarations. AreAllNamed declarations.objects.items c.args.operations.items) (sym same) all

@@ -1,6 +1,13 @@
-use Rattle.std.proofs.Common.{◌≡◌, ℕ, Some, List, length}
+use Rattle.std.proofs.Common.{◌≡◌, length, map}
+use Rattle.std.specs.Prelude.{replicate}
+use Rattle.rp_deck.specs.ScriptNames.{tally_operations}
+use Rattle.rp_deck.specs.ScriptViews.{own_operations}
 use Rattle.rp_deck.proofs.Naming.{AreTallyNames}
 use Rattle.rp_deck.proofs.program.tally.Given as goal
 
 abbrev pub invariant-loop : goal.invariant-loop
-invariant-loop l = record { many : length l.operations.items ≡ l.counter; named : AreTallyNames l.operations.items }
+invariant-loop l = record {
+  many : length l.operations.items ≡ l.counter;
+  named : AreTallyNames l.operations.items;
+  texts : map own_operations l.operations.items ≡ replicate l.counter tally_operations;
+}

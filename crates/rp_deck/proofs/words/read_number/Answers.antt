@@ -1,6 +1,5 @@
-use Rattle.std.proofs.Common.{rules}
-use Rattle.rp_deck.proofs.WordsLemmas.{number_is_text}
+use Rattle.rp_deck.proofs.WordsLemmas.{number_exact}
 use Rattle.rp_deck.proofs.words.read_number.Goals as goal
 
-pub returns-in_err-ok : goal.returns-in_err-ok
-returns-in_err-ok c = search (rules, number_is_text c.args.word.now)
+pub returns : goal.returns
+returns c = number_exact c.args.word.now c.parse_number.result c.parse_number.ensures

@@ -1,10 +1,11 @@
--- By the cases of the request, and of both actions.
+-- By the result of the action, and by the cases of both actions.
 use Rattle.rp_entry.proofs.Acting.{acts_one_end}
-use Rattle.rp_entry.proofs.Ending.{some_action}
+use Rattle.rp_entry.specs.Results.{acted}
+use Rattle.rp_entry.proofs.Results.{is_acted}
 use Rattle.rp_entry.proofs.laws.actions_have_one_end.Goals as goal
 
 pub returns : goal.returns
 returns c = record {
-  an_end = λ operations before request. some_action operations before request;
+  an_end = λ operations before request. let did = acted operations before request in (did.caller, (did.told, (did.after, is_acted operations before request)));
   no_other = λ operations before one other request caller called told heard first second. acts_one_end first second;
 }

@@ -4,6 +4,7 @@ use Rattle.std.proofs.lemmas.List.{append-nil}
 use Rattle.std.proofs.Math.Seq.{take-length}
 use Rattle.rp_codec.specs.Message.{Message}
 use Rattle.rp_codec.specs.Text.{text_of}
+use Rattle.rp_codec.proofs.VersionLaws.{latest_before}
 use Rattle.rp_replica.specs.Packets.{texts_of}
 use Rattle.rp_world.specs.Messages.{packets_in, ends_of}
 use Rattle.rp_world.proofs.Joined.{Walked, again, next_of, walked_on}
@@ -24,7 +25,7 @@ text_len-at-requires c =
     let texts = again from c.args.count c.requires.texts in
     let n = next_of ms c.loop-place.place texts.0 (omega (arith, c.loop-place-test.true, texts.2)) in
     let front : c.split_at.result.1.now ≡ text_of n.m ++ texts_of (drop (suc c.loop-place.place) ms) = c.split_at.ensures.back ∙ c.loop-place.invariant.walked.rest ∙ ap texts_of n.rest in
-    (n.m, texts_of (drop (suc c.loop-place.place) ms), n.packet, front)
+    (n.m, texts_of (drop (suc c.loop-place.place) ms), n.packet, latest_before n.m (texts_of (drop (suc c.loop-place.place) ms)) _ front)
 
 pub loop-place-preserved : goal.loop-place-preserved
 loop-place-preserved c =
@@ -34,7 +35,7 @@ loop-place-preserved c =
     let texts = again from c.args.count c.requires.texts in
     let n = next_of ms place texts.0 (omega (arith, c.loop-place-test.true, texts.2)) in
     let front : c.split_at.result.1.now ≡ text_of n.m ++ texts_of (drop (suc place) ms) = c.split_at.ensures.back ∙ c.loop-place.invariant.walked.rest ∙ ap texts_of n.rest in
-    let len : c.text_len-at.result ≡ length (text_of n.m) = c.text_len-at.ensures n.m (texts_of (drop (suc place) ms)) n.packet front in
+    let len : c.text_len-at.result ≡ length (text_of n.m) = c.text_len-at.ensures n.m (texts_of (drop (suc place) ms)) n.packet (latest_before n.m (texts_of (drop (suc place) ms)) _ front) in
     let e : suc place ≡ place + 1 = omega arith in
     record {
       walked = subst (λ (k : ℕ). Walked c.args.bytes.now c.args.from ms c.args.ends.now.items k (c.loop-place.at + c.text_len-at.result) c.push_reserved.new.self.items) e
@@ -51,7 +52,7 @@ overflow_add-at c =
     let texts = again from c.args.count c.requires.texts in
     let n = next_of ms c.loop-place.place texts.0 (omega (arith, c.loop-place-test.true, texts.2)) in
     let front : c.split_at.result.1.now ≡ text_of n.m ++ others = c.split_at.ensures.back ∙ c.loop-place.invariant.walked.rest ∙ ap texts_of n.rest in
-    let len = c.text_len-at.ensures n.m others n.packet front in
+    let len = c.text_len-at.ensures n.m others n.packet (latest_before n.m others _ front) in
     omega (arith, len, ap length front, length-append (text_of n.m) others, c.split_at.ensures.back_len, c.loop-place.invariant.walked.within)
 
 pub returns : goal.returns

@@ -1,5 +1,6 @@
 use Rattle.std.proofs.Common.{◌≡◌, ◌+◌, ◌++◌, suc, [], ◌∷◌, ℕ, length, take, drop, refl, ap, subst, ◌∙◌, arith, length-append}
 use Rattle.rp_codec.specs.Text.{text_of}
+use Rattle.rp_codec.proofs.VersionLaws.{latest_before}
 use Rattle.rp_replica.specs.Packets.{texts_of}
 use Rattle.rp_world.specs.Messages.{packets_in, ends_of}
 use Rattle.rp_world.proofs.Joined.{Walked, again, next_of, walked_on}
@@ -19,7 +20,7 @@ text_len-at-requires c =
     let texts = again c.args.bytes.now c.args.count c.requires.texts in
     let n = next_of ms c.loop-passed.passed texts.0 (omega (arith, c.loop-passed-test.true, c.requires.place, texts.2)) in
     let front : c.split_at.result.1.now ≡ text_of n.m ++ texts_of (drop (suc c.loop-passed.passed) ms) = c.split_at.ensures.back ∙ c.loop-passed.invariant.rest ∙ ap texts_of n.rest in
-    (n.m, texts_of (drop (suc c.loop-passed.passed) ms), n.packet, front)
+    (n.m, texts_of (drop (suc c.loop-passed.passed) ms), n.packet, latest_before n.m (texts_of (drop (suc c.loop-passed.passed) ms)) _ front)
 
 pub loop-passed-preserved : goal.loop-passed-preserved
 loop-passed-preserved c =
@@ -28,7 +29,7 @@ loop-passed-preserved c =
     let texts = again c.args.bytes.now c.args.count c.requires.texts in
     let n = next_of ms place texts.0 (omega (arith, c.loop-passed-test.true, c.requires.place, texts.2)) in
     let front : c.split_at.result.1.now ≡ text_of n.m ++ texts_of (drop (suc place) ms) = c.split_at.ensures.back ∙ c.loop-passed.invariant.rest ∙ ap texts_of n.rest in
-    let len : c.text_len-at.result ≡ length (text_of n.m) = c.text_len-at.ensures n.m (texts_of (drop (suc place) ms)) n.packet front in
+    let len : c.text_len-at.result ≡ length (text_of n.m) = c.text_len-at.ensures n.m (texts_of (drop (suc place) ms)) n.packet (latest_before n.m (texts_of (drop (suc place) ms)) _ front) in
     let e : suc place ≡ place + 1 = omega arith in
     let on = walked_on c.args.bytes.now 0 ms [] place c.loop-passed.at (ends_of 0 (take place ms)) c.text_len-at.result (ends_of 0 (take place ms) ++ (c.loop-passed.at + c.text_len-at.result) ∷ []) c.loop-passed.invariant n len refl in
     subst (λ (k : ℕ). Walked c.args.bytes.now 0 ms [] k (c.loop-passed.at + c.text_len-at.result) (ends_of 0 (take k ms))) e
@@ -40,7 +41,7 @@ overflow_add-at c =
     let texts = again c.args.bytes.now c.args.count c.requires.texts in
     let n = next_of ms c.loop-passed.passed texts.0 (omega (arith, c.loop-passed-test.true, c.requires.place, texts.2)) in
     let front : c.split_at.result.1.now ≡ text_of n.m ++ texts_of (drop (suc c.loop-passed.passed) ms) = c.split_at.ensures.back ∙ c.loop-passed.invariant.rest ∙ ap texts_of n.rest in
-    let len = c.text_len-at.ensures n.m (texts_of (drop (suc c.loop-passed.passed) ms)) n.packet front in
+    let len = c.text_len-at.ensures n.m (texts_of (drop (suc c.loop-passed.passed) ms)) n.packet (latest_before n.m (texts_of (drop (suc c.loop-passed.passed) ms)) _ front) in
     omega (arith, len, ap length front, length-append (text_of n.m) (texts_of (drop (suc c.loop-passed.passed) ms)), c.split_at.ensures.back_len, c.loop-passed.invariant.within)
 
 pub returns : goal.returns

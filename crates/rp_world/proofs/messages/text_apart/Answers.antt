@@ -3,6 +3,7 @@ use Rattle.std.specs.Prelude.{option_map}
 use Rattle.std.proofs.lemmas.Option.{slice_get_past}
 use Rattle.std.proofs.lemmas.List.{length-append}
 use Rattle.rp_codec.specs.Text.{text_of}
+use Rattle.rp_codec.proofs.VersionLaws.{latest_before}
 use Rattle.rp_replica.specs.Packets.{texts_of}
 use Rattle.rp_world.specs.Messages.{packets_in}
 use Rattle.rp_world.proofs.Joined.{again, next_of, from_start, text_within, text_is}
@@ -23,7 +24,7 @@ text_len-requires c =
     let others = texts_of (drop (suc c.args.place) ms) in
     let front : c.split_at.result.1.now ≡ text_of n.m ++ others =
     c.split_at.ensures.back ∙ ap (λ (k : ℕ). drop k c.args.bytes.now) c.start_of.ensures ∙ ap (drop (length (texts_of (take c.args.place ms)))) texts.1 ∙ from_start ms c.args.place n in
-    (n.m, others, n.packet, front)
+    (n.m, others, n.packet, latest_before n.m others _ front)
 
 pub split_at-requires-2 : goal.split_at-requires-2
 split_at-requires-2 c =
@@ -33,7 +34,7 @@ split_at-requires-2 c =
     let others = texts_of (drop (suc c.args.place) ms) in
     let front : c.split_at.result.1.now ≡ text_of n.m ++ others =
     c.split_at.ensures.back ∙ ap (λ (k : ℕ). drop k c.args.bytes.now) c.start_of.ensures ∙ ap (drop (length (texts_of (take c.args.place ms)))) texts.1 ∙ from_start ms c.args.place n in
-    let len : c.text_len.result ≡ length (text_of n.m) = c.text_len.ensures n.m others n.packet front in
+    let len : c.text_len.result ≡ length (text_of n.m) = c.text_len.ensures n.m others n.packet (latest_before n.m others _ front) in
     omega (arith, len, ap length front ∙ length-append (text_of n.m) others)
 
 pub returns : goal.returns
@@ -44,7 +45,7 @@ returns c =
     let others = texts_of (drop (suc c.args.place) ms) in
     let front : c.split_at.result.1.now ≡ text_of n.m ++ others =
     c.split_at.ensures.back ∙ ap (λ (k : ℕ). drop k c.args.bytes.now) c.start_of.ensures ∙ ap (drop (length (texts_of (take c.args.place ms)))) texts.1 ∙ from_start ms c.args.place n in
-    let len : c.text_len.result ≡ length (text_of n.m) = c.text_len.ensures n.m others n.packet front in
+    let len : c.text_len.result ≡ length (text_of n.m) = c.text_len.ensures n.m others n.packet (latest_before n.m others _ front) in
     let text = text_is c.args.bytes.now c.split_at.result.1.now c.split_at-2.result.0.now ms c.args.place c.start_of.result c.text_len.result n
     texts.1 c.start_of.ensures c.split_at.ensures.back len c.split_at-2.ensures.front in
     ap Some text ∙ ap (option_map text_of) (sym n.got)

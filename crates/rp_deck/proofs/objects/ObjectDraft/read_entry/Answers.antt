@@ -1,17 +1,20 @@
--- The entry, and its name.
-use Rattle.std.proofs.Common.{refl, Some}
-use Rattle.rp_entry.specs.declared.operations.Operations.{Operations}
-use Rattle.rp_entry.specs.declared.operations.Entry.{Entry as DeclaredEntry}
-use Rattle.rp_deck.specs.declared.names.OperationName.TheVariants.{Entry}
-use Rattle.rp_deck.proofs.Naming.{entry_more, named_more, named_if}
+use Rattle.std.proofs.Common.{◌≡◌, ℕ, arith, false, refl, sym, subst}
+use Rattle.rp_object.specs.declared.program.Profile.{Profile}
+use Rattle.rp_object.specs.declared.program.Profile.TheVariants.{Ravenscar, Jorvik}
+use Rattle.rp_deck.specs.declared.objects.Head.TheVariants.{Entry}
+use Rattle.rp_deck.specs.Declarations.{HeadKeeps}
+use Rattle.rp_deck.specs.Tables.{is_declared, key_names}
 use Rattle.rp_deck.proofs.objects.ObjectDraft.read_entry.Goals as goal
 
-pub invariant_of-self-2 : goal.invariant_of-self-2
-invariant_of-self-2 c =
-    let self = c.args.self.now in
-    let entry : DeclaredEntry = record { barrier = c.in-Ok.head.1; body = c.in_ok-body.body } in
-    let after : Operations = record { functions = self.operations.functions; procedures = self.operations.procedures; entry = Some entry } in
-    record {
-      named = named_if _ after self.operation_names c.insert.new.self c.in_ok-name.name Entry c.insert.result c.insert.ensures.entries c.insert.ensures.err refl
-          (named_more self.operations after self.operation_names (entry_more self.operations after entry refl refl refl) self.named);
-    }
+keeps_if_single : (profile : Profile) (barrier longest : ℕ) → (profile ≡ Ravenscar → longest ≡ 1) → HeadKeeps profile (Entry barrier longest)
+keeps_if_single Ravenscar barrier longest single = single refl
+keeps_if_single Jorvik barrier longest single = tt
+
+pub returns-clause-object : goal.returns-clause-object
+returns-clause-object c =
+    c.begin.ensures.object c.args.profile c.requires (record {
+      room = omega arith;
+      new = subst (λ bytes. is_declared bytes (key_names c.args.self.now.operation_names) ≡ false) (sym c.in_ok-name-2.ensures.ok) c.in_ok-name.ensures.new;
+      fits = λ limits counted. (c.in_ok-barrier.ensures.counted limits counted, c.in_ok-longest.ensures.in_range.0, c.in_ok-longest.ensures.in_range.1);
+      keeps = keeps_if_single c.args.profile c.in_ok-barrier.barrier c.in_ok-longest.longest c.in_ok-longest.ensures.single;
+    })

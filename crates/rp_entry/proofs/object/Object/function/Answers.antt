@@ -11,6 +11,7 @@ use Rattle.rp_entry.specs.Replies.{function_reply}
 use Rattle.rp_entry.specs.Actions.{Acts, calls_function, function, no_function}
 use Rattle.rp_entry.specs.Protected.{Protected}
 use Rattle.rp_entry.proofs.Acting.{acts_same, shared_is}
+use Rattle.rp_entry.proofs.Ready.{same_serviced}
 use Rattle.rp_entry.proofs.object.Object.function.Goals as goal
 
 pub returns-in-Some-clause-action : goal.returns-in-Some-clause-action
@@ -34,3 +35,9 @@ returns-in-None-clause-action c =
     sym (c.in-None.ensures ∙ ap (λ (l : List Function). of_index l c.args.index) c.deref.ensures.value) in
     let acts : Acts operations inside.state (calls_function c.args.index c.args.arg) (Some (Reply NoSuchOperation)) [] inside.state = no_function missing in
     subst (λ (o : Protected). Acts o.operations o.state (calls_function c.args.index c.args.arg) (Some (Reply NoSuchOperation)) [] o.state) (shared_is c.deref-operations.ensures ∙ c.self.view_is) acts
+
+pub returns-in-Some-clause-serviced : goal.returns-in-Some-clause-serviced
+returns-in-Some-clause-serviced c = same_serviced c.self.view_is c.self.invariant.serviced
+
+pub returns-in-None-clause-serviced : goal.returns-in-None-clause-serviced
+returns-in-None-clause-serviced c = same_serviced c.self.view_is c.self.invariant.serviced

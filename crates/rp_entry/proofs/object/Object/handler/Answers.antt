@@ -6,6 +6,7 @@ use Rattle.rp_entry.specs.Actions.{Runs, Acts, event, handler, no_handler}
 use Rattle.rp_entry.specs.Protected.{Protected}
 use Rattle.rp_entry.proofs.Acting.{runs_same, acts_same, is_object_after, shared_is, shared_runs, shared_serviced}
 use Rattle.rp_entry.proofs.Chains.{is_serviced}
+use Rattle.rp_entry.proofs.Ready.{same_serviced}
 use Rattle.rp_entry.proofs.object.Object.handler.Goals as goal
 
 pub invariant_of-self : goal.invariant_of-self
@@ -34,3 +35,6 @@ returns-in-None-clause-action c =
     sym (c.in-None.ensures ∙ ap (λ (l : List (Vec Stmt Global)). of_index l c.args.index) c.deref.ensures.value) in
     let acts : Acts operations inside.state (event c.args.index) None c.new.result inside.state = acts_same refl c.new.ensures refl (no_handler missing) in
     subst (λ (o : Protected). Acts o.operations o.state (event c.args.index) None c.new.result o.state) (shared_is c.deref-operations.ensures ∙ c.self.view_is) acts
+
+pub returns-in-None-clause-serviced : goal.returns-in-None-clause-serviced
+returns-in-None-clause-serviced c = same_serviced c.self.view_is c.self.invariant.serviced

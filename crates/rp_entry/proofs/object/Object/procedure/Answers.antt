@@ -7,6 +7,7 @@ use Rattle.rp_entry.specs.Actions.{Runs, Acts, calls_procedure, procedure, no_pr
 use Rattle.rp_entry.specs.Protected.{Protected}
 use Rattle.rp_entry.proofs.Acting.{runs_same, acts_same, is_object_after, shared_is, shared_runs, shared_serviced}
 use Rattle.rp_entry.proofs.Chains.{is_serviced}
+use Rattle.rp_entry.proofs.Ready.{same_serviced}
 use Rattle.rp_entry.proofs.object.Object.procedure.Goals as goal
 
 pub invariant_of-self : goal.invariant_of-self
@@ -36,3 +37,6 @@ returns-in-None-clause-action c =
     let acts : Acts operations inside.state (calls_procedure c.args.index c.args.arg) (Some c.alone.result.outcome) c.alone.result.served inside.state =
     acts_same (ap Some c.alone.ensures.outcome) c.alone.ensures.served refl (no_procedure missing) in
     subst (λ (o : Protected). Acts o.operations o.state (calls_procedure c.args.index c.args.arg) (Some c.alone.result.outcome) c.alone.result.served o.state) (shared_is c.deref-operations.ensures ∙ c.self.view_is) acts
+
+pub returns-in-None-clause-serviced : goal.returns-in-None-clause-serviced
+returns-in-None-clause-serviced c = same_serviced c.self.view_is c.self.invariant.serviced

@@ -1,17 +1,26 @@
 -- The body runs, and servicing goes on from what it leaves.
-use Rattle.std.proofs.Common.{◌≡◌, ℤ, sym, ◌∙◌, ap, subst, option_to_list, w64}
+use Rattle.std.proofs.Common.{◌≡◌, ℤ, sym, ◌∙◌, ap, subst, w64}
 use Rattle.std.proofs.lemmas.Int.{to_z-of_z}
 use Rattle.rp_base.specs.declared.reply.Reply.{Reply as Told}
 use Rattle.rp_body.specs.Meaning.{body_effect}
 use Rattle.rp_entry.specs.declared.state.CallOutcome.TheVariants.{Reply}
 use Rattle.rp_entry.specs.Queue.{State}
+use Rattle.rp_entry.specs.Protected.{HasQueues}
 use Rattle.rp_entry.specs.Actions.{Runs}
+use Rattle.rp_entry.proofs.Acting.{same_queues}
 use Rattle.rp_entry.proofs.state.State.run.Goals as goal
+
+pub service-served-requires-clause-queues : goal.service-served-requires-clause-queues
+service-served-requires-clause-queues c =
+    let inside = c.self.inside in
+    let before : State = record { store = inside.components; queues = inside.queues.items } in
+    let same : before ≡ c.args.self.now = c.self.view_is in
+    same_queues c.run-outcome.new.components (subst (λ (s : State). HasQueues c.args.operations.now s) (sym same) c.requires.queues)
 
 pub returns-clause-runs : goal.returns-clause-runs
 returns-clause-runs c =
     let inside = c.self.inside in
-    let before : State = record { store = inside.components; queue = option_to_list inside.waiting } in
+    let before : State = record { store = inside.components; queues = inside.queues.items } in
     let same : before ≡ c.args.self.now = c.self.view_is in
     let runs : Runs c.args.operations.now c.args.body.now c.args.arg before (Reply c.reply_of-reply.result) c.service-served.result c.service-served.new.self = record {
       store = c.run-outcome.new.components;

@@ -1,7 +1,8 @@
 use Rattle.std.proofs.Common.{◌≡◌, ◌≤◌, ◌+◌, length}
 use Rattle.rp_body.specs.Store.{limits_of}
 use Rattle.rp_entry.specs.Operations.{OperationsFit}
-use Rattle.rp_entry.specs.Queue.{longest_queue}
+use Rattle.rp_entry.specs.Queue.{all_calls}
+use Rattle.rp_entry.specs.Protected.{HasQueues}
 use Rattle.rp_entry.proofs.Chains.{Reaches}
 use Rattle.rp_entry.proofs.state.State.service.Given as goal
 
@@ -10,8 +11,9 @@ invariant-loop-answer l = record {
   reached : Reaches l.operations l.initial.self l.served l.self;
   fits : OperationsFit (limits_of l.self.store) l.operations;
   counts : limits_of l.self.store ≡ limits_of l.initial.self.store;
-  room : length l.served + length l.self.queue ≤ longest_queue;
+  queues : HasQueues l.operations l.self;
+  room : length l.served + length (all_calls l.self.queues) ≤ 8;
 }
 
 abbrev pub decreases-loop-answer : goal.decreases-loop-answer
-decreases-loop-answer l = length l.self.queue
+decreases-loop-answer l = length (all_calls l.self.queues)

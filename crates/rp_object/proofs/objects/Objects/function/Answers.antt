@@ -7,7 +7,9 @@ use Rattle.rp_entry.specs.Actions.{calls_function}
 use Rattle.rp_object.proofs.Asking.{asks_still}
 use Rattle.rp_object.proofs.objects.Objects.function.Goals as goal
 
-pub returns-clause-action : goal.returns-clause-action
-returns-clause-action c =
-    asks_still c.self.view_is c.from.ensures (ap (calls_function c.args.index) (to_z-of_z w64 c.args.arg c.ranges.arg)) c.index.result.now _ [] c.requires.there c.requires.declared c.index.ensures c.function-reply.ensures.action
-    ∙ ap (λ (told : List Answer). record { caller = Some (Reply c.function-reply.result); told = told; after = c.args.self.now.state }) (sym c.new.ensures)
+pub returns : goal.returns
+returns c = record {
+  action =
+      asks_still c.self.view_is c.from.ensures (ap (calls_function c.args.index) (to_z-of_z w64 c.args.arg c.ranges.arg)) c.index.result.now _ [] c.requires.there c.requires.declared c.index.ensures c.function-reply.ensures.action
+      ∙ ap (λ (told : List Answer). record { caller = Some (Reply c.function-reply.result); told = told; after = c.args.self.now.state }) (sym c.new.ensures);
+}

@@ -13,5 +13,5 @@ keep_and_tell-requires-clause-may g c =
     promised r.acceptor.records c.args.position c.args.ballot c.in-Promise.last c.in-Promise.rec c.in-Promise.ensures.answer in
     let stands = c.self.invariant.stands in
     let right : AllByRecursion IsRightRecord r.acceptor.records =
-    subst (λ (rs : List Rec). AllByRecursion IsRightRecord rs) (sym stands.counted) (right_records (is_in_log r.config.max_positions) stands.all stands.each) in
+    subst (λ (rs : List Rec). AllByRecursion IsRightRecord rs) (sym stands.counted) (right_records (is_in_log r.config.max_positions) stands.all stands.found.each) in
     ((tt, tt), may_report r.acceptor.records c.args.position c.args.ballot c.in-Promise.last right told.told told.above)

@@ -29,7 +29,7 @@ new-requires g c =
     let applied : List Action = c.taken-applied.result.now in
     let first = c.args.first in
     let right : AllByRecursion IsRightRecord records =
-    subst (λ (rs : List Rec). AllByRecursion IsRightRecord rs) (sym stands.counted) (right_records (is_in_log r.config.max_positions) stands.all stands.each) in
+    subst (λ (rs : List Rec). AllByRecursion IsRightRecord rs) (sym stands.counted) (right_records (is_in_log r.config.max_positions) stands.all stands.found.each) in
     let is : applied ≡ applied_of records = c.taken-applied.ensures.value ∙ all_taken records r.log a.learned a.ordered a.none in
     let all : All IsRight applied = subst (λ (l : List Action). All IsRight l) (sym is) (All-from_recursion IsRight (applied_of records) (run_right records (length records) 1 right)) in
     let told : c.from_vec.result ≡ take (report_len first (length applied)) (drop (first - 1) applied) = c.from_vec.ensures ∙ c.in_ok-told.ensures.told in (

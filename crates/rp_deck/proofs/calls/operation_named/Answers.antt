@@ -1,0 +1,8 @@
+use Rattle.std.proofs.Common.{◌∙◌, ap}
+use Rattle.std.specs.Prelude.{option_map}
+use Rattle.rp_deck.specs.Named.{operation_of}
+use Rattle.rp_deck.proofs.TablesLemmas.{found_is}
+use Rattle.rp_deck.proofs.calls.operation_named.Goals as goal
+
+pub returns-clause-value : goal.returns-clause-value
+returns-clause-value c = ap (option_map operation_of) (c.copied.ensures ∙ c.get.ensures.value) ∙ found_is operation_of c.args.name.now c.args.names.now.entries

@@ -1,0 +1,7 @@
+use Rattle.std.proofs.Common.{ℕ, ◌<◌, get_or}
+use Rattle.rp_entry.specs.declared.operations.Entry.{Entry}
+use Rattle.rp_entry.specs.Operations.{EntryFits}
+use Rattle.rp_entry.proofs.operations.entries_fit.Given as goal
+
+abbrev pub invariant-loop-entry : goal.invariant-loop-entry
+invariant-loop-entry l = (k : ℕ) → k < l.entry-index → (d : Entry) → EntryFits l.limits (get_or l.entries k d)

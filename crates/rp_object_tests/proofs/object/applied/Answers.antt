@@ -1,0 +1,5 @@
+-- The action's own task was asked for.
+use Rattle.rp_object_tests.proofs.object.applied.Goals as goal
+
+pub apply-requires : goal.apply-requires
+apply-requires c = record { free = c.may_apply.ensures.0 c.if-not-may_apply.false }

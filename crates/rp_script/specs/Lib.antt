@@ -1,0 +1,14 @@
+pub mod Agreeing
+pub mod FaultLine
+pub mod Faults
+pub mod Figures
+pub mod Items
+pub mod LiveOutput
+pub mod LiveRun
+pub mod Output
+pub mod Printed
+pub mod Runs
+pub mod Settled
+pub mod Stream
+pub mod Telling
+pub mod Trace

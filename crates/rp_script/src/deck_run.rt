@@ -1,0 +1,98 @@
+//! Runs the script of a deck.
+
+ghost use Rattle.std.specs.Prelude.{◌≡◌, ◌≤◌, [], length, All, IfOk, IfErr, OnOk};
+ghost use Rattle.rp_script.specs.Agreeing.{DeckPrints, ScriptPrints};
+ghost use Rattle.rp_deck.specs.Deck.{IsRightDeck};
+ghost use Rattle.rp_script.specs.Faults.{IsBadDeck, IsRunFault, IsProgramFault};
+ghost use Rattle.rp_script.specs.Output.{output_of};
+ghost use Rattle.rp_script.specs.Stream.{Writes};
+
+use crate::agreeing::scripts_agree;
+use crate::options::RunOptions;
+use crate::run::run_lines;
+use crate::stream::{read_whole, write_out};
+use rp_base::Fault;
+use rp_deck::{Deck, DeckProgram, Mode, read_deck};
+use rp_machine::Tally;
+use rp_object::Objects;
+use rp_store::MemDevice;
+use std::alloc::{AllocError, Global};
+use std::io::{Read, Write};
+
+/// The most messages that one `drain` delivers.
+const DRAIN_LIMIT: u32 = 100_000;
+
+/// Reads a deck and runs its script, and tells the packets where this is asked for. Nothing runs where
+/// the deck is bad.
+pub fn run_script<R: Read, W: Write>(
+    alloc: Global,
+    reader: &mut R,
+    traced: bool,
+    writer: &mut W,
+) -> Result<(), Fault>
+    ensures output { OnOk result (ScriptPrints traced
+        (W.contents writer.old) (W.contents writer.new)) }
+    ensures bad { IfErr result (λ fault. IsBadDeck fault
+        → W.contents writer.new ≡ W.contents writer.old) }
+    ensures fault { IfErr result IsProgramFault }
+{
+    let text = read_whole(alloc, reader)?;
+    let deck = read_deck(alloc, &text, Mode::Script)?;
+    run_deck(alloc, deck, traced, writer)?;
+    write_out(writer)
+}
+
+/// Runs the script of a deck, and writes what it prints. A fault ends the run where it comes, and then a
+/// beginning of that is written: `OutOfMemory`, or `Io` where the writer fails. One order of actions
+/// gives all states and replies that are written, and after any two lines nodes agree.
+pub fn run_deck<W: Write>(
+    alloc: Global,
+    deck: Deck,
+    traced: bool,
+    writer: &mut W,
+) -> Result<(), Fault>
+    requires { IsRightDeck deck }
+    ensures output { Writes (W.contents writer.old) (W.contents writer.new)
+        (output_of traced deck) result }
+    ensures headline { OnOk result (DeckPrints traced deck
+        (W.contents writer.old) (W.contents writer.new)) }
+    ensures fault { IfErr result IsRunFault }
+{
+    let Deck {
+        config,
+        program,
+        tasks,
+        script,
+        ..
+    } = deck;
+    let devices = devices(alloc, config.nodes)?;
+    let options = RunOptions {
+        config,
+        tasks: &tasks,
+        traced,
+        most: DRAIN_LIMIT,
+    };
+    let lines = script.as_slice();
+    match program {
+        DeckProgram::Tally(program) => {
+            scripts_agree::<Tally>(&options, lines);
+            run_lines::<Tally, MemDevice, W>(alloc, &options, program, devices, lines, writer)
+        }
+        DeckProgram::Objects(program) => {
+            scripts_agree::<Objects>(&options, lines);
+            run_lines::<Objects, MemDevice, W>(alloc, &options, program, devices, lines, writer)
+        }
+    }
+}
+
+/// So many empty devices.
+fn devices(alloc: Global, count: u8) -> Result<Vec<MemDevice>, AllocError>
+    ensures count { IfOk result (λ devices. length devices.items ≡ count) }
+    ensures empty { IfOk result (λ devices. All (λ d. d.contents ≡ []) devices.items) }
+{
+    let mut devices = Vec::new(alloc);
+    for place in 0..count {
+        devices.push(MemDevice::new(alloc))?;
+    }
+    Ok(devices)
+}

@@ -1,0 +1,129 @@
+//! Runs a deck in threads.
+
+ghost use Rattle.std.specs.Prelude.{◌≡◌, All, IfErr, IfOk, OnOk};
+ghost use Rattle.std.specs.Arc.{arc_value};
+ghost use Rattle.rp_script.specs.Faults.{IsBadDeck, IsProgramFault, IsRunFault};
+ghost use Rattle.rp_script.specs.LiveRun.{LivePrints, MayCome, event_of, events_of};
+ghost use Rattle.rp_base.specs.Config.{IsRightConfig};
+ghost use Rattle.rp_object.specs.State.{first_state};
+ghost use Rattle.rp_object.specs.Step.{objects_next, objects_answers};
+ghost use Rattle.rp_live.specs.Events.{IsLive};
+ghost use Rattle.rp_live.specs.Faults.{IsLiveFault};
+ghost use Rattle.rp_live.specs.Lived.{IsLived};
+ghost use Rattle.rp_deck.specs.Deck.{IsRightDeck};
+ghost use Rattle.rp_deck.specs.Live.{IsDeckFor};
+
+use crate::figures::{FiguresLine, milliseconds_since};
+use crate::live_output::print_lived;
+use crate::stream::read_whole;
+use rp_base::{Config, Fault};
+use rp_deck::{Command, Deck, DeckProgram, Line, Mode, read_deck};
+use rp_live::{Lived, live};
+use rp_machine::Tally;
+use rp_model::Event;
+use rp_object::{Objects, Program};
+use std::alloc::{AllocError, Global};
+use std::io::{Read, Write};
+use std::sync::Wait;
+use std::thread::Threads;
+use std::time::{Clock, Instant};
+
+/// Reads a deck, runs its nodes and tasks in threads for so many turns each, and then prints what
+/// came of it. Which packets are lost, repeated and reordered follows from the seed. It returns how
+/// the run went, in figures. Nothing runs where the deck is bad; where the writer fails, a beginning
+/// of what came of it was written.
+pub fn run_live<T: Threads + Wait + Clock, R: Read, W: Write>(
+    rt: &T,
+    alloc: Global,
+    reader: &mut R,
+    seed: u32,
+    turns: u32,
+    writer: &mut W,
+) -> Result<FiguresLine, Fault>
+    ensures output { OnOk result (LivePrints seed turns
+        (W.contents writer.old) (W.contents writer.new)) }
+    ensures bad { IfErr result (λ fault. IsBadDeck fault
+        → W.contents writer.new ≡ W.contents writer.old) }
+    ensures fault { IfErr result IsProgramFault }
+{
+    let text = read_whole(alloc, reader)?;
+    let deck = read_deck(alloc, &text, Mode::Live)?;
+    let begun = Instant::now(rt);
+    let lived = live_deck(rt, alloc, &deck, seed, turns)?;
+    let milliseconds = milliseconds_since(rt, begun);
+    match print_lived(alloc, &deck.tasks, &lived, writer) {
+        Ok(()) => Ok(FiguresLine {
+            figures: lived.figures,
+            milliseconds,
+        }),
+        Err(fault) => Err(fault),
+    }
+}
+
+/// Runs a deck in threads.
+fn live_deck<T: Threads + Wait>(
+    rt: &T,
+    alloc: Global,
+    deck: &Deck,
+    seed: u32,
+    turns: u32,
+) -> Result<Lived, Fault>
+    requires right { IsRightDeck deck.now }
+    requires live { IsDeckFor Mode.Live deck.now }
+    ensures lived { IfOk result (MayCome deck.now seed turns) }
+    ensures fault { IfErr result IsRunFault }
+{
+    let events = events_of(alloc, deck.script.as_slice())?;
+    let turns = u64::from(turns);
+    match &deck.program {
+        DeckProgram::Tally(program) => {
+            live::<T, Tally>(rt, alloc, deck.config, program, &events, seed, turns)
+        }
+        DeckProgram::Objects(program) => {
+            live_objects(rt, alloc, deck.config, program, &events, seed, turns)
+        }
+    }
+}
+
+/// Runs protected objects in threads.
+fn live_objects<T: Threads + Wait>(
+    rt: &T,
+    alloc: Global,
+    config: Config,
+    program: &Program,
+    events: &[Event],
+    seed: u32,
+    turns: u64,
+) -> Result<Lived, Fault>
+    requires config { IsRightConfig config }
+    requires events { All (IsLive config.nodes) events.now }
+    ensures lived { IfOk result (IsLived objects_next objects_answers
+        (λ program. first_state (arc_value program.declarations))
+        config program.now events.now seed turns) }
+    ensures only { IfErr result IsLiveFault }
+{
+    live::<T, Objects>(rt, alloc, config, program, events, seed, turns)
+}
+
+/// The event that a command asks for, if it asks for one.
+fn event_of(command: Command) -> Option<Event>
+    ensures { result ≡ event_of command }
+{
+    match command {
+        Command::Take(event) => Some(event),
+        Command::Lose { .. } | Command::Drain | Command::Show => None,
+    }
+}
+
+/// The events that the lines of a script ask for, in order.
+fn events_of(alloc: Global, script: &[Line]) -> Result<Vec<Event>, AllocError>
+    ensures { IfOk result (λ events. events.items ≡ events_of script.now) }
+{
+    let mut events = Vec::new(alloc);
+    for line in script {
+        if let Some(event) = event_of(line.command) {
+            events.push(event)?;
+        }
+    }
+    Ok(events)
+}

@@ -13,7 +13,7 @@ const PERIOD: u64 = 8;
 const MOST_AHEAD: u64 = 16;
 
 /// How often a thread that is ahead lets others run before it takes it that one of them has ended.
-const MOST_WAITS: u64 = 1_000_000;
+const MOST_WAITS: u64 = 20_000_000;
 
 /// How many nodes there are at most.
 const NODES: usize = 7;

@@ -1,4 +1,7 @@
-use rp_base::Rec;
+use crate::replica::hears;
+use rp_base::{Fault, Rec};
+use rp_codec::decode;
+use rp_machine::{Tally, TallyProgram};
 use rp_store::*;
 use std::alloc::Global;
 use std::process::Abort;
@@ -75,6 +78,52 @@ fn each_damaged_byte_leaves_the_records_before_it(rt: HostRuntime) -> Result<(),
             )?;
         }
         changed[place] = RECORDS[place];
+    }
+    Ok(())
+}
+
+/// A packet of each kind for node 1 of three.
+const PACKETS: [&[u8]; 11] = [
+    b"\x02\x01\x11\x01\x01\x01\0\0\0\x01\x01\x02\x01\0\0\0\0\0\0\0\x05",
+    b"\x02\x02\x02\x01\0\x01\0\0\0\0\0\0\0\x0a",
+    b"\x02\x03\x02\x01\0\x01\0\0\0\0\0\0\0\x09\0",
+    b"\x02\x03\x02\x01\0\x01\0\0\0\0\0\0\0\x11\x01\0\0\0\0\0\0\0\x09\x01\x01\0\0\0\x01\x01\x02\x01\0\0\0\0\0\0\0\x05",
+    b"\x02\x04\x02\x01\0\x01\0\0\0\0\0\0\0\x0a\x01\x01\0\0\0\x01\x01\x02\x01\0\0\0\0\0\0\0\x05",
+    b"\x02\x05\x02\x01\0\x01\0\0\0\0\0\0\0\x09\x01\x01\0\0\0\x01\x01\x02\x01\0\0\0\0\0\0\0\x05",
+    b"\x02\x06\x02\x01\0\x01\x01\x01\0\0\0\x01\x01\x02\x01\0\0\0\0\0\0\0\x05",
+    b"\x02\x07\x02\x01\0\x01",
+    b"\x02\x08\x03\x01\0\x01\0\0\0\0\0\0\0\x09\0\0\0\0\0\0\0\x0a",
+    b"\x02\x09\x02\x11\0\0\0\x01\x01\0\0\0\0\0\0\0\x05",
+    b"\x02\x0a\x02\x20\0\x01\0\x01\x01\x01\x01\0\0\0\x01\x01\x02\x01\0\0\0\0\0\0\0\x05",
+];
+
+/// A node hears the packet with each of its bytes set to each other value: it refuses what no packet has
+/// as its text, for the reason of its text, and nothing else.
+fn hears_damaged(
+    rt: &impl Abort,
+    alloc: Global,
+    program: &TallyProgram,
+    text: &[u8],
+) -> Result<(), Fail> {
+    let mut changed = Vec::from_slice(alloc, text)?;
+    for place in 0..text.len() {
+        for value in 0..=255u8 {
+            changed[place] = value;
+            let device = MemDevice::new(alloc);
+            let heard = hears::<Tally, MemDevice>(alloc, (1, 9), program, device, &changed);
+            let reason = decode(alloc, &changed)?.err();
+            assert_eq!(rt; heard.err(), reason.map(Fault::BadPacket));
+        }
+        changed[place] = text[place];
+    }
+    Ok(())
+}
+
+#[test]
+fn a_damaged_packet_is_refused_for_the_reason_of_its_text(rt: HostRuntime) -> Result<(), Fail> {
+    let program = TallyProgram::new(1).ok_or("one object")?;
+    for text in PACKETS {
+        hears_damaged(&rt, rt.alloc(), &program, text)?;
     }
     Ok(())
 }

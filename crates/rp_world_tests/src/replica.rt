@@ -262,54 +262,97 @@ fn replicas_go_on_from_records_of_version_1(rt: HostRuntime) -> Result<(), Fail>
     Ok(())
 }
 
-/// What node 3 of three, with a log of one position, makes of a packet: what it drops, how many
+/// What a node of three with a log of so many positions makes of a packet: what it drops, how many
 /// packets it sends, and how many bytes its device then holds.
-fn hears<M: Machine, D: Device>(
+pub(crate) fn hears<M: Machine, D: Device>(
     alloc: Global,
+    at: (u8, u16),
     program: &M::Program,
     device: D,
     text: &[u8],
 ) -> Result<(Dropped, usize, u64), Fault> {
-    let mut node = opened::<M, D>(alloc, 3, 1, program, device, &[])?.replica;
+    let (node, max_positions) = at;
+    if max_positions == 0 {
+        return Err(Fault::BadConfig);
+    }
+    let mut node = opened::<M, D>(alloc, node, max_positions, program, device, &[])?.replica;
     let sent = node.receive(alloc, text)?;
     Ok((sent.dropped, sent.packets, node.stored()))
 }
+
+/// What nodes hear that changes nothing: the node and the length of its log, and the packet.
+const FOREIGN: [(&str, u8, u16, &[u8]); 10] = [
+    (
+        "for another node",
+        3,
+        1,
+        b"\x02\x02\x01\x02\0\x01\0\0\0\0\0\0\0\x09",
+    ),
+    (
+        "from a node above 3",
+        3,
+        1,
+        b"\x02\x02\x04\x03\0\x01\0\0\0\0\0\0\0\x0c",
+    ),
+    (
+        "above the log",
+        3,
+        1,
+        b"\x02\x02\x01\x03\0\x02\0\0\0\0\0\0\0\x09",
+    ),
+    (
+        "in another's ballot",
+        3,
+        1,
+        b"\x02\x02\x01\x03\0\x01\0\0\0\0\0\0\0\x0a",
+    ),
+    ("asked above the log", 3, 1, b"\x02\x07\x01\x03\0\x02"),
+    (
+        "a reply",
+        3,
+        1,
+        b"\x02\x09\x01\x11\0\0\0\x01\x01\0\0\0\0\0\0\0\x05",
+    ),
+    (
+        "in version 1, for another node",
+        1,
+        1000,
+        b"\x01\x02\x02\x02\0\x01\0\0\0\0\0\0\0\x0a",
+    ),
+    (
+        "in version 1, from a node above 3",
+        1,
+        1000,
+        b"\x01\x02\x04\x01\0\x01\0\0\0\0\0\0\0\x0c",
+    ),
+    (
+        "in version 1, in another's ballot",
+        1,
+        1000,
+        b"\x01\x02\x02\x01\0\x01\0\0\0\0\0\0\0\x09",
+    ),
+    (
+        "in version 1, at position 1001",
+        1,
+        1000,
+        b"\x01\x02\x02\x01\x03\xe9\0\0\0\0\0\0\0\x0a",
+    ),
+];
 
 #[test]
 fn what_is_foreign_changes_nothing(rt: HostRuntime) -> Result<(), Fail> {
     let alloc = rt.alloc();
     let program = TallyProgram::new(1).ok_or("one object")?;
-    let cases: [(&str, &[u8]); 6] = [
-        (
-            "for another node",
-            b"\x02\x02\x01\x02\0\x01\0\0\0\0\0\0\0\x09",
-        ),
-        (
-            "from a node above 3",
-            b"\x02\x02\x04\x03\0\x01\0\0\0\0\0\0\0\x0c",
-        ),
-        ("above the log", b"\x02\x02\x01\x03\0\x02\0\0\0\0\0\0\0\x09"),
-        (
-            "in another's ballot",
-            b"\x02\x02\x01\x03\0\x01\0\0\0\0\0\0\0\x0a",
-        ),
-        ("asked above the log", b"\x02\x07\x01\x03\0\x02"),
-        (
-            "a reply",
-            b"\x02\x09\x01\x11\0\0\0\x01\x01\0\0\0\0\0\0\0\x05",
-        ),
-    ];
-    for (name, text) in cases {
-        let (dropped, packets, stored) = hears::<Tally, MemDevice>(
-            alloc,
-            &program,
-            MemDevice::new(alloc),
-            text,
-        )?;
+    for (name, node, max_positions, text) in FOREIGN {
+        let at = (node, max_positions);
+        let device = MemDevice::new(alloc);
+        let heard = hears::<Tally, MemDevice>(alloc, at, &program, device, text)?;
+        let (dropped, packets, stored) = heard;
         assert!(rt; matches!(dropped, Dropped::Foreign), "{name}");
         assert_eq!(rt; (packets, stored), (0, 0), "{name}");
     }
-    let unknown = hears::<Tally, MemDevice>(alloc, &program, MemDevice::new(alloc), b"\x02\x0b");
+    let device = MemDevice::new(alloc);
+    let unknown = hears::<Tally, MemDevice>(alloc, (3, 1), &program, device, b"\x02\x0b");
     assert_eq!(rt; unknown.err(), Some(Fault::BadPacket(PacketReason::Kind)));
     Ok(())
 }

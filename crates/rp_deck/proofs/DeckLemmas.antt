@@ -3,14 +3,15 @@ use Rattle.std.proofs.Common.{◌≡◌, ℕ, ◌+◌, List, Result, Ok, Err, ap
 use Rattle.rp_base.specs.declared.fault.Fault.{Fault}
 use Rattle.rp_base.specs.declared.fault.Fault.TheVariants as faults
 use Rattle.rp_deck.specs.declared.deck.Mode.{Mode}
-use Rattle.rp_deck.specs.declared.lines.Lines.{Lines}
-use Rattle.rp_deck.specs.Ahead.{left, lines_read, ahead, after_last}
-use Rattle.rp_deck.specs.LineFaults.{Refuses}
-use Rattle.rp_deck.specs.Declaring.{BadLine, declarations_of}
+use Rattle.rp_words.specs.declared.lines.Lines.{Lines}
+use Rattle.rp_words.specs.Ahead.{left, lines_read, ahead, after_last}
+use Rattle.rp_words.specs.LineFaults.{Refuses}
+use Rattle.rp_deck.specs.Declaring.{declarations_of}
+use Rattle.rp_words.specs.LineFaults.{BadLine}
 use Rattle.rp_deck.specs.Drafts.{DraftText}
-use Rattle.rp_deck.specs.Lines.{LineText, lines_of, texts_from}
+use Rattle.rp_words.specs.Lines.{LineText, lines_of, texts_from}
 use Rattle.rp_deck.specs.Meaning.{DeckText, known, deck_of, texts_of, line_after, meaning_of}
-use Rattle.rp_deck.specs.Reading.{◌>>=◌}
+use Rattle.rp_words.specs.Reading.{◌>>=◌}
 use Rattle.rp_deck.specs.ScriptNames.{DeclaredNames, declared_names}
 use Rattle.rp_deck.specs.ScriptLines.{LineCommand, script_of}
 

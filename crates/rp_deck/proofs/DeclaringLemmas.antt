@@ -4,17 +4,18 @@ use Rattle.std.specs.Prelude.{slice_get, slice_set, option_map}
 use Rattle.std.proofs.lemmas.Grind.{common_steps}
 use Rattle.std.proofs.lemmas.List.{map-set}
 use Rattle.std.proofs.lemmas.Option.{slice_get-map}
-use Rattle.rp_deck.specs.declared.line_error.LineError.{LineError}
-use Rattle.rp_deck.specs.declared.line_error.LineError.TheVariants.{OutOfMemory, Bad}
+use Rattle.rp_words.specs.declared.line_error.LineError.{LineError}
+use Rattle.rp_words.specs.declared.line_error.LineError.TheVariants.{OutOfMemory, Bad}
 use Rattle.rp_deck.specs.declared.objects.ObjectDraft.{ObjectDraft}
 use Rattle.rp_deck.specs.DraftViews.{object_text}
-use Rattle.rp_deck.specs.LineFaults.{fault_at, Refuses}
+use Rattle.rp_words.specs.LineFaults.{fault_at, Refuses}
 use Rattle.rp_deck.specs.Objects.{object_step}
-use Rattle.rp_deck.specs.Reading.{◌>>=◌, Fails}
+use Rattle.rp_words.specs.Reading.{◌>>=◌, Fails}
 use Rattle.rp_base.specs.declared.fault.DeckReason.{DeckReason}
-use Rattle.rp_deck.specs.Lines.{LineText}
+use Rattle.rp_words.specs.Lines.{LineText}
 use Rattle.rp_deck.specs.Drafts.{ObjectText, DraftText, profile_of, last_object, script_line}
-use Rattle.rp_deck.specs.Declaring.{BadLine, on_line, with_last_object, object_line_of, declaring_line, ends_declarations, missing, declarations_from}
+use Rattle.rp_deck.specs.Declaring.{on_line, with_last_object, object_line_of, declaring_line, ends_declarations, missing, declarations_from}
+use Rattle.rp_words.specs.LineFaults.{BadLine}
 
 -- what a line comes to, by whether it ends the declarations
 by_line : ℕ → DraftText → LineText → List LineText → Bool → Result (Unit {0}) DeckReason → Result DraftText DeckReason → Result (DraftText × List LineText) BadLine

@@ -3,7 +3,7 @@ use Rattle.std.proofs.Common.{◌≡◌, ℕ, zero, suc, ◌+◌, List, Result, 
 use Rattle.rp_base.specs.declared.fault.DeckReason.{DeckReason}
 use Rattle.rp_base.specs.declared.fault.DeckReason.TheVariants.{BadExpression}
 use Rattle.rp_deck.specs.declared.names.Component.{Component}
-use Rattle.rp_deck.specs.Reading.{◌>>=◌}
+use Rattle.rp_words.specs.Reading.{◌>>=◌}
 use Rattle.rp_deck.specs.Expressions.{node_at, expr_from, expr_at, cond_from, cond_at}
 
 -- no node, and so no expression

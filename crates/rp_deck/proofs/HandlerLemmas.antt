@@ -12,7 +12,7 @@ use Rattle.rp_deck.specs.declared.objects.ObjectDraft.{ObjectDraft}
 use Rattle.rp_deck.specs.Declarations.{procedure_counts, IsHandled}
 use Rattle.rp_deck.specs.DraftViews.{object_text}
 use Rattle.rp_deck.proofs.Naming.{all_weaker}
-use Rattle.rp_deck.proofs.TablesLemmas.{map_last}
+use Rattle.rp_words.proofs.TablesLemmas.{map_last}
 
 abbrev procedure_count : ObjectDraft → ℕ
 procedure_count draft = length (object_text draft).procedures

@@ -1,26 +1,14 @@
 mod BodyLemmas
-mod BodyTextLemmas
 mod CountedLemmas
 mod DeckLemmas
-mod DeclaringLemmas
-mod ExpressionTextLemmas
+pub mod DeclaringLemmas
 mod ExpressionsLemmas
 mod HandlerLemmas
 mod LimitsLemmas
-mod LinesLemmas
 mod Naming
 mod ObjectLemmas
-mod ObjectDeckLemmas
-mod ObjectTextLemmas
-mod PartTextLemmas
 mod ProgramLemmas
 mod RightLemmas
-mod ScriptLemmas
-mod ScriptTextLemmas
-mod SpacedLemmas
+pub mod ScriptLemmas
 mod StoreLemmas
-mod TablesLemmas
 mod TallyLemmas
-mod TallyTextLemmas
-mod TextsLemmas
-mod WordsLemmas

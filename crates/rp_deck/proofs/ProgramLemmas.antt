@@ -6,7 +6,7 @@ use Rattle.rp_object.specs.declared.program.Handler.{Handler}
 use Rattle.rp_deck.specs.Drafts.{DraftText, profile_of}
 use Rattle.rp_deck.specs.Meaning.{ProgramText, Tally, Objects, DeckText, protected_of, deck_of}
 use Rattle.rp_deck.specs.ScriptNames.{OperationsText, DeclaredNames, tally_operations, object_operations, declared_names}
-use Rattle.rp_deck.proofs.TablesLemmas.{map_last}
+use Rattle.rp_words.proofs.TablesLemmas.{map_last}
 
 -- two lists that look alike still do with one thing more of each
 pub one_more : {A B C T : Type 0} (f : A → C) (g : T → C) (h : B → T) (xs more : List A) (ys : List B) (x : A) (y : B)

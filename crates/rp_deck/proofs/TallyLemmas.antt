@@ -1,6 +1,6 @@
 -- The names of a tally's objects.
 use Rattle.std.proofs.Common.{◌≡◌, ℕ, zero, suc, ◌+◌, ◌<◌, [], ◌∷◌, ◌++◌, false, arith, ap, refl, sym, subst, ◌∙◌}
-use Rattle.rp_deck.specs.Tables.{is_declared}
+use Rattle.rp_words.specs.Tables.{is_declared}
 use Rattle.rp_deck.specs.Drafts.{tally_name, tally_names}
 
 new_after : (n : ℕ) → n < 8 → is_declared (tally_name (suc n)) (tally_names n) ≡ false

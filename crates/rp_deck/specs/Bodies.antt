@@ -8,8 +8,8 @@ use Rattle.rp_deck.specs.declared.statements.BodyWord.{BodyWord}
 use Rattle.rp_deck.specs.declared.statements.BodyWord.TheVariants.{Statement, Else, End}
 use Rattle.rp_deck.specs.declared.statements.StatementWord.{StatementWord}
 use Rattle.rp_deck.specs.declared.statements.StatementWord.TheVariants as words
-use Rattle.rp_deck.specs.Lines.{LineText}
-use Rattle.rp_deck.specs.Reading.{◌>>=◌, some_or, unless, word_at, end_at}
+use Rattle.rp_words.specs.Lines.{LineText}
+use Rattle.rp_words.specs.Reading.{◌>>=◌, some_or, unless, word_at, end_at}
 use Rattle.rp_deck.specs.Expressions.{ExprText, CondText, int_of, bool_of, expr_line, cond_line}
 
 -- statements in order: the last one, and those before it

@@ -19,7 +19,7 @@ use Rattle.rp_deck.specs.DraftViews.{priority_of, function_text, entry_text}
 use Rattle.rp_deck.specs.Meaning.{ProtectedText, ProgramText, Tally, Objects, DeckText, protected_of}
 use Rattle.rp_deck.specs.ScriptNames.{tally_operations, object_operations}
 use Rattle.rp_deck.specs.ScriptViews.{timer_handlers, own_operations, line_command}
-use Rattle.rp_deck.specs.Tables.{key_names, set_names}
+use Rattle.rp_words.specs.Tables.{key_names, set_names}
 
 abbrev pub protected_text : ObjectDeclaration → ProtectedText
 protected_text object = record {

@@ -29,7 +29,7 @@ use Rattle.rp_object.specs.declared.program.Handler.{Handler}
 use Rattle.rp_deck.specs.DraftViews.{object_text}
 use Rattle.rp_deck.specs.Named.{AreNamed}
 use Rattle.rp_deck.specs.Objects.{most_entries}
-use Rattle.rp_deck.specs.Tables.{is_declared, key_names}
+use Rattle.rp_words.specs.Tables.{is_declared, key_names}
 
 abbrev pub IsNodeCount : ℕ → Type 0
 IsNodeCount n = (3 ≤ n) × (n ≤ 7)

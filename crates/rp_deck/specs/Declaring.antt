@@ -4,15 +4,11 @@ use Rattle.std.specs.Str.{bytes_eq}
 use Rattle.rp_base.specs.declared.fault.DeckReason.{DeckReason}
 use Rattle.rp_base.specs.declared.fault.DeckReason.TheVariants.{NodesExpected, UnknownWord, EndExpected, ScriptExpected}
 use Rattle.rp_deck.specs.declared.draft.Kind.{Kind}
-use Rattle.rp_deck.specs.Lines.{LineText}
-use Rattle.rp_deck.specs.Reading.{◌>>=◌}
+use Rattle.rp_words.specs.LineFaults.{BadLine}
+use Rattle.rp_words.specs.Lines.{LineText}
+use Rattle.rp_words.specs.Reading.{◌>>=◌}
 use Rattle.rp_deck.specs.Drafts.{ObjectText, DraftText, empty_draft, profile_of, last_object, is_in_body, kind_of, nodes_line, declaration_line, script_line}
 use Rattle.rp_deck.specs.Objects.{object_step}
-
--- a bad line, by its number, and its first reason
-pub record BadLine : Type 0 where
-  pub line : ℕ
-  pub reason : DeckReason
 
 -- what a line gives and what follows, up to the first bad one
 abbrev pub on_line : {X Y : Type 0} → ℕ → Result X DeckReason → (X → Result Y BadLine) → Result Y BadLine

@@ -9,7 +9,7 @@ use Rattle.rp_deck.specs.declared.draft.Draft.{Draft}
 use Rattle.rp_deck.specs.declared.objects.ObjectDraft.{ObjectDraft}
 use Rattle.rp_deck.specs.declared.objects.OperationDraft.{OperationDraft}
 use Rattle.rp_deck.specs.Named.{operation_of}
-use Rattle.rp_deck.specs.Tables.{key_names, set_names}
+use Rattle.rp_words.specs.Tables.{key_names, set_names}
 use Rattle.rp_deck.specs.BodyViews.{body_text, body_draft_text}
 use Rattle.rp_deck.specs.ExpressionViews.{expr_text, cond_text}
 use Rattle.rp_deck.specs.Drafts.{FunctionText, Value, Truth, EntryText, OpenOperationText, ObjectText, DraftText}

@@ -16,9 +16,9 @@ use Rattle.rp_deck.specs.declared.names.Component.{Component}
 use Rattle.rp_deck.specs.declared.objects.Head.{Head}
 use Rattle.rp_deck.specs.Bodies.{BodyText, OpenBodyText}
 use Rattle.rp_deck.specs.Expressions.{ExprText, CondText}
-use Rattle.rp_deck.specs.Lines.{LineText}
-use Rattle.rp_deck.specs.Tables.{place_of, find}
-use Rattle.rp_deck.specs.Reading.{◌>>=◌, some_or, unless, word_at, end_at, new_name_at, number_at, dotted_of}
+use Rattle.rp_words.specs.Lines.{LineText}
+use Rattle.rp_words.specs.Tables.{place_of, find}
+use Rattle.rp_words.specs.Reading.{◌>>=◌, some_or, unless, word_at, end_at, new_name_at, number_at, dotted_of}
 
 pub data FunctionText : Type 0 where
   Value : (value : ExprText) → FunctionText

@@ -7,9 +7,9 @@ use Rattle.rp_deck.specs.declared.expressions.CondWord.{CondWord}
 use Rattle.rp_deck.specs.declared.expressions.CondWord.TheVariants as words
 use Rattle.rp_deck.specs.declared.names.Component.{Component}
 use Rattle.rp_deck.specs.declared.names.Component.TheVariants as components
-use Rattle.rp_deck.specs.Tables.{find}
-use Rattle.rp_deck.specs.Words.{begins_as_number, number_of}
-use Rattle.rp_deck.specs.Reading.{◌>>=◌, some_or, unless, word_at, end_at, name_of}
+use Rattle.rp_words.specs.Tables.{find}
+use Rattle.rp_words.specs.Words.{begins_as_number, number_of}
+use Rattle.rp_words.specs.Reading.{◌>>=◌, some_or, unless, word_at, end_at, name_of}
 
 pub data ExprText : Type 0 where
   Number : (number : ℤ) → ExprText

@@ -5,10 +5,11 @@ use Rattle.rp_object.specs.declared.program.Handler.{Handler}
 use Rattle.rp_object.specs.declared.program.Profile.{Profile}
 use Rattle.rp_deck.specs.declared.deck.Mode.{Mode}
 use Rattle.rp_deck.specs.Bodies.{BodyText}
-use Rattle.rp_deck.specs.Declaring.{BadLine, declarations_of}
+use Rattle.rp_deck.specs.Declaring.{declarations_of}
+use Rattle.rp_words.specs.LineFaults.{BadLine}
 use Rattle.rp_deck.specs.Drafts.{FunctionText, EntryText, ObjectText, DraftText, profile_of}
-use Rattle.rp_deck.specs.Lines.{LineText, lines_of, texts_from}
-use Rattle.rp_deck.specs.Reading.{◌>>=◌}
+use Rattle.rp_words.specs.Lines.{LineText, lines_of, texts_from}
+use Rattle.rp_words.specs.Reading.{◌>>=◌}
 use Rattle.rp_deck.specs.ScriptNames.{DeclaredNames, declared_names}
 use Rattle.rp_deck.specs.ScriptLines.{LineCommand, script_of}
 

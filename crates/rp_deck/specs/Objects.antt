@@ -12,16 +12,16 @@ use Rattle.rp_deck.specs.declared.objects.Head.{Head}
 use Rattle.rp_deck.specs.declared.objects.Head.TheVariants as heads
 use Rattle.rp_deck.specs.Bodies.{BodyText, OpenBodyText, begun_body, body_line}
 use Rattle.rp_deck.specs.Expressions.{bool_of, expr_line, cond_line}
-use Rattle.rp_deck.specs.Lines.{LineText}
+use Rattle.rp_words.specs.Lines.{LineText}
 use Rattle.std.specs.FinMap.{insert, len}
 use Rattle.rp_base.specs.declared.fault.DeckReason.{DeckReason}
 use Rattle.rp_base.specs.declared.fault.DeckReason.TheVariants.{TooMany, BadNumber, BadName, DuplicateName, UnknownWord}
 use Rattle.rp_body.specs.Store.{is_within}
 use Rattle.rp_deck.specs.declared.names.Component.TheVariants as components
-use Rattle.rp_deck.specs.Tables.{is_declared}
-use Rattle.rp_deck.specs.Reading.{◌>>=◌, some_or, unless, word_at, end_at, name_at, new_name_at, integer_at, number_at}
+use Rattle.rp_words.specs.Tables.{is_declared}
+use Rattle.rp_words.specs.Reading.{◌>>=◌, some_or, unless, word_at, end_at, name_at, new_name_at, integer_at, number_at}
 use Rattle.rp_deck.specs.Drafts.{OpenOperationText, ObjectText, FunctionText, Value, Truth, EntryText}
-use Rattle.rp_deck.specs.Words.{truth_named, is_at_end}
+use Rattle.rp_words.specs.Words.{truth_named, is_at_end}
 
 -- the words of expressions and conditions, by which no component may be named
 abbrev pub expression_words : List (List ℕ)

@@ -11,11 +11,12 @@ use Rattle.rp_deck.specs.declared.deck.Mode.{Mode}
 use Rattle.rp_deck.specs.declared.deck.Mode.TheVariants.{Script, Live}
 use Rattle.rp_deck.specs.declared.verbs.Verb.{Verb}
 use Rattle.rp_deck.specs.declared.verbs.Verb.TheVariants as verbs
-use Rattle.rp_deck.specs.Declaring.{BadLine, on_line}
-use Rattle.rp_deck.specs.Lines.{LineText}
-use Rattle.rp_deck.specs.Words.{is_at_end}
-use Rattle.rp_deck.specs.Tables.{place_of, find}
-use Rattle.rp_deck.specs.Reading.{◌>>=◌, some_or, unless, word_at, end_at, name_at, integer_at, number_at, dotted_of}
+use Rattle.rp_deck.specs.Declaring.{on_line}
+use Rattle.rp_words.specs.LineFaults.{BadLine}
+use Rattle.rp_words.specs.Lines.{LineText}
+use Rattle.rp_words.specs.Words.{is_at_end}
+use Rattle.rp_words.specs.Tables.{place_of, find}
+use Rattle.rp_words.specs.Reading.{◌>>=◌, some_or, unless, word_at, end_at, name_at, integer_at, number_at, dotted_of}
 use Rattle.rp_deck.specs.ScriptNames.{DeclaredNames}
 
 -- what a line asks for: an event, the messages from the first to the last count as settled, messages are

@@ -12,7 +12,7 @@ use Rattle.rp_deck.specs.declared.deck.Line.{Line}
 use Rattle.rp_deck.specs.declared.declarations.Declared.{Declared}
 use Rattle.rp_deck.specs.declared.names.OperationName.{OperationName}
 use Rattle.rp_deck.specs.Named.{operation_of}
-use Rattle.rp_deck.specs.Tables.{key_names, set_names}
+use Rattle.rp_words.specs.Tables.{key_names, set_names}
 use Rattle.rp_deck.specs.ScriptNames.{OperationsText, DeclaredNames}
 use Rattle.rp_deck.specs.ScriptLines.{LineCommand, CommandText, Take, Lose, Drain, Show}
 

@@ -11,19 +11,19 @@ ghost use Rattle.rp_deck.specs.Declarations.{IsComplete};
 ghost use Rattle.rp_deck.specs.Live.{IsLiveEvent, IsLiveStep};
 ghost use Rattle.rp_deck.specs.Named.{operation_of};
 ghost use Rattle.rp_deck.specs.Programs.{IsOffered};
-ghost use Rattle.rp_deck.specs.Reading.{Gives};
+ghost use Rattle.rp_words.specs.Reading.{Gives};
 ghost use Rattle.rp_deck.specs.Script.{IsRightEvent, IsStepDeclared, IsStepWithin, IsUpTo};
 ghost use Rattle.rp_deck.specs.ScriptLines.{operation_at, timer_at, argument_at, call_at, arm_at, disarm_at, interrupt_at, tick_at};
 ghost use Rattle.rp_deck.specs.ScriptViews.{names_of};
-ghost use Rattle.rp_deck.specs.Tables.{find, key_names};
-ghost use Rattle.rp_deck.specs.Words.{unread};
+ghost use Rattle.rp_words.specs.Tables.{find, key_names};
+ghost use Rattle.rp_words.specs.Words.{unread};
 
 use crate::declarations::Declared;
-use crate::names::{Index, OperationName, OperationNames, place_among, place_in};
+use crate::names::{Index, OperationName, OperationNames};
 use crate::operands::{read_dotted, read_node, read_task};
-use crate::words::Words;
 use rp_base::{DeckReason, Operation};
 use rp_model::{Event, Interrupt, Step};
+use rp_words::{Words, place_among, place_in};
 
 /// Reads the rest of `call TASK NODE OBJECT.OPERATION [ARG]`.
 #[tactic(auto, unfolding(crate::specs::ScriptLines::call_at))]

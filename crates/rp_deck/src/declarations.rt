@@ -1,27 +1,25 @@
 //! Reads the declarations of a deck.
 
 ghost use Rattle.std.specs.Prelude.{◌≡◌, IfOk, IfErr, option_copied, slice_get};
-ghost use Rattle.rp_deck.specs.Ahead.{text_of, ahead, after_last};
+ghost use Rattle.rp_words.specs.Ahead.{text_of, ahead, after_last};
 ghost use Rattle.rp_deck.specs.Declarations.{IsNodeCount, IsDraft, IsFinishable, IsComplete};
 ghost use Rattle.rp_deck.specs.Declaring.{declarations_from, declarations_of};
 ghost use Rattle.rp_deck.specs.DeckViews.{declared_text};
 ghost use Rattle.rp_deck.specs.DraftViews.{draft_text};
 ghost use Rattle.rp_deck.specs.Drafts.{nodes_line};
-ghost use Rattle.rp_deck.specs.LineFaults.{IsDeckFault, Reads};
+ghost use Rattle.rp_words.specs.LineFaults.{IsDeckFault, Reads};
 ghost use Rattle.rp_deck.specs.Meaning.{known};
-ghost use Rattle.rp_deck.specs.Reading.{Gives};
+ghost use Rattle.rp_words.specs.Reading.{Gives};
 ghost use Rattle.rp_deck.specs.ScriptViews.{names_of};
 
 use crate::deck::{DeckProgram, Task};
 use crate::draft::Draft;
-use crate::line_error::LineError;
-use crate::lines::{Lines, TextLine};
 use crate::names::OperationNames;
 use crate::program::finish;
-use crate::words::is_word;
 use indexmap::{IndexMap, IndexSet};
 use rp_base::{DeckReason, Fault, Position};
 use rp_object::Handler;
+use rp_words::{LineError, Lines, TextLine, is_word};
 use std::alloc::Global;
 
 /// What a deck declares before its script, each kind in declared order.

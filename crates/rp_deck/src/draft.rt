@@ -3,25 +3,25 @@
 ghost use Rattle.std.specs.Prelude.{◌≡◌, ◌≤◌, ◌<◌, ◌∷◌, ◌++◌, [], All, true, false, length, IfSome, IfOk, IfErr, OnOk};
 ghost use Rattle.indexmap.specs.IndexMap.{index_map_len};
 ghost use Rattle.indexmap.specs.IndexSet.{index_set_len};
-ghost use Rattle.rp_deck.specs.Ahead.{text_of};
+ghost use Rattle.rp_words.specs.Ahead.{text_of};
 ghost use Rattle.rp_deck.specs.DraftViews.{draft_text};
 ghost use Rattle.rp_deck.specs.Drafts.{is_new, empty_draft, profile_of, last_object, is_in_body, kind_named, allows, kind_of, profile_named, positions_line, profile_line, task_line, tally_name, tally_names, tally_line, object_line, handler_at, interrupt_line, timer_line, declaration_line, script_line};
 ghost use Rattle.rp_deck.specs.Declaring.{object_line_of, declaring_line, ends_declarations, missing};
-ghost use Rattle.rp_deck.specs.Reading.{Gives, Makes};
-ghost use Rattle.rp_deck.specs.Tables.{place_of, set_names};
-ghost use Rattle.rp_deck.specs.Words.{unread};
+ghost use Rattle.rp_words.specs.Reading.{Gives, Makes};
+ghost use Rattle.rp_words.specs.Tables.{place_of, set_names};
+ghost use Rattle.rp_words.specs.Words.{unread};
 ghost use Rattle.rp_deck.specs.Declarations.{IsNodeCount, IsNameSet, IsObject, procedure_counts, IsHandled, IsDraft, IsFinishable};
 
 use crate::deck::Task;
-use crate::line_error::LineError;
-use crate::lines::TextLine;
-use crate::names::{OperationName, add_name, declare, take_name_not_in, take_new_name};
+use crate::names::OperationName;
 use crate::objects::ObjectDraft;
 use crate::operands::read_dotted;
-use crate::words::{Words, is_word};
 use indexmap::{IndexMap, IndexSet};
 use rp_base::{DeckReason, Position};
 use rp_object::{Handler, Profile};
+use rp_words::{
+    LineError, TextLine, Words, add_name, declare, is_word, take_name_not_in, take_new_name,
+};
 use std::alloc::Global;
 
 /// The most that is declared of each kind.
@@ -54,7 +54,7 @@ pub struct Draft {
 
 /// A declaration of the deck's own, which belongs to no object.
 #[derive(Clone, Copy, Debug, PartialEq, Eq)]
-enum Kind {
+pub enum Kind {
     Positions,
     Profile,
     Task,
@@ -215,7 +215,7 @@ impl Draft {
     }
 
     /// Reads the rest of `positions P`.
-    #[tactic(auto, using(crate::proofs::TablesLemmas::map_last), unfolding(crate::specs::Drafts::positions_line))]
+    #[tactic(auto, using(rp_words::proofs::TablesLemmas::map_last), unfolding(crate::specs::Drafts::positions_line))]
     fn read_positions(&mut self, mut words: Words<'_>) -> Result<(), LineError>
         requires { IsDraft self.old }
         ensures read { Makes (λ _. draft_text self.new) result
@@ -243,7 +243,7 @@ impl Draft {
     }
 
     /// Reads the rest of `task NAME PRIORITY`.
-    #[tactic(auto, using(crate::proofs::TablesLemmas::map_last), unfolding(crate::specs::Drafts::task_line))]
+    #[tactic(auto, using(rp_words::proofs::TablesLemmas::map_last), unfolding(crate::specs::Drafts::task_line))]
     fn read_task(&mut self, alloc: Global, mut words: Words<'_>) -> Result<(), LineError>
         requires { IsDraft self.old }
         ensures read { Makes (λ _. draft_text self.new) result
@@ -284,7 +284,7 @@ impl Draft {
     }
 
     /// Reads the rest of `object NAME CEILING`.
-    #[tactic(auto, using(crate::proofs::TablesLemmas::map_last), unfolding(crate::specs::Drafts::object_line))]
+    #[tactic(auto, using(rp_words::proofs::TablesLemmas::map_last), unfolding(crate::specs::Drafts::object_line))]
     fn read_object(&mut self, alloc: Global, mut words: Words<'_>) -> Result<(), LineError>
         requires { IsDraft self.old × (self.old.is_tally ≡ false) }
         ensures read { Makes (λ _. draft_text self.new) result
@@ -322,7 +322,7 @@ impl Draft {
     }
 
     /// Reads the rest of `interrupt NAME OBJECT.PROCEDURE`.
-    #[tactic(auto, using(crate::proofs::TablesLemmas::map_last), unfolding(crate::specs::Drafts::interrupt_line))]
+    #[tactic(auto, using(rp_words::proofs::TablesLemmas::map_last), unfolding(crate::specs::Drafts::interrupt_line))]
     fn read_interrupt(&mut self, alloc: Global, mut words: Words<'_>) -> Result<(), LineError>
         requires { IsDraft self.old }
         ensures read { Makes (λ _. draft_text self.new) result
@@ -340,7 +340,7 @@ impl Draft {
     }
 
     /// Reads the rest of `timer NAME OBJECT.PROCEDURE`.
-    #[tactic(auto, using(crate::proofs::TablesLemmas::map_last), unfolding(crate::specs::Drafts::timer_line))]
+    #[tactic(auto, using(rp_words::proofs::TablesLemmas::map_last), unfolding(crate::specs::Drafts::timer_line))]
     fn read_timer(&mut self, alloc: Global, mut words: Words<'_>) -> Result<(), LineError>
         requires { IsDraft self.old }
         ensures read { Makes (λ _. draft_text self.new) result

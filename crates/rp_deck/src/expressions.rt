@@ -7,15 +7,14 @@ ghost use Rattle.indexmap.specs.IndexMap.{values};
 ghost use Rattle.rp_deck.specs.ExpressionViews.{expr_text, cond_text};
 ghost use Rattle.rp_deck.specs.Expressions.{component_of, int_of, bool_of, node_at, expr_from, expr_at, expr_line, cond_word_named, cond_of, cond_from, cond_at, cond_line};
 ghost use Rattle.rp_deck.specs.Objects.{expression_words};
-ghost use Rattle.rp_deck.specs.Reading.{Gives, Makes};
-ghost use Rattle.rp_deck.specs.Tables.{is_declared, find, key_names};
-ghost use Rattle.rp_deck.specs.Words.{begins_as_number, unread};
+ghost use Rattle.rp_words.specs.Reading.{Gives, Makes};
+ghost use Rattle.rp_words.specs.Tables.{is_declared, find, key_names};
+ghost use Rattle.rp_words.specs.Words.{begins_as_number, unread};
 
-use crate::line_error::LineError;
 use crate::names::{Component, ComponentNames};
-use crate::words::{Words, is_word, read_name, read_number};
 use rp_base::DeckReason;
 use rp_body::{Cond, Expr};
+use rp_words::{LineError, Words, is_word, read_name, read_number};
 use std::alloc::Global;
 
 /// The most nodes of an expression or a condition.
@@ -91,7 +90,7 @@ pub fn bool_named(word: &[u8], names: &ComponentNames) -> Result<u8, DeckReason>
 
 /// The first word of a condition, but for a component's name.
 #[derive(Clone, Copy, Debug, PartialEq, Eq)]
-enum CondWord {
+pub enum CondWord {
     True,
     False,
     Less,

@@ -2,8 +2,6 @@
 //!
 //! In reading order:
 //! - `reading`: reads a deck
-//! - `lines`: the lines of a deck
-//! - `words`: the lines of a deck and their words
 //! - `declarations`: reads the declarations of a deck
 //! - `draft`: what a deck declares so far, and the lines by which it goes on
 //! - `objects`: reads the lines that belong to an object
@@ -11,12 +9,10 @@
 //! - `expressions`: reads the expressions and conditions of a deck
 //! - `names`: what the names of a deck stand for
 //! - `program`: makes the program of what a deck declares
-//! - `line_error`: why a line of a deck was not read
 //! - `script`: reads the script of a deck
 //! - `verbs`: the first words of a script's lines
 //! - `calls`: reads the lines of a script by which tasks call and interrupts occur
 //! - `operands`: reads the words of a script's line that name nodes, tasks and positions
-//! - `laws`: laws of what a text means
 //! - `deck`: what a deck declares and asks for
 #![tactic(auto)]
 
@@ -25,9 +21,6 @@ mod deck;
 mod declarations;
 mod draft;
 mod expressions;
-mod laws;
-mod line_error;
-mod lines;
 mod names;
 mod objects;
 mod operands;
@@ -36,12 +29,6 @@ mod reading;
 mod script;
 mod statements;
 mod verbs;
-mod words;
 
 pub use deck::{Command, Deck, DeckProgram, Line, Mode, Task};
-pub use laws::{
-    commands_are_read_back, conditions_are_read_back, declarations_are_read_back,
-    expressions_are_read_back, object_decks_are_read_back, objects_are_read_back,
-    scripts_are_read_back, tally_decks_are_read_back,
-};
 pub use reading::read_deck;

@@ -2,29 +2,27 @@
 
 ghost use Rattle.std.specs.Prelude.{◌≡◌, ◌≤◌, ◌+◌, Some, length, IfSome, IfOk, IfErr, OnOk};
 ghost use Rattle.rp_object.specs.Program.{has_operation, operations_of, DeclarationFits, KeepsProfile};
-ghost use Rattle.rp_deck.specs.Ahead.{text_of};
+ghost use Rattle.rp_words.specs.Ahead.{text_of};
 ghost use Rattle.indexmap.specs.IndexMap.{values};
+ghost use Rattle.rp_body.specs.Store.{is_within};
 ghost use Rattle.rp_entry.specs.Operations.{FunctionFits};
 ghost use Rattle.rp_deck.specs.Counted.{WhereCounted};
 ghost use Rattle.rp_deck.specs.Named.{AreNamed};
 ghost use Rattle.rp_deck.specs.Objects.{part_named, function_named, most_entries, longest_at, queue_at};
-ghost use Rattle.rp_deck.specs.Reading.{Gives, Makes};
-ghost use Rattle.rp_deck.specs.Words.{unread};
+ghost use Rattle.rp_words.specs.Reading.{Gives, Makes};
+ghost use Rattle.rp_words.specs.Words.{unread};
 
 use crate::expressions::{bool_named, is_of_expressions, read_cond, read_expr};
-use crate::line_error::LineError;
-use crate::lines::TextLine;
-use crate::names::{
-    Component, ComponentNames, EntryIndex, Index, OperationName, OperationNames, declare, has_name,
-    insert_new, take_new_name,
-};
+use crate::names::{Component, ComponentNames, EntryIndex, Index, OperationName, OperationNames};
 use crate::statements::BodyDraft;
-use crate::words::{Words, is_within, is_word, truth_named};
 use indexmap::IndexMap;
 use rp_base::DeckReason;
 use rp_body::{Components, Ranged};
 use rp_entry::{Entry, Function, Operations};
 use rp_object::{ObjectDeclaration, Profile};
+use rp_words::{
+    LineError, TextLine, Words, declare, has_name, insert_new, is_word, take_new_name, truth_named,
+};
 use std::alloc::{AllocError, Global};
 use std::sync::Arc;
 
@@ -39,7 +37,7 @@ const LONGEST_QUEUE: u64 = 8;
 
 /// What a line declares that belongs to an object.
 #[derive(Clone, Copy, Debug, PartialEq, Eq)]
-enum Part {
+pub enum Part {
     Int,
     Bool,
     Function,
@@ -131,7 +129,7 @@ impl ObjectDraft {
     ghost use Rattle.rp_deck.specs.ScriptNames.{object_operations};
     ghost use Rattle.rp_deck.specs.ScriptViews.{own_operations};
     ghost use Rattle.rp_deck.specs.Objects.{component_name_at, int_line, bool_line, function_of, function_line, procedure_line, entry_line, begun_operation, completed_as, operation_line, part_line, object_step};
-    ghost use Rattle.rp_deck.specs.Tables.{find, is_declared, key_names};
+    ghost use Rattle.rp_words.specs.Tables.{find, is_declared, key_names};
 
     /// An object that has nothing yet.
     pub fn new(alloc: Global, name: String, ceiling: u8) -> Self
@@ -292,7 +290,7 @@ impl ObjectDraft {
     }
 
     /// Reads the rest of `int NAME LOW HIGH INIT`.
-    #[tactic(auto, using(crate::proofs::TablesLemmas::map_last), unfolding(crate::specs::Objects::int_line))]
+    #[tactic(auto, using(rp_words::proofs::TablesLemmas::map_last), unfolding(crate::specs::Objects::int_line))]
     fn read_int(
         &mut self,
         alloc: Global,
@@ -330,7 +328,7 @@ impl ObjectDraft {
     }
 
     /// Reads the rest of `bool NAME INIT`.
-    #[tactic(auto, using(crate::proofs::TablesLemmas::map_last), unfolding(crate::specs::Objects::bool_line))]
+    #[tactic(auto, using(rp_words::proofs::TablesLemmas::map_last), unfolding(crate::specs::Objects::bool_line))]
     fn read_bool(
         &mut self,
         alloc: Global,
@@ -363,7 +361,7 @@ impl ObjectDraft {
     }
 
     /// Reads the rest of `function NAME value EXPR` or `function NAME truth COND`.
-    #[tactic(auto, using(crate::proofs::TablesLemmas::map_last), unfolding(crate::specs::Objects::function_line))]
+    #[tactic(auto, using(rp_words::proofs::TablesLemmas::map_last), unfolding(crate::specs::Objects::function_line))]
     fn read_function(
         &mut self,
         alloc: Global,
@@ -553,4 +551,11 @@ fn take_queue(words: &mut Words<'_>) -> Result<u8, DeckReason>
     }
     let longest = words.take_number(1, LONGEST_QUEUE)?;
     Ok(longest as u8)
+}
+
+/// Whether the number is from low to high.
+fn is_within(low: i64, high: i64, number: i64) -> bool
+    ensures { result ≡ is_within low high number }
+{
+    low <= number && number <= high
 }

@@ -3,15 +3,14 @@
 ghost use Rattle.std.specs.Prelude.{◌≡◌, ◌≤◌, ◌<◌, ◌==◌, length, position, IfOk, IfSome};
 ghost use Rattle.indexmap.specs.IndexMap.{index_map_len};
 ghost use Rattle.rp_deck.specs.Declarations.{IsComplete};
-ghost use Rattle.rp_deck.specs.Reading.{Gives, dotted_of, number_at};
+ghost use Rattle.rp_words.specs.Reading.{Gives, dotted_of, number_at};
 ghost use Rattle.rp_deck.specs.ScriptLines.{declared_at};
-ghost use Rattle.rp_deck.specs.Tables.{key_names};
-ghost use Rattle.rp_deck.specs.Words.{unread};
+ghost use Rattle.rp_words.specs.Tables.{key_names};
+ghost use Rattle.rp_words.specs.Words.{unread};
 
 use crate::declarations::Declared;
-use crate::names::place_in;
-use crate::words::{Words, read_name};
 use rp_base::{DeckReason, NodeId, Position, TaskId};
+use rp_words::{Words, place_in, read_name};
 
 /// Reads the number of a node.
 pub fn read_node(words: &mut Words<'_>, nodes: u8) -> Result<NodeId, DeckReason>
@@ -58,7 +57,7 @@ fn place_of_dot(word: &[u8]) -> Option<usize>
 }
 
 /// Reads two names with one dot between them.
-#[tactic(auto, unfolding(crate::specs::Reading::dotted_of))]
+#[tactic(auto, unfolding(rp_words::specs::Reading::dotted_of))]
 pub fn read_dotted(word: &[u8]) -> Result<(&str, &str), DeckReason>
     ensures { Gives (λ names. (names.0.now, names.1.now)) result (dotted_of word.now) }
 {

@@ -21,12 +21,12 @@ ghost use Rattle.rp_deck.specs.ScriptViews.{timer_handlers, own_operations, name
 use crate::deck::{DeckProgram, Task};
 use crate::declarations::Declared;
 use crate::draft::Draft;
-use crate::line_error::LineError;
 use crate::names::{Index, OperationName, OperationNames};
 use crate::objects::ObjectDraft;
 use indexmap::IndexMap;
 use rp_machine::TallyProgram;
 use rp_object::{Declarations, Handler, ObjectDeclaration, Program, TimingEvent};
+use rp_words::LineError;
 use std::alloc::{AllocError, Global};
 use std::mem;
 use std::sync::Arc;

@@ -3,15 +3,15 @@
 ghost use Rattle.std.specs.Prelude.{◌≡◌, ◌≤◌, ◌+◌, ◌^◌, ◌<◌, length, unwrap_or, IfOk, IfErr};
 ghost use Rattle.rp_deck.specs.Deck.{IsRightDeck};
 ghost use Rattle.rp_deck.specs.DeckViews.{deck_text};
-ghost use Rattle.rp_deck.specs.LineFaults.{IsDeckFault, Reads};
+ghost use Rattle.rp_words.specs.LineFaults.{IsDeckFault, Reads};
 ghost use Rattle.rp_deck.specs.Live.{IsDeckFor};
 ghost use Rattle.rp_deck.specs.Meaning.{meaning_of};
 
 use crate::deck::{Deck, Mode};
 use crate::declarations::read_declarations;
-use crate::lines::Lines;
 use crate::script::read_script;
 use rp_base::{Config, Fault, Position};
+use rp_words::Lines;
 use std::alloc::Global;
 
 /// How long the log gets where the deck says nothing of it.

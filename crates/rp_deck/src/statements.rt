@@ -2,7 +2,7 @@
 
 ghost use Rattle.std.specs.Prelude.{◌≡◌, ◌+◌, ◌∷◌, ◌++◌, ◌==◌, [], List, max, length, IsTrue, OnOk, IfOk};
 ghost use Rattle.indexmap.specs.IndexMap.{values};
-ghost use Rattle.rp_deck.specs.Ahead.{text_of};
+ghost use Rattle.rp_words.specs.Ahead.{text_of};
 ghost use Rattle.rp_deck.specs.Bodies.{BodyText, Empty, If, first_part, second_part, begun_body, body_word_named, may_turn, may_follow, body_word, one_more, turned, closed, statement_line, body_line_of, body_line};
 ghost use Rattle.rp_deck.specs.ExpressionViews.{cond_text};
 ghost use Rattle.rp_body.specs.Check.{cond_fits, stmt_count, statement_count, stmt_depth, depth_of, stmt_fits, body_fits, KeepsLimits};
@@ -11,17 +11,15 @@ ghost use Rattle.rp_deck.specs.declared.names.Component.{Component};
 ghost use Rattle.rp_deck.specs.BodyLimits.{part_count, part_depth, part_fits, IsBody};
 ghost use Rattle.rp_deck.specs.Counted.{WhereCounted};
 ghost use Rattle.rp_deck.specs.BodyViews.{and_then, body_text, part_text, within, body_draft_text};
-ghost use Rattle.rp_deck.specs.Reading.{Gives, Makes};
-ghost use Rattle.rp_deck.specs.Tables.{key_names};
-ghost use Rattle.rp_deck.specs.Words.{unread};
+ghost use Rattle.rp_words.specs.Reading.{Gives, Makes};
+ghost use Rattle.rp_words.specs.Tables.{key_names};
+ghost use Rattle.rp_words.specs.Words.{unread};
 
 use crate::expressions::{bool_named, int_named, read_cond, read_expr};
-use crate::line_error::LineError;
-use crate::lines::TextLine;
 use crate::names::ComponentNames;
-use crate::words::Words;
 use rp_base::DeckReason;
 use rp_body::{Cond, Stmt};
+use rp_words::{LineError, TextLine, Words};
 use std::alloc::{AllocError, Global};
 use std::mem;
 
@@ -33,7 +31,7 @@ const MOST_DEPTH: usize = 8;
 
 /// The first word of a line in a body.
 #[derive(Clone, Copy, Debug, PartialEq, Eq)]
-enum BodyWord {
+pub enum BodyWord {
     Statement(StatementWord),
     Else,
     End,
@@ -41,7 +39,7 @@ enum BodyWord {
 
 /// The first word of a statement.
 #[derive(Clone, Copy, Debug, PartialEq, Eq)]
-enum StatementWord {
+pub enum StatementWord {
     Set,
     Put,
     Out,

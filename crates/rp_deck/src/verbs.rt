@@ -4,7 +4,7 @@ ghost use Rattle.std.specs.Prelude.{◌≡◌};
 ghost use Rattle.rp_deck.specs.ScriptLines.{verb_named, is_live, takes};
 
 use crate::deck::Mode;
-use crate::words::is_word;
+use rp_words::is_word;
 
 /// The first word of a line of the script.
 #[derive(Clone, Copy, Debug, PartialEq, Eq)]

@@ -1,7 +1,7 @@
 use Rattle.std.proofs.Common.{◌∙◌, ap}
 use Rattle.std.specs.Prelude.{option_map}
 use Rattle.rp_deck.specs.Named.{operation_of}
-use Rattle.rp_deck.proofs.TablesLemmas.{found_is}
+use Rattle.rp_words.proofs.TablesLemmas.{found_is}
 use Rattle.rp_deck.proofs.calls.operation_named.Goals as goal
 
 pub returns-clause-value : goal.returns-clause-value

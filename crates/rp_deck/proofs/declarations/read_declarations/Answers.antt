@@ -1,8 +1,8 @@
 use Rattle.std.proofs.Common.{◌≡◌, ap, sym, subst, ◌∙◌}
 use Rattle.rp_base.specs.declared.fault.Fault.{Fault}
-use Rattle.rp_deck.specs.Ahead.{ahead, after_last}
+use Rattle.rp_words.specs.Ahead.{ahead, after_last}
 use Rattle.rp_deck.specs.Declaring.{declarations_of}
-use Rattle.rp_deck.specs.LineFaults.{Refuses, fault_at}
+use Rattle.rp_words.specs.LineFaults.{Refuses, fault_at}
 use Rattle.rp_deck.specs.Meaning.{known}
 use Rattle.rp_deck.proofs.declarations.read_declarations.Goals as goal
 

@@ -1,9 +1,9 @@
 -- One line after another.
 use Rattle.std.proofs.Common.{◌≡◌, Err, ap, sym, subst, ◌∙◌}
-use Rattle.rp_deck.specs.Ahead.{ahead, after_last, text_of}
+use Rattle.rp_words.specs.Ahead.{ahead, after_last, text_of}
 use Rattle.rp_deck.specs.Declaring.{declarations_from}
 use Rattle.rp_deck.specs.DraftViews.{draft_text}
-use Rattle.rp_deck.specs.LineFaults.{fault_at, Refuses}
+use Rattle.rp_words.specs.LineFaults.{fault_at, Refuses}
 use Rattle.rp_deck.proofs.DeclaringLemmas.{next_line, refused_at, script_ends, bad_script, no_line}
 use Rattle.rp_deck.proofs.declarations.read_lines.Goals as goal
 

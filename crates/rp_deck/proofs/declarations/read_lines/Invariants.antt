@@ -1,5 +1,5 @@
 use Rattle.std.proofs.Common.{◌≡◌, length}
-use Rattle.rp_deck.specs.Ahead.{left, ahead, after_last}
+use Rattle.rp_words.specs.Ahead.{left, ahead, after_last}
 use Rattle.rp_deck.specs.Declarations.{IsDraft}
 use Rattle.rp_deck.specs.Declaring.{declarations_from}
 use Rattle.rp_deck.specs.DraftViews.{draft_text}

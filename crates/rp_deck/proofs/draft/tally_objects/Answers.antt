@@ -1,6 +1,6 @@
 use Rattle.std.proofs.Common.{◌≡◌, ◌+◌, ◌∷◌, ◌++◌, [], ℕ, List, false, rules, arith, ap, refl, sym, subst, ◌∙◌}
 use Rattle.std.proofs.lemmas.Grind.{common_steps}
-use Rattle.rp_deck.specs.Tables.{is_declared}
+use Rattle.rp_words.specs.Tables.{is_declared}
 use Rattle.rp_deck.specs.Drafts.{tally_names}
 use Rattle.rp_deck.proofs.TallyLemmas.{tally_new, tally_more}
 use Rattle.rp_deck.proofs.draft.tally_objects.Goals as goal

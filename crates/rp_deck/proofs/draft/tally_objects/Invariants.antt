@@ -1,7 +1,7 @@
 use Rattle.std.proofs.Common.{◌≡◌, ◌≤◌}
 use Rattle.std.specs.String.{string_eq}
 use Rattle.indexmap.specs.IndexSet.{index_set_len, IsUnique}
-use Rattle.rp_deck.specs.Tables.{set_names}
+use Rattle.rp_words.specs.Tables.{set_names}
 use Rattle.rp_deck.specs.Drafts.{tally_names}
 use Rattle.rp_deck.proofs.draft.tally_objects.Given as goal
 

@@ -5,7 +5,7 @@ use Rattle.rp_base.specs.declared.fault.DeckReason.{DeckReason}
 use Rattle.rp_base.specs.declared.fault.DeckReason.TheVariants.{UnknownName}
 use Rattle.rp_deck.specs.declared.names.Component.{Component}
 use Rattle.rp_deck.specs.Counted.{IsCounted, WhereCounted}
-use Rattle.rp_deck.specs.Tables.{key_names, find}
+use Rattle.rp_words.specs.Tables.{key_names, find}
 use Rattle.rp_deck.proofs.CountedLemmas.{found_holds}
 use Rattle.rp_deck.proofs.expressions.component_named.Goals as goal
 

@@ -1,5 +1,5 @@
 use Rattle.std.proofs.Common.{◌∙◌}
-use Rattle.rp_deck.proofs.TablesLemmas.{found_itself}
+use Rattle.rp_words.proofs.TablesLemmas.{found_itself}
 use Rattle.rp_deck.proofs.expressions.find_component.Goals as goal
 
 pub returns : goal.returns

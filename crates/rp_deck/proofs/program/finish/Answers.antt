@@ -7,9 +7,9 @@ use Rattle.rp_deck.specs.Drafts.{ObjectText, profile_of}
 use Rattle.rp_deck.specs.Meaning.{Tally, Objects, protected_of}
 use Rattle.rp_deck.specs.ScriptNames.{tally_operations, object_operations}
 use Rattle.rp_deck.specs.ScriptViews.{timer_handlers, own_operations}
-use Rattle.rp_deck.specs.Tables.{set_names}
+use Rattle.rp_words.specs.Tables.{set_names}
 use Rattle.rp_deck.specs.declared.objects.ObjectDraft.{ObjectDraft}
-use Rattle.rp_deck.proofs.TablesLemmas.{same_len}
+use Rattle.rp_words.proofs.TablesLemmas.{same_len}
 use Rattle.rp_deck.proofs.ProgramLemmas.{names_of_tally, names_of_objects, deck_of_tally, deck_of_objects}
 use Rattle.rp_deck.proofs.program.finish.Goals as goal
 

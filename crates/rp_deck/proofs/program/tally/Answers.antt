@@ -4,7 +4,7 @@ use Rattle.std.proofs.lemmas.List.{replicate_more}
 use Rattle.rp_deck.specs.ScriptNames.{OperationsText, tally_operations}
 use Rattle.rp_deck.specs.ScriptViews.{own_operations}
 use Rattle.rp_deck.proofs.Naming.{AreTallyNames, all_tally_more}
-use Rattle.rp_deck.proofs.TablesLemmas.{map_last}
+use Rattle.rp_words.proofs.TablesLemmas.{map_last}
 use Rattle.rp_deck.proofs.program.tally.Goals as goal
 
 pub loop-preserved : goal.loop-preserved

@@ -2,12 +2,13 @@ use Rattle.std.proofs.Common.{◌≡◌, ℕ, List, map, Result, Ok, Err, ap, sy
 use Rattle.std.proofs.lemmas.Result.{err_from_is_err_and}
 use Rattle.rp_base.specs.declared.fault.Fault.{Fault}
 use Rattle.rp_deck.specs.declared.deck.Deck.{Deck}
-use Rattle.rp_deck.specs.Ahead.{ahead, after_last}
-use Rattle.rp_deck.specs.Declaring.{BadLine, declarations_of}
+use Rattle.rp_words.specs.Ahead.{ahead, after_last}
+use Rattle.rp_deck.specs.Declaring.{declarations_of}
+use Rattle.rp_words.specs.LineFaults.{BadLine}
 use Rattle.rp_deck.specs.DeckViews.{declared_text, deck_text}
-use Rattle.rp_deck.specs.LineFaults.{Reads, Refuses}
+use Rattle.rp_words.specs.LineFaults.{Reads, Refuses}
 use Rattle.rp_deck.specs.Meaning.{DeckText, known, meaning_of}
-use Rattle.rp_deck.specs.Reading.{◌>>=◌}
+use Rattle.rp_words.specs.Reading.{◌>>=◌}
 use Rattle.rp_deck.specs.ScriptLines.{LineCommand, script_of}
 use Rattle.rp_deck.specs.ScriptViews.{names_of, line_command}
 use Rattle.rp_deck.proofs.DeckLemmas.{with_script, and_known, meaning_from, refused_before, refused_in_script}

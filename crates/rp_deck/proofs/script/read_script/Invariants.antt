@@ -1,6 +1,6 @@
 use Rattle.std.proofs.Common.{◌≡◌, map, length}
 use Rattle.std.specs.Prelude.{All}
-use Rattle.rp_deck.specs.Ahead.{left, ahead}
+use Rattle.rp_words.specs.Ahead.{left, ahead}
 use Rattle.rp_deck.specs.Live.{IsTaken}
 use Rattle.rp_deck.specs.Script.{IsRightLine}
 use Rattle.rp_deck.specs.ScriptLines.{script_of}

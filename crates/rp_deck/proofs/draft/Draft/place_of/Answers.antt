@@ -1,5 +1,5 @@
 use Rattle.std.proofs.Common.{◌∙◌}
-use Rattle.rp_deck.proofs.TablesLemmas.{same_place}
+use Rattle.rp_words.proofs.TablesLemmas.{same_place}
 use Rattle.rp_deck.proofs.draft.Draft.place_of.Goals as goal
 
 pub returns-clause-place : goal.returns-clause-place

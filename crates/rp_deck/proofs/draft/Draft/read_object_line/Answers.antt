@@ -8,7 +8,7 @@ use Rattle.rp_object.specs.declared.program.Profile.TheVariants.{Ravenscar}
 use Rattle.rp_deck.specs.Declarations.{IsObject}
 use Rattle.rp_deck.proofs.HandlerLemmas.{handled_grown}
 use Rattle.rp_object.specs.declared.program.Profile.{Profile}
-use Rattle.rp_deck.specs.Ahead.{text_of}
+use Rattle.rp_words.specs.Ahead.{text_of}
 use Rattle.rp_deck.specs.DraftViews.{object_text, draft_text}
 use Rattle.rp_deck.specs.Drafts.{ObjectText}
 use Rattle.rp_deck.specs.Objects.{object_step}

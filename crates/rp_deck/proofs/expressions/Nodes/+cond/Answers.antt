@@ -2,8 +2,8 @@
 use Rattle.std.proofs.Common.{rules, arith}
 use Rattle.std.proofs.lemmas.Bool.{lt-ltb}
 use Rattle.indexmap.specs.IndexMap.{values}
-use Rattle.rp_deck.specs.Tables.{key_names}
-use Rattle.rp_deck.specs.Words.{unread}
+use Rattle.rp_words.specs.Tables.{key_names}
+use Rattle.rp_words.specs.Words.{unread}
 use Rattle.rp_deck.proofs.ExpressionsLemmas.{cond_refused, cond_deeper}
 use Rattle.rp_deck.proofs.expressions.Nodes.+cond.Goals as goal
 

@@ -3,7 +3,7 @@ use Rattle.rp_object.specs.declared.program.Profile.{Profile}
 use Rattle.rp_object.specs.declared.program.Profile.TheVariants.{Ravenscar, Jorvik}
 use Rattle.rp_deck.specs.declared.objects.Head.TheVariants.{Procedure}
 use Rattle.rp_deck.specs.Declarations.{HeadKeeps}
-use Rattle.rp_deck.specs.Tables.{is_declared, key_names}
+use Rattle.rp_words.specs.Tables.{is_declared, key_names}
 use Rattle.rp_deck.proofs.objects.ObjectDraft.read_procedure.Goals as goal
 
 always_keeps : (profile : Profile) → HeadKeeps profile Procedure

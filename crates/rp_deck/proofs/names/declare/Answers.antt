@@ -1,6 +1,0 @@
-use Rattle.std.proofs.Common.{◌≡◌, List, ℕ, ◌∷◌, [], ◌++◌, ◌∙◌, false, ap, sym, subst}
-use Rattle.rp_deck.specs.Tables.{is_declared, key_names}
-use Rattle.rp_deck.proofs.names.declare.Goals as goal
-
-pub insert_new-requires : goal.insert_new-requires
-insert_new-requires g c = subst (λ bytes. is_declared bytes (key_names c.args.table.now) ≡ false) (sym c.in_ok-from_str.ensures.ok) c.requires

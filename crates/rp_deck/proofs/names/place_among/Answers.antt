@@ -1,6 +1,0 @@
-use Rattle.std.proofs.Common.{◌∙◌}
-use Rattle.rp_deck.proofs.TablesLemmas.{same_place}
-use Rattle.rp_deck.proofs.names.place_among.Goals as goal
-
-pub returns-clause-place : goal.returns-clause-place
-returns-clause-place c = c.get_index_of.ensures.index ∙ same_place c.args.name.now c.args.names.now.keys

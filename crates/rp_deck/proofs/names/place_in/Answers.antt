@@ -1,7 +1,0 @@
-use Rattle.std.proofs.Common.{◌∙◌}
-use Rattle.std.specs.Map.{keys_of}
-use Rattle.rp_deck.proofs.TablesLemmas.{same_place}
-use Rattle.rp_deck.proofs.names.place_in.Goals as goal
-
-pub returns-clause-place : goal.returns-clause-place
-returns-clause-place g c = c.get_index_of.ensures.index ∙ same_place c.args.name.now (keys_of c.args.table.now.entries)

@@ -1,0 +1,9 @@
+mod BodyTextLemmas
+mod ExpressionTextLemmas
+mod ObjectDeckLemmas
+mod ObjectTextLemmas
+mod PartTextLemmas
+mod ScriptTextLemmas
+mod SpacedLemmas
+mod TallyTextLemmas
+mod TextsLemmas

@@ -1,0 +1,3 @@
+pub mod LinesLemmas
+pub mod TablesLemmas
+pub mod WordsLemmas

@@ -1,0 +1,21 @@
+//! Lines, words, names and numbers: how a text is read from left to right, with the reason of what
+//! is wrong.
+//!
+//! In reading order:
+//! - `lines`: the lines of a text
+//! - `words`: the words of a line, and the readers of them
+//! - `names`: tables of names
+//! - `line_error`: why a line was not read
+#![tactic(auto)]
+
+mod line_error;
+mod lines;
+mod names;
+mod words;
+
+pub use line_error::LineError;
+pub use lines::{Lines, TextLine};
+pub use names::{
+    add_name, declare, has_name, insert_new, place_among, place_in, take_name_not_in, take_new_name,
+};
+pub use words::{Words, is_word, read_name, read_number, truth_named};

@@ -1,0 +1,207 @@
+//! The words of a line, and the readers of them.
+
+ghost use Rattle.std.specs.Prelude.{◌≡◌, ◌≤◌, length, not, SomeIff, IfOk};
+ghost use Rattle.std.specs.Char.{is_ascii_alphabetic};
+ghost use Rattle.std.specs.List.{prefix_len, list_all};
+ghost use Rattle.std.specs.Str.{bytes_eq};
+ghost use Rattle.rp_words.specs.Words.{truth_named, begins_with, is_blank, is_of_name, is_name, IsName, number_of, without_blanks, is_at_end};
+ghost use Rattle.rp_words.specs.Numbers.{IsNumber, number_read};
+ghost use Rattle.rp_words.specs.Reading.{Gives, word_at, end_at, name_at, integer_at, number_at, name_of};
+
+use rp_base::DeckReason;
+use std::str;
+
+/// The most letters, digits and underscores of a name.
+const MOST_OF_NAME: usize = 16;
+
+/// Whether the byte separates words: a space or a tab.
+fn is_blank(byte: u8) -> bool
+    ensures { result ≡ is_blank byte }
+{
+    byte == b' ' || byte == b'\t'
+}
+
+/// How many blanks stand before the first word.
+fn blanks_in_front(bytes: &[u8]) -> usize
+    ensures value { result ≡ prefix_len is_blank bytes.now }
+    ensures within { result ≤ length bytes.now }
+{
+    bytes.iter().take_while(|byte| is_blank(**byte)).count()
+}
+
+/// How many bytes stand before the first blank.
+fn length_of_word(bytes: &[u8]) -> usize
+    ensures value { result ≡ prefix_len (λ byte. not (is_blank byte)) bytes.now }
+    ensures within { result ≤ length bytes.now }
+{
+    bytes.iter().take_while(|byte| !is_blank(**byte)).count()
+}
+
+/// Whether the word begins with a letter.
+fn begins_with_letter(word: &[u8]) -> bool
+    ensures { result ≡ begins_with is_ascii_alphabetic word.now }
+{
+    match word {
+        [] => false,
+        [first, ..] => first.is_ascii_alphabetic(),
+    }
+}
+
+/// Whether the byte may stand in a name: a letter, a digit or an underscore.
+fn is_of_name(byte: u8) -> bool
+    ensures { result ≡ is_of_name byte }
+{
+    byte.is_ascii_alphabetic() || byte.is_ascii_digit() || byte == b'_'
+}
+
+/// Whether each byte may stand in a name.
+fn are_of_name(word: &[u8]) -> bool
+    ensures { result ≡ list_all is_of_name word.now }
+{
+    word.iter().all(|byte| is_of_name(*byte))
+}
+
+/// Whether the word has a name's form: a letter, and then at most 15 letters, digits or
+/// underscores.
+pub fn is_name(word: &[u8]) -> bool
+    ensures { result ≡ is_name word.now }
+{
+    word.len() <= MOST_OF_NAME && begins_with_letter(word) && are_of_name(word)
+}
+
+/// The name that the word is.
+pub fn read_name(word: &[u8]) -> Result<&str, DeckReason>
+    ensures read { Gives (λ name. name.now) result (name_of word.now) }
+    ensures name { IfOk result (λ name. (name.now ≡ word.now) × IsName name.now) }
+{
+    if !is_name(word) {
+        return Err(DeckReason::BadName);
+    }
+    str::from_utf8(word).map_err(|_| DeckReason::BadName)
+}
+
+/// What the standard library reads as a number, but for a plus in front.
+fn parse_number(word: &[u8]) -> Option<i64>
+    ensures { SomeIff result (IsNumber word.now) (number_read word.now) }
+{
+    if word.first() == Some(&b'+') {
+        return None;
+    }
+    str::from_utf8(word).ok()?.parse().ok()
+}
+
+/// The number that the word is: an optional `-` and decimal digits, within 64 signed bits.
+pub fn read_number(word: &[u8]) -> Option<i64>
+    ensures { result ≡ number_of word.now }
+{
+    parse_number(word)
+}
+
+/// Whether the word is this one.
+pub fn is_word(word: &[u8], text: &[u8]) -> bool
+    ensures { result ≡ bytes_eq word.now text.now }
+{
+    word == text
+}
+
+/// The truth value that the word names.
+pub fn truth_named(word: &[u8]) -> Option<bool>
+    ensures { result ≡ truth_named word.now }
+{
+    match word {
+        b"true" => Some(true),
+        b"false" => Some(false),
+        _ => None,
+    }
+}
+
+/// The words of a line that are still to be read.
+#[derive(Debug, Drop)]
+pub struct Words<'a> {
+    rest: &'a [u8],
+}
+
+impl<'a> Words<'a> {
+    ghost use Rattle.rp_words.specs.Words.{unread};
+
+    /// The words of a line, which has no line feed.
+    pub fn new(line: &'a [u8]) -> Self
+        ensures { unread result ≡ line.entry.now }
+    {
+        Words { rest: line }
+    }
+
+    /// The bytes from the next word on.
+    fn from_word(&self) -> &'a [u8]
+        ensures { result.now ≡ without_blanks (unread self.now) }
+    {
+        &self.rest[blanks_in_front(self.rest)..]
+    }
+
+    /// Whether no word is left.
+    pub fn is_at_end(&self) -> bool
+        ensures { result ≡ is_at_end (unread self.now) }
+    {
+        self.from_word().is_empty()
+    }
+
+    /// The next word, which has to be there.
+    #[tactic(auto, unfolding(crate::specs::Reading::word_at))]
+    pub fn take(&mut self) -> Result<&'a [u8], DeckReason>
+        ensures { Gives (λ word. (word.now, unread self.new)) result (word_at (unread self.old)) }
+    {
+        let from_word = self.from_word();
+        if from_word.is_empty() {
+            return Err(DeckReason::WrongNumberOfWords);
+        }
+        let (word, rest) = from_word.split_at(length_of_word(from_word));
+        self.rest = rest;
+        Ok(word)
+    }
+
+    /// The next word, a number from `low` to `high`.
+    #[tactic(auto, unfolding(crate::specs::Reading::number_at))]
+    pub fn take_number(&mut self, low: u64, high: u64) -> Result<u64, DeckReason>
+        ensures read { Gives (λ number. (number, unread self.new)) result
+            (number_at low high (unread self.old)) }
+        ensures in_range { IfOk result (λ number. (low ≤ number) × (number ≤ high)) }
+    {
+        let number = read_number(self.take()?).ok_or(DeckReason::BadNumber)?;
+        let number = u64::try_from(number).map_err(|_| DeckReason::BadNumber)?;
+        if number < low || high < number {
+            return Err(DeckReason::BadNumber);
+        }
+        Ok(number)
+    }
+
+    /// The next word, any number.
+    #[tactic(auto, unfolding(crate::specs::Reading::integer_at))]
+    pub fn take_integer(&mut self) -> Result<i64, DeckReason>
+        ensures { Gives (λ number. (number, unread self.new)) result
+            (integer_at (unread self.old)) }
+    {
+        read_number(self.take()?).ok_or(DeckReason::BadNumber)
+    }
+
+    /// The next word, a name.
+    #[tactic(auto, unfolding(crate::specs::Reading::name_at))]
+    pub fn take_name(&mut self) -> Result<&'a str, DeckReason>
+        ensures read { Gives (λ name. (name.now, unread self.new)) result
+            (name_at (unread self.old)) }
+        ensures name { IfOk result (λ name. IsName name.now) }
+    {
+        read_name(self.take()?)
+    }
+
+    /// No word is left.
+    #[tactic(auto, unfolding(crate::specs::Reading::end_at))]
+    pub fn end(&self) -> Result<(), DeckReason>
+        ensures { Gives (λ _. tt) result (end_at (unread self.now)) }
+    {
+        if self.is_at_end() {
+            Ok(())
+        } else {
+            Err(DeckReason::WrongNumberOfWords)
+        }
+    }
+}

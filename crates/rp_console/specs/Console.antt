@@ -1,5 +1,5 @@
 -- What the program does with the words of the command line, and how it ends.
-use Rattle.std.specs.Prelude.{◌≡◌, ◌≢◌, ◌⊎◌, ℕ, true, false, Option, Some, None, Result, Ok, Err, List, [], codes, option_map, IsSome, IfOk, OnOk, IfErr}
+use Rattle.std.specs.Prelude.{◌≡◌, ◌≢◌, ◌⊎◌, ℕ, true, false, Option, Some, None, Result, Ok, Err, List, [], codes, option_map, IsSome, IfOk, OnOk, IfErr, OnErr}
 use Rattle.std.specs.Io.KnownBytes.{Appends}
 use Rattle.clap.specs.Kinds.{IsAmong}
 use Rattle.clap.specs.Words.{Text, fault_of, subcommand_of}
@@ -7,11 +7,14 @@ use Rattle.clap.specs.declared.error.kind.ErrorKind.{ErrorKind}
 use Rattle.clap.specs.declared.error.kind.ErrorKind.TheVariants.{DisplayHelp, DisplayVersion, InvalidValue, OutOfMemory}
 use Rattle.rp_base.specs.declared.fault.Fault.{Fault}
 use Rattle.rp_base.specs.declared.fault.Fault.TheVariants as faults
-use Rattle.rp_script.specs.Agreeing.{ScriptPrints}
+use Rattle.rp_deck.specs.declared.deck.Mode.{Mode}
+use Rattle.rp_deck.specs.declared.deck.Mode.TheVariants as modes
+use Rattle.rp_script.specs.Agreeing.{ScriptBegins, ScriptPrints}
 use Rattle.rp_console.specs.CommandLine.{console, name_of, seed_of, trace_of, turns_of, ReadsAs, words_status_of}
 use Rattle.rp_script.specs.Faults.{IsBadDeck, IsProgramFault}
 use Rattle.rp_script.specs.Figures.{figures_line_of}
-use Rattle.rp_script.specs.LiveRun.{LivePrints}
+use Rattle.rp_script.specs.Given.{IsMeant}
+use Rattle.rp_script.specs.LiveRun.{LiveBegins, LivePrints}
 use Rattle.rp_console.specs.Status.{status_after, status_of}
 use Rattle.rp_script.specs.FaultLine.{fault_line_of, with_line_feed}
 use Rattle.rp_console.specs.declared.args.Args.{Args}
@@ -27,10 +30,20 @@ pub record AsksFor (words : List Text) (args : Args) : Type 0 where
   pub quiet : trace_of words ≡ Some (codes "false") → args ≡ Script false
   pub live : (seed turns : ℕ) → ReadsAs (seed_of words) seed → ReadsAs (turns_of words) turns → args ≡ Live seed turns
 
--- what a run without a fault prints
-abbrev pub Prints : Args → Option (List ℕ) → Option (List ℕ) → Type 0
-Prints (Script traced) old new = ScriptPrints traced old new
-Prints (Live seed turns) old new = LivePrints seed turns old new
+-- what a run without a fault prints, of the deck that the bytes given to it mean
+abbrev pub Prints : Args → Option (List ℕ) → Option (List ℕ) → Option (List ℕ) → Type 0
+Prints (Script traced) given old new = ScriptPrints traced given old new
+Prints (Live seed turns) given old new = LivePrints seed turns given old new
+
+-- what a run that a fault ends printed: nothing, or a beginning of that
+abbrev pub HasBegun : Args → Option (List ℕ) → Option (List ℕ) → Option (List ℕ) → Type 0
+HasBegun (Script traced) given old new = ScriptBegins traced given old new
+HasBegun (Live seed turns) given old new = LiveBegins seed turns given old new
+
+-- the mode that a deck is read for
+abbrev pub mode_of : Args → Mode
+mode_of (Script traced) = modes.Script
+mode_of (Live seed turns) = modes.Live
 
 -- a run in threads has figures to report, and a script has none
 abbrev pub HasFiguresFor : Args → Option FiguresLine → Type 0
@@ -43,11 +56,15 @@ report_of (Ok None) = []
 report_of (Ok (Some figures)) = with_line_feed (figures_line_of figures)
 report_of (Err fault) = with_line_feed (fault_line_of fault)
 
--- What the words ask for was run. It printed what such a run prints, or ended by a fault; a bad deck prints nothing.
--- The status is 0 where it had no fault, and else that of the fault, which is reported; so are a live run's figures.
-pub record RunsAs (args : Args) (output output_after errors errors_after : Option (List ℕ)) (ending : Ending) : Type 0 where
+-- What the words ask for was run, with the deck that the bytes given to it mean. It printed what such a run prints, or
+-- a fault ended it, after a beginning of that at most. Where the bytes mean no deck, nothing is printed, and the fault has
+-- the first bad line and the first reason on it. The status is 0 where it had no fault, and else that of the fault, which
+-- is reported; so are a live run's figures.
+pub record RunsAs (args : Args) (given output output_after errors errors_after : Option (List ℕ)) (ending : Ending) : Type 0 where
   pub ran : Result (Option FiguresLine) Fault
-  pub printed : OnOk ran (Prints args output output_after)
+  pub printed : OnOk ran (Prints args given output output_after)
+  pub begun : OnErr ran (HasBegun args given output output_after)
+  pub meant : IfErr ran (IsMeant (mode_of args) given)
   pub bad : IfErr ran (λ fault. IsBadDeck fault → output_after ≡ output)
   pub figures : IfOk ran (HasFiguresFor args)
   pub fault : IfErr ran IsProgramFault
@@ -72,7 +89,7 @@ abbrev pub IsUnread : ErrorKind → Type 0
 IsUnread kind = (kind ≡ InvalidValue) ⊎ (kind ≡ OutOfMemory)
 
 -- The words ask for a run, which ran; or they are wrong, or memory ran out, which was reported.
-abbrev pub FollowsWords : List Text → Option (List ℕ) → Option (List ℕ) → Option (List ℕ) → Option (List ℕ) → Ending → Type 0
-FollowsWords words output output_after errors errors_after ending =
-    ((args : Args) × AsksFor words args × RunsAs args output output_after errors errors_after ending)
+abbrev pub FollowsWords : List Text → Option (List ℕ) → Option (List ℕ) → Option (List ℕ) → Option (List ℕ) → Option (List ℕ) → Ending → Type 0
+FollowsWords words given output output_after errors errors_after ending =
+    ((args : Args) × AsksFor words args × RunsAs args given output output_after errors errors_after ending)
     ⊎ ((kind : ErrorKind) × ((kind ≡ OutOfMemory) ⊎ IsAmong kind (fault_of console words)) × RefusesAs kind output output_after errors errors_after ending)

@@ -1,11 +1,12 @@
 //! Does what the words of the command line ask for, and reports its faults.
 
-ghost use Rattle.std.specs.Prelude.{◌≡◌, IfErr, IfOk, OnOk, map};
+ghost use Rattle.std.specs.Prelude.{◌≡◌, IfErr, IfOk, OnErr, OnOk, map};
 ghost use Rattle.std.specs.Io.KnownBytes.{Appends};
 ghost use Rattle.clap.specs.Values.{kind_of};
-ghost use Rattle.rp_console.specs.Console.{FollowsWords, HasFiguresFor, IsUnread, Prints, RefusesAs, report_of};
+ghost use Rattle.rp_console.specs.Console.{FollowsWords, HasBegun, HasFiguresFor, IsUnread, Prints, mode_of, RefusesAs, report_of};
 ghost use Rattle.rp_script.specs.Faults.{IsBadDeck, IsProgramFault};
 ghost use Rattle.rp_console.specs.Status.{status_after, status_of};
+ghost use Rattle.rp_script.specs.Given.{IsMeant};
 ghost use Rattle.rp_script.specs.FaultLine.{fault_line_of, with_line_feed};
 
 use crate::args::{Args, read_args, unread_words, words_status};
@@ -46,7 +47,7 @@ pub fn obey<T: Threads + Wait + Clock, S: AsStr, R: Read + Drop, W: Write + Drop
     words: &[S],
     streams: &mut Streams<R, W, E>,
 ) -> Ending
-    ensures obeyed { FollowsWords (map S.text words.now)
+    ensures obeyed { FollowsWords (map S.text words.now) (R.remaining streams.old.reader)
         (W.contents streams.old.writer) (W.contents streams.new.writer)
         (E.contents streams.old.errors) (E.contents streams.new.errors) result }
 {
@@ -68,7 +69,11 @@ fn run_as<T: Threads + Wait + Clock, R: Read, W: Write>(
     reader: &mut R,
     writer: &mut W,
 ) -> Result<Option<FiguresLine>, Fault>
-    ensures output { OnOk result (Prints args (W.contents writer.old) (W.contents writer.new)) }
+    ensures output { OnOk result (Prints args (R.remaining reader.old)
+        (W.contents writer.old) (W.contents writer.new)) }
+    ensures begun { OnErr result (HasBegun args (R.remaining reader.old)
+        (W.contents writer.old) (W.contents writer.new)) }
+    ensures meant { IfErr result (IsMeant (mode_of args) (R.remaining reader.old)) }
     ensures bad { IfErr result (λ fault. IsBadDeck fault
         → W.contents writer.new ≡ W.contents writer.old) }
     ensures figures { IfOk result (HasFiguresFor args) }

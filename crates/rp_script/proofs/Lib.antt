@@ -16,3 +16,4 @@ mod Crossings
 mod LiveEvents
 mod LiveTelling
 mod Kept
+mod Failing

@@ -1,5 +1,5 @@
 -- Texts that are written one behind another, and beginnings of them.
-use Rattle.std.proofs.Common.{◌≡◌, ℕ, Option, Some, None, Result, Ok, Err, List, [], ◌++◌, take, drop, take-append-drop, IsErr, refl, sym, ap, ◌∙◌, append_assoc, subst}
+use Rattle.std.proofs.Common.{◌≡◌, ℕ, Option, Some, None, Result, Ok, Err, List, [], ◌++◌, take, drop, take-append-drop, IsErr, refl, sym, ap, ◌∙◌, append_assoc, append-nil, subst}
 use Rattle.std.specs.Io.KnownBytes.{Appends, Keeps}
 use Rattle.std.proofs.KnownBytes.{Appends-nil, Appends-trans}
 use Rattle.rp_base.specs.declared.fault.Fault.{Fault}
@@ -49,6 +49,15 @@ appends_kept None b c x first kept = tt
 appends_kept (Some l) None c x first kept = absurd first
 appends_kept (Some l) (Some m) None x first kept = absurd kept
 appends_kept (Some l) (Some m) (Some n) x first kept = kept ∙ first
+
+-- the whole text is one of its beginnings
+pub begins_all : (a b : Option (List ℕ)) (x : List ℕ) → Appends a b x → Begins a b x
+begins_all a b x written = begins_part a b x [] x (sym (append-nil x)) written
+
+-- the text was written and kept, whatever became of what was done after it
+pub writes_kept : (a b c : Option (List ℕ)) (x : List ℕ) (answer : Result Unit Fault) → Appends a b x → Keeps b c → Writes a c x answer
+writes_kept a b c x (Ok done) first kept = appends_kept a b c x first kept
+writes_kept a b c x (Err fault) first kept = begins_all a c x (appends_kept a b c x first kept)
 
 -- some first bytes, and a write that failed behind them
 pub begins_taking : (a b : Option (List ℕ)) (bytes : List ℕ) (n : ℕ) → Appends a b (take n bytes) → Begins a b bytes

@@ -1,5 +1,5 @@
 -- What holds of what a script's run prints, and of its world at any two lines (this project's own).
-use Rattle.std.specs.Prelude.{◌≡◌, ℕ, ◌≤◌, Bool, Option, Some, List, length, take}
+use Rattle.std.specs.Prelude.{◌≡◌, ◌⊎◌, ℕ, ◌≤◌, Bool, Option, Some, List, length, take}
 use Rattle.std.specs.Io.KnownBytes.{Appends}
 use Rattle.rp_base.specs.Sets.{Has}
 use Rattle.rp_base.specs.declared.action.Action.{Action}
@@ -10,14 +10,16 @@ use Rattle.rp_machine.specs.Places.{HasReply}
 use Rattle.rp_machine.specs.Replay.{replay_state}
 use Rattle.rp_model.specs.World.{World, part_at}
 use Rattle.rp_world.specs.Agreeing.{Agree, IsOrdered}
+use Rattle.rp_script.specs.Given.{MeansDeck}
 use Rattle.rp_script.specs.Items.{Item, Replied, Shown, Asked, asked_by, items_text}
 use Rattle.rp_script.specs.Output.{RunSetting, run_said, drain_limit, output_of, tally_run, objects_run}
+use Rattle.rp_script.specs.Stream.{Begins}
 use Rattle.rp_script.specs.Trace.{task_name}
-use Rattle.rp_deck.specs.Deck.{IsRightDeck}
 use Rattle.rp_deck.specs.declared.deck.Deck.{Deck}
 use Rattle.rp_deck.specs.declared.deck.DeckProgram.{DeckProgram}
 use Rattle.rp_deck.specs.declared.deck.DeckProgram.TheVariants.{Tally, Objects}
 use Rattle.rp_deck.specs.declared.deck.Line.{Line}
+use Rattle.rp_deck.specs.declared.deck.Mode.TheVariants.{Script}
 
 -- the call of a task and a number that asks for this
 abbrev pub call_for : ℕ → ℕ → Asked → Action
@@ -83,6 +85,12 @@ PrintsAt traced deck old new (Objects program) = RunPrints (objects_run traced d
 abbrev pub DeckPrints : Bool → Deck → Option (List ℕ) → Option (List ℕ) → Type 0
 DeckPrints traced deck old new = PrintsAt traced deck old new deck.program
 
--- what a run of a script prints: the output of some right deck, of which the same is so
-abbrev pub ScriptPrints : Bool → Option (List ℕ) → Option (List ℕ) → Type 0
-ScriptPrints traced old new = (deck : Deck) × IsRightDeck deck × Appends old new (output_of traced deck) × DeckPrints traced deck old new
+-- what a run of a script prints: the output of the deck that the reader's bytes mean, of which the same is so
+abbrev pub ScriptPrints : Bool → Option (List ℕ) → Option (List ℕ) → Option (List ℕ) → Type 0
+ScriptPrints traced given old new =
+    (deck : Deck) × MeansDeck Script given deck × Appends old new (output_of traced deck) × DeckPrints traced deck old new
+
+-- where a fault ends it: nothing, or a beginning of that deck's output
+abbrev pub ScriptBegins : Bool → Option (List ℕ) → Option (List ℕ) → Option (List ℕ) → Type 0
+ScriptBegins traced given old new =
+    (new ≡ old) ⊎ ((deck : Deck) × MeansDeck Script given deck × Begins old new (output_of traced deck))

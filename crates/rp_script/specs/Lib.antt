@@ -2,6 +2,7 @@ pub mod Agreeing
 pub mod FaultLine
 pub mod Faults
 pub mod Figures
+pub mod Given
 pub mod Items
 pub mod LiveOutput
 pub mod LiveRun

@@ -1,5 +1,5 @@
 -- What a run of a deck in threads comes to.
-use Rattle.std.specs.Prelude.{ℕ, pos, Option, Some, None, List, filter_map, replicate}
+use Rattle.std.specs.Prelude.{◌≡◌, ◌⊎◌, ℕ, pos, Option, Some, None, List, filter_map, replicate}
 use Rattle.std.specs.Io.KnownBytes.{Appends}
 use Rattle.std.specs.Arc.{arc_value}
 use Rattle.rp_machine.specs.TallyRule.{tally_next, tally_answers}
@@ -8,9 +8,10 @@ use Rattle.rp_object.specs.Step.{objects_next, objects_answers}
 use Rattle.rp_model.specs.declared.event.Event.{Event}
 use Rattle.rp_live.specs.Lived.{IsLived}
 use Rattle.rp_live.specs.declared.run.Lived.{Lived}
+use Rattle.rp_script.specs.Given.{MeansDeck}
 use Rattle.rp_script.specs.LiveOutput.{lived_text}
 use Rattle.rp_script.specs.Output.{names_of}
-use Rattle.rp_deck.specs.Deck.{IsRightDeck}
+use Rattle.rp_script.specs.Stream.{Begins}
 use Rattle.rp_deck.specs.Live.{IsDeckFor}
 use Rattle.rp_deck.specs.declared.deck.Command.{Command}
 use Rattle.rp_deck.specs.declared.deck.Command.TheVariants.{Take, Lose, Drain, Show}
@@ -43,8 +44,20 @@ ComesOf deck (Objects program) seed turns lived =
 abbrev pub MayCome : Deck → ℕ → ℕ → Lived → Type 0
 MayCome deck seed turns lived = ComesOf deck deck.program seed turns lived
 
--- what a run in threads prints: the text of what a right deck for it may come to, by the seed and for so many turns
-abbrev pub LivePrints : ℕ → ℕ → Option (List ℕ) → Option (List ℕ) → Type 0
-LivePrints seed turns old new =
-    (deck : Deck) × IsRightDeck deck × IsDeckFor Live deck
-    × ((lived : Lived) × MayCome deck seed turns lived × Appends old new (lived_text (names_of deck.tasks) lived))
+-- a text of what the deck that the reader's bytes mean may come to, by the seed and for so many turns
+pub record IsLiveText (seed turns : ℕ) (given : Option (List ℕ)) (text : List ℕ) : Type 0 where
+  pub deck : Deck
+  pub means : MeansDeck Live given deck
+  pub taken : IsDeckFor Live deck
+  pub lived : Lived
+  pub came : MayCome deck seed turns lived
+  pub text_is : text ≡ lived_text (names_of deck.tasks) lived
+
+-- what a run in threads prints: such a text
+abbrev pub LivePrints : ℕ → ℕ → Option (List ℕ) → Option (List ℕ) → Option (List ℕ) → Type 0
+LivePrints seed turns given old new = (text : List ℕ) × IsLiveText seed turns given text × Appends old new text
+
+-- where a fault ends it: nothing, or a beginning of such a text
+abbrev pub LiveBegins : ℕ → ℕ → Option (List ℕ) → Option (List ℕ) → Option (List ℕ) → Type 0
+LiveBegins seed turns given old new =
+    (new ≡ old) ⊎ ((text : List ℕ) × IsLiveText seed turns given text × Begins old new text)

@@ -1,18 +1,20 @@
 //! Runs the script of a deck.
 
-ghost use Rattle.std.specs.Prelude.{◌≡◌, ◌≤◌, [], length, All, IfOk, IfErr, OnOk};
-ghost use Rattle.rp_script.specs.Agreeing.{DeckPrints, ScriptPrints};
+ghost use Rattle.std.specs.Prelude.{◌≡◌, ◌≤◌, [], length, All, IfOk, IfErr, OnOk, OnErr};
+ghost use Rattle.rp_script.specs.Agreeing.{DeckPrints, ScriptBegins, ScriptPrints};
 ghost use Rattle.rp_deck.specs.Deck.{IsRightDeck};
 ghost use Rattle.rp_script.specs.Faults.{IsBadDeck, IsRunFault, IsProgramFault};
+ghost use Rattle.rp_script.specs.Given.{IsMeant};
 ghost use Rattle.rp_script.specs.Output.{output_of};
 ghost use Rattle.rp_script.specs.Stream.{Writes};
 
 use crate::agreeing::scripts_agree;
+use crate::deck_read::read_given;
 use crate::options::RunOptions;
 use crate::run::run_lines;
-use crate::stream::{read_whole, write_out};
+use crate::stream::write_out;
 use rp_base::Fault;
-use rp_deck::{Deck, DeckProgram, Mode, read_deck};
+use rp_deck::{Deck, DeckProgram, Mode};
 use rp_machine::Tally;
 use rp_object::Objects;
 use rp_store::MemDevice;
@@ -22,22 +24,26 @@ use std::io::{Read, Write};
 /// The most messages that one `drain` delivers.
 const DRAIN_LIMIT: u32 = 100_000;
 
-/// Reads a deck and runs its script, and tells the packets where this is asked for. Nothing runs where
-/// the deck is bad.
+/// Reads a deck and runs its script, and prints the packets where this is asked for. What it prints
+/// is the output of the deck that the reader's bytes mean. Where they mean none, nothing is printed,
+/// and the fault has the first bad line and the first reason on it. Any other fault leaves nothing
+/// printed, or a beginning of that output.
 pub fn run_script<R: Read, W: Write>(
     alloc: Global,
     reader: &mut R,
     traced: bool,
     writer: &mut W,
 ) -> Result<(), Fault>
-    ensures output { OnOk result (ScriptPrints traced
+    ensures output { OnOk result (ScriptPrints traced (R.remaining reader.old)
         (W.contents writer.old) (W.contents writer.new)) }
+    ensures begun { OnErr result (ScriptBegins traced (R.remaining reader.old)
+        (W.contents writer.old) (W.contents writer.new)) }
+    ensures meant { IfErr result (IsMeant Mode.Script (R.remaining reader.old)) }
     ensures bad { IfErr result (λ fault. IsBadDeck fault
         → W.contents writer.new ≡ W.contents writer.old) }
     ensures fault { IfErr result IsProgramFault }
 {
-    let text = read_whole(alloc, reader)?;
-    let deck = read_deck(alloc, &text, Mode::Script)?;
+    let deck = read_given(alloc, reader, Mode::Script)?;
     run_deck(alloc, deck, traced, writer)?;
     write_out(writer)
 }

@@ -12,11 +12,13 @@
 //! - `live_run`: runs a deck in threads
 //! - `figures`: the line of figures that a run in threads reports
 //! - `live_output`: prints what came of a run in threads
-//! - `stream`: reads a deck whole, and writes what a run prints
+//! - `deck_read`: reads a deck from a reader
+//! - `stream`: reads all that a reader gives, and writes what a run prints
 //! - `fault_line`: what is told of a fault
 #![tactic(auto)]
 
 mod agreeing;
+mod deck_read;
 mod deck_run;
 mod effects;
 mod fault_line;

@@ -1,7 +1,6 @@
 //! Prints what came of a run in threads.
 
-ghost use Rattle.std.specs.Prelude.{◌≡◌, ◌≤◌, length, IfErr, OnOk};
-ghost use Rattle.std.specs.Io.KnownBytes.{Appends};
+ghost use Rattle.std.specs.Prelude.{◌≡◌, ◌≤◌, length, IfErr};
 ghost use Rattle.rp_script.specs.Faults.{IsRunFault};
 ghost use Rattle.rp_script.specs.LiveOutput.{replies_text, node_text, applied_text, agreed_text, lived_text};
 ghost use Rattle.rp_script.specs.Output.{names_of};
@@ -25,8 +24,8 @@ pub fn print_lived<W: Write>(
     writer: &mut W,
 ) -> Result<(), Fault>
     requires { length lived.now.applied.items ≤ 7 }
-    ensures told { OnOk result (Appends (W.contents writer.old) (W.contents writer.new)
-        (lived_text (names_of tasks.now) lived.now)) }
+    ensures told { Writes (W.contents writer.old) (W.contents writer.new)
+        (lived_text (names_of tasks.now) lived.now) result }
     ensures fault { IfErr result IsRunFault }
 {
     tell_lived(alloc, tasks, lived, writer)?;

@@ -1,9 +1,10 @@
 //! Runs a deck in threads.
 
-ghost use Rattle.std.specs.Prelude.{◌≡◌, All, IfErr, IfOk, OnOk};
+ghost use Rattle.std.specs.Prelude.{◌≡◌, All, IfErr, IfOk, OnErr, OnOk};
 ghost use Rattle.std.specs.Arc.{arc_value};
 ghost use Rattle.rp_script.specs.Faults.{IsBadDeck, IsProgramFault, IsRunFault};
-ghost use Rattle.rp_script.specs.LiveRun.{LivePrints, MayCome, event_of, events_of};
+ghost use Rattle.rp_script.specs.Given.{IsMeant};
+ghost use Rattle.rp_script.specs.LiveRun.{LiveBegins, LivePrints, MayCome, event_of, events_of};
 ghost use Rattle.rp_base.specs.Config.{IsRightConfig};
 ghost use Rattle.rp_object.specs.State.{first_state};
 ghost use Rattle.rp_object.specs.Step.{objects_next, objects_answers};
@@ -13,11 +14,11 @@ ghost use Rattle.rp_live.specs.Lived.{IsLived};
 ghost use Rattle.rp_deck.specs.Deck.{IsRightDeck};
 ghost use Rattle.rp_deck.specs.Live.{IsDeckFor};
 
+use crate::deck_read::read_given;
 use crate::figures::{FiguresLine, milliseconds_since};
 use crate::live_output::print_lived;
-use crate::stream::read_whole;
 use rp_base::{Config, Fault};
-use rp_deck::{Command, Deck, DeckProgram, Line, Mode, read_deck};
+use rp_deck::{Command, Deck, DeckProgram, Line, Mode};
 use rp_live::{Lived, live};
 use rp_machine::Tally;
 use rp_model::Event;
@@ -30,8 +31,9 @@ use std::time::{Clock, Instant};
 
 /// Reads a deck, runs its nodes and tasks in threads for so many turns each, and then prints what
 /// came of it. Which packets are lost, repeated and reordered follows from the seed. It returns how
-/// the run went, in figures. Nothing runs where the deck is bad; where the writer fails, a beginning
-/// of what came of it was written.
+/// the run went, in figures. The deck is the one that the reader's bytes mean. Where they mean none,
+/// nothing is printed, and the fault has the first bad line and the first reason on it. Any other
+/// fault leaves nothing printed, or a beginning of what came of the run.
 pub fn run_live<T: Threads + Wait + Clock, R: Read, W: Write>(
     rt: &T,
     alloc: Global,
@@ -40,14 +42,16 @@ pub fn run_live<T: Threads + Wait + Clock, R: Read, W: Write>(
     turns: u32,
     writer: &mut W,
 ) -> Result<FiguresLine, Fault>
-    ensures output { OnOk result (LivePrints seed turns
+    ensures output { OnOk result (LivePrints seed turns (R.remaining reader.old)
         (W.contents writer.old) (W.contents writer.new)) }
+    ensures begun { OnErr result (LiveBegins seed turns (R.remaining reader.old)
+        (W.contents writer.old) (W.contents writer.new)) }
+    ensures meant { IfErr result (IsMeant Mode.Live (R.remaining reader.old)) }
     ensures bad { IfErr result (λ fault. IsBadDeck fault
         → W.contents writer.new ≡ W.contents writer.old) }
     ensures fault { IfErr result IsProgramFault }
 {
-    let text = read_whole(alloc, reader)?;
-    let deck = read_deck(alloc, &text, Mode::Live)?;
+    let deck = read_given(alloc, reader, Mode::Live)?;
     let begun = Instant::now(rt);
     let lived = live_deck(rt, alloc, &deck, seed, turns)?;
     let milliseconds = milliseconds_since(rt, begun);

@@ -1,4 +1,4 @@
-//! Reads a deck whole, and writes what a run prints.
+//! Reads all that a reader gives, and writes what a run prints.
 
 ghost use Rattle.std.specs.Prelude.{◌≡◌, ◌≤◌, ◌++◌, [], ◌∷◌, length, Some, IfSome, IfOk, IfErr, OnOk};
 ghost use Rattle.std.specs.Io.KnownBytes.{Keeps};

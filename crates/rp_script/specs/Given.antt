@@ -1,0 +1,26 @@
+-- What the bytes that a reader gives mean: a deck, or the first bad line and its first reason.
+use Rattle.std.specs.Prelude.{◌≡◌, ℕ, Option, Result, Ok, Err, List, IfSome}
+use Rattle.rp_base.specs.declared.fault.Fault.{Fault}
+use Rattle.rp_base.specs.declared.fault.Fault.TheVariants.{BadDeck}
+use Rattle.rp_deck.specs.Deck.{IsRightDeck}
+use Rattle.rp_deck.specs.DeckViews.{deck_text}
+use Rattle.rp_words.specs.LineFaults.{BadLine}
+use Rattle.rp_deck.specs.Meaning.{DeckText, meaning_of}
+use Rattle.rp_deck.specs.declared.deck.Deck.{Deck}
+use Rattle.rp_deck.specs.declared.deck.Mode.{Mode}
+
+-- Some bytes mean this in a mode, and they are all that the reader gives, where it is known what it gives.
+pub record Means (mode : Mode) (given : Option (List ℕ)) (meaning : Result DeckText BadLine) : Type 0 where
+  pub bytes : List ℕ
+  pub all : IfSome given (λ whole. bytes ≡ whole)
+  pub meaning_is : meaning_of mode bytes ≡ meaning
+
+-- they mean this deck, which is right
+pub record MeansDeck (mode : Mode) (given : Option (List ℕ)) (deck : Deck) : Type 0 where
+  pub right : IsRightDeck deck
+  pub meant : Means mode given (Ok (deck_text deck))
+
+-- the line and the reason of a bad deck are the first bad line that they mean and the first reason on it
+abbrev pub IsMeant : Mode → Option (List ℕ) → Fault → Type 0
+IsMeant mode given (BadDeck line reason) = Means mode given (Err (record { line = line; reason = reason }))
+IsMeant mode given _ = Unit {0}

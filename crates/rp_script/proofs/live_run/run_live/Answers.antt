@@ -7,11 +7,11 @@ use Rattle.rp_deck.specs.declared.deck.Deck.{Deck}
 use Rattle.rp_deck.specs.declared.deck.Mode.TheVariants.{Live}
 use Rattle.rp_live.specs.declared.run.Lived.{Lived}
 use Rattle.rp_script.specs.Faults.{IsProgramFault}
-use Rattle.rp_script.specs.Given.{MeansDeck}
+use Rattle.rp_script.specs.Given.{IsMeant, MeansDeck}
 use Rattle.rp_script.specs.LiveOutput.{lived_text}
 use Rattle.rp_script.specs.LiveRun.{IsLiveText, MayCome}
 use Rattle.rp_script.specs.Output.{names_of}
-use Rattle.rp_script.proofs.Failing.{on_err}
+use Rattle.rp_script.proofs.Failing.{meant_run}
 use Rattle.rp_script.proofs.live_run.run_live.Goals as goal
 
 live_text : (seed turns : ℕ) (given : Option (List ℕ)) (deck : Deck) (lived : Lived) → MeansDeck Live given deck → IsDeckFor Live deck → MayCome deck seed turns lived
@@ -41,3 +41,8 @@ faulted {A = A} Q fault (Err other) is q = subst Q (sym is) q
 pub returns-in_err-lived-clause-fault : goal.returns-in_err-lived-clause-fault
 returns-in_err-lived-clause-fault g c =
     faulted IsProgramFault _ c.from_residual-in_err-lived.result c.from_residual-in_err-lived.ensures.1 (inr c.in_err-lived.ensures.fault)
+
+pub returns-in_err-lived-clause-meant : goal.returns-in_err-lived-clause-meant
+returns-in_err-lived-clause-meant g c =
+    let given = g.R.Read.remaining c.args.reader.now in
+    faulted (IsMeant Live given) _ c.from_residual-in_err-lived.result c.from_residual-in_err-lived.ensures.1 (meant_run Live given _ c.in_err-lived.ensures.fault)

@@ -1,22 +1,83 @@
-//! A replica that is given any input.
+//! A step of a replica: it decides, and then commits.
 
-ghost use Rattle.std.specs.Prelude.{◌≡◌, Some, IfOk, IfErr};
+ghost use Rattle.std.specs.Prelude.{◌≡◌, Some, Ok, IfOk, IfErr, OnOk, false};
 ghost use Rattle.rp_base.specs.Action.{IsRight};
 ghost use Rattle.rp_base.specs.declared.action.Action.TheVariants as actions;
 ghost use Rattle.rp_codec.specs.Reading.{all_of};
 ghost use Rattle.rp_model.specs.Effect as inputs;
+ghost use Rattle.rp_replica.specs.Cutting.{written_if};
 ghost use Rattle.rp_replica.specs.Inputs.{IsRightInput, input_effect, packet_given, effect_if_given};
+ghost use Rattle.rp_replica.specs.Plans.{turn_of, MayCommit};
 ghost use Rattle.rp_replica.specs.Turning.{TurnsIf, StopsIf, effect_of};
 
 use crate::input::Input;
+use crate::plan::Plan;
 use crate::replica::Replica;
 use crate::sent::Sent;
-use rp_base::{Fault, Position};
+use rp_base::{Fault, Position, Rec};
+use rp_codec::decode;
 use rp_machine::Machine;
 use rp_store::Device;
 use std::alloc::Global;
 
 impl<M: Machine, D: Device> Replica<M, D> {
+    /// What the step of an input does, or why there is no step: `BadPacket` where the bytes of a
+    /// packet are none's text, `BallotsSpent` or `LogFull` where the node cannot lead,
+    /// `OutOfMemory`, or `Failed` after the device failed. It reads alone.
+    #[inline(always)]
+    pub(crate) fn decide(&self, alloc: Global, input: &Input) -> Result<Plan, Fault>
+        requires right { IsRightInput input.now }
+        ensures ok { IfOk result (λ plan. Ok (turn_of M.next M.answers self.now plan)
+            ≡ input_effect M.next M.answers self.now input.now) }
+        ensures may { IfOk result (λ plan. MayCommit self.now plan) }
+        ensures working { OnOk result (self.now.failed ≡ false) }
+        ensures err { IfErr result (λ fault. StopsIf
+            (input_effect M.next M.answers self.now input.now) self.now self.now fault) }
+    {
+        if self.has_failed() {
+            return Err(Fault::Failed);
+        }
+        match *input {
+            Input::Receive(bytes) => self.on_text(alloc, bytes),
+            Input::Lead(choice) => self.on_lead(choice),
+            Input::Interrupt { source, occurrence } => Ok(self.on_interrupt(source, occurrence)),
+            Input::Tick { now } => Ok(self.on_tick(now)),
+            Input::Report(first) => Ok(Plan::Report(first)),
+        }
+    }
+
+    /// A packet comes, as its text.
+    #[inline(always)]
+    fn on_text(&self, alloc: Global, bytes: &[u8]) -> Result<Plan, Fault>
+        requires working { self.now.failed ≡ false }
+        ensures ok { IfOk result (λ plan. Ok (turn_of M.next M.answers self.now plan)
+            ≡ effect_if_given M.next M.answers self.now (packet_given (all_of bytes.now))) }
+        ensures may { IfOk result (λ plan. MayCommit self.now plan) }
+        ensures err { IfErr result (λ fault. StopsIf
+            (effect_if_given M.next M.answers self.now (packet_given (all_of bytes.now)))
+            self.now self.now fault) }
+    {
+        match &decode(alloc, bytes)? {
+            Ok(packet) => Ok(self.on_packet(packet)),
+            Err(reason) => Err(Fault::BadPacket(*reason)),
+        }
+    }
+
+    /// The record that the step of an input would write, or why there would be no step: `BadPacket`
+    /// where the bytes of a packet are none's text, `BallotsSpent` or `LogFull` where the node cannot
+    /// lead, `OutOfMemory`, or `Failed` after the device failed. It changes nothing.
+    pub fn record_of(&self, alloc: Global, input: &Input) -> Result<Option<Rec>, Fault>
+        requires right { IsRightInput input.now }
+        ensures ok { IfOk result (λ written. Ok written
+            ≡ written_if (input_effect M.next M.answers self.now input.now)) }
+        ensures working { OnOk result (self.now.failed ≡ false) }
+        ensures err { IfErr result (λ fault. StopsIf
+            (input_effect M.next M.answers self.now input.now) self.now self.now fault) }
+    {
+        let plan = self.decide(alloc, input)?;
+        Ok(plan.record())
+    }
+
     /// One step of the node: at most one record is written, and the packets are given out once it is
     /// stable. Refused with `BadPacket` where the bytes of a packet are none's text, with `BallotsSpent`
     /// or `LogFull` where the node cannot lead, with `OutOfMemory`: then nothing has changed. After
@@ -46,15 +107,8 @@ impl<M: Machine, D: Device> Replica<M, D> {
         ensures err { IfErr result (λ fault. StopsIf
             (input_effect M.next M.answers self.old input.now) self.old self.new fault) }
     {
-        match *input {
-            Input::Receive(bytes) => self.receive_into(alloc, buffer, bytes),
-            Input::Lead(choice) => self.lead_into(buffer, choice),
-            Input::Interrupt { source, occurrence } => {
-                self.interrupt_into(buffer, source, occurrence)
-            }
-            Input::Tick { now } => self.tick_into(buffer, now),
-            Input::Report(first) => self.report_into(alloc, buffer, first),
-        }
+        let plan = self.decide(alloc, input)?;
+        self.commit(alloc, buffer, &plan)
     }
 
     /// A packet comes, as its text. Refused with `BadPacket` where the bytes are no packet's text, and
@@ -69,7 +123,7 @@ impl<M: Machine, D: Device> Replica<M, D> {
             (effect_if_given M.next M.answers self.old (packet_given (all_of bytes.now)))
             self.old self.new fault) }
     {
-        self.receive_into(alloc, Vec::new(alloc), bytes)
+        self.turn(alloc, &Input::Receive(bytes))
     }
 
     /// The word to lead at a position, or with none at the least position that is not learned and at
@@ -84,7 +138,7 @@ impl<M: Machine, D: Device> Replica<M, D> {
             (effect_of M.next M.answers self.old (inputs.NodeInput.Lead choice))
             self.old self.new fault) }
     {
-        self.lead_into(Vec::new(alloc), choice)
+        self.turn(alloc, &Input::Lead(choice))
     }
 
     /// The word to lead at a position, as `lead` with one.
@@ -96,7 +150,7 @@ impl<M: Machine, D: Device> Replica<M, D> {
             (effect_of M.next M.answers self.old (inputs.NodeInput.Lead (Some position)))
             self.old self.new fault) }
     {
-        self.lead_at_into(Vec::new(alloc), position)
+        self.turn(alloc, &Input::Lead(Some(position)))
     }
 
     /// The node notes an occurrence of an interrupt's source, 1 to 8 and from 1: it becomes pending
@@ -110,7 +164,7 @@ impl<M: Machine, D: Device> Replica<M, D> {
             (effect_of M.next M.answers self.old (inputs.NodeInput.Interrupt source occurrence))
             self.old self.new fault) }
     {
-        self.interrupt_into(Vec::new(alloc), source, occurrence)
+        self.turn(alloc, &Input::Interrupt { source, occurrence })
     }
 
     /// The node notes a tick of the clock: it becomes pending, and is dropped where 32 items are
@@ -123,7 +177,7 @@ impl<M: Machine, D: Device> Replica<M, D> {
             (effect_of M.next M.answers self.old (inputs.NodeInput.Tick now))
             self.old self.new fault) }
     {
-        self.tick_into(Vec::new(alloc), now)
+        self.turn(alloc, &Input::Tick { now })
     }
 
     /// A report to the audit of the actions applied at the positions from `first` on, as many as
@@ -137,6 +191,6 @@ impl<M: Machine, D: Device> Replica<M, D> {
             (effect_of M.next M.answers self.old (inputs.NodeInput.Report first))
             self.old self.new fault) }
     {
-        self.report_into(alloc, Vec::new(alloc), first)
+        self.turn(alloc, &Input::Report(first))
     }
 }

@@ -1,5 +1,5 @@
 use Rattle.rp_replica.proofs.Wanting.{report_wanting}
-use Rattle.rp_replica.proofs.replica.Replica.record_of_text.Goals as goal
+use Rattle.rp_replica.proofs.replica.Replica.on_text.Goals as goal
 
 pub returns-in_err-packet-clause-err : goal.returns-in_err-packet-clause-err
 returns-in_err-packet-clause-err g c =

@@ -5,16 +5,15 @@ ghost use Rattle.rp_base.specs.Action.{IsRight};
 ghost use Rattle.rp_base.specs.declared.action.Action.TheVariants as actions;
 ghost use Rattle.rp_codec.specs.Reading.{all_of};
 ghost use Rattle.rp_model.specs.Effect as inputs;
-ghost use Rattle.rp_replica.specs.Cutting.{written_if};
 ghost use Rattle.rp_replica.specs.Inputs.{IsRightInput, input_effect, packet_given, effect_if_given};
 ghost use Rattle.rp_replica.specs.Plans.{turn_of, MayCommit};
-ghost use Rattle.rp_replica.specs.Turning.{TurnsIf, StopsIf, effect_of};
+ghost use Rattle.rp_replica.specs.Turning.{Answers, StopsIf, effect_of};
 
 use crate::input::Input;
 use crate::plan::Plan;
 use crate::replica::Replica;
 use crate::sent::Sent;
-use rp_base::{Fault, Position, Rec};
+use rp_base::{Fault, Position};
 use rp_codec::decode;
 use rp_machine::Machine;
 use rp_store::Device;
@@ -63,19 +62,17 @@ impl<M: Machine, D: Device> Replica<M, D> {
         }
     }
 
-    /// The record that the step of an input would write, or why there would be no step: `BadPacket`
-    /// where the bytes of a packet are none's text, `BallotsSpent` or `LogFull` where the node cannot
-    /// lead, `OutOfMemory`, or `Failed` after the device failed. It changes nothing.
-    pub fn record_of(&self, alloc: Global, input: &Input) -> Result<Option<Rec>, Fault>
+    /// Why the step of an input would not be made where memory runs out: as it would be refused with
+    /// memory enough, and else `OutOfMemory`.
+    pub fn refusal(&self, alloc: Global, input: &Input) -> Fault
         requires right { IsRightInput input.now }
-        ensures ok { IfOk result (λ written. Ok written
-            ≡ written_if (input_effect M.next M.answers self.now input.now)) }
-        ensures working { OnOk result (self.now.failed ≡ false) }
-        ensures err { IfErr result (λ fault. StopsIf
-            (input_effect M.next M.answers self.now input.now) self.now self.now fault) }
+        ensures { StopsIf (input_effect M.next M.answers self.now input.now)
+            self.now self.now result }
     {
-        let plan = self.decide(alloc, input)?;
-        Ok(plan.record())
+        match self.decide(alloc, input) {
+            Ok(_) => Fault::OutOfMemory,
+            Err(fault) => fault,
+        }
     }
 
     /// One step of the node: at most one record is written, and the packets are given out once it is
@@ -84,10 +81,8 @@ impl<M: Machine, D: Device> Replica<M, D> {
     /// `Device` the device has failed, and each further step is refused with `Failed`.
     pub fn turn(&mut self, alloc: Global, input: &Input) -> Result<Sent, Fault>
         requires right { IsRightInput input.now }
-        ensures ok { IfOk result (λ sent. TurnsIf
-            (input_effect M.next M.answers self.old input.now) self.old self.new sent) }
-        ensures err { IfErr result (λ fault. StopsIf
-            (input_effect M.next M.answers self.old input.now) self.old self.new fault) }
+        ensures { Answers (input_effect M.next M.answers self.old input.now)
+            self.old self.new result }
     {
         self.turn_into(alloc, Vec::new(alloc), input)
     }
@@ -102,13 +97,13 @@ impl<M: Machine, D: Device> Replica<M, D> {
         input: &Input,
     ) -> Result<Sent, Fault>
         requires right { IsRightInput input.now }
-        ensures ok { IfOk result (λ sent. TurnsIf
-            (input_effect M.next M.answers self.old input.now) self.old self.new sent) }
-        ensures err { IfErr result (λ fault. StopsIf
-            (input_effect M.next M.answers self.old input.now) self.old self.new fault) }
+        ensures { Answers (input_effect M.next M.answers self.old input.now)
+            self.old self.new result }
     {
-        let plan = self.decide(alloc, input)?;
-        self.commit(alloc, buffer, &plan)
+        match self.decide(alloc, input) {
+            Ok(plan) => self.commit(alloc, buffer, &plan),
+            Err(fault) => Err(fault),
+        }
     }
 
     /// A packet comes, as its text. Refused with `BadPacket` where the bytes are no packet's text, and
@@ -116,12 +111,8 @@ impl<M: Machine, D: Device> Replica<M, D> {
     /// beyond the configuration, or in a ballot that its sender does not own, is dropped, and nothing
     /// happens.
     pub fn receive(&mut self, alloc: Global, bytes: &[u8]) -> Result<Sent, Fault>
-        ensures ok { IfOk result (λ sent. TurnsIf
-            (effect_if_given M.next M.answers self.old (packet_given (all_of bytes.now)))
-            self.old self.new sent) }
-        ensures err { IfErr result (λ fault. StopsIf
-            (effect_if_given M.next M.answers self.old (packet_given (all_of bytes.now)))
-            self.old self.new fault) }
+        ensures { Answers (effect_if_given M.next M.answers self.old (packet_given (all_of bytes.now)))
+            self.old self.new result }
     {
         self.turn(alloc, &Input::Receive(bytes))
     }
@@ -131,24 +122,16 @@ impl<M: Machine, D: Device> Replica<M, D> {
     /// refused with `LogFull` above the log or 64 positions above the first unlearned one, with
     /// `BallotsSpent` where the node has no ballot left, and then as `Replica` says.
     pub fn lead(&mut self, alloc: Global, choice: Option<Position>) -> Result<Sent, Fault>
-        ensures ok { IfOk result (λ sent. TurnsIf
-            (effect_of M.next M.answers self.old (inputs.NodeInput.Lead choice))
-            self.old self.new sent) }
-        ensures err { IfErr result (λ fault. StopsIf
-            (effect_of M.next M.answers self.old (inputs.NodeInput.Lead choice))
-            self.old self.new fault) }
+        ensures { Answers (effect_of M.next M.answers self.old (inputs.NodeInput.Lead choice))
+            self.old self.new result }
     {
         self.turn(alloc, &Input::Lead(choice))
     }
 
     /// The word to lead at a position, as `lead` with one.
     pub fn lead_at(&mut self, alloc: Global, position: Position) -> Result<Sent, Fault>
-        ensures ok { IfOk result (λ sent. TurnsIf
-            (effect_of M.next M.answers self.old (inputs.NodeInput.Lead (Some position)))
-            self.old self.new sent) }
-        ensures err { IfErr result (λ fault. StopsIf
-            (effect_of M.next M.answers self.old (inputs.NodeInput.Lead (Some position)))
-            self.old self.new fault) }
+        ensures { Answers (effect_of M.next M.answers self.old (inputs.NodeInput.Lead (Some position)))
+            self.old self.new result }
     {
         self.turn(alloc, &Input::Lead(Some(position)))
     }
@@ -157,12 +140,8 @@ impl<M: Machine, D: Device> Replica<M, D> {
     /// unless it or a higher one counted, and is dropped where 32 items are pending.
     pub fn interrupt(&mut self, alloc: Global, source: u8, occurrence: u32) -> Result<Sent, Fault>
         requires right { IsRight (actions.Interrupt source occurrence) }
-        ensures ok { IfOk result (λ sent. TurnsIf
-            (effect_of M.next M.answers self.old (inputs.NodeInput.Interrupt source occurrence))
-            self.old self.new sent) }
-        ensures err { IfErr result (λ fault. StopsIf
-            (effect_of M.next M.answers self.old (inputs.NodeInput.Interrupt source occurrence))
-            self.old self.new fault) }
+        ensures { Answers (effect_of M.next M.answers self.old (inputs.NodeInput.Interrupt source occurrence))
+            self.old self.new result }
     {
         self.turn(alloc, &Input::Interrupt { source, occurrence })
     }
@@ -170,12 +149,8 @@ impl<M: Machine, D: Device> Replica<M, D> {
     /// The node notes a tick of the clock: it becomes pending, and is dropped where 32 items are
     /// pending.
     pub fn tick(&mut self, alloc: Global, now: u32) -> Result<Sent, Fault>
-        ensures ok { IfOk result (λ sent. TurnsIf
-            (effect_of M.next M.answers self.old (inputs.NodeInput.Tick now))
-            self.old self.new sent) }
-        ensures err { IfErr result (λ fault. StopsIf
-            (effect_of M.next M.answers self.old (inputs.NodeInput.Tick now))
-            self.old self.new fault) }
+        ensures { Answers (effect_of M.next M.answers self.old (inputs.NodeInput.Tick now))
+            self.old self.new result }
     {
         self.turn(alloc, &Input::Tick { now })
     }
@@ -184,12 +159,8 @@ impl<M: Machine, D: Device> Replica<M, D> {
     /// `report_len` says. It copies what it tells and no more. Refused with `OutOfMemory` or
     /// `Failed`.
     pub fn report(&mut self, alloc: Global, first: Position) -> Result<Sent, Fault>
-        ensures ok { IfOk result (λ sent. TurnsIf
-            (effect_of M.next M.answers self.old (inputs.NodeInput.Report first))
-            self.old self.new sent) }
-        ensures err { IfErr result (λ fault. StopsIf
-            (effect_of M.next M.answers self.old (inputs.NodeInput.Report first))
-            self.old self.new fault) }
+        ensures { Answers (effect_of M.next M.answers self.old (inputs.NodeInput.Report first))
+            self.old self.new result }
     {
         self.turn(alloc, &Input::Report(first))
     }

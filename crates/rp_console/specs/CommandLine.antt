@@ -6,14 +6,14 @@ use Rattle.clap.specs.Words.{App, Rule, Shape, Text, new_app, new_rule, one_of, 
 use Rattle.clap.specs.Simple.{on_top}
 use Rattle.clap.specs.declared.builder.action.ArgAction.TheVariants.{SetTrue}
 use Rattle.clap.specs.declared.error.kind.ErrorKind.{ErrorKind}
-use Rattle.clap.specs.declared.error.kind.ErrorKind.TheVariants.{DisplayHelp, OutOfMemory}
+use Rattle.clap.specs.declared.error.kind.ErrorKind.TheVariants.{DisplayHelp, DisplayVersion, OutOfMemory}
 use Rattle.clap.specs.declared.builder.value_parser.ValueParser.TheVariants.{Signed}
 use Rattle.rp_console.specs.declared.args.Args.{Args}
 use Rattle.rp_console.specs.declared.args.Args.TheVariants.{Script, Live}
 
--- a command that wants one of its subcommands, which `help` is not
+-- a command that has a version and wants one of its subcommands, which `help` is not
 abbrev pub with_choice : Shape → Shape
-with_choice s = record s { subcommand_required = true; disable_help_subcommand = true }
+with_choice s = record s { subcommand_required = true; disable_help_subcommand = true; has_version = true }
 
 -- the option `--trace`
 abbrev pub trace : Rule
@@ -81,8 +81,9 @@ abbrev pub ReadsAs : Option Text → ℕ → Type 0
 ReadsAs None number = ⊥
 ReadsAs (Some text) number = IsNumberText text number
 
--- the status after words that are not read: 0 behind help, 4 where memory ran out, else 2
+-- the status after words that are not read: 0 after help or the version, 4 where memory ran out, else 2
 abbrev pub words_status_of : ErrorKind → ℕ
 words_status_of OutOfMemory = 4
 words_status_of DisplayHelp = 0
+words_status_of DisplayVersion = 0
 words_status_of _ = 2

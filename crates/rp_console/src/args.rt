@@ -28,6 +28,9 @@ pub enum Args {
     },
 }
 
+/// The program's version.
+const VERSION: &str = "1.0.0";
+
 /// What the program takes.
 fn command<'a>(alloc: Global) -> Result<Command<'a>, AllocError>
     ensures { IfOk result (λ command. app_of command ≡ console) }
@@ -36,6 +39,7 @@ fn command<'a>(alloc: Global) -> Result<Command<'a>, AllocError>
     let live = live_command(alloc)?;
     Command::new(alloc, "rp_console")
         .about("Runs a program of tasks and objects on a cluster of nodes in memory")
+        .version(VERSION)
         .subcommand_required(true)
         .disable_help_subcommand(true)
         .subcommand(script)?
@@ -139,7 +143,7 @@ pub fn words_status(error: &Error) -> u8
 {
     match error.kind() {
         ErrorKind::OutOfMemory => 4,
-        ErrorKind::DisplayHelp => 0,
+        ErrorKind::DisplayHelp | ErrorKind::DisplayVersion => 0,
         _ => 2,
     }
 }

@@ -4,8 +4,8 @@ use Rattle.indexmap.specs.IndexMap.{index_map_len, values}
 use Rattle.indexmap.specs.IndexSet.{index_set_len}
 use Rattle.rp_base.specs.Config.{IsRightConfig}
 use Rattle.rp_deck.specs.declared.deck.Deck.{Deck}
-use Rattle.rp_deck.specs.Declarations.{IsNameTable, IsNameSet, HasObjects}
-use Rattle.rp_deck.specs.Programs.{DeclaresAll}
+use Rattle.rp_deck_declarations.specs.Declarations.{IsNameTable, IsNameSet, HasObjects}
+use Rattle.rp_deck_declarations.specs.Programs.{DeclaresAll}
 use Rattle.rp_deck.specs.Script.{FitsIn, IsCommandDeclared}
 
 -- A right configuration, 1 to 8 tasks and as many objects, at most 8 interrupts and timing events, no name

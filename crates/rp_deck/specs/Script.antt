@@ -10,10 +10,10 @@ use Rattle.rp_model.specs.declared.event.Step.{Step}
 use Rattle.rp_model.specs.declared.event.Step.TheVariants.{Deliver, Lead, Interrupt, Tick, Report}
 use Rattle.rp_deck.specs.declared.deck.Command.{Command}
 use Rattle.rp_deck.specs.declared.deck.Command.TheVariants.{Take, Lose, Drain, Show}
-use Rattle.rp_deck.specs.declared.deck.DeckProgram.{DeckProgram}
+use Rattle.rp_deck_declarations.specs.declared.deck_program.DeckProgram.{DeckProgram}
 use Rattle.rp_deck.specs.declared.deck.Line.{Line}
-use Rattle.rp_deck.specs.declared.declarations.Declared.{Declared}
-use Rattle.rp_deck.specs.Programs.{IsOffered}
+use Rattle.rp_deck_declarations.specs.declared.declarations.Declared.{Declared}
+use Rattle.rp_deck_declarations.specs.Programs.{IsOffered}
 
 -- the number is 1 to the last one
 abbrev pub IsUpTo : ℕ → ℕ → Type 0

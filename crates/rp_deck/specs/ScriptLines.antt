@@ -11,13 +11,14 @@ use Rattle.rp_deck.specs.declared.deck.Mode.{Mode}
 use Rattle.rp_deck.specs.declared.deck.Mode.TheVariants.{Script, Live}
 use Rattle.rp_deck.specs.declared.verbs.Verb.{Verb}
 use Rattle.rp_deck.specs.declared.verbs.Verb.TheVariants as verbs
-use Rattle.rp_deck.specs.Declaring.{on_line}
+use Rattle.rp_deck_declarations.specs.Declaring.{on_line}
 use Rattle.rp_words.specs.LineFaults.{BadLine}
 use Rattle.rp_words.specs.Lines.{LineText}
 use Rattle.rp_words.specs.Words.{is_at_end}
 use Rattle.rp_words.specs.Tables.{place_of, find}
-use Rattle.rp_words.specs.Reading.{◌>>=◌, some_or, unless, word_at, end_at, name_at, integer_at, number_at, dotted_of}
-use Rattle.rp_deck.specs.ScriptNames.{DeclaredNames}
+use Rattle.rp_words.specs.Reading.{◌>>=◌, some_or, unless, made_of, word_at, end_at}
+use Rattle.rp_words.specs.Reading.{name_at, integer_at, number_at, dotted_of}
+use Rattle.rp_deck_declarations.specs.ScriptNames.{DeclaredNames}
 
 -- what a line asks for: an event, the messages from the first to the last count as settled, messages are
 -- delivered until none is left, or every node is shown
@@ -95,12 +96,9 @@ unfoldable pub argument_at : List ℕ → Result (ℤ × List ℕ) DeckReason
 argument_at words = if is_at_end words then Ok (pos 0, words) else integer_at words
 
 -- `[POSITION]`
-abbrev pub position_read : Result (ℕ × List ℕ) DeckReason → Result (Option ℕ × List ℕ) DeckReason
-position_read (Ok read) = Ok (Some read.0, read.1)
-position_read (Err reason) = Err reason
-
 unfoldable pub position_at : List ℕ → Result (Option ℕ × List ℕ) DeckReason
-position_at words = if is_at_end words then Ok (None, words) else position_read (number_at 1 65535 words)
+position_at words =
+    if is_at_end words then Ok (None, words) else made_of Some (number_at 1 65535 words)
 
 -- `[LAST]`, the first if it is absent
 unfoldable pub last_at : ℕ → List ℕ → Result (ℕ × List ℕ) DeckReason
@@ -206,29 +204,21 @@ lose_at words = do
   last ← last_at first.0 first.1
   Ok (Lose first.0 last.0, last.1)
 
--- a command for an event, and for a step of a node
-abbrev pub taken : Result (Event × List ℕ) DeckReason → Result (CommandText × List ℕ) DeckReason
-taken (Ok read) = Ok (Take read.0, read.1)
-taken (Err reason) = Err reason
-
-abbrev pub made : Result (Step × List ℕ) DeckReason → Result (CommandText × List ℕ) DeckReason
-made (Ok read) = Ok (Take (Makes read.0), read.1)
-made (Err reason) = Err reason
-
+-- what a line asks for, by its first word
 abbrev pub command_at : DeclaredNames → Verb → List ℕ → Result (CommandText × List ℕ) DeckReason
-command_at d verbs.Call words = taken (call_at d words)
-command_at d verbs.Arm words = taken (arm_at d words)
-command_at d verbs.Disarm words = taken (disarm_at d words)
-command_at d verbs.Again words = taken (again_at d words)
-command_at d verbs.Lead words = made (lead_at d.nodes words)
-command_at d verbs.Deliver words = made (deliver_at words)
+command_at d verbs.Call words = made_of Take (call_at d words)
+command_at d verbs.Arm words = made_of Take (arm_at d words)
+command_at d verbs.Disarm words = made_of Take (disarm_at d words)
+command_at d verbs.Again words = made_of Take (again_at d words)
+command_at d verbs.Lead words = made_of (λ step. Take (Makes step)) (lead_at d.nodes words)
+command_at d verbs.Deliver words = made_of (λ step. Take (Makes step)) (deliver_at words)
 command_at d verbs.Lose words = lose_at words
 command_at d verbs.Drain words = Ok (Drain, words)
-command_at d verbs.Stop words = taken (stop_at d.nodes words)
-command_at d verbs.Restart words = taken (restart_at d.nodes words)
-command_at d verbs.Cut words = taken (cut_at d.nodes words)
-command_at d verbs.Interrupt words = made (interrupt_at d words)
-command_at d verbs.Tick words = made (tick_at d.nodes words)
+command_at d verbs.Stop words = made_of Take (stop_at d.nodes words)
+command_at d verbs.Restart words = made_of Take (restart_at d.nodes words)
+command_at d verbs.Cut words = made_of Take (cut_at d.nodes words)
+command_at d verbs.Interrupt words = made_of (λ step. Take (Makes step)) (interrupt_at d words)
+command_at d verbs.Tick words = made_of (λ step. Take (Makes step)) (tick_at d.nodes words)
 command_at d verbs.Show words = Ok (Show, words)
 
 -- a line of a script that is run in a mode
@@ -251,4 +241,5 @@ pub record LineCommand : Type 0 where
 unfoldable pub script_of : Mode → DeclaredNames → List LineText → Result (List LineCommand) BadLine
 script_of mode d [] = Ok []
 script_of mode d (line ∷ lines) =
-    on_line line.number (command_line mode d line) (λ command. script_of mode d lines >>= (λ rest. Ok (record { number = line.number; command = command } ∷ rest)))
+    on_line line.number (command_line mode d line) (λ command. script_of mode d lines
+    >>= (λ rest. Ok (record { number = line.number; command = command } ∷ rest)))

@@ -7,23 +7,23 @@ ghost use Rattle.indexmap.specs.IndexSet.{index_set_len};
 ghost use Rattle.rp_base.specs.Action.{IsRightOperation};
 ghost use Rattle.rp_base.specs.declared.action.Operation.TheVariants.{SetTimer};
 ghost use Rattle.rp_model.specs.Events.{event_of, step_of};
-ghost use Rattle.rp_deck.specs.Declarations.{IsComplete};
+ghost use Rattle.rp_deck_declarations.specs.Declarations.{IsComplete};
 ghost use Rattle.rp_deck.specs.Live.{IsLiveEvent, IsLiveStep};
-ghost use Rattle.rp_deck.specs.Named.{operation_of};
-ghost use Rattle.rp_deck.specs.Programs.{IsOffered};
+ghost use Rattle.rp_deck_objects.specs.ObjectViews.{operation_of};
+ghost use Rattle.rp_deck_declarations.specs.Programs.{IsOffered};
 ghost use Rattle.rp_words.specs.Reading.{Gives};
 ghost use Rattle.rp_deck.specs.Script.{IsRightEvent, IsStepDeclared, IsStepWithin, IsUpTo};
 ghost use Rattle.rp_deck.specs.ScriptLines.{operation_at, timer_at, argument_at, call_at, arm_at, disarm_at, interrupt_at, tick_at};
-ghost use Rattle.rp_deck.specs.ScriptViews.{names_of};
+ghost use Rattle.rp_deck_declarations.specs.DeclaredViews.{names_of};
 ghost use Rattle.rp_words.specs.Tables.{find, key_names};
 ghost use Rattle.rp_words.specs.Words.{unread};
 
-use crate::declarations::Declared;
-use crate::names::{Index, OperationName, OperationNames};
-use crate::operands::{read_dotted, read_node, read_task};
+use crate::operands::{read_node, read_task};
 use rp_base::{DeckReason, Operation};
+use rp_deck_declarations::Declared;
+use rp_deck_objects::{Index, OperationName, OperationNames};
 use rp_model::{Event, Interrupt, Step};
-use rp_words::{Words, place_among, place_in};
+use rp_words::{Words, place_among, place_in, read_dotted};
 
 /// Reads the rest of `call TASK NODE OBJECT.OPERATION [ARG]`.
 #[tactic(auto, unfolding(crate::specs::ScriptLines::call_at))]

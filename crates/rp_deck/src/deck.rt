@@ -1,12 +1,10 @@
 //! What a deck declares and asks for.
 
-ghost use Rattle.std.specs.Prelude.{◌≤◌, IfSome};
-
 use indexmap::{IndexMap, IndexSet};
 use rp_base::Config;
-use rp_machine::TallyProgram;
+use rp_deck_declarations::{DeckProgram, Task};
 use rp_model::Event;
-use rp_object::{Handler, Program};
+use rp_object::Handler;
 
 /// How a deck runs, which says what lines its script may hold.
 #[derive(Clone, Copy, Debug, PartialEq, Eq)]
@@ -15,13 +13,6 @@ pub enum Mode {
     Script,
     /// All nodes and tasks in threads: calls, interrupts and ticks alone.
     Live,
-}
-
-/// A task that is declared.
-#[derive(Clone, Copy, Debug, PartialEq, Eq)]
-pub struct Task {
-    pub priority: u8,
-    ghost in_range: { (1 ≤ priority) × (priority ≤ 30) },
 }
 
 /// What a line of the script asks for.
@@ -43,39 +34,6 @@ pub struct Line {
     /// Counted from 1, among all lines of the deck.
     pub number: u32,
     pub command: Command,
-}
-
-/// What the tasks call.
-#[derive(Debug, Drop)]
-pub enum DeckProgram {
-    /// So many sums.
-    Tally(TallyProgram),
-    /// Protected objects.
-    Objects(Program),
-}
-
-impl DeckProgram {
-    ghost use Rattle.std.specs.Prelude.{◌≡◌, ◌+◌, slice_get};
-    ghost use Rattle.rp_base.specs.declared.action.Operation.TheVariants.{SetTimer};
-    ghost use Rattle.rp_deck.specs.Programs.{object_count, IsOffered};
-    ghost use Rattle.rp_deck.specs.ScriptViews.{timer_handlers};
-
-    /// The handler of the timing event at this place.
-    pub fn timer(&self, place: usize) -> Option<Handler>
-        ensures value { result ≡ slice_get (timer_handlers self.now) place }
-        ensures within { IfSome result (λ handler. (1 ≤ handler.object)
-            × (handler.object ≤ object_count self.now)) }
-        ensures offered { IfSome result (λ handler.
-            IsOffered self.now handler.object (SetTimer (place + 1))) }
-    {
-        match self {
-            DeckProgram::Tally(_) => None,
-            DeckProgram::Objects(program) => {
-                let timer = program.declarations().timers.get(place)?;
-                Some(timer.handler)
-            }
-        }
-    }
 }
 
 /// A deck: a cluster, a program and a script.

@@ -8,9 +8,9 @@ ghost use Rattle.rp_deck.specs.Live.{IsDeckFor};
 ghost use Rattle.rp_deck.specs.Meaning.{meaning_of};
 
 use crate::deck::{Deck, Mode};
-use crate::declarations::read_declarations;
 use crate::script::read_script;
 use rp_base::{Config, Fault, Position};
+use rp_deck_declarations::read_declarations;
 use rp_words::Lines;
 use std::alloc::Global;
 

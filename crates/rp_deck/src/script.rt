@@ -3,22 +3,23 @@
 ghost use Rattle.std.specs.Prelude.{ℕ, ◌≡◌, ◌≤◌, true, All, IfOk, IfErr, map};
 ghost use Rattle.rp_model.specs.Events.{event_of, step_of};
 ghost use Rattle.rp_words.specs.Ahead.{ahead, text_of};
-ghost use Rattle.rp_deck.specs.Declarations.{IsComplete};
+ghost use Rattle.rp_deck_declarations.specs.Declarations.{IsComplete};
 ghost use Rattle.rp_words.specs.LineFaults.{IsDeckFault, Reads};
 ghost use Rattle.rp_deck.specs.Live.{IsLiveCommand, IsTaken};
 ghost use Rattle.rp_words.specs.Reading.{Gives};
 ghost use Rattle.rp_deck.specs.Script.{IsRightCommand, IsRightLine, IsRightEvent, IsStepDeclared, IsStepWithin, IsEventDeclared, IsEventWithin, IsCommandDeclared, IsMessage, FitsIn};
 ghost use Rattle.rp_deck.specs.ScriptLines.{script_of, command_line, command_at, is_live, lose_at, last_at, message_at, lead_at, deliver_at, position_at, step_from, again_at, stop_at, restart_at, cut_at};
-ghost use Rattle.rp_deck.specs.ScriptViews.{names_of, command_text, line_command};
+ghost use Rattle.rp_deck_declarations.specs.DeclaredViews.{names_of};
+ghost use Rattle.rp_deck.specs.DeckViews.{command_text, line_command};
 ghost use Rattle.rp_words.specs.Words.{unread};
-ghost use Rattle.rp_deck.specs.declared.deck.DeckProgram.{DeckProgram};
+ghost use Rattle.rp_deck_declarations.specs.declared.deck_program.DeckProgram.{DeckProgram};
 
 use crate::calls::{read_arm, read_call, read_disarm, read_interrupt, read_tick};
 use crate::deck::{Command, Line, Mode};
-use crate::declarations::Declared;
 use crate::operands::{read_node, read_position, read_task};
 use crate::verbs::Verb;
 use rp_base::{DeckReason, Fault, Position};
+use rp_deck_declarations::Declared;
 use rp_model::{Event, Step};
 use rp_words::{Lines, TextLine, Words, is_word};
 use std::alloc::Global;

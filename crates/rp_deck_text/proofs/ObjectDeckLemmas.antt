@@ -6,20 +6,21 @@ use Rattle.std.specs.List.{list_all, AllByRecursion}
 use Rattle.rp_object.specs.declared.program.Profile.{Profile}
 use Rattle.rp_object.specs.declared.program.Profile.TheVariants.{Ravenscar, Jorvik}
 use Rattle.rp_deck.specs.declared.deck.Mode.TheVariants.{Script}
-use Rattle.rp_deck.specs.declared.names.Component.{Component}
-use Rattle.rp_deck.specs.Bodies.{BodyText, Empty, Set, Put, Out, If}
+use Rattle.rp_deck_bodies.specs.declared.names.Component.{Component}
+use Rattle.rp_deck_bodies.specs.Bodies.{BodyText, Empty, Set, Put, Out, If}
 use Rattle.rp_deck_text.specs.BodyTexts.{body_lines, IsBodyOf}
-use Rattle.rp_deck.specs.Declaring.{declarations_of}
+use Rattle.rp_deck_declarations.specs.Declaring.{declarations_of}
 use Rattle.rp_words.specs.LineFaults.{BadLine}
-use Rattle.rp_deck.specs.Drafts.{DraftText, ObjectText, Value, Truth, empty_object, profile_of}
-use Rattle.rp_deck.specs.Expressions.{ExprText, Number, Arg, Out as OutExpr, Int, Add, Sub, CondText, Constant, Named, Less, LessOrEqual, Equal, Not, And, Or}
+use Rattle.rp_deck_declarations.specs.Drafts.{DraftText, profile_of}
+use Rattle.rp_deck_objects.specs.Objects.{ObjectText, Value, Truth, empty_object}
+use Rattle.rp_deck_bodies.specs.Expressions.{ExprText, Number, Arg, Out as OutExpr, Int, Add, Sub, CondText, Constant, Named, Less, LessOrEqual, Equal, Not, And, Or}
 use Rattle.rp_deck_text.specs.ExpressionTexts.{is_int, is_bool, component_name, HasOne, AreComponents, expr_words, truth_word, cond_words, IsExprOf, IsCondOf}
 use Rattle.rp_deck.specs.Meaning.{DeckText, texts_of, line_after, meaning_of}
 use Rattle.rp_deck_text.specs.ObjectTexts.{DeclaredObject, DeclaredHandler, with_object, object_lines, IsObjectOf, objects_lines, AreObjectsOf, IsHandlerOf, with_interrupt, with_timer, handler_words, AreInterruptsOf, AreTimersOf, handlers_lines, ObjectsText, profile_word, profile_words, tasks_draft, objects_draft, declared_lines, IsObjectsText, objects_text, objects_deck}
 use Rattle.rp_deck_text.specs.PartTexts.{PartText, IntPart, BoolPart, FunctionPart, ProcedurePart, EntryPart, with_part, queue_words, ended, part_lines, parts_lines, IsLongest, IsWholeBody, IsPartOf, ArePartsOf}
 use Rattle.rp_deck.specs.Script.{IsUpTo}
 use Rattle.rp_deck.specs.ScriptLines.{CommandText, LineCommand, script_of}
-use Rattle.rp_deck.specs.ScriptNames.{declared_names}
+use Rattle.rp_deck_declarations.specs.ScriptNames.{declared_names}
 use Rattle.rp_deck_text.specs.ScriptText.{numbered_lines, command_words, numbered_commands, AreDeclared, IsCommandOf, is_distinct}
 use Rattle.rp_deck_text.specs.TallyTexts.{positions_words, task_words}
 use Rattle.rp_words.specs.Words.{is_name}

@@ -19,10 +19,11 @@ use Rattle.rp_deck.specs.declared.verbs.Verb.{Verb}
 use Rattle.rp_deck.specs.declared.verbs.Verb.TheVariants as verbs
 use Rattle.rp_words.specs.Words.{is_name}
 use Rattle.rp_words.specs.Tables.{is_declared, place_of, find}
-use Rattle.rp_words.specs.Reading.{◌>>=◌, some_or, word_at, end_at, name_of, name_at, integer_at, number_at, dotted_of}
+use Rattle.rp_words.specs.Reading.{◌>>=◌, some_or, made_of, word_at, end_at, name_of, name_at, integer_at, number_at, dotted_of}
 use Rattle.rp_deck.specs.Script.{IsUpTo, IsMessage}
-use Rattle.rp_deck.specs.ScriptNames.{OperationsText, DeclaredNames}
-use Rattle.rp_deck.specs.ScriptLines.{declared_at, operation_at, timer_at, message_at, argument_at, position_at, last_at, lead_at, deliver_at, interrupt_at, tick_at, step_from, call_at, arm_at, disarm_at, again_at, stop_at, restart_at, cut_at, lose_at, CommandText, Take, Lose, Drain, Show, verb_named, command_at, command_line, taken, made}
+use Rattle.rp_deck_objects.specs.ObjectViews.{OperationsText}
+use Rattle.rp_deck_declarations.specs.ScriptNames.{DeclaredNames}
+use Rattle.rp_deck.specs.ScriptLines.{declared_at, operation_at, timer_at, message_at, argument_at, position_at, last_at, lead_at, deliver_at, interrupt_at, tick_at, step_from, call_at, arm_at, disarm_at, again_at, stop_at, restart_at, cut_at, lose_at, CommandText, Take, Lose, Drain, Show, verb_named, command_at, command_line}
 use Rattle.rp_deck_text.specs.ScriptText.{spaced, line_of, step_words, submit_words, event_words, command_words, name_numbered, same_operation, operation_name_in, operation_name, operations_numbered, is_distinct, are_names, AreOperations, AreDeclared, IsOneOf, IsCallOf, IsTimerOf, IsSubmitOf, IsStepOf, MayBeCut, IsEventOf, IsCommandOf}
 use Rattle.rp_words.proofs.WordsLemmas.{both, and_true}
 use Rattle.rp_words.proofs.TablesLemmas.{found_step}
@@ -319,6 +320,13 @@ line_back : (d : DeclaredNames) (number : ℕ) (first : List ℕ) (words : List 
     → command_at d verb (spaced words) ≡ Ok (command, spaced []) → command_line Script d (line_of number (first ∷ words)) ≡ Ok command
 unfolding command_line
 line_back d number first words verb command is read = rw (is, read, end_back) refl
+
+-- a command for an event, and for a step of a node
+abbrev taken : Result (Event × List ℕ) DeckReason → Result (CommandText × List ℕ) DeckReason
+taken read = made_of Take read
+
+abbrev made : Result (Step × List ℕ) DeckReason → Result (CommandText × List ℕ) DeckReason
+made read = made_of (λ step. Take (Makes step)) read
 
 step_back : (d : DeclaredNames) (number : ℕ) (step : Step) → AreDeclared d → IsStepOf d step → command_line Script d (line_of number (step_words d step)) ≡ Ok (Take (Makes step))
 step_back d number (Deliver message) right is = line_back d number (codes "deliver") (decimal message ∷ []) verbs.Deliver _ refl (ap made (deliver_back message is))

@@ -8,24 +8,24 @@ use Rattle.std.proofs.lemmas.Bool.Decides.{nat_tests}
 use Rattle.rp_base.specs.declared.fault.DeckReason.{DeckReason}
 use Rattle.rp_base.specs.declared.fault.DeckReason.TheVariants.{DuplicateName, TooMany}
 use Rattle.rp_deck.specs.declared.deck.Mode.TheVariants.{Script}
-use Rattle.rp_deck.specs.declared.draft.Kind.{Kind}
-use Rattle.rp_deck.specs.declared.draft.Kind.TheVariants as kinds
-use Rattle.rp_deck.specs.Declaring.{on_line, ends_declarations, declaring_line, line_of_kind, declarations_from, declarations_of}
+use Rattle.rp_deck_declarations.specs.declared.draft.Kind.{Kind}
+use Rattle.rp_deck_declarations.specs.declared.draft.Kind.TheVariants as kinds
+use Rattle.rp_deck_declarations.specs.Declaring.{on_line, ends_declarations, declaring_line, line_of_kind, declarations_from, declarations_of}
 use Rattle.rp_words.specs.LineFaults.{BadLine}
-use Rattle.rp_deck.specs.Drafts.{DraftText, empty_draft, is_empty, kind_of, nodes_line, positions_line, task_line, tally_name, tally_names, tally_line, declaration_line, script_line}
+use Rattle.rp_deck_declarations.specs.Drafts.{DraftText, empty_draft, is_empty, kind_of, nodes_line, positions_line, task_line, tally_name, tally_names, tally_line, declaration_line, script_line}
 use Rattle.rp_words.specs.Lines.{LineText}
 use Rattle.rp_deck.specs.Meaning.{DeckText, texts_of, line_after, deck_of, meaning_of}
 use Rattle.rp_words.specs.Reading.{◌>>=◌, unless, end_at, name_at, new_name_at, number_at}
 use Rattle.rp_deck.specs.Script.{IsUpTo}
 use Rattle.rp_deck.specs.ScriptLines.{CommandText, LineCommand, script_of}
-use Rattle.rp_deck.specs.ScriptNames.{declared_names}
+use Rattle.rp_deck_declarations.specs.ScriptNames.{declared_names}
 use Rattle.rp_deck_text.specs.ScriptText.{numbered_lines, spaced, line_of, command_words, numbered_commands, AreDeclared, IsCommandOf}
 use Rattle.std.specs.List.{AllByRecursion}
 use Rattle.rp_words.specs.Tables.{is_declared}
 use Rattle.rp_deck_text.specs.TallyTexts.{TallyText, positions_words, task_words, tally_lines, tally_draft, tally_text, tally_deck, AreTasks, IsTallyText}
 use Rattle.rp_words.specs.Words.{is_name}
 use Rattle.rp_deck_text.proofs.SpacedLemmas.{is_solid, name_solid, decimal_solid, name_back, number_back, end_back}
-use Rattle.rp_deck.proofs.DeclaringLemmas.{next_line, script_ends}
+use Rattle.rp_deck_declarations.proofs.DeclaringLemmas.{next_line, script_ends}
 use Rattle.rp_deck_text.proofs.TextsLemmas.{numbered_append, AreSolid, IsLine, AreLines, number_of_line, texts_back, script_back, script_lines}
 
 -- ---- lines of a draft without objects

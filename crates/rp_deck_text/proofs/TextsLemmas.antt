@@ -13,7 +13,7 @@ use Rattle.rp_model.specs.Events.{Event, Step, Submit, Again, Makes, Cut, Stop, 
 use Rattle.rp_deck.specs.declared.deck.Mode.TheVariants.{Script}
 use Rattle.rp_words.specs.LineFaults.{BadLine}
 use Rattle.rp_deck.specs.Script.{IsUpTo, IsMessage}
-use Rattle.rp_deck.specs.ScriptNames.{DeclaredNames}
+use Rattle.rp_deck_declarations.specs.ScriptNames.{DeclaredNames}
 use Rattle.rp_deck.specs.ScriptLines.{LineCommand, CommandText, Take, Lose, Drain, Show, script_of}
 use Rattle.rp_deck_text.specs.ScriptText.{numbered_lines, spaced, joined, line_of, text_of_lines, script_text, numbered_commands, name_numbered, operation_name, step_words, submit_words, event_words, command_words, AreDeclared, IsCallOf, IsTimerOf, IsSubmitOf, IsStepOf, MayBeCut, IsEventOf, IsCommandOf}
 use Rattle.rp_words.specs.Lines.{is_line_feed, in_front, lines_of, LineText, is_skipped, text_at, texts_from}

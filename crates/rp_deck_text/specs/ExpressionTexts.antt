@@ -3,10 +3,9 @@ use Rattle.std.specs.Prelude.{ℕ, ◌≡◌, ◌+◌, ℤ, FitsSigned, Bool, tr
 use Rattle.std.specs.Fmt.{signed_decimal}
 use Rattle.std.specs.Int.{w64}
 use Rattle.std.specs.List.{list_all}
-use Rattle.rp_deck.specs.declared.names.Component.{Component}
-use Rattle.rp_deck.specs.declared.names.Component.TheVariants as components
-use Rattle.rp_deck.specs.Expressions.{ExprText, Number, Arg, Out, Int, Add, Sub, CondText, Constant, Named, Less, LessOrEqual, Equal, Not, And, Or}
-use Rattle.rp_deck.specs.Objects.{expression_words}
+use Rattle.rp_deck_bodies.specs.declared.names.Component.{Component}
+use Rattle.rp_deck_bodies.specs.declared.names.Component.TheVariants as components
+use Rattle.rp_deck_bodies.specs.Expressions.{ExprText, Number, Arg, Out, Int, Add, Sub, CondText, Constant, Named, Less, LessOrEqual, Equal, Not, And, Or, expression_words}
 use Rattle.rp_deck_text.specs.ScriptText.{are_names}
 use Rattle.rp_words.specs.Tables.{is_declared}
 

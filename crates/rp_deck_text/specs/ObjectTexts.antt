@@ -5,12 +5,13 @@ use Rattle.rp_base.specs.declared.action.Operation.TheVariants.{Procedure}
 use Rattle.rp_object.specs.declared.program.Handler.{Handler}
 use Rattle.rp_object.specs.declared.program.Profile.{Profile}
 use Rattle.rp_object.specs.declared.program.Profile.TheVariants.{Ravenscar, Jorvik}
-use Rattle.rp_deck.specs.Drafts.{DraftText, ObjectText, empty_object, empty_draft, is_empty, profile_of}
+use Rattle.rp_deck_declarations.specs.Drafts.{DraftText, empty_draft, is_empty, profile_of}
+use Rattle.rp_deck_objects.specs.Objects.{ObjectText, empty_object}
 use Rattle.rp_deck.specs.Meaning.{DeckText, deck_of}
 use Rattle.rp_deck_text.specs.PartTexts.{PartText, IsNew, shut, with_parts, parts_lines, ArePartsOf}
 use Rattle.rp_deck.specs.Script.{IsUpTo}
 use Rattle.rp_deck.specs.ScriptLines.{CommandText}
-use Rattle.rp_deck.specs.ScriptNames.{declared_names}
+use Rattle.rp_deck_declarations.specs.ScriptNames.{declared_names}
 use Rattle.rp_deck_text.specs.ScriptText.{command_words, text_of_lines, numbered_commands}
 use Rattle.rp_words.specs.Tables.{place_of, find}
 use Rattle.rp_deck_text.specs.TallyTexts.{positions_words, task_words, AreTasks}

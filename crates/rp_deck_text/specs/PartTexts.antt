@@ -7,13 +7,13 @@ use Rattle.rp_base.specs.declared.action.Operation.TheVariants as operations
 use Rattle.rp_body.specs.Store.{is_within}
 use Rattle.rp_object.specs.declared.program.Profile.{Profile}
 use Rattle.rp_object.specs.declared.program.Profile.TheVariants.{Ravenscar, Jorvik}
-use Rattle.rp_deck.specs.declared.names.Component.TheVariants as components
-use Rattle.rp_deck.specs.declared.objects.Head.TheVariants as heads
-use Rattle.rp_deck.specs.Bodies.{BodyText}
+use Rattle.rp_deck_bodies.specs.declared.names.Component.TheVariants as components
+use Rattle.rp_deck_objects.specs.declared.objects.Head.TheVariants as heads
+use Rattle.rp_deck_bodies.specs.Bodies.{BodyText}
 use Rattle.rp_deck_text.specs.BodyTexts.{body_count, body_lines, IsBodyOf}
-use Rattle.rp_deck.specs.Drafts.{ObjectText, FunctionText, Value, Truth}
+use Rattle.rp_deck_objects.specs.Objects.{ObjectText, FunctionText, Value, Truth, most_entries, completed_as}
 use Rattle.rp_deck_text.specs.ExpressionTexts.{is_bool, component_name, HasOne, AreComponents, expr_nodes, cond_nodes, expr_words, cond_words, IsExprOf, IsCondOf, truth_word}
-use Rattle.rp_deck.specs.Objects.{expression_words, most_entries, completed_as}
+use Rattle.rp_deck_bodies.specs.Expressions.{expression_words}
 use Rattle.rp_deck.specs.Script.{IsUpTo}
 use Rattle.rp_words.specs.Tables.{is_declared}
 use Rattle.rp_words.specs.Words.{is_name}

@@ -9,7 +9,8 @@ use Rattle.rp_object.specs.declared.program.Handler.{Handler}
 use Rattle.rp_model.specs.Events.{Event, Step, Submit, Again, Makes, Cut, Stop, Restart, Deliver, Lead, Interrupt, Tick, Report}
 use Rattle.rp_words.specs.Lines.{LineText}
 use Rattle.rp_deck.specs.Script.{IsUpTo, IsMessage}
-use Rattle.rp_deck.specs.ScriptNames.{OperationsText, DeclaredNames}
+use Rattle.rp_deck_objects.specs.ObjectViews.{OperationsText}
+use Rattle.rp_deck_declarations.specs.ScriptNames.{DeclaredNames}
 use Rattle.rp_deck.specs.ScriptLines.{LineCommand, CommandText, Take, Lose, Drain, Show}
 use Rattle.rp_words.specs.Tables.{is_declared}
 use Rattle.rp_words.specs.Words.{is_name}

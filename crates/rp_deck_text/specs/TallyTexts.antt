@@ -1,11 +1,11 @@
 -- The text of a deck whose objects are a tally: one way to write each, which reading gives back.
 use Rattle.std.specs.Prelude.{ℕ, ◌≡◌, ◌<◌, ◌≤◌, ◌+◌, true, false, IsTrue, List, [], ◌∷◌, ◌++◌, codes, length, map, Option, Some, None, IfSome}
 use Rattle.std.specs.Fmt.{decimal}
-use Rattle.rp_deck.specs.Drafts.{DraftText, tally_names}
+use Rattle.rp_deck_declarations.specs.Drafts.{DraftText, tally_names}
 use Rattle.rp_deck.specs.Meaning.{DeckText, deck_of}
 use Rattle.rp_deck.specs.Script.{IsUpTo}
 use Rattle.rp_deck.specs.ScriptLines.{CommandText}
-use Rattle.rp_deck.specs.ScriptNames.{declared_names}
+use Rattle.rp_deck_declarations.specs.ScriptNames.{declared_names}
 use Rattle.rp_deck_text.specs.ScriptText.{command_words, text_of_lines, numbered_commands}
 use Rattle.rp_words.specs.Tables.{is_declared}
 use Rattle.rp_words.specs.Words.{is_name}

@@ -4,7 +4,6 @@ use Rattle.std.specs.Prelude.{Result, Ok, Err, OnErr, IfErr, nat_le, filter}
 use Rattle.std.specs.List.{AllByRecursion}
 use Rattle.std.specs.Result.{IsErrAnd}
 use Rattle.std.proofs.lemmas.Bool.{cases_lt, le-leb, lt-leb}
-use Rattle.std.proofs.lemmas.List.{append-nil}
 use Rattle.rp_base.specs.declared.record.Rec.{Rec}
 use Rattle.rp_codec.specs.Record.{record_text, IsRecord}
 use Rattle.rp_store.specs.Disk.{Disk, appended, stopped, AppendFailed}

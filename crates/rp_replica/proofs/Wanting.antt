@@ -1,5 +1,5 @@
 -- A packet that is read, for which memory was wanting.
-use Rattle.std.proofs.Common.{◌≡◌, ℕ, false, List, refl, sym, ap, subst, ◌∙◌}
+use Rattle.std.proofs.Common.{◌≡◌, ℕ, false, List, refl, sym, subst}
 use Rattle.std.specs.Prelude.{Result, Ok, Err, IfErr}
 use Rattle.std.specs.Result.{IsErrAnd}
 use Rattle.rp_base.specs.declared.action.Action.{Action}

@@ -12,11 +12,6 @@ use Rattle.rp_replica.specs.Held.{Held}
 use Rattle.rp_replica.specs.Kept.{HoldsCut}
 use Rattle.rp_replica.specs.Turning.{Stops, IsRefused}
 
--- the record that a turn writes first, or why there is no turn
-abbrev pub written_if : Result Turn Fault → Result (Option Rec) Fault
-written_if (Ok turn) = Ok turn.written
-written_if (Err refusal) = Err refusal
-
 -- no record, or one that is within its ranges and at a position of the log or at none
 abbrev pub MayWrite : ℕ → Option Rec → Type 0
 MayWrite most written = IfSome written (λ rec. IsRecord rec × (is_in_log most rec ≡ true))

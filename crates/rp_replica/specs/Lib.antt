@@ -7,6 +7,7 @@ pub mod Turning
 pub mod Proposed
 pub mod Opening
 pub mod Standing
+pub mod Plans
 pub mod Inputs
 pub mod Cutting
 pub mod Applying

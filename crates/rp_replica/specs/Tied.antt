@@ -11,7 +11,6 @@ use Rattle.rp_base.specs.Sets.{Has, SameMembers}
 use Rattle.rp_base.specs.Records.{started_of, learned_at}
 use Rattle.rp_base.specs.Promises.{Promise, HeardVote}
 use Rattle.rp_base.specs.Proposals.{Proposal}
-use Rattle.rp_codec.specs.Record.{IsRecord}
 use Rattle.rp_store.specs.Disk.{Disk}
 use Rattle.rp_store.specs.Records.{AreRecordsOf}
 use Rattle.rp_proposer.specs.Proposing.{ProposerPart, AreInWindow}

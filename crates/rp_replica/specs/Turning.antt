@@ -51,6 +51,12 @@ abbrev pub TurnsIf : {S : Type 0} → Result Turn Fault → Held S → Held S �
 TurnsIf (Ok turn) old new sent = Turns turn old new sent × (old.failed ≡ false)
 TurnsIf (Err refusal) old new sent = ⊥
 
+-- What comes of an input: its turn took effect, and these are its packets; or it did not take effect, for
+-- this reason, and that leaves the replica as it was, or with a device that failed within that turn.
+abbrev pub Answers : {S : Type 0} → Result Turn Fault → Held S → Held S → Result Sent Fault → Type 0
+Answers effect old new (Ok sent) = TurnsIf effect old new sent
+Answers effect old new (Err fault) = StopsIf effect old new fault
+
 -- what an input comes to for a replica, or its refusal
 abbrev pub effect_of : {S : Type 0} → (S → Action → S) → (S → Action → List Answer) → Held S → NodeInput → Result Turn Fault
 effect_of next answers held input = running_effect (setting_of next answers held) held.me held.records held.running input

@@ -1,10 +1,14 @@
 //! A node that stops within a step.
 
-ghost use Rattle.std.specs.Prelude.{◌≡◌, Some, IfOk, IfErr, false};
-ghost use Rattle.rp_replica.specs.Cutting.{Cuts, CutsIf, IsNotCut, IsNotCutIf, MayWrite};
+ghost use Rattle.std.specs.Prelude.{◌≡◌, Some, IfOk, IfErr, true, false};
+ghost use Rattle.rp_base.specs.Right.{IsRightRecord};
+ghost use Rattle.rp_model.specs.Parts.{is_in_log};
+ghost use Rattle.rp_replica.specs.Cutting.{Cuts, CutsIf, IsNotCut, IsNotCutIf};
 ghost use Rattle.rp_replica.specs.Inputs.{IsRightInput, input_effect};
+ghost use Rattle.rp_replica.specs.Plans.{MayCommit, written_by};
 
 use crate::input::Input;
+use crate::plan::{Plan, record_in_range};
 use crate::replica::Replica;
 use rp_base::{Fault, Rec};
 use rp_machine::Machine;
@@ -31,22 +35,36 @@ impl<M: Machine, D: CutDevice> Replica<M, D> {
         ensures err { IfErr result (λ refused. IsNotCutIf D.disk
             (input_effect M.next M.answers self input.now) self refused) }
     {
-        match self.record_of(alloc, input) {
-            Ok(Some(rec)) => self.tear(&rec, kept),
-            Ok(None) => Ok(self.close()),
+        match self.decide(alloc, input) {
+            Ok(plan) => self.crash(&plan, kept),
             Err(fault) => Err(NotCut::Refused(fault, self)),
         }
     }
-}
 
-impl<M: Machine, D: CutDevice> Replica<M, D> {
+    /// The node stops within the commit of a plan, with the first `kept` bytes of its record.
+    fn crash(self, plan: &Plan, kept: u64) -> Result<D, NotCut<M, D>>
+        requires working { self.failed ≡ false }
+        requires may { MayCommit self plan.now }
+        ensures ok { IfOk result (λ device.
+            Cuts (written_by plan.now) kept self (D.disk device)) }
+        ensures err { IfErr result (λ refused.
+            IsNotCut D.disk (written_by plan.now) self refused) }
+    {
+        match plan.record() {
+            Some(rec) => self.tear(&rec, kept),
+            None => Ok(self.close()),
+        }
+    }
+
     /// The node stops within the write of this record.
     fn tear(self, rec: &Rec, kept: u64) -> Result<D, NotCut<M, D>>
         requires working { self.failed ≡ false }
-        requires right { MayWrite self.config.max_positions (Some rec.now) }
+        requires right { IsRightRecord rec.now }
+        requires place { is_in_log self.config.max_positions rec.now ≡ true }
         ensures ok { IfOk result (λ device. Cuts (Some rec.now) kept self (D.disk device)) }
         ensures err { IfErr result (λ refused. IsNotCut D.disk (Some rec.now) self refused) }
     {
+        record_in_range(rec);
         let Replica {
             me,
             config,

@@ -1,12 +1,13 @@
-//! The word to lead, at a position or at the least free one.
+//! The word to lead, at a position or at the least free one: what a replica decides.
 
-ghost use Rattle.std.specs.Prelude.{◌≡◌, ◌<◌, ◌≤◌, ◌^◌, true, IfNone, IfSome, IfOk, IfErr};
+ghost use Rattle.std.specs.Prelude.{◌≡◌, ◌<◌, ◌≤◌, ◌^◌, true, IfNone, IfSome, IfOk, IfErr, Ok, Err};
 ghost use Rattle.rp_model.specs.Effect as inputs;
 ghost use Rattle.rp_model.specs.Leader.{is_free_position, is_out_of_reach, least_free};
-ghost use Rattle.rp_replica.specs.Turning.{TurnsIf, StopsIf, effect_of};
+ghost use Rattle.rp_replica.specs.Plans.{turn_of, MayCommit};
+ghost use Rattle.rp_replica.specs.Turning.{effect_of};
 
+use crate::plan::Plan;
 use crate::replica::Replica;
-use crate::sent::Sent;
 use rp_base::{Fault, Position};
 use rp_learner::WINDOW;
 use rp_machine::Machine;
@@ -16,41 +17,20 @@ impl<M: Machine, D: Device> Replica<M, D> {
     /// The word to lead at a position, or with none at the least position that is not learned and at
     /// which no proposal of this node runs. Where the position is learned nothing happens. It is
     /// refused with `LogFull` above the log or 64 positions above the first unlearned one, with
-    /// `BallotsSpent` where the node has no ballot left, and then as `Replica` says.
-    #[inline(never)]
-    pub(crate) fn lead_into(
-        &mut self,
-        buffer: Vec<u8>,
-        choice: Option<Position>,
-    ) -> Result<Sent, Fault>
-        ensures ok { IfOk result (λ sent. TurnsIf
-            (effect_of M.next M.answers self.old (inputs.NodeInput.Lead choice))
-            self.old self.new sent) }
-        ensures err { IfErr result (λ fault. StopsIf
-            (effect_of M.next M.answers self.old (inputs.NodeInput.Lead choice))
-            self.old self.new fault) }
+    /// `BallotsSpent` where the node has no ballot left.
+    pub(crate) fn on_lead(&self, choice: Option<Position>) -> Result<Plan, Fault>
+        ensures ok { IfOk result (λ plan. Ok (turn_of M.next M.answers self.now plan)
+            ≡ effect_of M.next M.answers self.now (inputs.NodeInput.Lead choice)) }
+        ensures may { IfOk result (λ plan. MayCommit self.now plan) }
+        ensures err { IfErr result (λ fault. Err fault
+            ≡ effect_of M.next M.answers self.now (inputs.NodeInput.Lead choice)) }
     {
         match choice {
-            Some(position) => self.lead_at_into(buffer, position),
-            None => self.lead_at_least(buffer),
-        }
-    }
-
-    /// The word to lead at the least free position.
-    fn lead_at_least(&mut self, buffer: Vec<u8>) -> Result<Sent, Fault>
-        ensures ok { IfOk result (λ sent. TurnsIf
-            (effect_of M.next M.answers self.old (inputs.NodeInput.Lead None))
-            self.old self.new sent) }
-        ensures err { IfErr result (λ fault. StopsIf
-            (effect_of M.next M.answers self.old (inputs.NodeInput.Lead None))
-            self.old self.new fault) }
-    {
-        if self.has_failed() {
-            return Err(Fault::Failed);
-        }
-        match self.least_free() {
-            Some(position) => self.lead_at_into(buffer, position),
-            None => Err(Fault::LogFull),
+            Some(position) => self.on_lead_at(position),
+            None => match self.least_free() {
+                Some(position) => self.on_lead_at(position),
+                None => Err(Fault::LogFull),
+            },
         }
     }
 

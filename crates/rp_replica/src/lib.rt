@@ -3,21 +3,16 @@
 //! In reading order:
 //! - `replica`: the replica, what it is asked, and how a record is kept
 //! - `opening`: a replica that is opened over a device
-//! - `acceptor`: a replica that is asked for a promise or a vote
-//! - `leader`: a replica that leads, and what it makes of promises and refusals
-//! - `lead`: the word to lead, at a position or at the least free one
-//! - `own_action`: what a proposal takes as its own action
-//! - `learner`: a replica that is asked what was decided, and hears of votes
-//! - `learning`: an action that is learned
-//! - `window`: the learner's window, which follows the log
-//! - `applying`: what is learned is applied in order, and answered
-//! - `arrivals`: calls, interrupts and ticks that come, and become pending
-//! - `pending`: the items that wait to be proposed
 //! - `input`: what a replica may be given
-//! - `turn`: a replica that is given any input
-//! - `report`: a replica that tells the audit what it has applied
-//! - `receiving`: a replica that is given the text of a packet
-//! - `written`: the record that a step writes, asked for without taking the step
+//! - `plan`: what the rules decided for an input, before anything of it is done
+//! - `turn`: a step: it decides by the rules, and commits
+//! - `receiving`, `acceptor`, `leader`, `lead`, `own_action`, `learner`, `arrivals`: the rules, which
+//!   read alone: for a packet, a question for a promise or a vote, promises, the word to lead, the
+//!   action that a proposal takes as its own, votes and decisions, calls and interrupts and ticks
+//! - `commit`: a plan, committed: it is written, takes effect and is sent
+//! - `proposal`, `decisions`, `report`: plans of a leader, of a learner and for the audit, committed
+//! - `learning`, `applying`, `window`, `pending`: an action that is learned, applied in order and
+//!   answered; the learner's window, which follows the log; the items that wait to be proposed
 //! - `cut`: a node that stops within a step
 //! - `heard`: the votes that were heard, which memory does not hold
 //! - `sent`: the packets of one step
@@ -28,7 +23,9 @@
 mod acceptor;
 mod applying;
 mod arrivals;
+mod commit;
 mod cut;
+mod decisions;
 mod heard;
 mod input;
 mod laws;
@@ -39,6 +36,8 @@ mod learning;
 mod opening;
 mod own_action;
 mod pending;
+mod plan;
+mod proposal;
 mod receiving;
 mod replica;
 mod report;
@@ -46,7 +45,6 @@ mod sent;
 mod standing;
 mod turn;
 mod window;
-mod written;
 
 pub use cut::NotCut;
 pub use input::Input;

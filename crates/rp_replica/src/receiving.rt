@@ -1,139 +1,93 @@
-//! A replica that is given the text of a packet.
+//! What a replica decides that is given a packet.
 
-ghost use Rattle.std.specs.Prelude.{◌≡◌, nat_eq, IfOk, IfErr, false, true};
+ghost use Rattle.std.specs.Prelude.{◌≡◌, nat_eq, true};
 ghost use Rattle.rp_base.specs.Ballot.{owner_of};
 ghost use Rattle.rp_codec.specs.Message.{IsNodeParty, IsPacket};
-ghost use Rattle.rp_codec.specs.Reading.{all_of};
 ghost use Rattle.rp_codec.specs.declared.packet.Party.TheVariants.{Node};
 ghost use Rattle.rp_model.specs.Receiving.{is_for_node, is_allowed, is_node, is_no_node_above, party_number, on_body, receives};
-ghost use Rattle.rp_replica.specs.Inputs.{packet_given, effect_if_given};
-ghost use Rattle.rp_replica.specs.Turning.{Turns, TurnsIf, Stops, StopsIf};
+ghost use Rattle.rp_replica.specs.Plans.{turn_of, MayCommit};
 
+use crate::plan::{CountedPromise, Plan};
 use crate::replica::Replica;
-use crate::sent::{Outbox, Sent};
-use rp_base::{Ballot, Config, Fault, NodeId};
-use rp_codec::{Body, Packet, Party, decode};
+use rp_base::{Ballot, Config, NodeId};
+use rp_codec::{Body, Packet, Party};
 use rp_machine::Machine;
 use rp_model::Dropped;
 use rp_store::Device;
-use std::alloc::Global;
 
 impl<M: Machine, D: Device> Replica<M, D> {
-    /// A packet comes, as its text. Refused with `BadPacket` where the bytes are no packet's text, and
-    /// otherwise as `Replica` says. A packet that is for another node, from a node or for a position
-    /// beyond the configuration, or in a ballot that its sender does not own, is dropped, and nothing
-    /// happens.
-    #[inline(always)]
-    pub(crate) fn receive_into(
-        &mut self,
-        alloc: Global,
-        buffer: Vec<u8>,
-        bytes: &[u8],
-    ) -> Result<Sent, Fault>
-        ensures ok { IfOk result (λ sent. TurnsIf
-            (effect_if_given M.next M.answers self.old (packet_given (all_of bytes.now)))
-            self.old self.new sent) }
-        ensures err { IfErr result (λ fault. StopsIf
-            (effect_if_given M.next M.answers self.old (packet_given (all_of bytes.now)))
-            self.old self.new fault) }
-    {
-        if self.has_failed() {
-            return Err(Fault::Failed);
-        }
-        match &decode(alloc, bytes)? {
-            Ok(packet) => self.on_packet(alloc, buffer, packet),
-            Err(reason) => Err(Fault::BadPacket(*reason)),
-        }
-    }
-
     /// A packet comes.
     // A call of its own, so that the packet is read where it lies.
     #[inline(never)]
-    fn on_packet(&mut self, alloc: Global, buffer: Vec<u8>, packet: &Packet) -> Result<Sent, Fault>
-        requires working { self.old.failed ≡ false }
-        ensures ok { IfOk result (λ sent. Turns
-            (receives M.next M.answers self.old.begin self.old.config self.old.me self.old.records
-            self.old.running packet.now) self.old self.new sent) }
-        ensures err { IfErr result (λ fault. Stops
-            (receives M.next M.answers self.old.begin self.old.config self.old.me self.old.records
-            self.old.running packet.now).written self.old self.new fault) }
+    pub(crate) fn on_packet(&self, packet: &Packet) -> Plan
+        ensures turn { turn_of M.next M.answers self.now result ≡ receives M.next M.answers
+            self.now.begin self.now.config self.now.me self.now.records self.now.running packet.now }
+        ensures may { MayCommit self.now result }
     {
         if !is_for_node(self.config, self.me, packet) {
-            return Ok(Outbox::new(buffer).sent(Dropped::Foreign));
+            return Plan::Pass(Dropped::Foreign);
         }
         match packet.from() {
-            Party::Node(from) => self.on_node(alloc, buffer, from, packet),
-            Party::Task(_) | Party::Audit => self.on_task(buffer, packet),
+            Party::Node(from) => self.on_node(from, packet),
+            Party::Task(_) | Party::Audit => self.on_task(packet),
         }
     }
 
     /// A packet comes from a node, for this one.
-    fn on_node(
-        &mut self,
-        alloc: Global,
-        buffer: Vec<u8>,
-        from: NodeId,
-        packet: &Packet,
-    ) -> Result<Sent, Fault>
-        requires working { self.old.failed ≡ false }
+    fn on_node(&self, from: NodeId, packet: &Packet) -> Plan
         requires sender { packet.now.from ≡ Node from }
-        requires right { is_for_node self.old.config self.old.me packet.now ≡ true }
-        ensures ok { IfOk result (λ sent. Turns
-            (on_body M.next M.answers self.old.begin self.old.config.nodes self.old.me
-            self.old.records self.old.running from packet.now.body) self.old self.new sent) }
-        ensures err { IfErr result (λ fault. Stops
-            (on_body M.next M.answers self.old.begin self.old.config.nodes self.old.me
-            self.old.records self.old.running from packet.now.body).written
-            self.old self.new fault) }
+        requires right { is_for_node self.now.config self.now.me packet.now ≡ true }
+        ensures turn { turn_of M.next M.answers self.now result ≡ on_body M.next M.answers
+            self.now.begin self.now.config.nodes self.now.me self.now.records self.now.running
+            from packet.now.body }
+        ensures may { MayCommit self.now result }
     {
         match packet.body() {
-            Body::Prepare { position, ballot } => self.on_prepare(buffer, from, *position, *ballot),
+            Body::Prepare { position, ballot } => self.on_prepare(from, *position, *ballot),
             Body::Promise {
                 position,
                 ballot,
                 last,
-            } => self.on_promise(buffer, from, *position, *ballot, last),
+            } => self.on_promise(CountedPromise {
+                from,
+                position: *position,
+                ballot: *ballot,
+                last: *last,
+            }),
             Body::Accept {
                 position,
                 ballot,
                 action,
-            } => self.on_accept(buffer, from, *position, *ballot, action),
+            } => self.on_accept(from, *position, *ballot, action),
             Body::Accepted {
                 position,
                 ballot,
                 action,
-            } => self.on_accepted(alloc, buffer, from, *position, *ballot, action),
-            Body::Decided { position, action } => {
-                self.on_decided(buffer, from, *position, action)
-            }
-            Body::Ask { position } => self.on_ask(buffer, from, *position),
+            } => self.on_accepted(from, *position, *ballot, action),
+            Body::Decided { position, action } => self.on_decided(from, *position, action),
+            Body::Ask { position } => self.on_ask(from, *position),
             Body::Nack {
                 position,
                 ballot,
                 bound,
-            } => Ok(self.on_nack(buffer, *position, *ballot, *bound)),
+            } => Plan::Yield(*position, *ballot, *bound),
             Body::Call { .. } | Body::Reply { .. } | Body::Report { .. } => {
-                Ok(Outbox::new(buffer).sent(Dropped::No))
+                Plan::Pass(Dropped::No)
             }
         }
     }
 
     /// A packet comes from a task, for this node.
-    fn on_task(&mut self, buffer: Vec<u8>, packet: &Packet) -> Result<Sent, Fault>
-        requires working { self.old.failed ≡ false }
+    fn on_task(&self, packet: &Packet) -> Plan
         requires sender { ¬ IsNodeParty packet.now.from }
-        ensures ok { IfOk result (λ sent. Turns
-            (on_body M.next M.answers self.old.begin self.old.config.nodes self.old.me
-            self.old.records self.old.running (party_number packet.now.from) packet.now.body)
-            self.old self.new sent) }
-        ensures err { IfErr result (λ fault. Stops
-            (on_body M.next M.answers self.old.begin self.old.config.nodes self.old.me
-            self.old.records self.old.running (party_number packet.now.from) packet.now.body).written
-            self.old self.new fault) }
+        ensures turn { turn_of M.next M.answers self.now result ≡ on_body M.next M.answers
+            self.now.begin self.now.config.nodes self.now.me self.now.records self.now.running
+            (party_number packet.now.from) packet.now.body }
+        ensures may { MayCommit self.now result }
     {
         match *packet.body() {
-            Body::Call { action } => self.on_call(buffer, action),
-            _ => Ok(Outbox::new(buffer).sent(Dropped::No)),
+            Body::Call { action } => self.on_call(action),
+            _ => Plan::Pass(Dropped::No),
         }
     }
 }
@@ -191,7 +145,7 @@ fn owns(party: Party, ballot: Ballot) -> bool
 }
 
 /// Whether the packet is for this node, and keeps to the configuration.
-pub(crate) fn is_for_node(config: Config, me: NodeId, packet: &Packet) -> bool
+fn is_for_node(config: Config, me: NodeId, packet: &Packet) -> bool
     ensures told { result ≡ is_for_node config me packet.now }
     ensures packet { result ≡ true → IsPacket packet.now }
 {

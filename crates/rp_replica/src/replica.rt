@@ -24,10 +24,9 @@ ghost use Rattle.rp_replica.specs.Turning.{Stops};
 
 use crate::heard::Heard;
 use crate::pending::Pending;
-use crate::sent::Outbox;
+use crate::plan::record_in_range;
 use rp_acceptor::Acceptor;
 use rp_base::{Config, Fault, NodeId, Rec, Reply, TaskId};
-use rp_codec::{Body, Packet, Party};
 use rp_learner::Learner;
 use rp_log::Log;
 use rp_machine::{Machine, Numbered};
@@ -81,26 +80,6 @@ impl<M: Machine, D: Device> Model for Replica<M, D> {
     ghost invariant = { λ r. Tied r.me r.config (D.disk r.store.device) r.store.failed r.acceptor.records r.proposer r.learner r.heard r.log r.machine };
 }
 
-/// Shows that each position and each ballot of a record is within its range.
-fn record_in_range(rec: &Rec)
-    ensures { HasRecordRanges rec.now }
-{
-    match rec {
-        Rec::Started(ballot) => {
-            let _number = ballot.get();
-        }
-        Rec::Promised(position, ballot) => {
-            let _numbers = (position.get(), ballot.get());
-        }
-        Rec::Voted(position, ballot, _) => {
-            let _numbers = (position.get(), ballot.get());
-        }
-        Rec::Learned(position, _) => {
-            let _number = position.get();
-        }
-    }
-}
-
 /// Makes room to note the record.
 fn reserve(acceptor: &mut Acceptor, rec: &Rec) -> Result<(), Fault>
     ensures room { OnOk result (HasRoom acceptor.new rec.now) }
@@ -138,37 +117,6 @@ pub(crate) fn write<D: Device>(
 }
 
 impl<M: Machine, D: Device> Replica<M, D> {
-    /// A packet to a node.
-    #[inline(always)]
-    pub(crate) fn says(&self, buffer: Vec<u8>, body: Body, to: NodeId) -> Result<Outbox, Fault>
-        requires { MaySay (Node self.now.me) (Node to) body }
-        ensures said { IfOk result (λ out. out ≡ run_of (says self.now.me body to ∷ [])) }
-        ensures only { IsOkUnless result faults.OutOfMemory }
-    {
-        let mut out = Outbox::new(buffer);
-        out.say(self.me, to, body)?;
-        Ok(out)
-    }
-
-    /// A reply to a task's call.
-    pub(crate) fn replies(
-        &self,
-        buffer: Vec<u8>,
-        task: TaskId,
-        number: u32,
-        reply: Reply,
-    ) -> Result<Outbox, Fault>
-        requires { IsCount number }
-        ensures said { IfOk result (λ out. out
-            ≡ run_of (says_to_task self.now.me (Answered number reply) task ∷ [])) }
-        ensures only { IsOkUnless result faults.OutOfMemory }
-    {
-        let mut out = Outbox::new(buffer);
-        let body = Body::Reply { number, reply };
-        out.push(&Packet::new(Party::Node(self.me), Party::Task(task), body))?;
-        Ok(out)
-    }
-
     /// Whether the device failed since it was opened: then each call is refused with `Failed`.
     pub fn has_failed(&self) -> bool
         ensures { result ≡ self.now.failed }
@@ -241,19 +189,5 @@ impl<M: Machine, D: Device> Replica<M, D> {
             (replay_answers M.next M.answers self.now.begin applied) }
     {
         self.machine.kept(task, number)
-    }
-
-    /// Writes a promise or a vote.
-    #[inline(always)]
-    pub(crate) fn keep(&mut self, rec: &Rec) -> Result<(), Fault>
-        requires working { self.old.failed ≡ false }
-        requires right { IsRightRecord rec.now }
-        requires place { is_in_log self.old.config.max_positions rec.now ≡ true }
-        requires answer { IsAnswer rec.now }
-        ensures ok { OnOk result (self.new ≡ held_after self.old
-            (writes rec.now self.old.running [])) }
-        ensures err { IfErr result (λ fault. Stops (Some rec.now) self.old self.new fault) }
-    {
-        write(&mut self.store, &mut self.acceptor, rec)
     }
 }

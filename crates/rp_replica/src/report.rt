@@ -1,13 +1,13 @@
 //! A replica that tells the audit what it has applied.
 
-ghost use Rattle.std.specs.Prelude.{◌≡◌, ◌-◌, ◌<◌, ◌^◌, [], ◌∷◌, length, take, drop, IfOk, IfErr, IsOkUnless};
+ghost use Rattle.std.specs.Prelude.{◌≡◌, ◌-◌, ◌<◌, ◌^◌, [], ◌∷◌, length, take, drop, IfOk, IsOkUnless};
 ghost use Rattle.rp_base.specs.declared.fault.Fault.TheVariants as faults;
 ghost use Rattle.rp_base.specs.Records.{applied_of};
 ghost use Rattle.rp_codec.specs.Message.{report_len};
-ghost use Rattle.rp_model.specs.Effect as inputs;
 ghost use Rattle.rp_model.specs.Effect.{report_of};
+ghost use Rattle.rp_model.specs.Says.{sends};
 ghost use Rattle.rp_replica.specs.Packets.{run_of};
-ghost use Rattle.rp_replica.specs.Turning.{TurnsIf, StopsIf, effect_of};
+ghost use Rattle.rp_replica.specs.Turning.{Turns};
 
 use crate::replica::Replica;
 use crate::sent::{Outbox, Sent};
@@ -20,25 +20,19 @@ use std::alloc::{AllocError, Global};
 
 impl<M: Machine, D: Device> Replica<M, D> {
     /// A report to the audit of the actions applied at the positions from `first` on, as many as
-    /// `report_len` says. It copies what it tells and no more. Refused with `OutOfMemory` or
-    /// `Failed`.
+    /// `report_len` says. It copies what it tells and no more.
     #[inline(never)]
-    pub(crate) fn report_into(
-        &mut self,
+    pub(crate) fn report_applied(
+        &self,
         alloc: Global,
         buffer: Vec<u8>,
         first: Position,
     ) -> Result<Sent, Fault>
-        ensures ok { IfOk result (λ sent. TurnsIf
-            (effect_of M.next M.answers self.old (inputs.NodeInput.Report first))
-            self.old self.new sent) }
-        ensures err { IfErr result (λ fault. StopsIf
-            (effect_of M.next M.answers self.old (inputs.NodeInput.Report first))
-            self.old self.new fault) }
+        ensures ok { IfOk result (λ sent. Turns (sends self.now.running
+            (report_of self.now.me first (applied_of self.now.records) ∷ []))
+            self.now self.now sent) }
+        ensures only { IsOkUnless result faults.OutOfMemory }
     {
-        if self.has_failed() {
-            return Err(Fault::Failed);
-        }
         Ok(self.tells_applied(alloc, buffer, first)?.sent(Dropped::No))
     }
 

@@ -1,32 +1,88 @@
-//! A replica that is given any input.
+//! A step of a replica: it decides, and then commits.
 
-ghost use Rattle.std.specs.Prelude.{◌≡◌, Some, IfOk, IfErr};
+ghost use Rattle.std.specs.Prelude.{◌≡◌, Some, Ok, IfOk, IfErr, OnOk, false};
 ghost use Rattle.rp_base.specs.Action.{IsRight};
 ghost use Rattle.rp_base.specs.declared.action.Action.TheVariants as actions;
 ghost use Rattle.rp_codec.specs.Reading.{all_of};
 ghost use Rattle.rp_model.specs.Effect as inputs;
 ghost use Rattle.rp_replica.specs.Inputs.{IsRightInput, input_effect, packet_given, effect_if_given};
-ghost use Rattle.rp_replica.specs.Turning.{TurnsIf, StopsIf, effect_of};
+ghost use Rattle.rp_replica.specs.Plans.{turn_of, MayCommit};
+ghost use Rattle.rp_replica.specs.Turning.{Answers, StopsIf, effect_of};
 
 use crate::input::Input;
+use crate::plan::Plan;
 use crate::replica::Replica;
 use crate::sent::Sent;
 use rp_base::{Fault, Position};
+use rp_codec::decode;
 use rp_machine::Machine;
 use rp_store::Device;
 use std::alloc::Global;
 
 impl<M: Machine, D: Device> Replica<M, D> {
+    /// What the step of an input does, or why there is no step: `BadPacket` where the bytes of a
+    /// packet are none's text, `BallotsSpent` or `LogFull` where the node cannot lead,
+    /// `OutOfMemory`, or `Failed` after the device failed. It reads alone.
+    #[inline(always)]
+    pub(crate) fn decide(&self, alloc: Global, input: &Input) -> Result<Plan, Fault>
+        requires right { IsRightInput input.now }
+        ensures ok { IfOk result (λ plan. Ok (turn_of M.next M.answers self.now plan)
+            ≡ input_effect M.next M.answers self.now input.now) }
+        ensures may { IfOk result (λ plan. MayCommit self.now plan) }
+        ensures working { OnOk result (self.now.failed ≡ false) }
+        ensures err { IfErr result (λ fault. StopsIf
+            (input_effect M.next M.answers self.now input.now) self.now self.now fault) }
+    {
+        if self.has_failed() {
+            return Err(Fault::Failed);
+        }
+        match *input {
+            Input::Receive(bytes) => self.on_text(alloc, bytes),
+            Input::Lead(choice) => self.on_lead(choice),
+            Input::Interrupt { source, occurrence } => Ok(self.on_interrupt(source, occurrence)),
+            Input::Tick { now } => Ok(self.on_tick(now)),
+            Input::Report(first) => Ok(Plan::Report(first)),
+        }
+    }
+
+    /// A packet comes, as its text.
+    #[inline(always)]
+    fn on_text(&self, alloc: Global, bytes: &[u8]) -> Result<Plan, Fault>
+        requires working { self.now.failed ≡ false }
+        ensures ok { IfOk result (λ plan. Ok (turn_of M.next M.answers self.now plan)
+            ≡ effect_if_given M.next M.answers self.now (packet_given (all_of bytes.now))) }
+        ensures may { IfOk result (λ plan. MayCommit self.now plan) }
+        ensures err { IfErr result (λ fault. StopsIf
+            (effect_if_given M.next M.answers self.now (packet_given (all_of bytes.now)))
+            self.now self.now fault) }
+    {
+        match &decode(alloc, bytes)? {
+            Ok(packet) => Ok(self.on_packet(packet)),
+            Err(reason) => Err(Fault::BadPacket(*reason)),
+        }
+    }
+
+    /// Why the step of an input would not be made where memory runs out: as it would be refused with
+    /// memory enough, and else `OutOfMemory`.
+    pub fn refusal(&self, alloc: Global, input: &Input) -> Fault
+        requires right { IsRightInput input.now }
+        ensures { StopsIf (input_effect M.next M.answers self.now input.now)
+            self.now self.now result }
+    {
+        match self.decide(alloc, input) {
+            Ok(_) => Fault::OutOfMemory,
+            Err(fault) => fault,
+        }
+    }
+
     /// One step of the node: at most one record is written, and the packets are given out once it is
     /// stable. Refused with `BadPacket` where the bytes of a packet are none's text, with `BallotsSpent`
     /// or `LogFull` where the node cannot lead, with `OutOfMemory`: then nothing has changed. After
     /// `Device` the device has failed, and each further step is refused with `Failed`.
     pub fn turn(&mut self, alloc: Global, input: &Input) -> Result<Sent, Fault>
         requires right { IsRightInput input.now }
-        ensures ok { IfOk result (λ sent. TurnsIf
-            (input_effect M.next M.answers self.old input.now) self.old self.new sent) }
-        ensures err { IfErr result (λ fault. StopsIf
-            (input_effect M.next M.answers self.old input.now) self.old self.new fault) }
+        ensures { Answers (input_effect M.next M.answers self.old input.now)
+            self.old self.new result }
     {
         self.turn_into(alloc, Vec::new(alloc), input)
     }
@@ -41,19 +97,12 @@ impl<M: Machine, D: Device> Replica<M, D> {
         input: &Input,
     ) -> Result<Sent, Fault>
         requires right { IsRightInput input.now }
-        ensures ok { IfOk result (λ sent. TurnsIf
-            (input_effect M.next M.answers self.old input.now) self.old self.new sent) }
-        ensures err { IfErr result (λ fault. StopsIf
-            (input_effect M.next M.answers self.old input.now) self.old self.new fault) }
+        ensures { Answers (input_effect M.next M.answers self.old input.now)
+            self.old self.new result }
     {
-        match *input {
-            Input::Receive(bytes) => self.receive_into(alloc, buffer, bytes),
-            Input::Lead(choice) => self.lead_into(buffer, choice),
-            Input::Interrupt { source, occurrence } => {
-                self.interrupt_into(buffer, source, occurrence)
-            }
-            Input::Tick { now } => self.tick_into(buffer, now),
-            Input::Report(first) => self.report_into(alloc, buffer, first),
+        match self.decide(alloc, input) {
+            Ok(plan) => self.commit(alloc, buffer, &plan),
+            Err(fault) => Err(fault),
         }
     }
 
@@ -62,14 +111,10 @@ impl<M: Machine, D: Device> Replica<M, D> {
     /// beyond the configuration, or in a ballot that its sender does not own, is dropped, and nothing
     /// happens.
     pub fn receive(&mut self, alloc: Global, bytes: &[u8]) -> Result<Sent, Fault>
-        ensures ok { IfOk result (λ sent. TurnsIf
-            (effect_if_given M.next M.answers self.old (packet_given (all_of bytes.now)))
-            self.old self.new sent) }
-        ensures err { IfErr result (λ fault. StopsIf
-            (effect_if_given M.next M.answers self.old (packet_given (all_of bytes.now)))
-            self.old self.new fault) }
+        ensures { Answers (effect_if_given M.next M.answers self.old (packet_given (all_of bytes.now)))
+            self.old self.new result }
     {
-        self.receive_into(alloc, Vec::new(alloc), bytes)
+        self.turn(alloc, &Input::Receive(bytes))
     }
 
     /// The word to lead at a position, or with none at the least position that is not learned and at
@@ -77,66 +122,46 @@ impl<M: Machine, D: Device> Replica<M, D> {
     /// refused with `LogFull` above the log or 64 positions above the first unlearned one, with
     /// `BallotsSpent` where the node has no ballot left, and then as `Replica` says.
     pub fn lead(&mut self, alloc: Global, choice: Option<Position>) -> Result<Sent, Fault>
-        ensures ok { IfOk result (λ sent. TurnsIf
-            (effect_of M.next M.answers self.old (inputs.NodeInput.Lead choice))
-            self.old self.new sent) }
-        ensures err { IfErr result (λ fault. StopsIf
-            (effect_of M.next M.answers self.old (inputs.NodeInput.Lead choice))
-            self.old self.new fault) }
+        ensures { Answers (effect_of M.next M.answers self.old (inputs.NodeInput.Lead choice))
+            self.old self.new result }
     {
-        self.lead_into(Vec::new(alloc), choice)
+        self.turn(alloc, &Input::Lead(choice))
     }
 
     /// The word to lead at a position, as `lead` with one.
     pub fn lead_at(&mut self, alloc: Global, position: Position) -> Result<Sent, Fault>
-        ensures ok { IfOk result (λ sent. TurnsIf
-            (effect_of M.next M.answers self.old (inputs.NodeInput.Lead (Some position)))
-            self.old self.new sent) }
-        ensures err { IfErr result (λ fault. StopsIf
-            (effect_of M.next M.answers self.old (inputs.NodeInput.Lead (Some position)))
-            self.old self.new fault) }
+        ensures { Answers (effect_of M.next M.answers self.old (inputs.NodeInput.Lead (Some position)))
+            self.old self.new result }
     {
-        self.lead_at_into(Vec::new(alloc), position)
+        self.turn(alloc, &Input::Lead(Some(position)))
     }
 
     /// The node notes an occurrence of an interrupt's source, 1 to 8 and from 1: it becomes pending
     /// unless it or a higher one counted, and is dropped where 32 items are pending.
     pub fn interrupt(&mut self, alloc: Global, source: u8, occurrence: u32) -> Result<Sent, Fault>
         requires right { IsRight (actions.Interrupt source occurrence) }
-        ensures ok { IfOk result (λ sent. TurnsIf
-            (effect_of M.next M.answers self.old (inputs.NodeInput.Interrupt source occurrence))
-            self.old self.new sent) }
-        ensures err { IfErr result (λ fault. StopsIf
-            (effect_of M.next M.answers self.old (inputs.NodeInput.Interrupt source occurrence))
-            self.old self.new fault) }
+        ensures { Answers (effect_of M.next M.answers self.old (inputs.NodeInput.Interrupt source occurrence))
+            self.old self.new result }
     {
-        self.interrupt_into(Vec::new(alloc), source, occurrence)
+        self.turn(alloc, &Input::Interrupt { source, occurrence })
     }
 
     /// The node notes a tick of the clock: it becomes pending, and is dropped where 32 items are
     /// pending.
     pub fn tick(&mut self, alloc: Global, now: u32) -> Result<Sent, Fault>
-        ensures ok { IfOk result (λ sent. TurnsIf
-            (effect_of M.next M.answers self.old (inputs.NodeInput.Tick now))
-            self.old self.new sent) }
-        ensures err { IfErr result (λ fault. StopsIf
-            (effect_of M.next M.answers self.old (inputs.NodeInput.Tick now))
-            self.old self.new fault) }
+        ensures { Answers (effect_of M.next M.answers self.old (inputs.NodeInput.Tick now))
+            self.old self.new result }
     {
-        self.tick_into(Vec::new(alloc), now)
+        self.turn(alloc, &Input::Tick { now })
     }
 
     /// A report to the audit of the actions applied at the positions from `first` on, as many as
     /// `report_len` says. It copies what it tells and no more. Refused with `OutOfMemory` or
     /// `Failed`.
     pub fn report(&mut self, alloc: Global, first: Position) -> Result<Sent, Fault>
-        ensures ok { IfOk result (λ sent. TurnsIf
-            (effect_of M.next M.answers self.old (inputs.NodeInput.Report first))
-            self.old self.new sent) }
-        ensures err { IfErr result (λ fault. StopsIf
-            (effect_of M.next M.answers self.old (inputs.NodeInput.Report first))
-            self.old self.new fault) }
+        ensures { Answers (effect_of M.next M.answers self.old (inputs.NodeInput.Report first))
+            self.old self.new result }
     {
-        self.report_into(alloc, Vec::new(alloc), first)
+        self.turn(alloc, &Input::Report(first))
     }
 }

@@ -2,8 +2,8 @@
 use Rattle.std.proofs.Common.{ℕ, Bool, Option, List}
 use Rattle.std.specs.Io.KnownBytes.{Keeps}
 use Rattle.rp_deck.specs.declared.deck.Deck.{Deck}
-use Rattle.rp_deck.specs.declared.deck.DeckProgram.{DeckProgram}
-use Rattle.rp_deck.specs.declared.deck.DeckProgram.TheVariants.{Tally, Objects}
+use Rattle.rp_deck_declarations.specs.declared.deck_program.DeckProgram.{DeckProgram}
+use Rattle.rp_deck_declarations.specs.declared.deck_program.DeckProgram.TheVariants.{Tally, Objects}
 use Rattle.rp_deck.specs.declared.deck.Line.{Line}
 use Rattle.rp_script.specs.Agreeing.{RunPrints, PrintsAt}
 use Rattle.rp_script.specs.Output.{RunSetting, tally_run, objects_run, drain_limit}

@@ -16,8 +16,8 @@ use Rattle.rp_script.specs.Output.{RunSetting, run_said, drain_limit, output_of,
 use Rattle.rp_script.specs.Stream.{Begins}
 use Rattle.rp_script.specs.Trace.{task_name}
 use Rattle.rp_deck.specs.declared.deck.Deck.{Deck}
-use Rattle.rp_deck.specs.declared.deck.DeckProgram.{DeckProgram}
-use Rattle.rp_deck.specs.declared.deck.DeckProgram.TheVariants.{Tally, Objects}
+use Rattle.rp_deck_declarations.specs.declared.deck_program.DeckProgram.{DeckProgram}
+use Rattle.rp_deck_declarations.specs.declared.deck_program.DeckProgram.TheVariants.{Tally, Objects}
 use Rattle.rp_deck.specs.declared.deck.Line.{Line}
 use Rattle.rp_deck.specs.declared.deck.Mode.TheVariants.{Script}
 

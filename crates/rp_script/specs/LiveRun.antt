@@ -16,8 +16,8 @@ use Rattle.rp_deck.specs.Live.{IsDeckFor}
 use Rattle.rp_deck.specs.declared.deck.Command.{Command}
 use Rattle.rp_deck.specs.declared.deck.Command.TheVariants.{Take, Lose, Drain, Show}
 use Rattle.rp_deck.specs.declared.deck.Deck.{Deck}
-use Rattle.rp_deck.specs.declared.deck.DeckProgram.{DeckProgram}
-use Rattle.rp_deck.specs.declared.deck.DeckProgram.TheVariants.{Tally, Objects}
+use Rattle.rp_deck_declarations.specs.declared.deck_program.DeckProgram.{DeckProgram}
+use Rattle.rp_deck_declarations.specs.declared.deck_program.DeckProgram.TheVariants.{Tally, Objects}
 use Rattle.rp_deck.specs.declared.deck.Line.{Line}
 use Rattle.rp_deck.specs.declared.deck.Mode.TheVariants.{Live}
 

@@ -34,8 +34,8 @@ use Rattle.rp_script.specs.Trace.{task_name, message_line_of}
 use Rattle.rp_deck.specs.declared.deck.Command.{Command}
 use Rattle.rp_deck.specs.declared.deck.Command.TheVariants.{Take, Lose, Drain, Show}
 use Rattle.rp_deck.specs.declared.deck.Deck.{Deck}
-use Rattle.rp_deck.specs.declared.deck.DeckProgram.{DeckProgram}
-use Rattle.rp_deck.specs.declared.deck.DeckProgram.TheVariants.{Tally, Objects}
+use Rattle.rp_deck_declarations.specs.declared.deck_program.DeckProgram.{DeckProgram}
+use Rattle.rp_deck_declarations.specs.declared.deck_program.DeckProgram.TheVariants.{Tally, Objects}
 use Rattle.rp_deck.specs.declared.deck.Line.{Line}
 
 -- What stays through a run: the configuration and the machine, how a state of it is shown, the tasks'

@@ -38,4 +38,4 @@ pub use figures::FiguresLine;
 pub use live_run::run_live;
 pub use options::RunOptions;
 pub use run::run_lines;
-pub use stream::{read_whole, write_out, write_whole};
+pub use stream::{MOST_BYTES, read_whole, write_out, write_whole};

@@ -11,7 +11,7 @@ use std::fmt::Display;
 use std::io::{Read, Write};
 
 /// The most bytes of a deck.
-const MOST_BYTES: usize = 1_048_576;
+pub const MOST_BYTES: usize = 1_048_576;
 
 /// The most reads that a deck takes.
 const MOST_READS: u32 = 2_097_152;

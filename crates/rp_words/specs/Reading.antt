@@ -1,9 +1,9 @@
 -- How words are read from left to right. Each reader takes the bytes of a line that are still to be read, and
 -- answers what it read and the bytes after that, or the reason of the first word that is missing or wrong.
-use Rattle.std.specs.Prelude.{◌≡◌, ℕ, ◌==◌, Bool, List, take, drop, position, Option, Some, None, Result, Ok, Err, if◌then◌else◌}
-use Rattle.std.specs.Prelude.{ℤ}
+use Rattle.std.specs.Prelude.{◌≡◌, ℕ, ◌==◌, nat_lt, not, ℤ, Bool, List, take, drop, position}
+use Rattle.std.specs.Prelude.{Option, Some, None, Result, Ok, Err, if◌then◌else◌}
 use Rattle.rp_base.specs.declared.fault.DeckReason.{DeckReason}
-use Rattle.rp_base.specs.declared.fault.DeckReason.TheVariants.{WrongNumberOfWords, BadNumber, BadName, DuplicateName}
+use Rattle.rp_base.specs.declared.fault.DeckReason.TheVariants.{WrongNumberOfWords, BadNumber, BadName, DuplicateName, TooMany}
 use Rattle.rp_words.specs.declared.line_error.LineError.{LineError}
 use Rattle.rp_words.specs.declared.line_error.LineError.TheVariants.{OutOfMemory, Bad}
 use Rattle.rp_words.specs.Tables.{is_declared}
@@ -23,6 +23,16 @@ some_or reason None = Err reason
 -- nothing, or the reason where a test holds
 abbrev pub unless : DeckReason → Bool → Result (Unit {0}) DeckReason
 unless reason bad = if bad then Err reason else Ok tt
+
+-- room for one more, where there are count of them and may be as many as most
+abbrev pub room : ℕ → ℕ → Result (Unit {0}) DeckReason
+room most count = unless TooMany (not (nat_lt count most))
+
+-- what is made of what was read, and the bytes after that
+abbrev pub made_of : {A B : Type 0} → (A → B) → Result (A × List ℕ) DeckReason
+    → Result (B × List ℕ) DeckReason
+made_of make (Ok read) = Ok (make read.0, read.1)
+made_of make (Err reason) = Err reason
 
 -- What a function returned, seen by view, is what is read.
 abbrev pub Gives : {X Y : Type 0} → (X → Y) → Result X DeckReason → Result Y DeckReason → Type 0

@@ -1,12 +1,12 @@
 //! The words of a line, and the readers of them.
 
-ghost use Rattle.std.specs.Prelude.{◌≡◌, ◌≤◌, length, not, SomeIff, IfOk};
+ghost use Rattle.std.specs.Prelude.{◌≡◌, ◌≤◌, ◌<◌, ◌==◌, length, not, position, SomeIff, IfOk, IfSome};
 ghost use Rattle.std.specs.Char.{is_ascii_alphabetic};
 ghost use Rattle.std.specs.List.{prefix_len, list_all};
 ghost use Rattle.std.specs.Str.{bytes_eq};
 ghost use Rattle.rp_words.specs.Words.{truth_named, begins_with, is_blank, is_of_name, is_name, IsName, number_of, without_blanks, is_at_end};
 ghost use Rattle.rp_words.specs.Numbers.{IsNumber, number_read};
-ghost use Rattle.rp_words.specs.Reading.{Gives, word_at, end_at, name_at, integer_at, number_at, name_of};
+ghost use Rattle.rp_words.specs.Reading.{Gives, word_at, end_at, name_at, integer_at, number_at, name_of, dotted_of};
 
 use rp_base::DeckReason;
 use std::str;
@@ -78,6 +78,27 @@ pub fn read_name(word: &[u8]) -> Result<&str, DeckReason>
         return Err(DeckReason::BadName);
     }
     str::from_utf8(word).map_err(|_| DeckReason::BadName)
+}
+
+/// How many bytes stand before the first dot, if there is one.
+fn place_of_dot(word: &[u8]) -> Option<usize>
+    ensures place { result ≡ position (λ byte. byte == 46) word.now }
+    ensures within { IfSome result (λ dot. dot < length word.now) }
+{
+    word.iter().position(|byte| *byte == b'.')
+}
+
+/// Reads two names with one dot between them.
+#[tactic(auto, unfolding(crate::specs::Reading::dotted_of))]
+pub fn read_dotted(word: &[u8]) -> Result<(&str, &str), DeckReason>
+    ensures { Gives (λ names. (names.0.now, names.1.now)) result (dotted_of word.now) }
+{
+    let dot = place_of_dot(word).ok_or(DeckReason::BadName)?;
+    let (first, rest) = word.split_at(dot);
+    let (_, second) = rest.split_at(1);
+    let first = read_name(first)?;
+    let second = read_name(second)?;
+    Ok((first, second))
 }
 
 /// What the standard library reads as a number, but for a plus in front.

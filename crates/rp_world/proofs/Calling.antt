@@ -2,7 +2,7 @@
 use Rattle.std.proofs.Common.{◌≡◌, ℕ, suc, ◌+◌, ◌-◌, ◌^◌, ◌<◌, ◌≤◌, Bool, true, false, if◌then◌else◌, Option, Some, None, Result, Ok, Err, List, [], ◌∷◌, ◌++◌, length, slice_get, slice_set, inl, inr, refl, sym, ap, subst, ◌∙◌, arith}
 use Rattle.std.specs.Prelude.{ℤ, nat_le, nat_lt, not, ◌||◌, FitsSigned, IsErrAnd, min}
 use Rattle.std.specs.Int.{w64}
-use Rattle.std.proofs.lemmas.Bool.{and_parts, leb-true, leb-false, eqb-true, both_ways, lt-ltb, le-ltb}
+use Rattle.std.proofs.lemmas.Bool.{and_parts, leb-true, leb-false, both_ways, lt-ltb, le-ltb}
 use Rattle.std.proofs.lemmas.List.{append-nil}
 use Rattle.rp_base.specs.Action.{IsRight, IsRightOperation, is_right_operation, is_right}
 use Rattle.rp_base.specs.declared.action.Action.{Action}

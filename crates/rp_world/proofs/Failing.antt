@@ -1,6 +1,6 @@
 -- How often the device of a node failed, after a step of it.
 use Rattle.std.proofs.Common.{◌≡◌, ◌≢◌, ℕ, suc, ◌<◌, Option, Some, None, Result, Ok, Err, List, map, option_map, slice_get, slice_set, inl, inr, refl, sym, ap, subst, ◌∙◌, arith}
-use Rattle.std.specs.Prelude.{IfOk, IfErr, IsSome}
+use Rattle.std.specs.Prelude.{IsSome}
 use Rattle.rp_base.specs.declared.action.Action.{Action}
 use Rattle.rp_base.specs.declared.fault.Fault.{Fault}
 use Rattle.rp_base.specs.declared.fault.Fault.TheVariants.{OutOfMemory, Device, Failed}
@@ -25,7 +25,7 @@ use Rattle.rp_replica.specs.Cutting.{CutsIf, IsNotCutIf, cut_disk}
 use Rattle.rp_replica.specs.Held.{Held, setting_of, with_text}
 use Rattle.rp_replica.specs.Inputs.{packet_given, effect_if_given, input_effect}
 use Rattle.rp_replica.specs.Opening.{IsRefusedOpening}
-use Rattle.rp_replica.specs.Turning.{TurnsIf, Stops, StopsIf, IsRefused}
+use Rattle.rp_replica.specs.Turning.{Answers, TurnsIf, Stops, StopsIf, IsRefused}
 use Rattle.rp_world.specs.Failures.{RisesAt}
 use Rattle.rp_world.specs.Going.{Counts}
 use Rattle.rp_world.specs.Nodes.{Member, StandsFor, NotTaken, failures_in, IsCounted, setting_at, node_step}
@@ -38,6 +38,10 @@ use Rattle.rp_world.proofs.Moving.{get_map, set_map, set_same}
 pub not_device : (k : ℕ) (fault : Fault) → fault ≢ Device → IsCounted k k (let r : Result Sent Fault = Err fault in r)
 not_device k Device none = absurd (none refl)
 not_device k _ none = refl
+
+pub none_counted : (why : Type 0) (me : Option ℕ) (failures : List ℕ) (fault : Fault) → fault ≢ Device → Counts why me failures failures (let r : Result Effect Fault = Err fault in r)
+none_counted why me failures Device none = absurd (none refl)
+none_counted why me failures _ none = refl
 
 -- nor does a record that is written, or torn
 written_counted : (disk : Disk) (written : Option Rec) → (with_text disk written).failures ≡ disk.failures
@@ -95,10 +99,9 @@ module _ {S : Type 0} (next : S → Action → S) (answers : S → Action → Li
   goes_counted new (Err refusal) sent turns = absurd turns
 
   -- a turn
-  pub turn_counted : (input : Input) (new : Held S) (answer : Result Sent Fault) → IfOk answer (λ sent. TurnsIf (input_effect next answers old input) old new sent)
-      → IfErr answer (λ fault. StopsIf (input_effect next answers old input) old new fault) → IsCounted old.disk.failures new.disk.failures answer
-  turn_counted input new (Ok sent) ok err = goes_counted new (input_effect next answers old input) sent ok
-  turn_counted input new (Err fault) ok err = by_effect new (input_effect next answers old input) (input_so input) fault err
+  pub turn_counted : (input : Input) (new : Held S) (answer : Result Sent Fault) → Answers (input_effect next answers old input) old new answer → IsCounted old.disk.failures new.disk.failures answer
+  turn_counted input new (Ok sent) turns = goes_counted new (input_effect next answers old input) sent turns
+  turn_counted input new (Err fault) stops = by_effect new (input_effect next answers old input) (input_so input) fault stops
 
   -- a step that would be refused
   pub refuses_no_device : (input : Input) (fault : Fault) → StopsIf (input_effect next answers old input) old old fault → fault ≢ Device

@@ -12,3 +12,4 @@ pub mod Calling
 pub mod Asked
 pub mod Fresh
 pub mod Failing
+pub mod Choosing

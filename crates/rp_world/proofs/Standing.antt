@@ -1,5 +1,5 @@
 -- What stands for a node's part once it stops or starts again.
-use Rattle.std.proofs.Common.{◌≡◌, ℕ, min, Bool, true, false, Result, Ok, Err, Option, Some, List, [], ◌∷◌, ◌++◌, length, take, inl, inr, refl, sym, ap, subst, ◌∙◌, arith}
+use Rattle.std.proofs.Common.{◌≡◌, ℕ, min, Bool, true, false, Result, Ok, Err, Option, Some, List, [], length, take, inl, inr, refl, sym, ap, subst, ◌∙◌, arith}
 use Rattle.std.proofs.lemmas.List.{length-take}
 use Rattle.rp_base.specs.declared.config.Config.{Config}
 use Rattle.rp_base.specs.declared.fault.Fault.{Fault}

@@ -21,8 +21,8 @@ use Rattle.rp_replica.specs.Held.{Held, part_of, setting_of, with_text}
 use Rattle.rp_replica.specs.Kept.{HoldsPart, HoldsOnly, HoldsItsRecords, HoldsCut}
 use Rattle.rp_replica.specs.declared.input.Input.{Input}
 use Rattle.rp_replica.specs.Inputs.{given_by, effect_if_given, input_effect}
-use Rattle.rp_replica.specs.Turning.{Turns, TurnsIf, FailsAt, Stops, StopsIf, IsRefused, effect_of}
-use Rattle.rp_replica.specs.Cutting.{written_if, CutsIf, IsNotCutIf}
+use Rattle.rp_replica.specs.Turning.{Answers, Turns, TurnsIf, FailsAt, Stops, StopsIf, IsRefused, effect_of}
+use Rattle.rp_replica.specs.Cutting.{CutsIf, IsNotCutIf}
 use Rattle.rp_replica.specs.declared.cut.NotCut.{NotCut}
 use Rattle.rp_replica.specs.declared.cut.NotCut.TheVariants.{Failed as DeviceFailed, Refused}
 use Rattle.rp_world.specs.declared.node.Node.{Node}
@@ -162,11 +162,6 @@ module _ {S : Type 0} (D P : Type 0) (next : S → Action → S) (answers : S �
       by_effect (Ok turn) came fault stops = stops_so turn came fault stops
       by_effect (Err refusal) came fault stops = refused_so refusal fault came stops
 
-    -- a step for which there would be a record, or none, comes
-    pub comes_by : (effect : Result Turn Fault) → effect_of next answers old input ≡ effect → (written : Option Rec) → Ok written ≡ written_if effect → IsComing (node_step next answers member input part)
-    comes_by (Ok turn) came written is_written = subst IsComing (sym (coming turn came)) tt
-    comes_by (Err refusal) came written is_written = absurd cc
-
     -- a step that was cut
     pub cut_by : (effect : Result Turn Fault) → effect_of next answers old input ≡ effect → (kept : ℕ) (device : D) → CutsIf effect kept old (disk device)
         → (done : Done NodePart) × (node_step next answers member input part ≡ Ok done) × RestsAs member.config.max_positions (disk device) (cut_part kept part done.written)
@@ -197,25 +192,19 @@ module _ {S : Type 0} (D P : Type 0) (next : S → Action → S) (answers : S �
   same_input : (given : NodeInput) → given_by input ≡ Ok given → input_effect next answers old input ≡ effect_of next answers old given
   same_input given is = ap (effect_if_given next answers old) is
 
-  pub turned_ok : (new : Held S) (answer : Result Sent Fault) → IfOk answer (λ sent. TurnsIf (input_effect next answers old input) old new sent)
+  pub turned_ok : (new : Held S) (answer : Result Sent Fault) → Answers (input_effect next answers old input) old new answer
       → IfOk answer (λ sent. (member : Member S) (given : NodeInput) → given_by input ≡ Ok given → GoesBy disk member was (Running new) (node_step next answers member given) TellsSent sent)
   turned_ok new (Ok sent) turns = λ member given is.
       taken_by D P next answers disk given old working new sent (subst (λ (r : Result Turn Fault). TurnsIf r old new sent) (same_input given is) turns) member
   turned_ok new (Err fault) turns = tt
 
-  pub turned_err : (new : Held S) (answer : Result Sent Fault) → IfErr answer (λ fault. StopsIf (input_effect next answers old input) old new fault)
+  pub turned_err : (new : Held S) (answer : Result Sent Fault) → Answers (input_effect next answers old input) old new answer
       → IfErr answer (λ fault. (member : Member S) (given : NodeInput) → given_by input ≡ Ok given → NotTaken disk member was (Running new) (node_step next answers member given) fault)
   turned_err new (Ok sent) stops = tt
   turned_err new (Err fault) stops = λ member given is.
       not_answered D P next answers disk given old working new fault (subst (λ (r : Result Turn Fault). StopsIf r old new fault) (same_input given is) stops) member
 
-  -- why a step finds no memory, or would be refused
-  pub wants_memory : (written : Option Rec) → Ok written ≡ written_if (input_effect next answers old input)
-      → (member : Member S) (given : NodeInput) → given_by input ≡ Ok given → NotTaken disk member was was (node_step next answers member given) OutOfMemory
-  wants_memory written is member given gives part stands_now =
-      let comes = comes_by D P next answers disk given old working member part stands_now (effect_of next answers old given) refl written (is ∙ ap written_if (same_input given gives)) in
-      inr (inl (refl, comes, stands_now))
-
+  -- why a step would not be made
   pub is_refused : (fault : Fault) → StopsIf (input_effect next answers old input) old old fault
       → (member : Member S) (given : NodeInput) → given_by input ≡ Ok given → NotTaken disk member was was (node_step next answers member given) fault
   is_refused fault stops member given gives =

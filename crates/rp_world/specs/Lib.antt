@@ -7,4 +7,5 @@ pub mod Messages
 pub use Rattle.rp_model.specs.World
 pub mod Callers
 pub mod Nodes
+pub mod Choosing
 pub mod Going

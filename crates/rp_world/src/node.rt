@@ -190,10 +190,7 @@ impl<M: Machine, D: CutDevice> Node<M, D> {
                 if replica.has_failed() {
                     return Fault::NotRunning;
                 }
-                match replica.record_of(alloc, input) {
-                    Ok(_) => Fault::OutOfMemory,
-                    Err(fault) => fault,
-                }
+                replica.refusal(alloc, input)
             }
             Node::Stopped(_) => Fault::NotRunning,
         }

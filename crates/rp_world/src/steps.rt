@@ -1,22 +1,26 @@
 //! What an event comes to: steps of nodes, and stops within them.
 
-ghost use Rattle.std.specs.Prelude.{◌≡◌, ℕ, Ok, Some, IfOk, IsSome, option_map};
+ghost use Rattle.std.specs.Prelude.{◌≡◌, ℕ, Ok, Some, IfOk, IsSome, length, option_map};
 ghost use Rattle.std.specs.List.{AllByRecursion};
 ghost use Rattle.rp_base.specs.Config.{IsRightConfig};
+ghost use Rattle.rp_base.specs.Sets.{Has};
 ghost use Rattle.rp_codec.specs.Message.{Message, IsPacket};
 ghost use Rattle.rp_codec.specs.declared.packet.Party.TheVariants.{Node, Task};
 ghost use Rattle.rp_codec.specs.Text.{text_of};
-ghost use Rattle.rp_model.specs.Effect.{Done, NodeInput, node_effect};
+ghost use Rattle.rp_model.specs.Effect.{Done, NodeInput, Setting, node_effect};
 ghost use Rattle.rp_model.specs.Parts.{NodePart};
 ghost use Rattle.rp_model.specs.Events as events;
 ghost use Rattle.rp_model.specs.Events.{IsEvent, event_of, step_of};
+ghost use Rattle.rp_model.specs.World as worlds;
 ghost use Rattle.rp_model.specs.World.{part_at, node_takes, node_is_cut, delivers, delivery_is_cut, step_effect, cut_step, stepping, step_writes, node_writes, delivery_writes, receiver_of};
 ghost use Rattle.rp_agreement.specs.Ranges.{IsRangedWorld};
 ghost use Rattle.rp_replica.specs.Inputs.{IsRightInput, given_by};
+ghost use Rattle.rp_world.specs.Choosing.{Chosen};
 ghost use Rattle.rp_world.specs.Going.{Answers, Counts, reply_told, told};
 ghost use Rattle.rp_world.specs.Steps.{IsStep, IsSameSetup, setting_of};
 
 use crate::effect::{nothing, of_step, taken};
+use crate::messages::Messages;
 use crate::world::{World, put_back};
 use rp_agreement::events_keep_ranges;
 use rp_base::{Fault, NodeId, Reply, TaskId};
@@ -105,7 +109,8 @@ impl<M: Machine, D: CutDevice> World<M, D> {
     }
 
     /// A node stops within a step, where so many bytes of its record are kept. Refused as the step,
-    /// and with `NotRunning` where it is a delivery to no node that runs.
+    /// and with `NotRunning` where it is a delivery to no node that runs; `Device` where the device
+    /// fails within it.
     #[inline(never)]
     pub(crate) fn cuts(&mut self, alloc: Global, step: Step, kept: u64) -> Result<Effect, Fault>
         requires ranged { IsRangedWorld self.old.config.nodes self.old.world }
@@ -117,19 +122,55 @@ impl<M: Machine, D: CutDevice> World<M, D> {
             Counts (IsSome (step_writes setting self.old.world (step_of step)))
             (stepping self.old.world (step_of step)) self.old.failures self.new.failures result }
     {
-        match step {
-            Step::Deliver(number) => self.cut_delivery(alloc, number, kept),
-            Step::Lead { node, position } => {
-                self.cut_input(alloc, node, &Input::Lead(position), kept)
-            }
-            Step::Interrupt { node, interrupt } => {
-                self.cut_input(alloc, node, &input_of(interrupt), kept)
-            }
-            Step::Tick { node, now } => self.cut_input(alloc, node, &Input::Tick { now }, kept),
-            Step::Report { node, first } => {
-                self.cut_input(alloc, node, &Input::Report(first), kept)
-            }
+        let first = self.messages() + 1;
+        let (node, input) = match Self::chosen(&self.messages, self.nodes.len(), step) {
+            Ok(chosen) => chosen,
+            Err(fault) => return Err(fault),
+        };
+        let place = usize::from(node.get()) - 1;
+        let (node, answer) = self.nodes.remove(place).cut(alloc, &input, kept);
+        put_back(&mut self.nodes, place, node);
+        match answer {
+            Ok(()) => Ok(nothing(first)),
+            Err(fault) => Err(fault),
         }
+    }
+
+    /// Which of so many nodes makes a step, and what it is given. `NoSuchMessage` above the last
+    /// message, `NotRunning` where a message is for no node of these, `BadConfig` above the last node.
+    fn chosen<'a>(
+        messages: &'a Messages,
+        nodes: usize,
+        step: Step,
+    ) -> Result<(NodeId, Input<'a>), Fault>
+        requires packets { (m : Message) → Has m messages.now.sent → IsPacket m }
+        ensures right { IfOk result (λ chosen. IsRightInput chosen.1) }
+        ensures chosen { (setting : Setting M) (w : worlds.World) → w.sent ≡ messages.now.sent
+            → length w.nodes ≡ nodes → Chosen setting w (step_of step) result }
+    {
+        let (node, input) = match step {
+            Step::Deliver(number) => {
+                texts_are_packets();
+                let Some(text) = messages.text(number) else {
+                    return Err(Fault::NoSuchMessage);
+                };
+                let Party::Node(node) = receiver(text) else {
+                    return Err(Fault::NotRunning);
+                };
+                if usize::from(node.get()) > nodes {
+                    return Err(Fault::NotRunning);
+                }
+                return Ok((node, Input::Receive(text)));
+            }
+            Step::Lead { node, position } => (node, Input::Lead(position)),
+            Step::Interrupt { node, interrupt } => (node, input_of(interrupt)),
+            Step::Tick { node, now } => (node, Input::Tick { now }),
+            Step::Report { node, first } => (node, Input::Report(first)),
+        };
+        if usize::from(node.get()) > nodes {
+            return Err(Fault::BadConfig);
+        }
+        Ok((node, input))
     }
 
     /// A node is given an input that comes from no message. `BadConfig` above the last node,
@@ -170,43 +211,6 @@ impl<M: Machine, D: CutDevice> World<M, D> {
                 self.messages.put(sent.bytes, sent.packets);
                 Ok(effect)
             }
-            Err(fault) => Err(fault),
-        }
-    }
-
-    /// A node stops within the step of an input that comes from no message, where so many bytes of
-    /// its record are kept. Refused as the step; `Device` where its device fails within it.
-    fn cut_input(
-        &mut self,
-        alloc: Global,
-        node: NodeId,
-        input: &Input<'_>,
-        kept: u64,
-    ) -> Result<Effect, Fault>
-        requires right { IsRightInput input.now }
-        requires given { (given : NodeInput) × (given_by input.now ≡ Ok given) }
-        ensures answer { (given : NodeInput) → given_by input.now ≡ Ok given
-            → let setting = setting_of M.next M.answers M.begin self.old in
-            Answers self.old.world
-            (node_is_cut setting self.old.world node given kept (part_at self.old.world.nodes node))
-            (λ less. node_is_cut setting self.old.world node given less
-            (part_at self.old.world.nodes node))
-            self.new.world result }
-        ensures setup { IsSameSetup self.old self.new }
-        ensures failures { (given : NodeInput) → given_by input.now ≡ Ok given
-            → let setting = setting_of M.next M.answers M.begin self.old in
-            Counts (IsSome (node_writes setting node given (part_at self.old.world.nodes node)))
-            (Some node) self.old.failures self.new.failures result }
-    {
-        let first = self.messages() + 1;
-        let place = usize::from(node.get()) - 1;
-        if place >= self.nodes.len() {
-            return Err(Fault::BadConfig);
-        }
-        let (node, answer) = self.nodes.remove(place).cut(alloc, input, kept);
-        put_back(&mut self.nodes, place, node);
-        match answer {
-            Ok(()) => Ok(nothing(first)),
             Err(fault) => Err(fault),
         }
     }
@@ -353,71 +357,6 @@ impl<M: Machine, D: CutDevice> World<M, D> {
         match self.tasks[usize::from(task.get()) - 1].take(number, reply) {
             Ok(answer) => Ok(taken(first, answer)),
             Err(_) => Err(Fault::OutOfMemory),
-        }
-    }
-
-    /// A node stops within the step by which it takes a message, where so many bytes of its record are
-    /// kept. `NoSuchMessage` above the last one, `NotRunning` where it is for no node or for one that
-    /// is stopped; `Device` where the device fails within it.
-    fn cut_delivery(&mut self, alloc: Global, number: u64, kept: u64) -> Result<Effect, Fault>
-        requires ranged { IsRangedWorld self.old.config.nodes self.old.world }
-        ensures answer { let setting = setting_of M.next M.answers M.begin self.old in
-            Answers self.old.world
-            (delivery_is_cut setting self.old.world (part_at self.old.world.sent number) kept)
-            (λ less. delivery_is_cut setting self.old.world (part_at self.old.world.sent number) less)
-            self.new.world result }
-        ensures setup { IsSameSetup self.old self.new }
-        ensures failures { let setting = setting_of M.next M.answers M.begin self.old in
-            let message = part_at self.old.world.sent number in
-            Counts (IsSome (delivery_writes setting self.old.world message)) (receiver_of message)
-            self.old.failures self.new.failures result }
-    {
-        let Some(receiver) = self.receiver_of(number) else {
-            return Err(Fault::NoSuchMessage);
-        };
-        match receiver {
-            Party::Node(node) => self.cut_hearing(alloc, number, node, kept),
-            Party::Task(_) | Party::Audit => Err(Fault::NotRunning),
-        }
-    }
-
-    /// A message comes to its node, which stops within that step.
-    fn cut_hearing(
-        &mut self,
-        alloc: Global,
-        number: u64,
-        node: NodeId,
-        kept: u64,
-    ) -> Result<Effect, Fault>
-        requires ranged { IsRangedWorld self.old.config.nodes self.old.world }
-        requires to { (m : Message) × (part_at self.old.world.sent number ≡ Some m)
-            × (m.to ≡ Node node) }
-        ensures answer { let setting = setting_of M.next M.answers M.begin self.old in
-            Answers self.old.world
-            (delivery_is_cut setting self.old.world (part_at self.old.world.sent number) kept)
-            (λ less. delivery_is_cut setting self.old.world (part_at self.old.world.sent number) less)
-            self.new.world result }
-        ensures setup { IsSameSetup self.old self.new }
-        ensures failures { let setting = setting_of M.next M.answers M.begin self.old in
-            let message = part_at self.old.world.sent number in
-            Counts (IsSome (delivery_writes setting self.old.world message)) (receiver_of message)
-            self.old.failures self.new.failures result }
-    {
-        texts_are_packets();
-        let first = self.messages() + 1;
-        let place = usize::from(node.get()) - 1;
-        if place >= self.nodes.len() {
-            return Err(Fault::NotRunning);
-        }
-        let text = self.messages.text(number).unwrap();
-        let (node, answer) = self
-            .nodes
-            .remove(place)
-            .cut(alloc, &Input::Receive(text), kept);
-        put_back(&mut self.nodes, place, node);
-        match answer {
-            Ok(()) => Ok(nothing(first)),
-            Err(fault) => Err(fault),
         }
     }
 }

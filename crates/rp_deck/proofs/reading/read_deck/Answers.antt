@@ -3,14 +3,14 @@ use Rattle.std.proofs.lemmas.Result.{err_from_is_err_and}
 use Rattle.rp_base.specs.declared.fault.Fault.{Fault}
 use Rattle.rp_deck.specs.declared.deck.Deck.{Deck}
 use Rattle.rp_words.specs.Ahead.{ahead, after_last}
-use Rattle.rp_deck.specs.Declaring.{declarations_of}
-use Rattle.rp_words.specs.LineFaults.{BadLine}
-use Rattle.rp_deck.specs.DeckViews.{declared_text, deck_text}
-use Rattle.rp_words.specs.LineFaults.{Reads, Refuses}
-use Rattle.rp_deck.specs.Meaning.{DeckText, known, meaning_of}
+use Rattle.rp_deck_declarations.specs.Declaring.{declarations_of}
+use Rattle.rp_words.specs.LineFaults.{BadLine, Reads, Refuses}
+use Rattle.rp_deck_declarations.specs.DeclaredViews.{declared_text, names_of}
+use Rattle.rp_deck.specs.DeckViews.{deck_text, line_command}
+use Rattle.rp_deck.specs.Meaning.{DeckText, meaning_of}
+use Rattle.rp_deck_declarations.specs.DeclaredTexts.{known}
 use Rattle.rp_words.specs.Reading.{◌>>=◌}
 use Rattle.rp_deck.specs.ScriptLines.{LineCommand, script_of}
-use Rattle.rp_deck.specs.ScriptViews.{names_of, line_command}
 use Rattle.rp_deck.proofs.DeckLemmas.{with_script, and_known, meaning_from, refused_before, refused_in_script}
 use Rattle.rp_deck.proofs.reading.read_deck.Goals as goal
 
@@ -49,4 +49,4 @@ returns-clause-meaning c =
     meaning_from mode text lines c.new-lines.ensures.text c.new-lines.ensures.count
     ∙ ap (and_known mode) c.in_ok-declared.ensures.read
     ∙ ap (λ (r : Result (List LineCommand) BadLine). r >>= (λ (script : List LineCommand). Ok (with_script (declared_text declared) script))) c.in_ok-script.ensures.read
-    ∙ ap (λ (n : ℕ). Ok (record (with_script (declared_text declared) (map line_command c.in_ok-script.script.items)) { max_positions = n })) (sym c.most_positions.ensures.value)
+    ∙ ap (λ (n : ℕ). Ok (with_script (record (declared_text declared) { max_positions = n }) (map line_command c.in_ok-script.script.items))) (sym c.most_positions.ensures.value)

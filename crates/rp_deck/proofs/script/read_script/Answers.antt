@@ -2,7 +2,8 @@ use Rattle.std.proofs.Common.{◌≡◌, ◌∷◌, ◌++◌, [], List, map, rul
 use Rattle.rp_words.specs.Ahead.{ahead, text_of}
 use Rattle.rp_words.specs.Lines.{LineText}
 use Rattle.rp_deck.specs.ScriptLines.{LineCommand, script_of}
-use Rattle.rp_deck.specs.ScriptViews.{names_of, command_text, line_command}
+use Rattle.rp_deck_declarations.specs.DeclaredViews.{names_of}
+use Rattle.rp_deck.specs.DeckViews.{command_text, line_command}
 use Rattle.rp_deck.specs.declared.deck.Line.{Line}
 use Rattle.rp_words.proofs.TablesLemmas.{map_last}
 use Rattle.rp_deck.proofs.ScriptLemmas.{goes_on, goes_on_more, script_line_read, script_line_bad, script_end, nothing_more}

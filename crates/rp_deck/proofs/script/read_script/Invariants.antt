@@ -4,7 +4,8 @@ use Rattle.rp_words.specs.Ahead.{left, ahead}
 use Rattle.rp_deck.specs.Live.{IsTaken}
 use Rattle.rp_deck.specs.Script.{IsRightLine}
 use Rattle.rp_deck.specs.ScriptLines.{script_of}
-use Rattle.rp_deck.specs.ScriptViews.{names_of, line_command}
+use Rattle.rp_deck_declarations.specs.DeclaredViews.{names_of}
+use Rattle.rp_deck.specs.DeckViews.{line_command}
 use Rattle.rp_deck.proofs.ScriptLemmas.{goes_on}
 use Rattle.rp_deck.proofs.script.read_script.Given as goal
 

@@ -1,5 +1,5 @@
 -- The bit that is set, and the others.
-use Rattle.std.proofs.Common.{◌≡◌, ◌∙◌, ℕ, nat_eq, sym, ap, w64, eq-eqb, arith}
+use Rattle.std.proofs.Common.{◌∙◌, ℕ, nat_eq, sym, ap, w64, eq-eqb}
 use Rattle.std.proofs.lemmas.Nat.Bits.{bit_at_set_same, bit_at_set_other}
 use Rattle.rp_replica.proofs.window.with_bit.Goals as goal
 

@@ -9,8 +9,8 @@ use Rattle.rp_object.specs.Step.{objects_next, objects_answers}
 use Rattle.rp_object.specs.declared.program.Program.{Program}
 use Rattle.rp_live.specs.Lived.{IsLived}
 use Rattle.rp_live.specs.declared.run.Lived.{Lived}
-use Rattle.rp_deck.specs.declared.deck.DeckProgram.{DeckProgram}
-use Rattle.rp_deck.specs.declared.deck.DeckProgram.TheVariants.{Tally, Objects}
+use Rattle.rp_deck_declarations.specs.declared.deck_program.DeckProgram.{DeckProgram}
+use Rattle.rp_deck_declarations.specs.declared.deck_program.DeckProgram.TheVariants.{Tally, Objects}
 use Rattle.indexmap.specs.IndexMap.{index_map_len}
 use Rattle.indexmap.specs.IndexSet.{index_set_len}
 use Rattle.rp_model.specs.declared.event.Event.{Event}

@@ -38,7 +38,7 @@ note_turn-requires-clause-event g c =
     subst (λ b. (after : Part) × IsEvent (setting_for m.next m.answers m.begin b.shared.key.config b.shared.key.program.value) number p after
     × HasTurned (setting_for m.next m.answers m.begin b.shared.key.config b.shared.key.program.value) number p input c.turn_into.new.self c.in-Ok.sent after)
     (sym c.deref.ensures)
-    (has_turned m.next m.answers m.begin key.config key.program.value number p c.self.inside.replica sits input given working c.turn_into.new.self c.in-Ok.sent c.in-Ok.ensures.ok)
+    (has_turned m.next m.answers m.begin key.config key.program.value number p c.self.inside.replica sits input given working c.turn_into.new.self c.in-Ok.sent c.in-Ok.ensures)
 
 pub invariant_of-self : goal.invariant_of-self
 invariant_of-self g c =
@@ -70,7 +70,7 @@ note_stop-requires-clause-event g c =
     subst (λ b. (after : Part) × IsEvent (setting_for m.next m.answers m.begin b.shared.key.config b.shared.key.program.value) number p after
     × HasStopped (setting_for m.next m.answers m.begin b.shared.key.config b.shared.key.program.value) number p input c.turn_into.new.self after)
     (sym c.deref-in-Err.ensures)
-    (let h = has_stopped m.next m.answers m.begin key.config key.program.value number p c.self.inside.replica sits input given working c.turn_into.new.self c.in-Err.fault c.in-Err.ensures.err failed in (h.2, h.3, h.4))
+    (let h = has_stopped m.next m.answers m.begin key.config key.program.value number p c.self.inside.replica sits input given working c.turn_into.new.self c.in-Err.fault c.in-Err.ensures failed in (h.2, h.3, h.4))
 
 pub invariant_of-self-in-Err : goal.invariant_of-self-in-Err
 invariant_of-self-in-Err g c =
@@ -101,7 +101,7 @@ returns-then-not-has_failed-clause-err g c =
     let works = sym c.has_failed-in-Err.ensures ∙ c.if-not-has_failed.true in
     let new : Chair g.row.M-Program.Denot = record { table = c.self.inside.place.table_id; config = key.config; program = key.program.value; number = number; failures = c.turn_into.new.self.disk.failures; part = p } in
     inr (subst (λ (chair : Chair g.row.M-Program.Denot). IsNoTurn m.next m.answers m.begin chair input new c.in-Err.fault) c.self.view_is
-    (unturned_chair m.next m.answers m.begin key.config key.program.value number p c.self.inside.replica sits input given working c.turn_into.new.self c.in-Err.fault c.in-Err.ensures.err works c.self.inside.place.table_id))
+    (unturned_chair m.next m.answers m.begin key.config key.program.value number p c.self.inside.replica sits input given working c.turn_into.new.self c.in-Err.fault c.in-Err.ensures works c.self.inside.place.table_id))
 
 pub returns-else-not-has_failed-clause-err : goal.returns-else-not-has_failed-clause-err
 returns-else-not-has_failed-clause-err g c =
@@ -115,7 +115,7 @@ returns-else-not-has_failed-clause-err g c =
     let given = input_given c.texts_are_packets.ensures number p input c.self.invariant.0.own c.requires.right c.keeps_ranges.ensures got in
     let working = sym c.has_failed.ensures ∙ c.if-has_failed.false in
     let failed = sym c.has_failed-in-Err.ensures ∙ c.if-not-has_failed.false in
-    let stopped = has_stopped m.next m.answers m.begin key.config key.program.value number p c.self.inside.replica sits input given working c.turn_into.new.self c.in-Err.fault c.in-Err.ensures.err failed in
+    let stopped = has_stopped m.next m.answers m.begin key.config key.program.value number p c.self.inside.replica sits input given working c.turn_into.new.self c.in-Err.fault c.in-Err.ensures failed in
     let told = subst (λ b. Turned (HasStopped (setting_for m.next m.answers m.begin b.shared.key.config b.shared.key.program.value) number p input c.turn_into.new.self) number c.note_stop.new.place.me)
     c.deref-in-Err.ensures c.note_stop.ensures.turned in
     let place = c.note_stop.new.place in
@@ -135,7 +135,7 @@ returns-in-Ok-clause-ok g c =
     let got = subst (λ (chair : Chair g.row.M-Program.Denot). IsGot chair.part input) (sym c.self.view_is) c.requires.got in
     let given = input_given c.texts_are_packets.ensures number p input c.self.invariant.0.own c.requires.right c.keeps_ranges.ensures got in
     let working = sym c.has_failed.ensures ∙ c.if-has_failed.false in
-    let stay = has_not_failed m.next m.answers m.begin key.config key.program.value number p c.self.inside.replica sits input given working c.turn_into.new.self c.in-Ok.sent c.in-Ok.ensures.ok in
+    let stay = has_not_failed m.next m.answers m.begin key.config key.program.value number p c.self.inside.replica sits input given working c.turn_into.new.self c.in-Ok.sent c.in-Ok.ensures in
     let told = subst (λ b. Turned (HasTurned (setting_for m.next m.answers m.begin b.shared.key.config b.shared.key.program.value) number p input c.turn_into.new.self c.in-Ok.sent) number c.note_turn.new.place.me)
     c.deref.ensures c.note_turn.ensures.turned in
     let place = c.note_turn.new.place in

@@ -3,7 +3,7 @@ use Rattle.rp_store.specs.Disk.{Disk}
 use Rattle.rp_model.specs.Effect.{stop_part}
 use Rattle.rp_replica.specs.Held.{Held, part_of}
 use Rattle.rp_replica.specs.Tied.{IsOnDisk}
-use Rattle.rp_replica.specs.Kept.{HoldsPart, HoldsItsRecords, HoldsOnly}
+use Rattle.rp_replica.specs.Kept.{HoldsPart, HoldsOnly}
 use Rattle.rp_replica.proofs.Cuts.{held_now, stop_holds, stops_with}
 use Rattle.rp_replica.proofs.replica.Replica.close.Goals as goal
 

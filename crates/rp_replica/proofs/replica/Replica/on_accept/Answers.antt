@@ -1,27 +1,21 @@
-use Rattle.std.proofs.Common.{◌≡◌, ap, subst, sym, ◌∙◌}
-use Rattle.std.proofs.lemmas.Bool.{le-leb}
-use Rattle.rp_base.specs.Right.{IsRightRecord}
+use Rattle.std.proofs.Common.{◌≡◌, [], ◌∷◌, sym, ap, ◌∙◌}
+use Rattle.rp_base.specs.declared.record.Rec.{Rec}
 use Rattle.rp_base.specs.declared.record.Rec.TheVariants.{Voted}
-use Rattle.rp_model.specs.Parts.{is_in_log}
-use Rattle.rp_replica.specs.Tied.{IsAnswer}
+use Rattle.rp_codec.specs.declared.packet.Body.TheVariants as bodies
+use Rattle.rp_model.specs.Acceptor.{tells_vote}
+use Rattle.rp_model.specs.Says.{says, writes}
+use Rattle.rp_base.specs.Voting.{accept_answer}
+use Rattle.rp_replica.specs.Held.{Held}
 use Rattle.rp_replica.proofs.Answering.{voted}
 use Rattle.rp_replica.proofs.replica.Replica.on_accept.Goals as goal
 
-pub keep_and_tell-requires-clause-right : goal.keep_and_tell-requires-clause-right
-keep_and_tell-requires-clause-right g c =
-    let is : c.in-Vote.rec ≡ Voted c.args.position c.args.ballot c.args.action.now =
-    voted c.self.inside.acceptor.records c.args.position c.args.ballot c.args.action.now c.in-Vote.rec c.in-Vote.ensures.answer in
-    subst IsRightRecord (sym is) c.requires.right
-
-pub keep_and_tell-requires-clause-place : goal.keep_and_tell-requires-clause-place
-keep_and_tell-requires-clause-place g c =
-    let most = c.args.self.now.config.max_positions in
-    let is : c.in-Vote.rec ≡ Voted c.args.position c.args.ballot c.args.action.now =
-    voted c.self.inside.acceptor.records c.args.position c.args.ballot c.args.action.now c.in-Vote.rec c.in-Vote.ensures.answer in
-    ap (is_in_log most) is ∙ le-leb c.args.position most c.requires.place
-
-pub keep_and_tell-requires-clause-answer : goal.keep_and_tell-requires-clause-answer
-keep_and_tell-requires-clause-answer g c =
-    let is : c.in-Vote.rec ≡ Voted c.args.position c.args.ballot c.args.action.now =
-    voted c.self.inside.acceptor.records c.args.position c.args.ballot c.args.action.now c.in-Vote.rec c.in-Vote.ensures.answer in
-    subst IsAnswer (sym is) tt
+pub returns-in-Vote-clause-turn : goal.returns-in-Vote-clause-turn
+returns-in-Vote-clause-turn g c =
+    let h = c.args.self.now in
+    let i = c.args.position in
+    let b = c.args.ballot in
+    let v = c.args.action.now in
+    let is : c.in-Vote._vote ≡ Voted i b v = voted c.self.inside.acceptor.records i b v c.in-Vote._vote c.in-Vote.ensures.answer in
+    ap (λ (rec : Rec). writes rec h.running (says h.me (bodies.Accepted i b v) c.args.from ∷ [])) (sym is)
+    ∙ ap (tells_vote h.me h.running c.args.from i b v) c.in-Vote.ensures.answer
+    ∙ ap (λ (k : Held g.row.M.Denot). tells_vote h.me h.running c.args.from i b v (accept_answer k.records i b v)) c.self.view_is

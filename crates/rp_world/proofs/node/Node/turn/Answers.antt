@@ -15,7 +15,7 @@ returns-else-has_failed-clause-ok g c =
     let new = c.turn_into.new.self in
     subst (λ n. IfOk c.turn_into.result (λ sent. (member : Member g.row.M.Denot) (given : NodeInput) → given_by c.args.input.now ≡ Ok given → GoesBy disk member n (Running new) (node_step m.next m.answers member given) TellsSent sent))
     (sym c.in-Running.is)
-    (turned_ok g.row.D.Denot g.row.M-Program.Denot m.next m.answers disk c.in-Running.replica (sym c.has_failed.ensures ∙ c.if-has_failed.false) c.args.input.now new c.turn_into.result c.turn_into.ensures.ok)
+    (turned_ok g.row.D.Denot g.row.M-Program.Denot m.next m.answers disk c.in-Running.replica (sym c.has_failed.ensures ∙ c.if-has_failed.false) c.args.input.now new c.turn_into.result c.turn_into.ensures)
 
 pub returns-else-has_failed-clause-err : goal.returns-else-has_failed-clause-err
 returns-else-has_failed-clause-err g c =
@@ -24,11 +24,11 @@ returns-else-has_failed-clause-err g c =
     let new = c.turn_into.new.self in
     subst (λ n. IfErr c.turn_into.result (λ fault. (member : Member g.row.M.Denot) (given : NodeInput) → given_by c.args.input.now ≡ Ok given → NotTaken disk member n (Running new) (node_step m.next m.answers member given) fault))
     (sym c.in-Running.is)
-    (turned_err g.row.D.Denot g.row.M-Program.Denot m.next m.answers disk c.in-Running.replica (sym c.has_failed.ensures ∙ c.if-has_failed.false) c.args.input.now new c.turn_into.result c.turn_into.ensures.err)
+    (turned_err g.row.D.Denot g.row.M-Program.Denot m.next m.answers disk c.in-Running.replica (sym c.has_failed.ensures ∙ c.if-has_failed.false) c.args.input.now new c.turn_into.result c.turn_into.ensures)
 
 pub returns-else-has_failed-clause-failures : goal.returns-else-has_failed-clause-failures
 returns-else-has_failed-clause-failures g c =
     let m = g.M.Machine in
     let new = c.turn_into.new.self in
     subst (λ n. IsCounted (failures_in g.D.Device.disk n) new.disk.failures c.turn_into.result) (sym c.in-Running.is)
-    (turn_counted m.next m.answers c.in-Running.replica c.args.input.now new c.turn_into.result c.turn_into.ensures.ok c.turn_into.ensures.err)
+    (turn_counted m.next m.answers c.in-Running.replica c.args.input.now new c.turn_into.result c.turn_into.ensures)

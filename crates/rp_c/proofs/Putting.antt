@@ -1,0 +1,14 @@
+-- A text that is put into the caller's buffer, or does not fit, is the answer of a run.
+use Rattle.std.proofs.Common.{◌≡◌, ◌⊎◌, ℕ, List, Bool, inl, inr, subst, sym}
+use Rattle.rp_c.specs.Decks.{IsBadLine, IsOutput, PutsText, RunsDeck}
+use Rattle.rp_c.specs.declared.status.Status.{Status}
+use Rattle.rp_c.specs.declared.status.Status.TheVariants.{Done, BadDeck}
+
+module _ (traced : Bool) (bytes text old new : List ℕ) (before used : ℕ) (status : Status) where
+  pub output_put : IsOutput traced bytes text → PutsText text old new used Done status → RunsDeck traced bytes old new before used status
+  output_put output (inl (is, put)) = subst (λ s. RunsDeck traced bytes old new before used s) (sym is) (text, output, put)
+  output_put output (inr (is, long)) = subst (λ s. RunsDeck traced bytes old new before used s) (sym is) (text, inl output, long)
+
+  pub bad_line_put : IsBadLine bytes text → PutsText text old new used BadDeck status → RunsDeck traced bytes old new before used status
+  bad_line_put bad (inl (is, put)) = subst (λ s. RunsDeck traced bytes old new before used s) (sym is) (text, bad, put)
+  bad_line_put bad (inr (is, long)) = subst (λ s. RunsDeck traced bytes old new before used s) (sym is) (text, inr bad, long)

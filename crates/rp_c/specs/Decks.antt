@@ -1,0 +1,49 @@
+-- What the run of a deck answers (this project's own).
+use Rattle.std.specs.Prelude.{◌≡◌, ◌⊎◌, ◌<◌, ℕ, Bool, Some, Err, List, [], ◌++◌, length, drop}
+use Rattle.rp_base.specs.declared.fault.Fault.TheVariants as faults
+use Rattle.rp_base.specs.declared.fault.DeckReason.{DeckReason}
+use Rattle.rp_deck.specs.Meaning.{meaning_of}
+use Rattle.rp_deck.specs.declared.deck.Mode.TheVariants.{Script}
+use Rattle.rp_script.specs.Agreeing.{ScriptPrints}
+use Rattle.rp_script.specs.FaultLine.{fault_line_of, with_line_feed}
+use Rattle.rp_script.specs.Stream.{most_bytes}
+use Rattle.rp_c.specs.declared.status.Status.{Status}
+use Rattle.rp_c.specs.declared.status.Status.TheVariants.{Done, OutOfMemory, BadPacket, BadDeck, Io, ShortAnswer}
+
+-- The text is the output of the deck that the bytes mean, all of it, and the headline holds of it.
+abbrev pub IsOutput : Bool → List ℕ → List ℕ → Type 0
+IsOutput traced bytes text = ScriptPrints traced (Some bytes) (Some []) (Some text)
+
+-- The bytes mean no deck, and the text is the line that says the first bad line and its first reason.
+abbrev pub IsBadLine : List ℕ → List ℕ → Type 0
+IsBadLine bytes text = (line : ℕ) × (reason : DeckReason)
+    × (meaning_of Script bytes ≡ Err (record { line = line; reason = reason }))
+    × (text ≡ with_line_feed (fault_line_of (faults.BadDeck line reason)))
+
+-- The text is at the front of the buffer, whose other bytes are as they were, and its length was written.
+pub record IsPut (text old new : List ℕ) (used : ℕ) : Type 0 where
+  pub front : new ≡ text ++ drop (length text) old
+  pub length_is : used ≡ length text
+
+-- The text is longer than the buffer, which is as it was, and its length was written.
+pub record IsTooLong (text old new : List ℕ) (used : ℕ) : Type 0 where
+  pub longer : length old < length text
+  pub kept : new ≡ old
+  pub length_is : used ≡ length text
+
+-- How a run ends, by its status: what is in the buffer, and what is written as its length.
+abbrev pub RunsDeck : Bool → List ℕ → List ℕ → List ℕ → ℕ → ℕ → Status → Type 0
+RunsDeck traced bytes old new before used Done =
+    (text : List ℕ) × IsOutput traced bytes text × IsPut text old new used
+RunsDeck traced bytes old new before used BadDeck =
+    (text : List ℕ) × IsBadLine bytes text × IsPut text old new used
+RunsDeck traced bytes old new before used ShortAnswer =
+    (text : List ℕ) × (IsOutput traced bytes text ⊎ IsBadLine bytes text) × IsTooLong text old new used
+RunsDeck traced bytes old new before used OutOfMemory = (new ≡ old) × (used ≡ before)
+RunsDeck traced bytes old new before used Io = (most_bytes < length bytes) × (new ≡ old) × (used ≡ before)
+RunsDeck traced bytes old new before used BadPacket = ⊥
+
+-- A text is put into a buffer, where it fits, with this status.
+abbrev pub PutsText : List ℕ → List ℕ → List ℕ → ℕ → Status → Status → Type 0
+PutsText text old new used done status =
+    ((status ≡ done) × IsPut text old new used) ⊎ ((status ≡ ShortAnswer) × IsTooLong text old new used)

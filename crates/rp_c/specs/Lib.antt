@@ -1,0 +1,3 @@
+pub mod Decks
+pub mod Packets
+pub mod Status

@@ -1,0 +1,23 @@
+-- What the calls on packets answer (this project's own).
+use Rattle.std.specs.Prelude.{◌≡◌, ℕ, List, length, Err}
+use Rattle.rp_base.specs.declared.fault.PacketReason.{PacketReason}
+use Rattle.rp_codec.specs.Decoding.{BeginsWithPacket, IsReportText}
+use Rattle.rp_codec.specs.Message.{Message, IsPacket}
+use Rattle.rp_codec.specs.Reading.{all_of}
+use Rattle.rp_codec.specs.Text.{IsTextBefore, IsTextOf, text_of}
+use Rattle.rp_c.specs.Status.{reason_code}
+use Rattle.rp_c.specs.declared.status.Status.{Status}
+use Rattle.rp_c.specs.declared.status.Status.TheVariants.{Done, OutOfMemory, BadPacket, BadDeck, Io, ShortAnswer}
+
+-- The bytes begin with a packet of this length, or with none, and the length is as it was.
+abbrev pub PutsLength : List ℕ → ℕ → ℕ → Status → Type 0
+PutsLength bytes old new Done = (p : Message) × (rest : List ℕ) × IsPacket p × IsTextBefore p rest bytes × (new ≡ length (text_of p))
+PutsLength bytes old new BadPacket = (¬ BeginsWithPacket bytes) × (new ≡ old)
+PutsLength bytes old new _ = ⊥
+
+-- The bytes are a packet's text; or they are none for this reason; or they are a report's, and memory ran out.
+abbrev pub ChecksPacket : List ℕ → ℕ → ℕ → Status → Type 0
+ChecksPacket bytes old new Done = (p : Message) × IsPacket p × IsTextOf p bytes × (new ≡ old)
+ChecksPacket bytes old new BadPacket = (reason : PacketReason) × (all_of bytes ≡ Err reason) × (new ≡ reason_code reason)
+ChecksPacket bytes old new OutOfMemory = IsReportText bytes × (new ≡ old)
+ChecksPacket bytes old new _ = ⊥

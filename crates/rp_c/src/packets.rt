@@ -1,0 +1,57 @@
+//! How long a packet is, and whether bytes are one.
+
+ghost use Rattle.std.specs.Prelude.{◌≡◌};
+ghost use Rattle.rp_c.specs.Packets.{ChecksPacket, PutsLength};
+ghost use Rattle.rp_c.specs.Status.{status_code};
+
+use crate::status::{Status, reason_number};
+use rp_codec::{decode, packet_len};
+use std::alloc::Global;
+
+/// Writes how many bytes the packet has that the bytes begin with; any bytes may follow it.
+/// `BadPacket` where they begin with none: then nothing is written.
+#[unsafe(no_mangle)]
+pub extern "C" fn rp_packet_length(bytes: &[u8], count: &mut usize) -> u8
+    ensures { (status : Status) × (result ≡ status_code status)
+        × PutsLength bytes.now count.old count.new status }
+{
+    put_length(bytes, count).code()
+}
+
+/// The same, with its status by name.
+fn put_length(bytes: &[u8], count: &mut usize) -> Status
+    ensures { PutsLength bytes.now count.old count.new result }
+{
+    match packet_len(bytes) {
+        Some(found) => {
+            *count = found;
+            Status::Done
+        }
+        None => Status::BadPacket,
+    }
+}
+
+/// Whether the bytes are one packet, all of them. `BadPacket` where they are not: then the number of
+/// the reason is written, 1 too short, 2 too long, 3 unknown version, 4 unknown kind, 5 wrong field.
+/// `OutOfMemory` only for a report. Otherwise nothing is written.
+#[unsafe(no_mangle)]
+pub extern "C" fn rp_packet_check(alloc: Global, bytes: &[u8], reason: &mut u8) -> u8
+    ensures { (status : Status) × (result ≡ status_code status)
+        × ChecksPacket bytes.now reason.old reason.new status }
+{
+    check(alloc, bytes, reason).code()
+}
+
+/// The same, with its status by name.
+fn check(alloc: Global, bytes: &[u8], reason: &mut u8) -> Status
+    ensures { ChecksPacket bytes.now reason.old reason.new result }
+{
+    match decode(alloc, bytes) {
+        Ok(Ok(_)) => Status::Done,
+        Ok(Err(why)) => {
+            *reason = reason_number(why);
+            Status::BadPacket
+        }
+        Err(_) => Status::OutOfMemory,
+    }
+}

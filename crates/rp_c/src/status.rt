@@ -1,0 +1,53 @@
+//! How a call ends, as a number.
+
+ghost use Rattle.std.specs.Prelude.{◌≡◌};
+ghost use Rattle.rp_base.specs.declared.fault.PacketReason.TheVariants as reasons;
+ghost use Rattle.rp_c.specs.Status.{status_code, reason_code};
+
+use rp_base::PacketReason;
+
+/// How a call ends.
+#[derive(Clone, Copy, Debug, PartialEq, Eq)]
+pub enum Status {
+    /// The call did what it is for.
+    Done,
+    /// There was no memory for it, and nothing has changed.
+    OutOfMemory,
+    /// The bytes are no packet.
+    BadPacket,
+    /// The deck is bad, and the answer is the line that says where and why.
+    BadDeck,
+    /// The deck has more than 1,048,576 bytes, and nothing has changed.
+    Io,
+    /// The answer is longer than its buffer, and only its length was written.
+    ShortAnswer,
+}
+
+impl Status {
+    /// Its number: 0, the number of the fault of its name, or 64.
+    pub fn code(self) -> u8
+        ensures { result ≡ status_code self }
+    {
+        match self {
+            Status::Done => 0,
+            Status::OutOfMemory => 1,
+            Status::BadPacket => 4,
+            Status::BadDeck => 11,
+            Status::Io => 13,
+            Status::ShortAnswer => 64,
+        }
+    }
+}
+
+/// The number of the reason for which bytes are no packet, from 1.
+pub fn reason_number(reason: PacketReason) -> u8
+    ensures { result ≡ reason_code reason }
+{
+    match reason {
+        PacketReason::Short => 1,
+        PacketReason::Long => 2,
+        PacketReason::Version => 3,
+        PacketReason::Kind => 4,
+        PacketReason::Field => 5,
+    }
+}

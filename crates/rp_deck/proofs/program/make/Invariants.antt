@@ -1,4 +1,0 @@
-use Rattle.rp_deck.proofs.program.make.Given as goal
-
-abbrev pub ghost-object_declarations : goal.ghost-object_declarations
-ghost-object_declarations g a = g.profile

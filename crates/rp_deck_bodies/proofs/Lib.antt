@@ -1,0 +1,5 @@
+mod BodyLemmas
+pub mod CountedLemmas
+mod ExpressionsLemmas
+mod LimitsLemmas
+pub mod ListLemmas

@@ -1,0 +1,326 @@
+//! Reads the expressions and conditions of a deck.
+
+ghost use Rattle.std.specs.Prelude.{◌≡◌, ◌≤◌, ◌<◌, ◌+◌, IsTrue, OnOk, IfOk};
+ghost use Rattle.rp_body.specs.Check.{expr_nodes, cond_nodes, expr_names, cond_names, expr_fits, cond_fits};
+ghost use Rattle.rp_deck_bodies.specs.Counted.{IsCounted, WhereCounted};
+ghost use Rattle.indexmap.specs.IndexMap.{values};
+ghost use Rattle.rp_deck_bodies.specs.ExpressionViews.{expr_text, cond_text};
+ghost use Rattle.rp_deck_bodies.specs.Expressions.{expression_words, component_of, int_of, bool_of, node_at, expr_from, expr_at, expr_line, cond_word_named, cond_of, cond_from, cond_at, cond_line};
+ghost use Rattle.rp_words.specs.Reading.{Gives, Makes};
+ghost use Rattle.rp_words.specs.Tables.{is_declared, find, key_names};
+ghost use Rattle.rp_words.specs.Words.{begins_as_number, unread};
+
+use crate::names::{Component, ComponentNames};
+use rp_base::DeckReason;
+use rp_body::{Cond, Expr};
+use rp_words::{LineError, Words, is_word, read_name, read_number};
+use std::alloc::Global;
+
+/// The most nodes of an expression or a condition.
+const MOST_NODES: u8 = 32;
+
+/// Whether the word has a meaning of its own in expressions and conditions, so that no component may be
+/// named by it.
+pub fn is_of_expressions(word: &str) -> bool
+    ensures { result ≡ is_declared word.now expression_words }
+{
+    matches!(
+        word,
+        "arg" | "out" | "add" | "sub" | "true" | "false" | "lt" | "le" | "eq" | "not" | "and" | "or"
+    )
+}
+
+/// Whether the word is read as a number: it begins with a digit or `-`.
+fn begins_as_number(word: &[u8]) -> bool
+    ensures { result ≡ begins_as_number word.now }
+{
+    match word {
+        [] => false,
+        [first, ..] => *first == b'-' || first.is_ascii_digit(),
+    }
+}
+
+/// The component of this name, if it is declared.
+fn find_component(names: &ComponentNames, name: &str) -> Option<Component>
+    ensures { result ≡ find name.now (key_names names.now) (values names.now) }
+{
+    names.get(name).copied()
+}
+
+/// The component of this name.
+#[tactic(auto, unfolding(crate::specs::Expressions::component_of))]
+fn component_named(word: &[u8], names: &ComponentNames) -> Result<Component, DeckReason>
+    ensures read { Gives (λ component. component) result
+        (component_of (key_names names.now) (values names.now) word.now) }
+    ensures counted { IfOk result (λ component.
+        WhereCounted (values names.now) (λ limits. IsCounted limits component)) }
+{
+    let name = read_name(word)?;
+    find_component(names, name).ok_or(DeckReason::UnknownName)
+}
+
+/// The whole-number component of this name.
+#[tactic(auto, unfolding(crate::specs::Expressions::int_of))]
+pub fn int_named(word: &[u8], names: &ComponentNames) -> Result<u8, DeckReason>
+    ensures counted { IfOk result (λ place.
+        WhereCounted (values names.now) (λ limits. place < limits.ints)) }
+    ensures read { Gives (λ place. place) result
+        (int_of (key_names names.now) (values names.now) word.now) }
+{
+    match component_named(word, names)? {
+        Component::Int(place) => Ok(place),
+        Component::Bool(_) => Err(DeckReason::UnknownName),
+    }
+}
+
+/// The Boolean component of this name.
+#[tactic(auto, unfolding(crate::specs::Expressions::bool_of))]
+pub fn bool_named(word: &[u8], names: &ComponentNames) -> Result<u8, DeckReason>
+    ensures counted { IfOk result (λ place.
+        WhereCounted (values names.now) (λ limits. place < limits.bools)) }
+    ensures read { Gives (λ place. place) result
+        (bool_of (key_names names.now) (values names.now) word.now) }
+{
+    match component_named(word, names)? {
+        Component::Bool(place) => Ok(place),
+        Component::Int(_) => Err(DeckReason::UnknownName),
+    }
+}
+
+/// The first word of a condition, but for a component's name.
+#[derive(Clone, Copy, Debug, PartialEq, Eq)]
+pub enum CondWord {
+    True,
+    False,
+    Less,
+    LessOrEqual,
+    Equal,
+    Not,
+    And,
+    Or,
+}
+
+impl CondWord {
+    /// The one that the word is.
+    fn named(word: &[u8]) -> Option<CondWord>
+        ensures { result ≡ cond_word_named word.now }
+    {
+        if is_word(word, b"true") {
+            Some(CondWord::True)
+        } else if is_word(word, b"false") {
+            Some(CondWord::False)
+        } else if is_word(word, b"lt") {
+            Some(CondWord::Less)
+        } else if is_word(word, b"le") {
+            Some(CondWord::LessOrEqual)
+        } else if is_word(word, b"eq") {
+            Some(CondWord::Equal)
+        } else if is_word(word, b"not") {
+            Some(CondWord::Not)
+        } else if is_word(word, b"and") {
+            Some(CondWord::And)
+        } else if is_word(word, b"or") {
+            Some(CondWord::Or)
+        } else {
+            None
+        }
+    }
+}
+
+/// Reads an expression, behind which no word is left.
+#[tactic(auto, unfolding(crate::specs::Expressions::expr_line))]
+pub fn read_expr(alloc: Global, words: Words<'_>, names: &ComponentNames) -> Result<Expr, LineError>
+    ensures read { Makes expr_text result
+        (expr_line (key_names names.now) (values names.now) (unread words.entry)) }
+    ensures fits { IfOk result (λ expr.
+        WhereCounted (values names.now) (λ limits. IsTrue (expr_fits limits expr))) }
+{
+    let mut nodes = Nodes {
+        alloc,
+        words,
+        names,
+        left: MOST_NODES,
+    };
+    let expr = nodes.expr(MOST_NODES)?;
+    nodes.words.end()?;
+    Ok(expr)
+}
+
+/// Reads a condition, behind which no word is left.
+#[tactic(auto, unfolding(crate::specs::Expressions::cond_line))]
+pub fn read_cond(alloc: Global, words: Words<'_>, names: &ComponentNames) -> Result<Cond, LineError>
+    ensures read { Makes cond_text result
+        (cond_line (key_names names.now) (values names.now) (unread words.entry)) }
+    ensures fits { IfOk result (λ cond.
+        WhereCounted (values names.now) (λ limits. IsTrue (cond_fits limits cond))) }
+{
+    let mut nodes = Nodes {
+        alloc,
+        words,
+        names,
+        left: MOST_NODES,
+    };
+    let cond = nodes.cond(MOST_NODES)?;
+    nodes.words.end()?;
+    Ok(cond)
+}
+
+/// The nodes of an expression or a condition that are still to be read, a word each, those of a node
+/// behind it.
+#[derive(Drop)]
+struct Nodes<'w, 'n> {
+    alloc: Global,
+    words: Words<'w>,
+    names: &'n ComponentNames,
+    /// How many more there may be.
+    left: u8,
+}
+
+impl<'w, 'n> Nodes<'w, 'n> {
+    /// The word of the next node.
+    #[tactic(auto, unfolding(crate::specs::Expressions::node_at))]
+    fn next(&mut self) -> Result<&'w [u8], DeckReason>
+        ensures read { Gives (λ word. (word.now, self.new.left, unread self.new.words)) result
+            (node_at (key_names self.old.names.now) (values self.old.names.now) self.old.left
+            (unread self.old.words)) }
+        ensures names { self.new.names ≡ self.old.names }
+        ensures left { OnOk result (self.new.left + 1 ≡ self.old.left) }
+    {
+        let word = self.words.take()?;
+        self.left = self.left.checked_sub(1).ok_or(DeckReason::BadExpression)?;
+        Ok(word)
+    }
+
+    /// Reads an expression that is at most so deep.
+    #[cycle(expr)]
+    #[tactic(auto, unfolding(crate::specs::Expressions::expr_at))]
+    fn expr(&mut self, depth: u8) -> Result<Expr, LineError>
+        ensures read { Makes (λ expr. (expr_text expr, self.new.left, unread self.new.words)) result
+            (expr_at (key_names self.old.names.now) (values self.old.names.now) depth self.old.left
+            (unread self.old.words)) }
+        ensures names { self.new.names ≡ self.old.names }
+        ensures nodes { IfOk result (λ expr. self.new.left + expr_nodes expr ≡ self.old.left) }
+        ensures counted { IfOk result (λ expr. WhereCounted (values self.old.names.now)
+            (λ limits. IsTrue (expr_names limits expr))) }
+    {
+        let word = self.next()?;
+        match depth.checked_sub(1) {
+            Some(inner) => self.expr_from(word, inner),
+            None => Err(LineError::Bad(DeckReason::BadExpression)),
+        }
+    }
+
+    /// Reads the rest of an expression, after its first word. Its parts are at most so deep.
+    #[cycle(expr)]
+    #[tactic(auto, unfolding(crate::specs::Expressions::expr_from))]
+    fn expr_from(&mut self, word: &[u8], depth: u8) -> Result<Expr, LineError>
+        ensures read { Makes (λ expr. (expr_text expr, self.new.left, unread self.new.words)) result
+            (expr_from (key_names self.old.names.now) (values self.old.names.now)
+            (expr_at (key_names self.old.names.now) (values self.old.names.now) depth) word.now
+            self.old.left (unread self.old.words)) }
+        ensures names { self.new.names ≡ self.old.names }
+        ensures nodes { IfOk result (λ expr. self.new.left + expr_nodes expr ≡ self.old.left + 1) }
+        ensures counted { IfOk result (λ expr. WhereCounted (values self.old.names.now)
+            (λ limits. IsTrue (expr_names limits expr))) }
+    {
+        let alloc = self.alloc;
+        match word {
+            b"arg" => Ok(Expr::Arg),
+            b"out" => Ok(Expr::Out),
+            b"add" => {
+                let first = Box::new(alloc, self.expr(depth)?)?;
+                Ok(Expr::Add(first, Box::new(alloc, self.expr(depth)?)?))
+            }
+            b"sub" => {
+                let first = Box::new(alloc, self.expr(depth)?)?;
+                Ok(Expr::Sub(first, Box::new(alloc, self.expr(depth)?)?))
+            }
+            _ if begins_as_number(word) => {
+                Ok(Expr::Number(read_number(word).ok_or(DeckReason::BadNumber)?))
+            }
+            _ => Ok(Expr::Int(int_named(word, self.names)?)),
+        }
+    }
+
+    /// Reads a condition that is at most so deep.
+    #[cycle(cond)]
+    #[tactic(auto, unfolding(crate::specs::Expressions::cond_at))]
+    fn cond(&mut self, depth: u8) -> Result<Cond, LineError>
+        ensures read { Makes (λ cond. (cond_text cond, self.new.left, unread self.new.words)) result
+            (cond_at (key_names self.old.names.now) (values self.old.names.now) depth self.old.left
+            (unread self.old.words)) }
+        ensures names { self.new.names ≡ self.old.names }
+        ensures nodes { IfOk result (λ cond. self.new.left + cond_nodes cond ≡ self.old.left) }
+        ensures counted { IfOk result (λ cond. WhereCounted (values self.old.names.now)
+            (λ limits. IsTrue (cond_names limits cond))) }
+    {
+        let word = self.next()?;
+        match depth.checked_sub(1) {
+            Some(inner) => self.cond_from(word, inner),
+            None => Err(LineError::Bad(DeckReason::BadExpression)),
+        }
+    }
+
+    /// Reads the rest of a condition, after its first word. The conditions in it are at most so deep.
+    #[cycle(cond)]
+    fn cond_from(&mut self, word: &[u8], depth: u8) -> Result<Cond, LineError>
+        ensures read { Makes (λ cond. (cond_text cond, self.new.left, unread self.new.words)) result
+            (cond_from (key_names self.old.names.now) (values self.old.names.now)
+            (cond_at (key_names self.old.names.now) (values self.old.names.now) depth) word.now
+            self.old.left (unread self.old.words)) }
+        ensures names { self.new.names ≡ self.old.names }
+        ensures nodes { IfOk result (λ cond. self.new.left + cond_nodes cond ≡ self.old.left + 1) }
+        ensures counted { IfOk result (λ cond. WhereCounted (values self.old.names.now)
+            (λ limits. IsTrue (cond_names limits cond))) }
+    {
+        let first = CondWord::named(word);
+        self.cond_of(first, word, depth)
+    }
+
+    /// The same, where the word names `first`.
+    #[cycle(cond)]
+    #[tactic(auto, unfolding(crate::specs::Expressions::cond_of))]
+    fn cond_of(
+        &mut self,
+        first: Option<CondWord>,
+        word: &[u8],
+        depth: u8,
+    ) -> Result<Cond, LineError>
+        ensures read { Makes (λ cond. (cond_text cond, self.new.left, unread self.new.words)) result
+            (cond_of (key_names self.old.names.now) (values self.old.names.now)
+            (cond_at (key_names self.old.names.now) (values self.old.names.now) depth) first word.now
+            self.old.left (unread self.old.words)) }
+        ensures names { self.new.names ≡ self.old.names }
+        ensures nodes { IfOk result (λ cond. self.new.left + cond_nodes cond ≡ self.old.left + 1) }
+        ensures counted { IfOk result (λ cond. WhereCounted (values self.old.names.now)
+            (λ limits. IsTrue (cond_names limits cond))) }
+    {
+        let alloc = self.alloc;
+        match first {
+            Some(CondWord::True) => Ok(Cond::Constant(true)),
+            Some(CondWord::False) => Ok(Cond::Constant(false)),
+            Some(CondWord::Less) => {
+                let first = self.expr(MOST_NODES)?;
+                Ok(Cond::Less(first, self.expr(MOST_NODES)?))
+            }
+            Some(CondWord::LessOrEqual) => {
+                let first = self.expr(MOST_NODES)?;
+                Ok(Cond::LessOrEqual(first, self.expr(MOST_NODES)?))
+            }
+            Some(CondWord::Equal) => {
+                let first = self.expr(MOST_NODES)?;
+                Ok(Cond::Equal(first, self.expr(MOST_NODES)?))
+            }
+            Some(CondWord::Not) => Ok(Cond::Not(Box::new(alloc, self.cond(depth)?)?)),
+            Some(CondWord::And) => {
+                let first = Box::new(alloc, self.cond(depth)?)?;
+                Ok(Cond::And(first, Box::new(alloc, self.cond(depth)?)?))
+            }
+            Some(CondWord::Or) => {
+                let first = Box::new(alloc, self.cond(depth)?)?;
+                Ok(Cond::Or(first, Box::new(alloc, self.cond(depth)?)?))
+            }
+            None => Ok(Cond::Bool(bool_named(word, self.names)?)),
+        }
+    }
+}

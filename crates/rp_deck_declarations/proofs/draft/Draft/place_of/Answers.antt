@@ -1,0 +1,6 @@
+use Rattle.std.proofs.Common.{◌∙◌}
+use Rattle.rp_words.proofs.TablesLemmas.{same_place}
+use Rattle.rp_deck_declarations.proofs.draft.Draft.place_of.Goals as goal
+
+pub returns-clause-place : goal.returns-clause-place
+returns-clause-place c = c.get_index_of.ensures.index ∙ same_place c.args.name.now c.args.self.now.objects.keys

@@ -1,0 +1,6 @@
+use Rattle.std.proofs.Common.{◌≡◌}
+use Rattle.std.specs.Prelude.{map}
+use Rattle.rp_deck_declarations.proofs.program.timing_events.Given as goal
+
+abbrev pub invariant-loop-name : goal.invariant-loop-name
+invariant-loop-name l = map (λ event. event.handler) l.events.items ≡ map (λ pair. pair.1.now) l.yielded

@@ -1,0 +1,443 @@
+//! What a deck declares so far, and the lines by which it goes on.
+
+ghost use Rattle.std.specs.Prelude.{◌≡◌, ◌≤◌, ◌<◌, ◌∷◌, ◌++◌, [], All, true, false, length, IfSome, IfOk, IfErr, OnOk};
+ghost use Rattle.indexmap.specs.IndexMap.{index_map_len};
+ghost use Rattle.indexmap.specs.IndexSet.{index_set_len};
+ghost use Rattle.rp_words.specs.Ahead.{text_of};
+ghost use Rattle.rp_deck_declarations.specs.DraftViews.{draft_text};
+ghost use Rattle.rp_deck_declarations.specs.Drafts.{is_new, empty_draft, profile_of, last_object, is_in_body, kind_named, allows, kind_of, profile_named, positions_line, profile_line, task_line, tally_name, tally_names, tally_line, object_line, handler_at, interrupt_line, timer_line, declaration_line, script_line};
+ghost use Rattle.rp_deck_declarations.specs.Declaring.{object_line_of, declaring_line, ends_declarations, missing};
+ghost use Rattle.rp_words.specs.Reading.{Gives, Makes};
+ghost use Rattle.rp_words.specs.Tables.{place_of, set_names};
+ghost use Rattle.rp_words.specs.Words.{unread};
+ghost use Rattle.rp_deck_declarations.specs.Declarations.{IsNodeCount, IsNameSet, procedure_counts, IsHandled, IsDraft, IsFinishable};
+ghost use Rattle.rp_deck_objects.specs.ObjectLimits.{IsObject};
+
+use crate::deck_program::Task;
+use indexmap::{IndexMap, IndexSet};
+use rp_base::{DeckReason, Position};
+use rp_deck_objects::{ObjectDraft, OperationName};
+use rp_object::{Handler, Profile};
+use rp_words::{
+    LineError, TextLine, Words, add_name, declare, is_word, read_dotted, take_name_not_in,
+    take_new_name,
+};
+use std::alloc::Global;
+
+/// The most that is declared of each kind.
+const MOST: usize = 8;
+
+/// The most objects of a tally.
+const MOST_OBJECTS: u64 = 8;
+
+/// The most positions that a log has.
+const MOST_POSITIONS: u64 = 65_535;
+
+/// What is declared so far, each kind in declared order.
+#[derive(Drop)]
+pub struct Draft {
+    /// 3 to 7.
+    pub nodes: u8,
+    /// The most positions, where the deck says so.
+    pub positions: Option<Position>,
+    /// What the program may declare, where the deck says so.
+    pub profile: Option<Profile>,
+    /// Whether the objects are those of a tally.
+    pub is_tally: bool,
+    pub tasks: IndexMap<String, Task>,
+    pub objects: IndexSet<String>,
+    /// What the objects have, those of a tally aside.
+    pub drafts: Vec<ObjectDraft>,
+    pub interrupts: IndexMap<String, Handler>,
+    pub timers: IndexMap<String, Handler>,
+}
+
+/// A declaration of the deck's own, which belongs to no object.
+#[derive(Clone, Copy, Debug, PartialEq, Eq)]
+pub enum Kind {
+    Positions,
+    Profile,
+    Task,
+    Tally,
+    Object,
+    Interrupt,
+    Timer,
+}
+
+impl Kind {
+    /// The declaration that begins with this word.
+    fn named(first: &[u8]) -> Option<Kind>
+        ensures { result ≡ kind_named first.now }
+    {
+        if is_word(first, b"positions") {
+            Some(Kind::Positions)
+        } else if is_word(first, b"profile") {
+            Some(Kind::Profile)
+        } else if is_word(first, b"task") {
+            Some(Kind::Task)
+        } else if is_word(first, b"tally") {
+            Some(Kind::Tally)
+        } else if is_word(first, b"object") {
+            Some(Kind::Object)
+        } else if is_word(first, b"interrupt") {
+            Some(Kind::Interrupt)
+        } else if is_word(first, b"timer") {
+            Some(Kind::Timer)
+        } else {
+            None
+        }
+    }
+}
+
+impl Draft {
+    /// Nothing but the nodes.
+    pub fn new(alloc: Global, nodes: u8) -> Self
+        requires { IsNodeCount nodes }
+        ensures draft { IsDraft result }
+        ensures empty { draft_text result ≡ empty_draft nodes }
+    {
+        Draft {
+            nodes,
+            positions: None,
+            profile: None,
+            is_tally: false,
+            tasks: IndexMap::new(alloc),
+            objects: IndexSet::new(alloc),
+            drafts: Vec::new(alloc),
+            interrupts: IndexMap::new(alloc),
+            timers: IndexMap::new(alloc),
+        }
+    }
+
+    /// Whether no profile, task or object is declared.
+    fn is_new(&self) -> bool
+        ensures { result ≡ is_new (draft_text self.now) }
+    {
+        self.profile.is_none() && self.tasks.is_empty() && self.objects.is_empty()
+    }
+
+    /// The profile of the program: Ravenscar where the deck says nothing of it.
+    pub fn profile(&self) -> Profile
+        ensures { result ≡ profile_of (draft_text self.now) }
+    {
+        self.profile.unwrap_or(Profile::Ravenscar)
+    }
+
+    /// Whether the next line belongs to a body.
+    pub fn is_in_body(&self) -> bool
+        ensures { result ≡ is_in_body (draft_text self.now) }
+    {
+        match self.drafts.last() {
+            Some(object) => object.is_in_body(),
+            None => false,
+        }
+    }
+
+    /// Whether the line ends the declarations.
+    pub fn is_ended_by(&self, line: &TextLine<'_>) -> bool
+        ensures { result ≡ ends_declarations (draft_text self.now) (text_of line.now) }
+    {
+        !self.is_in_body() && is_word(line.first, b"script")
+    }
+
+    /// What is missing where no line is left.
+    pub fn missing(&self) -> DeckReason
+        ensures { result ≡ missing (draft_text self.now) }
+    {
+        if self.is_in_body() {
+            DeckReason::EndExpected
+        } else {
+            DeckReason::ScriptExpected
+        }
+    }
+
+    /// Reads a line before `script`.
+    #[tactic(auto, unfolding(crate::specs::Declaring::declaring_line))]
+    pub fn read_line(&mut self, alloc: Global, line: TextLine<'_>) -> Result<(), LineError>
+        requires { IsDraft self.old }
+        ensures read { Makes (λ _. draft_text self.new) result
+            (declaring_line (draft_text self.old) (text_of line.entry)) }
+        ensures draft { OnOk result (IsDraft self.new × (self.new.nodes ≡ self.old.nodes)) }
+    {
+        match self.kind_of(line.first) {
+            Some(kind) => self.read_declaration(alloc, kind, line.words),
+            None => self.read_object_line(alloc, line),
+        }
+    }
+
+    /// Whether a declaration of this kind may stand here.
+    fn allows(&self, kind: Kind) -> bool
+        ensures { result ≡ allows (draft_text self.now) kind }
+    {
+        match kind {
+            Kind::Positions => self.positions.is_none() && self.is_new(),
+            Kind::Profile => self.is_new(),
+            Kind::Task => true,
+            Kind::Tally => !self.is_tally && self.objects.is_empty(),
+            Kind::Object | Kind::Interrupt | Kind::Timer => !self.is_tally,
+        }
+    }
+
+    /// The declaration that begins with this word, where it is one of the deck's own that may stand
+    /// here.
+    fn kind_of(&self, first: &[u8]) -> Option<Kind>
+        ensures kind { result ≡ kind_of (draft_text self.now) first.now }
+        ensures allowed { IfSome result (λ kind. allows (draft_text self.now) kind ≡ true) }
+    {
+        if self.is_in_body() {
+            return None;
+        }
+        let kind = Kind::named(first)?;
+        if self.allows(kind) { Some(kind) } else { None }
+    }
+
+    /// Reads a declaration of this kind, behind its first word.
+    fn read_declaration(
+        &mut self,
+        alloc: Global,
+        kind: Kind,
+        words: Words<'_>,
+    ) -> Result<(), LineError>
+        requires { IsDraft self.old × (allows (draft_text self.old) kind ≡ true) }
+        ensures read { Makes (λ _. draft_text self.new) result
+            (declaration_line (draft_text self.old) kind (unread words.entry)) }
+        ensures draft { OnOk result (IsDraft self.new × (self.new.nodes ≡ self.old.nodes)) }
+    {
+        match kind {
+            Kind::Positions => self.read_positions(words),
+            Kind::Profile => self.read_profile(words),
+            Kind::Task => self.read_task(alloc, words),
+            Kind::Tally => self.read_tally(alloc, words),
+            Kind::Object => self.read_object(alloc, words),
+            Kind::Interrupt => self.read_interrupt(alloc, words),
+            Kind::Timer => self.read_timer(alloc, words),
+        }
+    }
+
+    /// Reads the rest of `positions P`.
+    #[tactic(auto, using(rp_words::proofs::TablesLemmas::map_last), unfolding(crate::specs::Drafts::positions_line))]
+    fn read_positions(&mut self, mut words: Words<'_>) -> Result<(), LineError>
+        requires { IsDraft self.old }
+        ensures read { Makes (λ _. draft_text self.new) result
+            (positions_line (draft_text self.old) (unread words.entry)) }
+        ensures draft { OnOk result (IsDraft self.new × (self.new.nodes ≡ self.old.nodes)) }
+    {
+        let positions = words.take_number(1, MOST_POSITIONS)?;
+        words.end()?;
+        self.positions = Position::new(positions as u16);
+        Ok(())
+    }
+
+    /// Reads the rest of `profile PROFILE`.
+    #[tactic(auto, unfolding(crate::specs::Drafts::profile_line))]
+    fn read_profile(&mut self, mut words: Words<'_>) -> Result<(), LineError>
+        requires { IsDraft self.old × (is_new (draft_text self.old) ≡ true) }
+        ensures read { Makes (λ _. draft_text self.new) result
+            (profile_line (draft_text self.old) (unread words.entry)) }
+        ensures draft { OnOk result (IsDraft self.new × (self.new.nodes ≡ self.old.nodes)) }
+    {
+        let profile = profile_named(words.take()?).ok_or(DeckReason::UnknownWord)?;
+        words.end()?;
+        self.profile = Some(profile);
+        Ok(())
+    }
+
+    /// Reads the rest of `task NAME PRIORITY`.
+    #[tactic(auto, using(rp_words::proofs::TablesLemmas::map_last), unfolding(crate::specs::Drafts::task_line))]
+    fn read_task(&mut self, alloc: Global, mut words: Words<'_>) -> Result<(), LineError>
+        requires { IsDraft self.old }
+        ensures read { Makes (λ _. draft_text self.new) result
+            (task_line (draft_text self.old) (unread words.entry)) }
+        ensures draft { OnOk result (IsDraft self.new × (self.new.nodes ≡ self.old.nodes)) }
+    {
+        if self.tasks.len() >= MOST {
+            return Err(LineError::Bad(DeckReason::TooMany));
+        }
+        let name = take_new_name(&mut words, &self.tasks)?;
+        let priority = words.take_number(1, 30)? as u8;
+        words.end()?;
+        declare(alloc, &mut self.tasks, name, Task { priority })?;
+        Ok(())
+    }
+
+    /// Reads the rest of `tally COUNT`.
+    #[tactic(auto, unfolding(crate::specs::Drafts::tally_line))]
+    fn read_tally(&mut self, alloc: Global, mut words: Words<'_>) -> Result<(), LineError>
+        requires { IsDraft self.old × (index_set_len self.old.objects ≡ 0) }
+        ensures read { Makes (λ _. draft_text self.new) result
+            (tally_line (draft_text self.old) (unread words.entry)) }
+        ensures draft { OnOk result (IsDraft self.new × (self.new.nodes ≡ self.old.nodes)) }
+    {
+        let count = words.take_number(1, MOST_OBJECTS)?;
+        words.end()?;
+        self.objects = tally_objects(alloc, count as u8)?;
+        self.is_tally = true;
+        Ok(())
+    }
+
+    /// The place of the object of this name.
+    fn place_of(&self, name: &str) -> Option<usize>
+        ensures place { result ≡ place_of name.now (set_names self.now.objects) }
+        ensures within { IfSome result (λ place. place < index_set_len self.now.objects) }
+    {
+        self.objects.get_index_of(name)
+    }
+
+    /// Reads the rest of `object NAME CEILING`.
+    #[tactic(auto, using(rp_words::proofs::TablesLemmas::map_last), unfolding(crate::specs::Drafts::object_line))]
+    fn read_object(&mut self, alloc: Global, mut words: Words<'_>) -> Result<(), LineError>
+        requires { IsDraft self.old × (self.old.is_tally ≡ false) }
+        ensures read { Makes (λ _. draft_text self.new) result
+            (object_line (draft_text self.old) (unread words.entry)) }
+        ensures draft { OnOk result (IsDraft self.new × (self.new.nodes ≡ self.old.nodes)) }
+    {
+        if self.objects.len() >= MOST {
+            return Err(LineError::Bad(DeckReason::TooMany));
+        }
+        let name = take_name_not_in(&mut words, &self.objects)?;
+        let ceiling = words.take_number(1, 30)? as u8;
+        words.end()?;
+        add_name(alloc, &mut self.objects, name)?;
+        let name = String::from_str(alloc, name)?;
+        self.drafts.push(ObjectDraft::new(alloc, name, ceiling))?;
+        Ok(())
+    }
+
+    /// Reads a line that belongs to the last object.
+    #[tactic(auto, using(crate::proofs::DeclaringLemmas::object_lines))]
+    fn read_object_line(&mut self, alloc: Global, line: TextLine<'_>) -> Result<(), LineError>
+        requires { IsDraft self.old }
+        ensures read { Makes (λ _. draft_text self.new) result
+            (object_line_of (last_object (draft_text self.old)) (draft_text self.old)
+            (text_of line.entry)) }
+        ensures draft { OnOk result (IsDraft self.new × (self.new.nodes ≡ self.old.nodes)) }
+    {
+        let profile = self.profile();
+        let Some(last) = self.drafts.len().checked_sub(1) else {
+            return Err(LineError::Bad(DeckReason::UnknownWord));
+        };
+        let object = &mut self.drafts[last];
+        object.read_line(alloc, profile, line)?;
+        Ok(())
+    }
+
+    /// Reads the rest of `interrupt NAME OBJECT.PROCEDURE`.
+    #[tactic(auto, using(rp_words::proofs::TablesLemmas::map_last), unfolding(crate::specs::Drafts::interrupt_line))]
+    fn read_interrupt(&mut self, alloc: Global, mut words: Words<'_>) -> Result<(), LineError>
+        requires { IsDraft self.old }
+        ensures read { Makes (λ _. draft_text self.new) result
+            (interrupt_line (draft_text self.old) (unread words.entry)) }
+        ensures draft { OnOk result (IsDraft self.new × (self.new.nodes ≡ self.old.nodes)) }
+    {
+        if self.interrupts.len() >= MOST {
+            return Err(LineError::Bad(DeckReason::TooMany));
+        }
+        let name = take_new_name(&mut words, &self.interrupts)?;
+        let handler = self.take_handler(&mut words)?;
+        words.end()?;
+        declare(alloc, &mut self.interrupts, name, handler)?;
+        Ok(())
+    }
+
+    /// Reads the rest of `timer NAME OBJECT.PROCEDURE`.
+    #[tactic(auto, using(rp_words::proofs::TablesLemmas::map_last), unfolding(crate::specs::Drafts::timer_line))]
+    fn read_timer(&mut self, alloc: Global, mut words: Words<'_>) -> Result<(), LineError>
+        requires { IsDraft self.old }
+        ensures read { Makes (λ _. draft_text self.new) result
+            (timer_line (draft_text self.old) (unread words.entry)) }
+        ensures draft { OnOk result (IsDraft self.new × (self.new.nodes ≡ self.old.nodes)) }
+    {
+        if self.timers.len() >= MOST {
+            return Err(LineError::Bad(DeckReason::TooMany));
+        }
+        let name = take_new_name(&mut words, &self.timers)?;
+        let handler = self.take_handler(&mut words)?;
+        words.end()?;
+        declare(alloc, &mut self.timers, name, handler)?;
+        Ok(())
+    }
+
+    /// The next word, a procedure of an object.
+    #[tactic(auto, unfolding(crate::specs::Drafts::handler_at))]
+    fn take_handler(&self, words: &mut Words<'_>) -> Result<Handler, DeckReason>
+        requires { IsNameSet self.now.objects }
+        ensures handled { (profile : Profile) → All (IsObject profile) self.now.drafts.items
+            → IfOk result (λ handler. IsHandled (procedure_counts self.now.drafts.items) handler) }
+        ensures read { Gives (λ handler. (handler, unread words.new)) result
+            (handler_at (draft_text self.now) (unread words.old)) }
+    {
+        let (object, procedure) = read_dotted(words.take()?)?;
+        let place = self.place_of(object).ok_or(DeckReason::UnknownName)?;
+        let Some(draft) = self.drafts.get(place) else {
+            return Err(DeckReason::UnknownName);
+        };
+        match draft.operation(procedure) {
+            Some(OperationName::Procedure(index)) => Ok(Handler {
+                object: place as u8 + 1,
+                procedure: index.number,
+            }),
+            _ => Err(DeckReason::UnknownName),
+        }
+    }
+
+    /// Ends the declarations, at `script`.
+    #[tactic(auto, unfolding(crate::specs::Drafts::script_line))]
+    pub fn complete(&self, words: &mut Words<'_>) -> Result<(), DeckReason>
+        requires { IsDraft self.now }
+        ensures read { Gives (λ _. tt) result (script_line (draft_text self.now) (unread words.old)) }
+        ensures finishable { OnOk result (IsFinishable self.now) }
+    {
+        if self.tasks.is_empty() {
+            return Err(DeckReason::TaskExpected);
+        }
+        if self.objects.is_empty() {
+            return Err(DeckReason::ObjectExpected);
+        }
+        words.end()
+    }
+}
+
+/// The profile that the word names.
+fn profile_named(word: &[u8]) -> Option<Profile>
+    ensures { result ≡ profile_named word.now }
+{
+    if is_word(word, b"ravenscar") {
+        Some(Profile::Ravenscar)
+    } else if is_word(word, b"jorvik") {
+        Some(Profile::Jorvik)
+    } else {
+        None
+    }
+}
+
+/// The name of a tally's object, by its number.
+fn tally_name(number: u8) -> &'static str
+    requires { (1 ≤ number) × (number ≤ 8) }
+    ensures { result.now ≡ tally_name number }
+{
+    match number {
+        1 => "o1",
+        2 => "o2",
+        3 => "o3",
+        4 => "o4",
+        5 => "o5",
+        6 => "o6",
+        7 => "o7",
+        _ => "o8",
+    }
+}
+
+/// The names of a tally's objects: o1, o2 and so on.
+fn tally_objects(alloc: Global, count: u8) -> Result<IndexSet<String>, LineError>
+    requires { count ≤ 8 }
+    ensures names { IfOk result (λ objects. set_names objects ≡ tally_names count) }
+    ensures objects { IfOk result (λ objects. IsNameSet objects
+        × (index_set_len objects ≤ count)) }
+    ensures memory { IfErr result (λ error. error ≡ LineError.OutOfMemory) }
+{
+    let mut objects = IndexSet::new(alloc);
+    for number in 0..count {
+        add_name(alloc, &mut objects, tally_name(number + 1))?;
+    }
+    Ok(objects)
+}

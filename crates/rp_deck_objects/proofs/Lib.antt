@@ -1,0 +1,3 @@
+pub mod Naming
+mod ObjectLemmas
+mod StoreLemmas

@@ -1,0 +1,13 @@
+use Rattle.indexmap.specs.IndexMap.{values}
+use Rattle.rp_deck_objects.proofs.objects.ObjectDraft.begin.Goals as goal
+
+pub returns-clause-object : goal.returns-clause-object
+returns-clause-object c = λ profile may begun. record {
+  ceiling = may.object.ceiling;
+  components = may.object.components;
+  entries = may.object.entries;
+  fit = may.object.fit;
+  keeps = may.object.keeps;
+  named = may.object.named;
+  operation = record { begun = record { room = begun.room; new = begun.new; fits = begun.fits; keeps = begun.keeps }; body = c.new-body.ensures.limits (values c.args.self.now.component_names) };
+}

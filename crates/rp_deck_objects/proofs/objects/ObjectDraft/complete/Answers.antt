@@ -1,0 +1,68 @@
+-- A procedure or an entry more, and its name.
+use Rattle.std.proofs.Common.{◌≡◌, ◌+◌, length, true, rules, arith, refl, sym, subst}
+use Rattle.std.specs.Prelude.{is_some}
+use Rattle.std.proofs.lemmas.Result.{on_ok_weaker}
+use Rattle.rp_entry.specs.Operations.{of_index}
+use Rattle.rp_entry.specs.declared.operations.Operations.{Operations}
+use Rattle.rp_entry.specs.declared.operations.Entry.{Entry as DeclaredEntry}
+use Rattle.indexmap.specs.IndexMap.{values}
+use Rattle.rp_deck_objects.specs.declared.objects.Head.{Head}
+use Rattle.rp_deck_objects.specs.declared.objects.Head.TheVariants as heads
+use Rattle.rp_deck_objects.specs.declared.names.OperationName.TheVariants.{Procedure, Entry}
+use Rattle.rp_deck_objects.specs.ObjectLimits.{HasRoom, HeadFits, HeadKeeps}
+use Rattle.rp_deck_objects.proofs.Naming.{last_numbered, procedure_more, entry_more, named_behind}
+use Rattle.rp_deck_objects.proofs.ObjectLemmas.{procedure_fits, entry_fits, entry_keeps, few_entries, same_entries}
+use Rattle.rp_deck_objects.proofs.objects.ObjectDraft.complete.Goals as goal
+
+pub returns-in_ok-push-in-Entry-2-clause-object : goal.returns-in_ok-push-in-Entry-2-clause-object
+returns-in_ok-push-in-Entry-2-clause-object c =
+    let self = c.args.self.now in
+    let was = c.requires.object.object in
+    let begun = c.requires.operation.begun in
+    let index = c.unwrap-index-in-Entry.result in
+    let body = c.into_statements-body.result in
+    let head : Head = heads.Entry c.in-Entry.barrier c.in-Entry.longest in
+    let is : c.args.operation.head ≡ head = c.in-Entry.is in
+    let room = subst (λ h. HasRoom c.args.profile self.operations h) is begun.room in
+    let entry : DeclaredEntry = record { barrier = c.in-Entry.barrier; longest = c.in-Entry.longest; body = body } in
+    let after : Operations = record { functions = self.operations.functions; procedures = self.operations.procedures; entries = c.push-in-Entry-2.new.self } in
+    let number : index.number ≡ length self.operations.entries.items + 1 = search rules in
+    let has : is_some (of_index after.entries.items index.number) ≡ true =
+    subst (λ l. is_some (of_index l index.number) ≡ true) (sym c.in_ok-push-in-Entry-2.ensures.items) (last_numbered self.operations.entries.items entry index.number number) in
+    let even : length c.push-in-Entry.new.self.items ≡ length after.entries.items = omega (arith, was.entries, c.in_ok-push-in-Entry.ensures.len, c.in_ok-push-in-Entry-2.ensures.len) in
+    on_ok_weaker c.insert_new-in-Entry.result (λ more. record {
+      ceiling = was.ceiling;
+      components = was.components;
+      entries = even;
+      fit = λ limits counted.
+          let fits = subst (λ h. HeadFits limits h) is (begun.fits limits counted) in
+          entry_fits self.operations after limits entry (few_entries c.args.profile self.operations c.in-Entry.barrier c.in-Entry.longest room) c.in_ok-push-in-Entry-2.ensures.items refl refl (was.fit limits counted)
+          (record { barrier = fits.0; some_room = fits.1; room = fits.2; body = c.into_statements-body.ensures.limits (values self.component_names) c.requires.operation.body limits counted });
+      keeps = entry_keeps c.args.profile self.operations after entry c.in_ok-push-in-Entry-2.ensures.items room (subst (λ h. HeadKeeps c.args.profile h) is begun.keeps) was.keeps;
+      named = named_behind self.operations after self.operation_names c.insert_new-in-Entry.new.table (Entry index) more
+          (entry_more self.operations after entry c.in_ok-push-in-Entry-2.ensures.items refl refl) has was.named;
+      operation = search rules;
+    }) c.insert_new-in-Entry.ensures.values
+
+pub returns-in_ok-push-in-Procedure-clause-object : goal.returns-in_ok-push-in-Procedure-clause-object
+returns-in_ok-push-in-Procedure-clause-object c =
+    let self = c.args.self.now in
+    let was = c.requires.object.object in
+    let index = c.unwrap-index.result in
+    let body = c.into_statements-body.result in
+    let after : Operations = record { functions = self.operations.functions; procedures = c.push.new.self; entries = self.operations.entries } in
+    let number : index.number ≡ length self.operations.procedures.items + 1 = search rules in
+    let room = subst (λ h. HasRoom c.args.profile self.operations h) c.in-Procedure.is c.requires.operation.begun.room in
+    let has : is_some (of_index after.procedures.items index.number) ≡ true =
+    subst (λ l. is_some (of_index l index.number) ≡ true) (sym c.in_ok-push-in-Procedure.ensures.items) (last_numbered self.operations.procedures.items body index.number number) in
+    on_ok_weaker c.insert_new.result (λ more. record {
+      ceiling = was.ceiling;
+      components = was.components;
+      entries = was.entries;
+      fit = λ limits counted. procedure_fits self.operations after limits body room c.in_ok-push-in-Procedure.ensures.items refl refl (was.fit limits counted)
+          (c.into_statements-body.ensures.limits (values self.component_names) c.requires.operation.body limits counted);
+      keeps = same_entries c.args.profile self.operations after refl was.keeps;
+      named = named_behind self.operations after self.operation_names c.insert_new.new.table (Procedure index) more
+          (procedure_more self.operations after body c.in_ok-push-in-Procedure.ensures.items refl refl) has was.named;
+      operation = search rules;
+    }) c.insert_new.ensures.values

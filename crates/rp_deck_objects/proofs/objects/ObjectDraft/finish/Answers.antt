@@ -1,0 +1,28 @@
+-- An object that keeps its limits.
+use Rattle.std.proofs.Common.{◌≡◌, length, arith, sym, subst}
+use Rattle.std.specs.Arc.{arc_value}
+use Rattle.rp_body.specs.Store.{limits_of}
+use Rattle.rp_entry.specs.Operations.{OperationsFit}
+use Rattle.rp_object.specs.Program.{KeepsProfile}
+use Rattle.rp_deck_objects.proofs.objects.ObjectDraft.finish.Goals as goal
+
+pub returns-clause-fits : goal.returns-clause-fits
+returns-clause-fits g c =
+    let self = c.args.self in
+    let k = c.requires.components in
+    let limits = limits_of self.components in
+    record {
+      ceiling = c.requires.ceiling;
+      few_ints = omega (arith, k.ints, k.few_ints);
+      few_bools = omega (arith, k.bools, k.few_bools);
+      ints = k.ints;
+      bools = k.bools;
+      entries = subst (λ operations. length self.entry_names.items ≡ length operations.entries.items) (sym c.in_ok-new.ensures.ok) c.requires.entries;
+      numbered = k.numbered;
+      ends = k.ends;
+      in_range = k.in_range;
+      operations = subst (λ operations. OperationsFit limits operations) (sym c.in_ok-new.ensures.ok) (c.requires.fit limits k.counted);
+    }
+
+pub returns-clause-keeps : goal.returns-clause-keeps
+returns-clause-keeps g c = subst (λ operations. KeepsProfile g.profile operations) (sym c.in_ok-new.ensures.ok) c.requires.keeps

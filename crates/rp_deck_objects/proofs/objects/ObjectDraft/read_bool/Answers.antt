@@ -1,0 +1,31 @@
+-- A Boolean more.
+use Rattle.std.proofs.Common.{◌≡◌, ◌+◌, ◌∷◌, [], ◌++◌, List, ℕ, length, rules, arith, refl, sym, ap, subst, ◌∙◌}
+use Rattle.std.specs.FinMap.{len}
+use Rattle.indexmap.specs.IndexMap.{values}
+use Rattle.rp_body.specs.Store.{Store}
+use Rattle.rp_entry.specs.Operations.{OperationsFit}
+use Rattle.rp_deck_bodies.specs.declared.names.Component.{Component}
+use Rattle.rp_deck_bodies.specs.declared.names.Component.TheVariants.{Bool}
+use Rattle.rp_deck_objects.specs.ObjectLimits.{KeepsComponents}
+use Rattle.rp_deck_objects.proofs.ObjectLemmas.{same_components, bool_more, counted_front}
+use Rattle.rp_deck_objects.proofs.objects.ObjectDraft.read_bool.Goals as goal
+
+pub returns-clause-object : goal.returns-clause-object
+returns-clause-object c =
+    let self = c.args.self.now in
+    let was = c.requires.object in
+    let place = c.limits-place.result.bools in
+    let is : place ≡ len self.components.bools = search rules in
+    let more = bool_more self.components (length self.int_names.items) (length self.bool_names.items) (values self.component_names) c.in_ok-value.value place was.components (omega (arith, is, c.if-place-ge-MOST_COMPONENTS.false)) is in
+    let count : length c.push.new.self.items ≡ length self.bool_names.items + 1 = search rules in
+    let names : values c.declare.new.table ≡ values self.component_names ++ Bool place ∷ [] = c.in_ok-declare.ensures.values in
+    record {
+      ceiling = was.ceiling;
+      components = same_components _ c.add_bool.new.self (length self.int_names.items) (length self.int_names.items) (length self.bool_names.items + 1) (length c.push.new.self.items) (values self.component_names ++ Bool place ∷ []) (values c.declare.new.table)
+          c.add_bool.ensures refl count names more;
+      entries = was.entries;
+      fit = counted_front (values self.component_names) _ (Bool place) (λ limits. OperationsFit limits self.operations) names was.fit;
+      keeps = was.keeps;
+      named = was.named;
+      operation = search rules;
+    }

@@ -1,0 +1,3 @@
+pub mod ObjectLimits
+pub mod ObjectViews
+pub mod Objects

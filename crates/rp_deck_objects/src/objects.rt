@@ -1,0 +1,556 @@
+//! Reads the lines that belong to an object.
+
+ghost use Rattle.std.specs.Prelude.{◌≡◌, ◌≤◌, ◌+◌, Some, length, IfSome, IfOk, IfErr, OnOk};
+ghost use Rattle.rp_object.specs.Program.{has_operation, operations_of, DeclarationFits, KeepsProfile};
+ghost use Rattle.rp_words.specs.Ahead.{text_of};
+ghost use Rattle.indexmap.specs.IndexMap.{values};
+ghost use Rattle.rp_body.specs.Store.{is_within};
+ghost use Rattle.rp_entry.specs.Operations.{FunctionFits};
+ghost use Rattle.rp_deck_bodies.specs.Counted.{WhereCounted};
+ghost use Rattle.rp_deck_objects.specs.ObjectLimits.{AreNamed};
+ghost use Rattle.rp_deck_objects.specs.Objects.{part_named, function_named, most_entries, longest_at, queue_at};
+ghost use Rattle.rp_words.specs.Reading.{Gives, Makes};
+ghost use Rattle.rp_words.specs.Words.{unread};
+
+use crate::names::{EntryIndex, Index, OperationName, OperationNames};
+use indexmap::IndexMap;
+use rp_base::DeckReason;
+use rp_body::{Components, Ranged};
+use rp_deck_bodies::{
+    BodyDraft, Component, ComponentNames, bool_named, is_of_expressions, read_cond, read_expr,
+};
+use rp_entry::{Entry, Function, Operations};
+use rp_object::{ObjectDeclaration, Profile};
+use rp_words::{
+    LineError, TextLine, Words, declare, has_name, insert_new, is_word, take_new_name, truth_named,
+};
+use std::alloc::{AllocError, Global};
+use std::sync::Arc;
+
+/// The most components of a kind.
+const MOST_COMPONENTS: u8 = 8;
+
+/// The most functions, and the most procedures, of an object.
+const MOST_OPERATIONS: usize = 8;
+
+/// The longest queue of an entry.
+const LONGEST_QUEUE: u64 = 8;
+
+/// What a line declares that belongs to an object.
+#[derive(Clone, Copy, Debug, PartialEq, Eq)]
+pub enum Part {
+    Int,
+    Bool,
+    Function,
+    Procedure,
+    Entry,
+}
+
+impl Part {
+    /// What a line with this first word declares.
+    fn named(first: &[u8]) -> Option<Part>
+        ensures { result ≡ part_named first.now }
+    {
+        if is_word(first, b"int") {
+            Some(Part::Int)
+        } else if is_word(first, b"bool") {
+            Some(Part::Bool)
+        } else if is_word(first, b"function") {
+            Some(Part::Function)
+        } else if is_word(first, b"procedure") {
+            Some(Part::Procedure)
+        } else if is_word(first, b"entry") {
+            Some(Part::Entry)
+        } else {
+            None
+        }
+    }
+}
+
+/// What a function answers.
+#[derive(Clone, Copy, Debug, PartialEq, Eq)]
+enum FunctionKind {
+    Value,
+    Truth,
+}
+
+impl FunctionKind {
+    /// The one that the word names.
+    fn named(word: &[u8]) -> Option<FunctionKind>
+        ensures { result ≡ function_named word.now }
+    {
+        match word {
+            b"value" => Some(FunctionKind::Value),
+            b"truth" => Some(FunctionKind::Truth),
+            _ => None,
+        }
+    }
+}
+
+/// What an operation with a body is.
+#[derive(Clone, Copy, Debug, PartialEq, Eq)]
+pub enum Head {
+    Procedure,
+    /// Its barrier is the Boolean component at this place, and at most so many calls wait.
+    Entry { barrier: u8, longest: u8 },
+}
+
+/// An operation whose body has not ended.
+#[derive(Drop)]
+struct OperationDraft {
+    name: String,
+    head: Head,
+    body: BodyDraft,
+}
+
+/// An object that is being declared.
+#[derive(Drop)]
+pub struct ObjectDraft {
+    name: String,
+    ceiling: u8,
+    components: Components,
+    component_names: ComponentNames,
+    int_names: Vec<String>,
+    bool_names: Vec<String>,
+    operations: Operations,
+    operation_names: OperationNames,
+    entry_names: Vec<String>,
+    open_operation: Option<OperationDraft>,
+}
+
+impl ObjectDraft {
+    ghost use Rattle.std.specs.Prelude.{true, false, option_map, string_bytes, is_some};
+    ghost use Rattle.rp_deck_objects.specs.ObjectViews.{function_text, operation_text, object_text, operation_of, protected_text, protected_of, object_operations, own_operations};
+    ghost use Rattle.rp_deck_objects.specs.Objects.{empty_object, component_name_at, int_line, bool_line, function_of, function_line, procedure_line, entry_line, begun_operation, completed_as, operation_line, part_line, object_step};
+    ghost use Rattle.rp_deck_objects.specs.ObjectLimits.{MayBegin, IsOpenIn, IsObject, MayDeclare};
+    ghost use Rattle.rp_deck_bodies.specs.BodyViews.{body_draft_text};
+    ghost use Rattle.rp_words.specs.Tables.{find, is_declared, key_names};
+
+    /// An object that has nothing yet.
+    pub fn new(alloc: Global, name: String, ceiling: u8) -> Self
+        requires { (1 ≤ ceiling) × (ceiling ≤ 30) }
+        ensures text { object_text result ≡ empty_object (string_bytes name) ceiling }
+        ensures object { (profile : Profile) → IsObject profile result }
+    {
+        ObjectDraft {
+            name,
+            ceiling,
+            components: Components::new(),
+            component_names: IndexMap::new(alloc),
+            int_names: Vec::new(alloc),
+            bool_names: Vec::new(alloc),
+            operations: Operations {
+                functions: Vec::new(alloc),
+                procedures: Vec::new(alloc),
+                entries: Vec::new(alloc),
+            },
+            operation_names: IndexMap::new(alloc),
+            entry_names: Vec::new(alloc),
+            open_operation: None,
+        }
+    }
+
+    /// The operation of this name.
+    pub fn operation(&self, name: &str) -> Option<OperationName>
+        ensures has { IfSome result (λ name. AreNamed self.now.operations self.now.operation_names
+            → has_operation (operation_of name) self.now.operations ≡ true) }
+        ensures named { option_map operation_of result
+            ≡ find name.now (object_text self.now).operation_names (object_text self.now).operations }
+    {
+        self.operation_names.get(name).copied()
+    }
+
+    /// Whether the next line belongs to a body.
+    pub fn is_in_body(&self) -> bool
+        ensures { result ≡ is_some (object_text self.now).open_operation }
+    {
+        self.open_operation.is_some()
+    }
+
+    /// What the program has of it, and the names of its operations.
+    pub fn finish(self, alloc: Global) -> Result<(ObjectDeclaration, OperationNames), AllocError>
+        ghost profile: { Profile }
+        requires { IsObject profile self }
+        ensures named { IfOk result (λ made. AreNamed (operations_of made.0) made.1) }
+        ensures fits { IfOk result (λ made. DeclarationFits made.0) }
+        ensures keeps { IfOk result (λ made. KeepsProfile profile (operations_of made.0)) }
+        ensures object { IfOk result (λ made.
+            protected_text made.0 ≡ protected_of (object_text self)) }
+        ensures operations { IfOk result (λ made.
+            own_operations made.1 ≡ object_operations (object_text self)) }
+    {
+        let declaration = ObjectDeclaration {
+            name: self.name,
+            ceiling: self.ceiling,
+            ints: self.int_names,
+            bools: self.bool_names,
+            components: self.components,
+            entries: self.entry_names,
+            operations: Arc::new(alloc, self.operations)?,
+        };
+        Ok((declaration, self.operation_names))
+    }
+
+    /// Reads a line of the object, or of its body.
+    pub fn read_line(
+        &mut self,
+        alloc: Global,
+        profile: Profile,
+        line: TextLine<'_>,
+    ) -> Result<(), LineError>
+        requires { IsObject profile self.old }
+        ensures read { Makes (λ _. object_text self.new) result
+            (object_step profile (object_text self.old) (text_of line.entry)) }
+        ensures object { OnOk result (IsObject profile self.new) }
+        ensures grows { OnOk result (length (object_text self.old).procedures
+            ≤ length (object_text self.new).procedures) }
+    {
+        match self.open_operation.take() {
+            Some(operation) => self.read_body_line(alloc, profile, operation, line),
+            None => {
+                let part = Part::named(line.first);
+                self.read_part(alloc, profile, part, line.words)
+            }
+        }
+    }
+
+    /// Reads a line of the body of an operation.
+    #[tactic(auto, unfolding(crate::specs::Objects::operation_line))]
+    fn read_body_line(
+        &mut self,
+        alloc: Global,
+        profile: Profile,
+        mut operation: OperationDraft,
+        line: TextLine<'_>,
+    ) -> Result<(), LineError>
+        requires object { MayDeclare profile self.old }
+        requires operation { IsOpenIn profile self.old operation }
+        ensures read { Makes (λ _. object_text self.new) result
+            (operation_line (object_text self.old) (operation_text operation) (text_of line.entry)) }
+        ensures object { OnOk result (IsObject profile self.new) }
+        ensures grows { OnOk result (length (object_text self.old).procedures
+            ≤ length (object_text self.new).procedures) }
+    {
+        if operation
+            .body
+            .read_line(alloc, line, &self.component_names)?
+        {
+            return self.complete(profile, operation);
+        }
+        self.open_operation = Some(operation);
+        Ok(())
+    }
+
+    /// Reads the rest of a line that is not of a body, after its first word.
+    fn read_part(
+        &mut self,
+        alloc: Global,
+        profile: Profile,
+        part: Option<Part>,
+        words: Words<'_>,
+    ) -> Result<(), LineError>
+        requires { MayDeclare profile self.old }
+        ensures read { Makes (λ _. object_text self.new) result
+            (part_line profile (object_text self.old) part (unread words.entry)) }
+        ensures object { OnOk result (IsObject profile self.new) }
+        ensures grows { OnOk result (length (object_text self.old).procedures
+            ≤ length (object_text self.new).procedures) }
+    {
+        match part {
+            Some(Part::Int) => self.read_int(alloc, profile, words),
+            Some(Part::Bool) => self.read_bool(alloc, profile, words),
+            Some(Part::Function) => self.read_function(alloc, profile, words),
+            Some(Part::Procedure) => self.read_procedure(alloc, profile, words),
+            Some(Part::Entry) => self.read_entry(alloc, profile, words),
+            None => Err(LineError::Bad(DeckReason::UnknownWord)),
+        }
+    }
+
+    /// The next word, a name for a component.
+    #[tactic(auto, unfolding(crate::specs::Objects::component_name_at))]
+    fn take_component_name<'w>(&self, words: &mut Words<'w>) -> Result<&'w str, DeckReason>
+        ensures read { Gives (λ name. (name.now, unread words.new)) result
+            (component_name_at (object_text self.now).component_names (unread words.old)) }
+        ensures new { IfOk result (λ name.
+            is_declared name.now (key_names self.now.component_names) ≡ false) }
+    {
+        let name = words.take_name()?;
+        if is_of_expressions(name) {
+            return Err(DeckReason::BadName);
+        }
+        if has_name(&self.component_names, name) {
+            return Err(DeckReason::DuplicateName);
+        }
+        Ok(name)
+    }
+
+    /// Reads the rest of `int NAME LOW HIGH INIT`.
+    #[tactic(auto, using(rp_words::proofs::TablesLemmas::map_last), unfolding(crate::specs::Objects::int_line))]
+    fn read_int(
+        &mut self,
+        alloc: Global,
+        profile: Profile,
+        mut words: Words<'_>,
+    ) -> Result<(), LineError>
+        requires { MayDeclare profile self.old }
+        ensures read { Makes (λ _. object_text self.new) result
+            (int_line (object_text self.old) (unread words.entry)) }
+        ensures object { OnOk result (IsObject profile self.new) }
+        ensures grows { OnOk result (length (object_text self.old).procedures
+            ≤ length (object_text self.new).procedures) }
+    {
+        let place = self.components.limits().ints;
+        if place >= MOST_COMPONENTS {
+            return Err(LineError::Bad(DeckReason::TooMany));
+        }
+        let name = self.take_component_name(&mut words)?;
+        let low = words.take_integer()?;
+        let high = words.take_integer()?;
+        let value = words.take_integer()?;
+        if !is_within(low, high, value) {
+            return Err(LineError::Bad(DeckReason::BadNumber));
+        }
+        words.end()?;
+        declare(
+            alloc,
+            &mut self.component_names,
+            name,
+            Component::Int(place),
+        )?;
+        self.int_names.push(String::from_str(alloc, name)?)?;
+        self.components.add_int(Ranged { low, high, value });
+        Ok(())
+    }
+
+    /// Reads the rest of `bool NAME INIT`.
+    #[tactic(auto, using(rp_words::proofs::TablesLemmas::map_last), unfolding(crate::specs::Objects::bool_line))]
+    fn read_bool(
+        &mut self,
+        alloc: Global,
+        profile: Profile,
+        mut words: Words<'_>,
+    ) -> Result<(), LineError>
+        requires { MayDeclare profile self.old }
+        ensures read { Makes (λ _. object_text self.new) result
+            (bool_line (object_text self.old) (unread words.entry)) }
+        ensures object { OnOk result (IsObject profile self.new) }
+        ensures grows { OnOk result (length (object_text self.old).procedures
+            ≤ length (object_text self.new).procedures) }
+    {
+        let place = self.components.limits().bools;
+        if place >= MOST_COMPONENTS {
+            return Err(LineError::Bad(DeckReason::TooMany));
+        }
+        let name = self.take_component_name(&mut words)?;
+        let value = truth_named(words.take()?).ok_or(DeckReason::UnknownWord)?;
+        words.end()?;
+        declare(
+            alloc,
+            &mut self.component_names,
+            name,
+            Component::Bool(place),
+        )?;
+        self.bool_names.push(String::from_str(alloc, name)?)?;
+        self.components.add_bool(value);
+        Ok(())
+    }
+
+    /// Reads the rest of `function NAME value EXPR` or `function NAME truth COND`.
+    #[tactic(auto, using(rp_words::proofs::TablesLemmas::map_last), unfolding(crate::specs::Objects::function_line))]
+    fn read_function(
+        &mut self,
+        alloc: Global,
+        profile: Profile,
+        mut words: Words<'_>,
+    ) -> Result<(), LineError>
+        requires { MayDeclare profile self.old }
+        ensures read { Makes (λ _. object_text self.new) result
+            (function_line (object_text self.old) (unread words.entry)) }
+        ensures object { OnOk result (IsObject profile self.new) }
+        ensures grows { OnOk result (length (object_text self.old).procedures
+            ≤ length (object_text self.new).procedures) }
+    {
+        let index = Index::after(self.operations.functions.len()).ok_or(DeckReason::TooMany)?;
+        let name = take_new_name(&mut words, &self.operation_names)?;
+        let kind = FunctionKind::named(words.take()?);
+        let function = self.take_function(alloc, kind, words)?;
+        declare(
+            alloc,
+            &mut self.operation_names,
+            name,
+            OperationName::Function(index),
+        )?;
+        self.operations.functions.push(function)?;
+        Ok(())
+    }
+
+    /// The rest of the line, the expression or the condition of a function.
+    fn take_function(
+        &self,
+        alloc: Global,
+        kind: Option<FunctionKind>,
+        words: Words<'_>,
+    ) -> Result<Function, LineError>
+        ensures read { Makes function_text result
+            (function_of (object_text self.now) kind (unread words.entry)) }
+        ensures fits { IfOk result (λ function. WhereCounted (values self.now.component_names)
+            (λ limits. FunctionFits limits function)) }
+    {
+        match kind {
+            Some(FunctionKind::Value) => {
+                let value = read_expr(alloc, words, &self.component_names)?;
+                Ok(Function::Value(value))
+            }
+            Some(FunctionKind::Truth) => {
+                let truth = read_cond(alloc, words, &self.component_names)?;
+                Ok(Function::Truth(truth))
+            }
+            None => Err(LineError::Bad(DeckReason::UnknownWord)),
+        }
+    }
+
+    /// Reads the rest of `procedure NAME`.
+    #[tactic(auto, unfolding(crate::specs::Objects::procedure_line))]
+    fn read_procedure(
+        &mut self,
+        alloc: Global,
+        profile: Profile,
+        mut words: Words<'_>,
+    ) -> Result<(), LineError>
+        requires { MayDeclare profile self.old }
+        ensures read { Makes (λ _. object_text self.new) result
+            (procedure_line (object_text self.old) (unread words.entry)) }
+        ensures object { OnOk result (IsObject profile self.new) }
+        ensures grows { OnOk result (length (object_text self.old).procedures
+            ≤ length (object_text self.new).procedures) }
+    {
+        if self.operations.procedures.len() >= MOST_OPERATIONS {
+            return Err(LineError::Bad(DeckReason::TooMany));
+        }
+        let name = take_new_name(&mut words, &self.operation_names)?;
+        words.end()?;
+        let name = String::from_str(alloc, name)?;
+        self.begin(alloc, name, Head::Procedure);
+        Ok(())
+    }
+
+    /// Reads the rest of `entry NAME when BOOL`, or of `entry NAME when BOOL queue LONGEST`.
+    #[tactic(auto, unfolding(crate::specs::Objects::entry_line))]
+    fn read_entry(
+        &mut self,
+        alloc: Global,
+        profile: Profile,
+        mut words: Words<'_>,
+    ) -> Result<(), LineError>
+        requires { MayDeclare profile self.old }
+        ensures read { Makes (λ _. object_text self.new) result
+            (entry_line profile (object_text self.old) (unread words.entry)) }
+        ensures object { OnOk result (IsObject profile self.new) }
+        ensures grows { OnOk result (length (object_text self.old).procedures
+            ≤ length (object_text self.new).procedures) }
+    {
+        if self.operations.entries.len() >= most_entries(profile) {
+            return Err(LineError::Bad(DeckReason::TooMany));
+        }
+        let name = take_new_name(&mut words, &self.operation_names)?;
+        if !is_word(words.take()?, b"when") {
+            return Err(LineError::Bad(DeckReason::UnknownWord));
+        }
+        let barrier = bool_named(words.take()?, &self.component_names)?;
+        let longest = take_longest(profile, &mut words)?;
+        words.end()?;
+        let name = String::from_str(alloc, name)?;
+        self.begin(alloc, name, Head::Entry { barrier, longest });
+        Ok(())
+    }
+
+    /// Begins an operation's body.
+    fn begin(&mut self, alloc: Global, name: String, head: Head)
+        ensures text { object_text self.new ≡ record (object_text self.old) {
+          open_operation = Some (begun_operation (string_bytes name) head);
+        } }
+        ensures object { (profile : Profile) → MayDeclare profile self.old
+            → MayBegin profile self.old name head → IsObject profile self.new }
+    {
+        let body = BodyDraft::new(alloc);
+        self.open_operation = Some(OperationDraft { name, head, body });
+    }
+
+    /// Adds an operation whose body has ended.
+    fn complete(&mut self, profile: Profile, operation: OperationDraft) -> Result<(), LineError>
+        requires object { MayDeclare profile self.old }
+        requires operation { IsOpenIn profile self.old operation }
+        ensures read { OnOk result (object_text self.new ≡ completed_as operation.head
+            (string_bytes operation.name) (body_draft_text operation.body).statements
+            (object_text self.old)) }
+        ensures memory { IfErr result (λ error. error ≡ LineError.OutOfMemory) }
+        ensures object { OnOk result (IsObject profile self.new) }
+        ensures grows { OnOk result (length (object_text self.old).procedures
+            ≤ length (object_text self.new).procedures) }
+    {
+        let body = operation.body.into_statements();
+        match operation.head {
+            Head::Procedure => {
+                let index = Index::after(self.operations.procedures.len()).unwrap();
+                self.operations.procedures.push(body)?;
+                let named = OperationName::Procedure(index);
+                insert_new(&mut self.operation_names, operation.name, named)
+            }
+            Head::Entry { barrier, longest } => {
+                let index = EntryIndex::after(self.operations.entries.len()).unwrap();
+                self.entry_names.push(operation.name.clone()?)?;
+                self.operations.entries.push(Entry {
+                    barrier,
+                    longest,
+                    body,
+                })?;
+                let named = OperationName::Entry(index);
+                insert_new(&mut self.operation_names, operation.name, named)
+            }
+        }
+    }
+}
+
+/// How many entries an object has at most.
+fn most_entries(profile: Profile) -> usize
+    ensures { result ≡ most_entries profile }
+{
+    match profile {
+        Profile::Ravenscar => 1,
+        Profile::Jorvik => 4,
+    }
+}
+
+/// How many calls wait at an entry at most: under Jorvik the rest of the line may tell.
+fn take_longest(profile: Profile, words: &mut Words<'_>) -> Result<u8, DeckReason>
+    ensures read { Gives (λ longest. (longest, unread words.new)) result
+        (longest_at profile (unread words.old)) }
+    ensures in_range { IfOk result (λ longest. (1 ≤ longest) × (longest ≤ 8)) }
+    ensures single { IfOk result (λ longest. profile ≡ Profile.Ravenscar → longest ≡ 1) }
+{
+    if profile == Profile::Ravenscar || words.is_at_end() {
+        return Ok(1);
+    }
+    take_queue(words)
+}
+
+/// Takes `queue LONGEST`.
+#[tactic(auto, unfolding(crate::specs::Objects::queue_at))]
+fn take_queue(words: &mut Words<'_>) -> Result<u8, DeckReason>
+    ensures read { Gives (λ longest. (longest, unread words.new)) result
+        (queue_at (unread words.old)) }
+    ensures in_range { IfOk result (λ longest. (1 ≤ longest) × (longest ≤ 8)) }
+{
+    if !is_word(words.take()?, b"queue") {
+        return Err(DeckReason::UnknownWord);
+    }
+    let longest = words.take_number(1, LONGEST_QUEUE)?;
+    Ok(longest as u8)
+}
+
+/// Whether the number is from low to high.
+fn is_within(low: i64, high: i64, number: i64) -> bool
+    ensures { result ≡ is_within low high number }
+{
+    low <= number && number <= high
+}

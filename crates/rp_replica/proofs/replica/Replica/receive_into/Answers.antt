@@ -1,8 +1,0 @@
-use Rattle.std.proofs.Common.{sym, ◌∙◌}
-use Rattle.rp_replica.proofs.Wanting.{report_wanting}
-use Rattle.rp_replica.proofs.replica.Replica.receive_into.Goals as goal
-
-pub returns-in_err-packet-clause-err : goal.returns-in_err-packet-clause-err
-returns-in_err-packet-clause-err g c =
-    report_wanting g.M.Machine.next g.M.Machine.answers c.args.self.now c.args.bytes.now c.from_residual.result c.from_residual.ensures.1 c.in_err-packet.ensures.memory
-    (sym c.has_failed.ensures ∙ c.if-has_failed.false)

@@ -1,0 +1,92 @@
+//! What the rules decided for an input, before anything of it is done.
+
+ghost use Rattle.std.specs.Prelude.{◌≡◌, IfSome};
+ghost use Rattle.rp_codec.specs.Record.{HasRecordRanges};
+ghost use Rattle.rp_replica.specs.Plans.{written_by};
+
+use rp_base::{Action, Ballot, NodeId, Position, Rec, Reply, TaskId, Vote};
+use rp_model::{Dropped, RightAction};
+
+/// A promise that came from a node, in a ballot at a position, with the vote that it reports.
+#[derive(Clone, Copy, Debug)]
+pub(crate) struct CountedPromise {
+    pub(crate) from: NodeId,
+    pub(crate) position: Position,
+    pub(crate) ballot: Ballot,
+    pub(crate) last: Option<Vote>,
+}
+
+/// What a step does: decided by reading alone, small and without texts. To commit it is to write
+/// its record, if it has one, then to update the state, and then to send.
+#[derive(Clone, Copy, Debug)]
+pub(crate) enum Plan {
+    /// Nothing, and what is dropped.
+    Pass(Dropped),
+    /// A promise to a node at a position in a ballot, with the last vote there.
+    Promise(NodeId, Position, Ballot, Option<Vote>),
+    /// A vote for an action, at a position in a ballot, that is told to a node.
+    Vote(NodeId, Position, Ballot, Action),
+    /// A vote that was cast before is told to a node again.
+    Repeat(NodeId, Position, Ballot, Action),
+    /// A node is told the bound that its ballot lies below.
+    Refuse(NodeId, Position, Ballot, Ballot),
+    /// A node is told what is learned at a position.
+    Inform(NodeId, Position, Action),
+    /// A task gets the reply that is kept for its call.
+    Answer(TaskId, u32, Reply),
+    /// An item becomes pending.
+    Await(RightAction),
+    /// A proposal begins, with an action of its own.
+    Lead(Position, Ballot, Action),
+    /// A promise counts, and makes no majority.
+    Count(CountedPromise),
+    /// A promise makes a majority, and the action is offered to all.
+    Offer(CountedPromise, Action),
+    /// A proposal is refused by a bound.
+    Yield(Position, Ballot, Ballot),
+    /// A vote counts, and makes no majority.
+    Hear(NodeId, Position, Vote),
+    /// A vote makes a majority: the action is learned, and the other nodes are told.
+    Learn(Position, Action),
+    /// A node told a decision: the action is learned, and the node is asked for what is missing.
+    Follow(NodeId, Position, Action),
+    /// A report to the audit, from a position on.
+    Report(Position),
+}
+
+/// Shows that each position and each ballot of a record is within its range.
+pub(crate) fn record_in_range(rec: &Rec)
+    ensures { HasRecordRanges rec.now }
+{
+    match rec {
+        Rec::Started(ballot) => {
+            let _number = ballot.get();
+        }
+        Rec::Promised(position, ballot) => {
+            let _numbers = (position.get(), ballot.get());
+        }
+        Rec::Voted(position, ballot, _) => {
+            let _numbers = (position.get(), ballot.get());
+        }
+        Rec::Learned(position, _) => {
+            let _number = position.get();
+        }
+    }
+}
+
+impl Plan {
+    /// The record that it writes, if it writes one.
+    pub(crate) fn record(&self) -> Option<Rec>
+        ensures { result ≡ written_by self.now }
+    {
+        match *self {
+            Plan::Promise(_, position, ballot, _) => Some(Rec::Promised(position, ballot)),
+            Plan::Vote(_, position, ballot, action) => Some(Rec::Voted(position, ballot, action)),
+            Plan::Lead(_, ballot, _) => Some(Rec::Started(ballot)),
+            Plan::Learn(position, action) | Plan::Follow(_, position, action) => {
+                Some(Rec::Learned(position, action))
+            }
+            _ => None,
+        }
+    }
+}

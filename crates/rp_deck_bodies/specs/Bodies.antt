@@ -1,5 +1,5 @@
 -- Bodies of operations, and how each line of one goes on.
-use Rattle.std.specs.Prelude.{ℕ, ◌-◌, ◌==◌, ◌&&◌, Bool, true, false, not, nat_lt, List, [], ◌∷◌, codes, length, Option, Some, None, is_some, Result, Ok, if◌then◌else◌}
+use Rattle.std.specs.Prelude.{ℕ, ◌-◌, ◌==◌, Bool, true, false, not, nat_lt, List, [], ◌∷◌, codes, length, Option, Some, None, is_some, Result, Ok, if◌then◌else◌}
 use Rattle.std.specs.Str.{bytes_eq}
 use Rattle.rp_base.specs.declared.fault.DeckReason.{DeckReason}
 use Rattle.rp_base.specs.declared.fault.DeckReason.TheVariants.{UnknownWord, TooMany}
@@ -75,7 +75,10 @@ one_more b = do
 -- at `else`
 abbrev pub turned_at : List OpenIfText → OpenBodyText → OpenBodyText
 turned_at [] b = b
-turned_at (innermost ∷ outer) b = record b { ifs = record innermost { first = Some b.statements } ∷ outer; statements = Empty }
+turned_at (innermost ∷ outer) b = record b {
+  ifs = record innermost { first = Some b.statements } ∷ outer;
+  statements = Empty;
+}
 
 abbrev pub turned : OpenBodyText → OpenBodyText
 turned b = turned_at b.ifs b
@@ -94,7 +97,9 @@ abbrev pub closed_at : List OpenIfText → OpenBodyText → OpenBodyText
 closed_at [] b = b
 closed_at (innermost ∷ outer) b = record b {
   ifs = outer;
-  statements = If innermost.before innermost.condition (first_part innermost.first b.statements) (second_part innermost.first b.statements);
+  statements =
+      If innermost.before innermost.condition
+      (first_part innermost.first b.statements) (second_part innermost.first b.statements);
 }
 
 abbrev pub closed : OpenBodyText → OpenBodyText
@@ -118,7 +123,10 @@ module _ (names : List (List ℕ)) (declared : List Component) where
     Ok (record b { statements = Out b.statements value })
   statement_line b words.If rest = do
     condition ← cond_line names declared rest
-    Ok (record b { ifs = record { condition = condition; before = b.statements; first = None } ∷ b.ifs; statements = Empty })
+    Ok (record b {
+      ifs = record { condition = condition; before = b.statements; first = None } ∷ b.ifs;
+      statements = Empty;
+    })
 
   -- a line by what its first word is, and whether it ends the body
   unfoldable pub body_line_of : OpenBodyText → BodyWord → List ℕ → Result (OpenBodyText × Bool) DeckReason

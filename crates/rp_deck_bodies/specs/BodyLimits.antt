@@ -1,5 +1,5 @@
 -- The limits that a body keeps whose `end` was not read yet (this project's own).
-use Rattle.std.specs.Prelude.{ℕ, ◌+◌, ◌-◌, ◌≤◌, ◌<◌, ◌&&◌, Bool, true, IsTrue, List, [], ◌∷◌, All, length, Option, Some, None, Vec}
+use Rattle.std.specs.Prelude.{ℕ, ◌+◌, ◌-◌, ◌≤◌, Bool, true, IsTrue, List, [], ◌∷◌, All, length, Option, Some, None, Vec}
 use Rattle.std.specs.declared.alloc.Global.{Global}
 use Rattle.rp_body.specs.Check.{cond_fits, statement_count, depth_of, body_fits}
 use Rattle.rp_body.specs.declared.components.Limits.{Limits}

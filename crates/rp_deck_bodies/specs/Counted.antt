@@ -1,5 +1,5 @@
 -- Components that limits count, and what is so under all limits that count what names stand for.
-use Rattle.std.specs.Prelude.{ℕ, ◌<◌, List, All}
+use Rattle.std.specs.Prelude.{◌<◌, List, All}
 use Rattle.rp_body.specs.declared.components.Limits.{Limits}
 use Rattle.rp_deck_bodies.specs.declared.names.Component.{Component}
 use Rattle.rp_deck_bodies.specs.declared.names.Component.TheVariants.{Int, Bool}

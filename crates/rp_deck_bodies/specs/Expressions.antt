@@ -57,6 +57,52 @@ cond_word_named word =
     else if bytes_eq word (codes "or") then Some words.Or
     else None
 
+-- A reader of an expression or of a condition: of how many nodes are left and the bytes of the line, what was read, how
+-- many nodes are left after it, and the bytes after it.
+abbrev pub NodeReader : Type 0 → Type 0
+NodeReader X = ℕ → List ℕ → Result (X × ℕ × List ℕ) DeckReason
+
+-- the word of one node more
+unfoldable pub node_at : NodeReader (List ℕ)
+node_at left words = do
+  word ← word_at words
+  more ← unless BadExpression (left == 0)
+  Ok (word.0, left - 1, word.1)
+
+-- a node without parts
+abbrev pub leaf : {X Y : Type 0} → (X → Y) → Result X DeckReason → NodeReader Y
+leaf make (Ok x) left words = Ok (make x, left, words)
+leaf make (Err reason) left words = Err reason
+
+-- one part, and what is made of it
+abbrev pub one_at : {X Y : Type 0} → NodeReader X → (X → Y) → NodeReader Y
+one_at part make left words = do
+  first ← part left words
+  Ok (make first.0, first.1, first.2)
+
+-- two parts, one after the other, and what is made of them
+abbrev pub two_at : {X Y : Type 0} → NodeReader X → (X → X → Y) → NodeReader Y
+two_at part make left words = do
+  first ← part left words
+  second ← part first.1 first.2
+  Ok (make first.0 second.0, second.1, second.2)
+
+-- at most so deep: the word of a node, and what from reads after it, each part one less deep
+unfoldable pub tree_at : {X : Type 0} → (NodeReader X → List ℕ → NodeReader X) → ℕ → NodeReader X
+tree_at from zero left words = do
+  node ← node_at left words
+  Err BadExpression
+tree_at from (suc depth) left words = do
+  node ← node_at left words
+  from (tree_at from depth) node.0 node.1 node.2
+
+-- at most 32 nodes, and no word after them
+unfoldable pub tree_line : {X : Type 0} → (NodeReader X → List ℕ → NodeReader X) → List ℕ → Result X DeckReason
+tree_line from words = do
+  tree ← tree_at from 32 32 words
+  e ← end_at tree.2
+  Ok tree.0
+
 module _ (names : List (List ℕ)) (declared : List Component) where
   unfoldable pub component_of : List ℕ → Result Component DeckReason
   component_of word = do
@@ -75,68 +121,26 @@ module _ (names : List (List ℕ)) (declared : List Component) where
     component ← component_of word
     some_or UnknownName (bool_place component)
 
-  -- the word of one node more: at most so many are left
-  unfoldable pub node_at : ℕ → List ℕ → Result (List ℕ × ℕ × List ℕ) DeckReason
-  node_at left words = do
-    word ← word_at words
-    more ← unless BadExpression (left == 0)
-    Ok (word.0, left - 1, word.1)
-
-  -- two parts, one after the other, and what is made of them
-  abbrev pub two_at : {X Y : Type 0} → (ℕ → List ℕ → Result (X × ℕ × List ℕ) DeckReason) → (X → X → Y) → ℕ → List ℕ → Result (Y × ℕ × List ℕ) DeckReason
-  two_at part make left words = do
-    first ← part left words
-    second ← part first.1 first.2
-    Ok (make first.0 second.0, second.1, second.2)
-
-  -- one part, and what is made of it
-  abbrev pub one_at : {X Y : Type 0} → (ℕ → List ℕ → Result (X × ℕ × List ℕ) DeckReason) → (X → Y) → ℕ → List ℕ → Result (Y × ℕ × List ℕ) DeckReason
-  one_at part make left words = do
-    first ← part left words
-    Ok (make first.0, first.1, first.2)
-
-  -- a number, and a component, as nodes
-  abbrev pub number_node : Option ℤ → ℕ → List ℕ → Result (ExprText × ℕ × List ℕ) DeckReason
-  number_node None left words = Err BadNumber
-  number_node (Some number) left words = Ok (Number number, left, words)
-
-  abbrev pub int_node : Result ℕ DeckReason → ℕ → List ℕ → Result (ExprText × ℕ × List ℕ) DeckReason
-  int_node (Err reason) left words = Err reason
-  int_node (Ok place) left words = Ok (Int place, left, words)
-
   -- an expression that begins with this word, each part of it read by part
-  unfoldable pub expr_from : (ℕ → List ℕ → Result (ExprText × ℕ × List ℕ) DeckReason) → List ℕ → ℕ → List ℕ → Result (ExprText × ℕ × List ℕ) DeckReason
+  unfoldable pub expr_from : NodeReader ExprText → List ℕ → NodeReader ExprText
   expr_from part word left words =
       if bytes_eq word (codes "arg") then Ok (Arg, left, words)
       else if bytes_eq word (codes "out") then Ok (Out, left, words)
       else if bytes_eq word (codes "add") then two_at part Add left words
       else if bytes_eq word (codes "sub") then two_at part Sub left words
-      else if begins_as_number word then number_node (number_of word) left words
-      else int_node (int_of word) left words
+      else if begins_as_number word then leaf Number (some_or BadNumber (number_of word)) left words
+      else leaf Int (int_of word) left words
 
-  -- an expression, at most so deep, of at most so many nodes
-  unfoldable pub expr_at : ℕ → ℕ → List ℕ → Result (ExprText × ℕ × List ℕ) DeckReason
-  expr_at zero left words = do
-    node ← node_at left words
-    Err BadExpression
-  expr_at (suc depth) left words = do
-    node ← node_at left words
-    expr_from (expr_at depth) node.0 node.1 node.2
+  -- an expression, at most so deep
+  abbrev pub expr_at : ℕ → NodeReader ExprText
+  expr_at = tree_at expr_from
 
-  -- an expression of at most 32 nodes, and no word after it
-  unfoldable pub expr_line : List ℕ → Result ExprText DeckReason
-  expr_line words = do
-    expr ← expr_at 32 32 words
-    e ← end_at expr.2
-    Ok expr.0
-
-  -- a Boolean component as a node
-  abbrev pub bool_node : Result ℕ DeckReason → ℕ → List ℕ → Result (CondText × ℕ × List ℕ) DeckReason
-  bool_node (Err reason) left words = Err reason
-  bool_node (Ok place) left words = Ok (Named place, left, words)
+  -- a whole expression
+  abbrev pub expr_line : List ℕ → Result ExprText DeckReason
+  expr_line = tree_line expr_from
 
   -- a condition that begins with this word, each condition in it read by part
-  unfoldable pub cond_of : (ℕ → List ℕ → Result (CondText × ℕ × List ℕ) DeckReason) → Option CondWord → List ℕ → ℕ → List ℕ → Result (CondText × ℕ × List ℕ) DeckReason
+  unfoldable pub cond_of : NodeReader CondText → Option CondWord → List ℕ → NodeReader CondText
   cond_of part (Some words.True) word left rest = Ok (Constant true, left, rest)
   cond_of part (Some words.False) word left rest = Ok (Constant false, left, rest)
   cond_of part (Some words.Less) word left rest = two_at (expr_at 32) Less left rest
@@ -145,23 +149,15 @@ module _ (names : List (List ℕ)) (declared : List Component) where
   cond_of part (Some words.Not) word left rest = one_at part Not left rest
   cond_of part (Some words.And) word left rest = two_at part And left rest
   cond_of part (Some words.Or) word left rest = two_at part Or left rest
-  cond_of part None word left rest = bool_node (bool_of word) left rest
+  cond_of part None word left rest = leaf Named (bool_of word) left rest
 
-  abbrev pub cond_from : (ℕ → List ℕ → Result (CondText × ℕ × List ℕ) DeckReason) → List ℕ → ℕ → List ℕ → Result (CondText × ℕ × List ℕ) DeckReason
-  cond_from part word left rest = cond_of part (cond_word_named word) word left rest
+  abbrev pub cond_from : NodeReader CondText → List ℕ → NodeReader CondText
+  cond_from part word = cond_of part (cond_word_named word) word
 
-  -- a condition, at most so deep, of at most so many nodes, those of its expressions too
-  unfoldable pub cond_at : ℕ → ℕ → List ℕ → Result (CondText × ℕ × List ℕ) DeckReason
-  cond_at zero left words = do
-    node ← node_at left words
-    Err BadExpression
-  cond_at (suc depth) left words = do
-    node ← node_at left words
-    cond_from (cond_at depth) node.0 node.1 node.2
+  -- a condition, at most so deep, the nodes of its expressions counted too
+  abbrev pub cond_at : ℕ → NodeReader CondText
+  cond_at = tree_at cond_from
 
-  -- a condition of at most 32 nodes, and no word after it
-  unfoldable pub cond_line : List ℕ → Result CondText DeckReason
-  cond_line words = do
-    cond ← cond_at 32 32 words
-    e ← end_at cond.2
-    Ok cond.0
+  -- a whole condition
+  abbrev pub cond_line : List ℕ → Result CondText DeckReason
+  cond_line = tree_line cond_from

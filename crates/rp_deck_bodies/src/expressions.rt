@@ -88,7 +88,7 @@ pub fn bool_named(word: &[u8], names: &ComponentNames) -> Result<u8, DeckReason>
 }
 
 /// The first word of a condition, but for a component's name.
-#[derive(Clone, Copy, Debug, PartialEq, Eq)]
+#[derive(Clone, Copy)]
 pub enum CondWord {
     True,
     False,
@@ -128,7 +128,7 @@ impl CondWord {
 }
 
 /// Reads an expression, behind which no word is left.
-#[tactic(auto, unfolding(crate::specs::Expressions::expr_line))]
+#[tactic(auto, unfolding(crate::specs::Expressions::tree_line))]
 pub fn read_expr(alloc: Global, words: Words<'_>, names: &ComponentNames) -> Result<Expr, LineError>
     ensures read { Makes expr_text result
         (expr_line (key_names names.now) (values names.now) (unread words.entry)) }
@@ -147,7 +147,7 @@ pub fn read_expr(alloc: Global, words: Words<'_>, names: &ComponentNames) -> Res
 }
 
 /// Reads a condition, behind which no word is left.
-#[tactic(auto, unfolding(crate::specs::Expressions::cond_line))]
+#[tactic(auto, unfolding(crate::specs::Expressions::tree_line))]
 pub fn read_cond(alloc: Global, words: Words<'_>, names: &ComponentNames) -> Result<Cond, LineError>
     ensures read { Makes cond_text result
         (cond_line (key_names names.now) (values names.now) (unread words.entry)) }
@@ -181,8 +181,7 @@ impl<'w, 'n> Nodes<'w, 'n> {
     #[tactic(auto, unfolding(crate::specs::Expressions::node_at))]
     fn next(&mut self) -> Result<&'w [u8], DeckReason>
         ensures read { Gives (λ word. (word.now, self.new.left, unread self.new.words)) result
-            (node_at (key_names self.old.names.now) (values self.old.names.now) self.old.left
-            (unread self.old.words)) }
+            (node_at self.old.left (unread self.old.words)) }
         ensures names { self.new.names ≡ self.old.names }
         ensures left { OnOk result (self.new.left + 1 ≡ self.old.left) }
     {
@@ -193,7 +192,7 @@ impl<'w, 'n> Nodes<'w, 'n> {
 
     /// Reads an expression that is at most so deep.
     #[cycle(expr)]
-    #[tactic(auto, unfolding(crate::specs::Expressions::expr_at))]
+    #[tactic(auto, unfolding(crate::specs::Expressions::tree_at))]
     fn expr(&mut self, depth: u8) -> Result<Expr, LineError>
         ensures read { Makes (λ expr. (expr_text expr, self.new.left, unread self.new.words)) result
             (expr_at (key_names self.old.names.now) (values self.old.names.now) depth self.old.left
@@ -244,7 +243,7 @@ impl<'w, 'n> Nodes<'w, 'n> {
 
     /// Reads a condition that is at most so deep.
     #[cycle(cond)]
-    #[tactic(auto, unfolding(crate::specs::Expressions::cond_at))]
+    #[tactic(auto, unfolding(crate::specs::Expressions::tree_at))]
     fn cond(&mut self, depth: u8) -> Result<Cond, LineError>
         ensures read { Makes (λ cond. (cond_text cond, self.new.left, unread self.new.words)) result
             (cond_at (key_names self.old.names.now) (values self.old.names.now) depth self.old.left

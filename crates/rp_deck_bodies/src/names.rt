@@ -3,7 +3,7 @@
 use indexmap::IndexMap;
 
 /// A component of an object, by its place among those of its kind.
-#[derive(Clone, Copy, Debug, PartialEq, Eq)]
+#[derive(Clone, Copy)]
 pub enum Component {
     Int(u8),
     Bool(u8),

@@ -30,7 +30,7 @@ const MOST_STATEMENTS: u8 = 64;
 const MOST_DEPTH: usize = 8;
 
 /// The first word of a line in a body.
-#[derive(Clone, Copy, Debug, PartialEq, Eq)]
+#[derive(Clone, Copy)]
 pub enum BodyWord {
     Statement(StatementWord),
     Else,
@@ -38,7 +38,7 @@ pub enum BodyWord {
 }
 
 /// The first word of a statement.
-#[derive(Clone, Copy, Debug, PartialEq, Eq)]
+#[derive(Clone, Copy)]
 pub enum StatementWord {
     Set,
     Put,

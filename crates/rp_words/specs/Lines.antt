@@ -30,7 +30,9 @@ is_skipped line = is_at_end line || begins_with (λ byte. byte == 35) (first_wor
 
 -- the words of the line of this number, if it is not skipped
 abbrev pub text_at : ℕ → List ℕ → Option LineText
-text_at number line = if is_skipped line then None else Some (record { number = number; first = first_word line; rest = after_word line })
+text_at number line =
+    if is_skipped line then None
+    else Some (record { number = number; first = first_word line; rest = after_word line })
 
 -- the lines that are not skipped, where the first has this number
 abbrev pub texts_from : ℕ → List (List ℕ) → List LineText

@@ -68,7 +68,9 @@ fits_64 number = int_le (negsuc (2 ^ 63 - 1)) number && int_le number (pos (2 ^ 
 
 -- the number that a word is: an optional `-` and decimal digits, within 64 signed bits
 abbrev pub number_of : List ℕ → Option ℤ
-number_of word = if is_digits (without_minus word) && fits_64 (number_written word) then Some (number_written word) else None
+number_of word =
+    if is_digits (without_minus word) && fits_64 (number_written word) then Some (number_written word)
+    else None
 
 -- the number, where it is from low to high
 abbrev pub number_within : ℕ → ℕ → Option ℤ → Option ℕ

@@ -8,7 +8,7 @@ use rp_base::{DeckReason, Fault};
 use std::alloc::{AllocError, AllocFailed};
 
 /// Why a line was not read.
-#[derive(Clone, Copy, Debug, PartialEq, Eq)]
+#[derive(Clone, Copy)]
 pub enum LineError {
     OutOfMemory,
     Bad(DeckReason),

@@ -8,7 +8,7 @@ ghost use Rattle.rp_words.specs.LineEnds.{line_end, without_return};
 use crate::words::Words;
 
 /// A line that holds words, and is no comment.
-#[derive(Debug, Drop)]
+#[derive(Drop)]
 pub struct TextLine<'a> {
     /// Counted from 1, among all lines.
     pub number: u32,
@@ -41,7 +41,7 @@ impl<'a> TextLine<'a> {
 }
 
 /// The lines of a deck that are still to be read.
-#[derive(Debug, Drop)]
+#[derive(Drop)]
 pub struct Lines<'a> {
     rest: &'a [u8],
     /// How many lines were read.

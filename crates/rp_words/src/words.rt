@@ -137,7 +137,7 @@ pub fn truth_named(word: &[u8]) -> Option<bool>
 }
 
 /// The words of a line that are still to be read.
-#[derive(Debug, Drop)]
+#[derive(Drop)]
 pub struct Words<'a> {
     rest: &'a [u8],
 }

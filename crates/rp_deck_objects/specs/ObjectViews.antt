@@ -7,7 +7,6 @@ use Rattle.rp_body.specs.Store.{Store}
 use Rattle.rp_entry.specs.declared.operations.Entry.{Entry as DeclaredEntry}
 use Rattle.rp_entry.specs.declared.operations.Function.{Function as DeclaredFunction}
 use Rattle.rp_entry.specs.declared.operations.Function.TheVariants as functions
-use Rattle.rp_entry.specs.declared.operations.Operations.{Operations}
 use Rattle.rp_object.specs.Program.{operations_of}
 use Rattle.rp_object.specs.declared.program.ObjectDeclaration.{ObjectDeclaration}
 use Rattle.rp_words.specs.Tables.{key_names}

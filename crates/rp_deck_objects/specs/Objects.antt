@@ -9,6 +9,7 @@ use Rattle.rp_base.specs.declared.fault.DeckReason.{DeckReason}
 use Rattle.rp_base.specs.declared.fault.DeckReason.TheVariants.{BadNumber, BadName}
 use Rattle.rp_base.specs.declared.fault.DeckReason.TheVariants.{DuplicateName, UnknownWord}
 use Rattle.rp_body.specs.Store.{Store, is_within}
+use Rattle.rp_body.specs.declared.components.Ranged.{Ranged}
 use Rattle.rp_object.specs.declared.program.Profile.{Profile}
 use Rattle.rp_object.specs.declared.program.Profile.TheVariants.{Ravenscar, Jorvik}
 use Rattle.rp_words.specs.Lines.{LineText}
@@ -88,22 +89,41 @@ component_name_at names words = do
   new ← unless DuplicateName (is_declared name.0 names)
   Ok name
 
+-- `LOW HIGH INIT`
+unfoldable pub ranged_at : List ℕ → Result (Ranged × List ℕ) DeckReason
+ranged_at words = do
+  low ← integer_at words
+  high ← integer_at low.1
+  value ← integer_at high.1
+  in_range ← unless BadNumber (not (is_within low.0 high.0 value.0))
+  Ok (record { low = low.0; high = high.0; value = value.0 }, value.1)
+
+-- a whole number more
+abbrev pub with_int : ObjectText → List ℕ → Ranged → ObjectText
+with_int o name component = record o {
+  component_names = o.component_names ++ name ∷ [];
+  components = o.components ++ components.Int (len o.store.ints) ∷ [];
+  int_names = o.int_names ++ name ∷ [];
+  store = record o.store { ints = insert o.store.ints (len o.store.ints) component };
+}
+
 -- `int NAME LOW HIGH INIT`
 unfoldable pub int_line : ObjectText → List ℕ → Result ObjectText DeckReason
 int_line o words = do
   few ← room 8 (len o.store.ints)
   name ← component_name_at o.component_names words
-  low ← integer_at name.1
-  high ← integer_at low.1
-  value ← integer_at high.1
-  in_range ← unless BadNumber (not (is_within low.0 high.0 value.0))
-  e ← end_at value.1
-  Ok (record o {
-    component_names = o.component_names ++ name.0 ∷ [];
-    components = o.components ++ components.Int (len o.store.ints) ∷ [];
-    int_names = o.int_names ++ name.0 ∷ [];
-    store = record o.store { ints = insert o.store.ints (len o.store.ints) (record { low = low.0; high = high.0; value = value.0 }) };
-  })
+  component ← ranged_at name.1
+  e ← end_at component.1
+  Ok (with_int o name.0 component.0)
+
+-- a Boolean more
+abbrev pub with_bool : ObjectText → List ℕ → Bool → ObjectText
+with_bool o name value = record o {
+  component_names = o.component_names ++ name ∷ [];
+  components = o.components ++ components.Bool (len o.store.bools) ∷ [];
+  bool_names = o.bool_names ++ name ∷ [];
+  store = record o.store { bools = insert o.store.bools (len o.store.bools) value };
+}
 
 -- `bool NAME INIT`
 unfoldable pub bool_line : ObjectText → List ℕ → Result ObjectText DeckReason
@@ -113,12 +133,7 @@ bool_line o words = do
   word ← word_at name.1
   value ← some_or UnknownWord (truth_named word.0)
   e ← end_at word.1
-  Ok (record o {
-    component_names = o.component_names ++ name.0 ∷ [];
-    components = o.components ++ components.Bool (len o.store.bools) ∷ [];
-    bool_names = o.bool_names ++ name.0 ∷ [];
-    store = record o.store { bools = insert o.store.bools (len o.store.bools) value };
-  })
+  Ok (with_bool o name.0 value)
 
 -- the value or the truth of a function
 abbrev pub function_of : ObjectText → Option FunctionKind → List ℕ → Result FunctionText DeckReason
@@ -136,6 +151,14 @@ function_named word =
     else if bytes_eq word (codes "truth") then Some functions.Truth
     else None
 
+-- a function more
+abbrev pub with_function : ObjectText → List ℕ → FunctionText → ObjectText
+with_function o name function = record o {
+  operation_names = o.operation_names ++ name ∷ [];
+  operations = o.operations ++ operations.Function (length o.functions + 1) ∷ [];
+  functions = o.functions ++ function ∷ [];
+}
+
 -- `function NAME value EXPR` or `function NAME truth COND`
 unfoldable pub function_line : ObjectText → List ℕ → Result ObjectText DeckReason
 function_line o words = do
@@ -143,11 +166,7 @@ function_line o words = do
   name ← new_name_at o.operation_names words
   word ← word_at name.1
   function ← function_of o (function_named word.0) word.1
-  Ok (record o {
-    operation_names = o.operation_names ++ name.0 ∷ [];
-    operations = o.operations ++ operations.Function (length o.functions + 1) ∷ [];
-    functions = o.functions ++ function ∷ [];
-  })
+  Ok (with_function o name.0 function)
 
 -- an operation whose body has no line yet
 abbrev pub begun_operation : List ℕ → Head → OpenOperationText

@@ -10,7 +10,7 @@ use rp_base::Operation;
 const MOST: usize = 8;
 
 /// A number from 1 to 8, in declared order.
-#[derive(Clone, Copy, Debug, PartialEq, Eq)]
+#[derive(Clone, Copy)]
 pub struct Index {
     pub number: u8,
     ghost in_range: { IsIndex number },
@@ -36,7 +36,7 @@ impl Index {
 const MOST_ENTRIES: usize = 4;
 
 /// The number of an entry, from 1 to 4, in declared order.
-#[derive(Clone, Copy, Debug, PartialEq, Eq)]
+#[derive(Clone, Copy)]
 pub struct EntryIndex {
     pub number: u8,
     ghost in_range: { IsEntryIndex number },
@@ -59,7 +59,7 @@ impl EntryIndex {
 }
 
 /// An operation of an object, by its number among those of its kind.
-#[derive(Clone, Copy, Debug, PartialEq, Eq)]
+#[derive(Clone, Copy)]
 pub enum OperationName {
     Function(Index),
     Procedure(Index),

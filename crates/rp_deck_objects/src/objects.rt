@@ -1,6 +1,7 @@
 //! Reads the lines that belong to an object.
 
-ghost use Rattle.std.specs.Prelude.{◌≡◌, ◌≤◌, ◌+◌, Some, length, IfSome, IfOk, IfErr, OnOk};
+ghost use Rattle.std.specs.Prelude.{◌≡◌, ◌≤◌, ◌<◌, ◌+◌, Some, true, false, length, IfSome, IfOk, IfErr, OnOk};
+ghost use Rattle.std.specs.FinMap.{len};
 ghost use Rattle.rp_object.specs.Program.{has_operation, operations_of, DeclarationFits, KeepsProfile};
 ghost use Rattle.rp_words.specs.Ahead.{text_of};
 ghost use Rattle.indexmap.specs.IndexMap.{values};
@@ -8,7 +9,7 @@ ghost use Rattle.rp_body.specs.Store.{is_within};
 ghost use Rattle.rp_entry.specs.Operations.{FunctionFits};
 ghost use Rattle.rp_deck_bodies.specs.Counted.{WhereCounted};
 ghost use Rattle.rp_deck_objects.specs.ObjectLimits.{AreNamed};
-ghost use Rattle.rp_deck_objects.specs.Objects.{part_named, function_named, most_entries, longest_at, queue_at};
+ghost use Rattle.rp_deck_objects.specs.Objects.{part_named, ranged_at, function_named, most_entries, longest_at, queue_at};
 ghost use Rattle.rp_words.specs.Reading.{Gives, Makes};
 ghost use Rattle.rp_words.specs.Words.{unread};
 
@@ -37,7 +38,7 @@ const MOST_OPERATIONS: usize = 8;
 const LONGEST_QUEUE: u64 = 8;
 
 /// What a line declares that belongs to an object.
-#[derive(Clone, Copy, Debug, PartialEq, Eq)]
+#[derive(Clone, Copy)]
 pub enum Part {
     Int,
     Bool,
@@ -68,7 +69,7 @@ impl Part {
 }
 
 /// What a function answers.
-#[derive(Clone, Copy, Debug, PartialEq, Eq)]
+#[derive(Clone, Copy)]
 enum FunctionKind {
     Value,
     Truth,
@@ -88,7 +89,7 @@ impl FunctionKind {
 }
 
 /// What an operation with a body is.
-#[derive(Clone, Copy, Debug, PartialEq, Eq)]
+#[derive(Clone, Copy)]
 pub enum Head {
     Procedure,
     /// Its barrier is the Boolean component at this place, and at most so many calls wait.
@@ -119,9 +120,9 @@ pub struct ObjectDraft {
 }
 
 impl ObjectDraft {
-    ghost use Rattle.std.specs.Prelude.{true, false, option_map, string_bytes, is_some};
+    ghost use Rattle.std.specs.Prelude.{option_map, string_bytes, is_some};
     ghost use Rattle.rp_deck_objects.specs.ObjectViews.{function_text, operation_text, object_text, operation_of, protected_text, protected_of, object_operations, own_operations};
-    ghost use Rattle.rp_deck_objects.specs.Objects.{empty_object, component_name_at, int_line, bool_line, function_of, function_line, procedure_line, entry_line, begun_operation, completed_as, operation_line, part_line, object_step};
+    ghost use Rattle.rp_deck_objects.specs.Objects.{empty_object, component_name_at, with_int, int_line, with_bool, bool_line, function_of, with_function, function_line, procedure_line, entry_line, begun_operation, completed_as, operation_line, part_line, object_step};
     ghost use Rattle.rp_deck_objects.specs.ObjectLimits.{MayBegin, IsOpenIn, IsObject, MayDeclare};
     ghost use Rattle.rp_deck_bodies.specs.BodyViews.{body_draft_text};
     ghost use Rattle.rp_words.specs.Tables.{find, is_declared, key_names};
@@ -285,7 +286,7 @@ impl ObjectDraft {
     }
 
     /// Reads the rest of `int NAME LOW HIGH INIT`.
-    #[tactic(auto, using(rp_words::proofs::TablesLemmas::map_last), unfolding(crate::specs::Objects::int_line))]
+    #[tactic(auto, unfolding(crate::specs::Objects::int_line))]
     fn read_int(
         &mut self,
         alloc: Global,
@@ -299,31 +300,39 @@ impl ObjectDraft {
         ensures grows { OnOk result (length (object_text self.old).procedures
             ≤ length (object_text self.new).procedures) }
     {
-        let place = self.components.limits().ints;
-        if place >= MOST_COMPONENTS {
+        if self.components.limits().ints >= MOST_COMPONENTS {
             return Err(LineError::Bad(DeckReason::TooMany));
         }
         let name = self.take_component_name(&mut words)?;
-        let low = words.take_integer()?;
-        let high = words.take_integer()?;
-        let value = words.take_integer()?;
-        if !is_within(low, high, value) {
-            return Err(LineError::Bad(DeckReason::BadNumber));
-        }
+        let component = take_ranged(&mut words)?;
         words.end()?;
-        declare(
-            alloc,
-            &mut self.component_names,
-            name,
-            Component::Int(place),
-        )?;
+        self.add_int(alloc, name, component)
+    }
+
+    /// Adds a whole number.
+    #[tactic(auto, using(rp_words::proofs::TablesLemmas::map_last))]
+    fn add_int(&mut self, alloc: Global, name: &str, component: Ranged) -> Result<(), LineError>
+        requires new { is_declared name.now (key_names self.old.component_names) ≡ false }
+        requires room { len self.old.components.ints < 8 }
+        requires in_range { is_within component.low component.high component.value ≡ true }
+        ensures text { OnOk result
+            (object_text self.new ≡ with_int (object_text self.old) name.now component) }
+        ensures memory { IfErr result (λ error. error ≡ LineError.OutOfMemory) }
+        ensures object { (profile : Profile) → MayDeclare profile self.old
+            → OnOk result (IsObject profile self.new) }
+        ensures grows { OnOk result (length (object_text self.old).procedures
+            ≤ length (object_text self.new).procedures) }
+    {
+        let place = self.components.limits().ints;
+        let named = Component::Int(place);
+        declare(alloc, &mut self.component_names, name, named)?;
         self.int_names.push(String::from_str(alloc, name)?)?;
-        self.components.add_int(Ranged { low, high, value });
+        self.components.add_int(component);
         Ok(())
     }
 
     /// Reads the rest of `bool NAME INIT`.
-    #[tactic(auto, using(rp_words::proofs::TablesLemmas::map_last), unfolding(crate::specs::Objects::bool_line))]
+    #[tactic(auto, unfolding(crate::specs::Objects::bool_line))]
     fn read_bool(
         &mut self,
         alloc: Global,
@@ -337,26 +346,38 @@ impl ObjectDraft {
         ensures grows { OnOk result (length (object_text self.old).procedures
             ≤ length (object_text self.new).procedures) }
     {
-        let place = self.components.limits().bools;
-        if place >= MOST_COMPONENTS {
+        if self.components.limits().bools >= MOST_COMPONENTS {
             return Err(LineError::Bad(DeckReason::TooMany));
         }
         let name = self.take_component_name(&mut words)?;
         let value = truth_named(words.take()?).ok_or(DeckReason::UnknownWord)?;
         words.end()?;
-        declare(
-            alloc,
-            &mut self.component_names,
-            name,
-            Component::Bool(place),
-        )?;
+        self.add_bool(alloc, name, value)
+    }
+
+    /// Adds a Boolean.
+    #[tactic(auto, using(rp_words::proofs::TablesLemmas::map_last))]
+    fn add_bool(&mut self, alloc: Global, name: &str, value: bool) -> Result<(), LineError>
+        requires new { is_declared name.now (key_names self.old.component_names) ≡ false }
+        requires room { len self.old.components.bools < 8 }
+        ensures text { OnOk result
+            (object_text self.new ≡ with_bool (object_text self.old) name.now value) }
+        ensures memory { IfErr result (λ error. error ≡ LineError.OutOfMemory) }
+        ensures object { (profile : Profile) → MayDeclare profile self.old
+            → OnOk result (IsObject profile self.new) }
+        ensures grows { OnOk result (length (object_text self.old).procedures
+            ≤ length (object_text self.new).procedures) }
+    {
+        let place = self.components.limits().bools;
+        let named = Component::Bool(place);
+        declare(alloc, &mut self.component_names, name, named)?;
         self.bool_names.push(String::from_str(alloc, name)?)?;
         self.components.add_bool(value);
         Ok(())
     }
 
     /// Reads the rest of `function NAME value EXPR` or `function NAME truth COND`.
-    #[tactic(auto, using(rp_words::proofs::TablesLemmas::map_last), unfolding(crate::specs::Objects::function_line))]
+    #[tactic(auto, unfolding(crate::specs::Objects::function_line))]
     fn read_function(
         &mut self,
         alloc: Global,
@@ -370,16 +391,38 @@ impl ObjectDraft {
         ensures grows { OnOk result (length (object_text self.old).procedures
             ≤ length (object_text self.new).procedures) }
     {
-        let index = Index::after(self.operations.functions.len()).ok_or(DeckReason::TooMany)?;
+        if self.operations.functions.len() >= MOST_OPERATIONS {
+            return Err(LineError::Bad(DeckReason::TooMany));
+        }
         let name = take_new_name(&mut words, &self.operation_names)?;
         let kind = FunctionKind::named(words.take()?);
         let function = self.take_function(alloc, kind, words)?;
-        declare(
-            alloc,
-            &mut self.operation_names,
-            name,
-            OperationName::Function(index),
-        )?;
+        self.add_function(alloc, name, function)
+    }
+
+    /// Adds a function.
+    #[tactic(auto, using(rp_words::proofs::TablesLemmas::map_last))]
+    fn add_function(
+        &mut self,
+        alloc: Global,
+        name: &str,
+        function: Function,
+    ) -> Result<(), LineError>
+        requires new { is_declared name.now (key_names self.old.operation_names) ≡ false }
+        requires room { length self.old.operations.functions.items < 8 }
+        requires fits { WhereCounted (values self.old.component_names)
+            (λ limits. FunctionFits limits function) }
+        ensures text { OnOk result (object_text self.new
+            ≡ with_function (object_text self.old) name.now (function_text function)) }
+        ensures memory { IfErr result (λ error. error ≡ LineError.OutOfMemory) }
+        ensures object { (profile : Profile) → MayDeclare profile self.old
+            → OnOk result (IsObject profile self.new) }
+        ensures grows { OnOk result (length (object_text self.old).procedures
+            ≤ length (object_text self.new).procedures) }
+    {
+        let index = Index::after(self.operations.functions.len()).unwrap();
+        let named = OperationName::Function(index);
+        declare(alloc, &mut self.operation_names, name, named)?;
         self.operations.functions.push(function)?;
         Ok(())
     }
@@ -546,6 +589,23 @@ fn take_queue(words: &mut Words<'_>) -> Result<u8, DeckReason>
     }
     let longest = words.take_number(1, LONGEST_QUEUE)?;
     Ok(longest as u8)
+}
+
+/// Takes `LOW HIGH INIT`.
+#[tactic(auto, unfolding(crate::specs::Objects::ranged_at))]
+fn take_ranged(words: &mut Words<'_>) -> Result<Ranged, DeckReason>
+    ensures read { Gives (λ component. (component, unread words.new)) result
+        (ranged_at (unread words.old)) }
+    ensures in_range { IfOk result (λ component.
+        is_within component.low component.high component.value ≡ true) }
+{
+    let low = words.take_integer()?;
+    let high = words.take_integer()?;
+    let value = words.take_integer()?;
+    if !is_within(low, high, value) {
+        return Err(DeckReason::BadNumber);
+    }
+    Ok(Ranged { low, high, value })
 }
 
 /// Whether the number is from low to high.

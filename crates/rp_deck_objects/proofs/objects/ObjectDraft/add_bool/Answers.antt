@@ -8,15 +8,15 @@ use Rattle.rp_deck_bodies.specs.declared.names.Component.{Component}
 use Rattle.rp_deck_bodies.specs.declared.names.Component.TheVariants.{Bool}
 use Rattle.rp_deck_objects.specs.ObjectLimits.{KeepsComponents}
 use Rattle.rp_deck_objects.proofs.ObjectLemmas.{same_components, bool_more, counted_front}
-use Rattle.rp_deck_objects.proofs.objects.ObjectDraft.read_bool.Goals as goal
+use Rattle.rp_deck_objects.proofs.objects.ObjectDraft.add_bool.Goals as goal
 
 pub returns-clause-object : goal.returns-clause-object
-returns-clause-object c =
+returns-clause-object c = λ profile may.
     let self = c.args.self.now in
-    let was = c.requires.object in
+    let was = may.object in
     let place = c.limits-place.result.bools in
     let is : place ≡ len self.components.bools = search rules in
-    let more = bool_more self.components (length self.int_names.items) (length self.bool_names.items) (values self.component_names) c.in_ok-value.value place was.components (omega (arith, is, c.if-place-ge-MOST_COMPONENTS.false)) is in
+    let more = bool_more self.components (length self.int_names.items) (length self.bool_names.items) (values self.component_names) c.args.value place was.components c.requires.room is in
     let count : length c.push.new.self.items ≡ length self.bool_names.items + 1 = search rules in
     let names : values c.declare.new.table ≡ values self.component_names ++ Bool place ∷ [] = c.in_ok-declare.ensures.values in
     record {

@@ -6,14 +6,14 @@ use Rattle.rp_entry.specs.declared.operations.Operations.{Operations}
 use Rattle.rp_deck_objects.specs.declared.names.OperationName.TheVariants.{Function}
 use Rattle.rp_deck_objects.proofs.Naming.{last_numbered, function_more, named_behind}
 use Rattle.rp_deck_objects.proofs.ObjectLemmas.{function_fits, same_entries}
-use Rattle.rp_deck_objects.proofs.objects.ObjectDraft.read_function.Goals as goal
+use Rattle.rp_deck_objects.proofs.objects.ObjectDraft.add_function.Goals as goal
 
 pub returns-clause-object : goal.returns-clause-object
-returns-clause-object c =
+returns-clause-object c = λ profile may.
     let self = c.args.self.now in
-    let was = c.requires.object in
-    let index = c.in_ok-index.index in
-    let function = c.in_ok-function.function in
+    let was = may.object in
+    let index = c.unwrap-index.result in
+    let function = c.args.function in
     let after : Operations = record { functions = c.push.new.self; procedures = self.operations.procedures; entries = self.operations.entries } in
     let number : index.number ≡ length self.operations.functions.items + 1 = search rules in
     let has : is_some (of_index after.functions.items index.number) ≡ true =
@@ -22,8 +22,8 @@ returns-clause-object c =
       ceiling = was.ceiling;
       components = was.components;
       entries = was.entries;
-      fit = λ limits counted. function_fits self.operations after limits function (omega (arith, number, index.in_range)) c.in_ok-push.ensures.items refl refl (was.fit limits counted) (c.in_ok-function.ensures.fits limits counted);
-      keeps = same_entries c.args.profile self.operations after refl was.keeps;
+      fit = λ limits counted. function_fits self.operations after limits function c.requires.room c.in_ok-push.ensures.items refl refl (was.fit limits counted) (c.requires.fits limits counted);
+      keeps = same_entries profile self.operations after refl was.keeps;
       named = named_behind self.operations after self.operation_names c.declare.new.table (Function index) c.in_ok-declare.ensures.values
           (function_more self.operations after function c.in_ok-push.ensures.items refl refl) has was.named;
       operation = search rules;

@@ -1,7 +1,5 @@
 -- What a deck declares (the limits are this project's own).
-use Rattle.std.specs.Prelude.{ℕ, ◌≡◌, ◌<◌, ◌≤◌, All, false, List, Option, Some, None, unwrap_or, String, string_bytes, length, map}
-use Rattle.std.specs.declared.alloc.Global.{Global}
-use Rattle.std.specs.FinMap.{len}
+use Rattle.std.specs.Prelude.{ℕ, ◌≡◌, ◌≤◌, All, false, List, Some, unwrap_or, String, length, map}
 use Rattle.std.specs.String.{string_eq}
 use Rattle.indexmap.specs.IndexMap.{IndexMap, index_map_len, values, IsUnique}
 use Rattle.indexmap.specs.IndexSet.{IndexSet, index_set_len}
@@ -10,26 +8,12 @@ use Rattle.rp_deck_declarations.specs.declared.deck_program.DeckProgram.{DeckPro
 use Rattle.rp_deck_declarations.specs.Programs.{object_count, DeclaresAll, AreNamesOf}
 use Rattle.rp_deck_declarations.specs.declared.declarations.Declared.{Declared}
 use Rattle.rp_deck_declarations.specs.declared.draft.Draft.{Draft}
-use Rattle.rp_deck_bodies.specs.declared.names.Component.{Component}
-use Rattle.rp_deck_objects.specs.declared.objects.Head.{Head}
-use Rattle.rp_deck_objects.specs.declared.objects.Head.TheVariants.{Procedure, Entry}
 use Rattle.rp_deck_objects.specs.declared.objects.ObjectDraft.{ObjectDraft}
-use Rattle.rp_deck_objects.specs.declared.objects.OperationDraft.{OperationDraft}
-use Rattle.rp_body.specs.Store.{Store, limits_of}
-use Rattle.rp_body.specs.Ranges.{IsInRange, IsNumbered}
-use Rattle.rp_body.specs.declared.components.Limits.{Limits}
-use Rattle.rp_entry.specs.Operations.{of_index, OperationsFit}
-use Rattle.rp_entry.specs.declared.operations.Operations.{Operations}
-use Rattle.rp_object.specs.Program.{IsPriority, EndsFit, KeepsProfile}
-use Rattle.rp_deck_bodies.specs.BodyLimits.{IsBody}
-use Rattle.rp_deck_bodies.specs.Counted.{AreCounted, WhereCounted}
-use Rattle.rp_object.specs.declared.program.Profile.{Profile}
-use Rattle.rp_object.specs.declared.program.Profile.TheVariants.{Ravenscar, Jorvik}
+use Rattle.rp_entry.specs.Operations.{of_index}
+use Rattle.rp_object.specs.declared.program.Profile.TheVariants.{Ravenscar}
 use Rattle.rp_object.specs.declared.program.Handler.{Handler}
 use Rattle.rp_deck_objects.specs.ObjectViews.{object_text}
-use Rattle.rp_deck_objects.specs.ObjectLimits.{IsObject, AreNamed}
-use Rattle.rp_deck_objects.specs.Objects.{most_entries}
-use Rattle.rp_words.specs.Tables.{is_declared, key_names}
+use Rattle.rp_deck_objects.specs.ObjectLimits.{IsObject}
 
 abbrev pub IsNodeCount : ℕ → Type 0
 IsNodeCount n = (3 ≤ n) × (n ≤ 7)

@@ -1,18 +1,10 @@
 -- What is declared so far, as the text says it.
-use Rattle.std.specs.Prelude.{ℕ, map, option_map, string_bytes}
+use Rattle.std.specs.Prelude.{ℕ, map}
 use Rattle.indexmap.specs.IndexMap.{values}
-use Rattle.rp_entry.specs.declared.operations.Entry.{Entry}
-use Rattle.rp_entry.specs.declared.operations.Function.{Function}
-use Rattle.rp_entry.specs.declared.operations.Function.TheVariants as functions
 use Rattle.rp_deck_declarations.specs.declared.deck_program.Task.{Task}
 use Rattle.rp_deck_declarations.specs.declared.draft.Draft.{Draft}
-use Rattle.rp_deck_objects.specs.declared.objects.ObjectDraft.{ObjectDraft}
-use Rattle.rp_deck_objects.specs.declared.objects.OperationDraft.{OperationDraft}
-use Rattle.rp_deck_objects.specs.ObjectViews.{object_text, operation_of}
+use Rattle.rp_deck_objects.specs.ObjectViews.{object_text}
 use Rattle.rp_words.specs.Tables.{key_names, set_names}
-use Rattle.rp_deck_bodies.specs.BodyViews.{body_text, body_draft_text}
-use Rattle.rp_deck_bodies.specs.ExpressionViews.{expr_text, cond_text}
-use Rattle.rp_deck_objects.specs.Objects.{FunctionText, Value, Truth, EntryText, OpenOperationText, ObjectText}
 use Rattle.rp_deck_declarations.specs.Drafts.{DraftText}
 
 abbrev pub priority_of : Task → ℕ

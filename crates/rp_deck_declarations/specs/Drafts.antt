@@ -1,21 +1,15 @@
 -- What a deck declares so far, and how each line adds to it.
-use Rattle.std.specs.Prelude.{ℕ, zero, suc, ◌+◌, ◌-◌, ◌&&◌, ◌==◌, Bool, true, false, not, nat_lt, List, [], ◌∷◌, ◌++◌, codes, length, slice_get, Option, Some, None, is_some, unwrap_or, Result, Ok, if◌then◌else◌}
-use Rattle.std.specs.FinMap.{empty}
+use Rattle.std.specs.Prelude.{ℕ, zero, suc, ◌+◌, ◌-◌, ◌&&◌, ◌==◌, Bool, true, false, not, List, [], ◌∷◌, ◌++◌, codes, length, slice_get, Option, Some, None, is_some, unwrap_or, Result, Ok, if◌then◌else◌}
 use Rattle.std.specs.Str.{bytes_eq}
 use Rattle.rp_base.specs.declared.action.Operation.{Operation}
 use Rattle.rp_base.specs.declared.action.Operation.TheVariants as operations
 use Rattle.rp_base.specs.declared.fault.DeckReason.{DeckReason}
-use Rattle.rp_base.specs.declared.fault.DeckReason.TheVariants.{NodesExpected, TooMany, UnknownWord, UnknownName, TaskExpected, ObjectExpected}
-use Rattle.rp_body.specs.Store.{Store}
+use Rattle.rp_base.specs.declared.fault.DeckReason.TheVariants.{NodesExpected, UnknownWord, UnknownName, TaskExpected, ObjectExpected}
 use Rattle.rp_object.specs.declared.program.Handler.{Handler}
 use Rattle.rp_object.specs.declared.program.Profile.{Profile as ProgramProfile}
 use Rattle.rp_object.specs.declared.program.Profile.TheVariants.{Ravenscar, Jorvik}
 use Rattle.rp_deck_declarations.specs.declared.draft.Kind.{Kind}
 use Rattle.rp_deck_declarations.specs.declared.draft.Kind.TheVariants.{Positions, Profile, Task, Tally, Object, Interrupt, Timer}
-use Rattle.rp_deck_bodies.specs.declared.names.Component.{Component}
-use Rattle.rp_deck_objects.specs.declared.objects.Head.{Head}
-use Rattle.rp_deck_bodies.specs.Bodies.{BodyText, OpenBodyText}
-use Rattle.rp_deck_bodies.specs.Expressions.{ExprText, CondText}
 use Rattle.rp_words.specs.Lines.{LineText}
 use Rattle.rp_words.specs.Tables.{place_of, find}
 use Rattle.rp_words.specs.Reading.{room, ◌>>=◌, some_or, unless, word_at, end_at, new_name_at, number_at, dotted_of}
@@ -186,23 +180,26 @@ handler_at d words = do
   procedure ← some_or UnknownName (procedure_of (find names.1 object.operation_names object.operations))
   Ok (record { object = place + 1; procedure = procedure }, word.1)
 
+-- `NAME OBJECT.PROCEDURE`, where the name is not among these
+unfoldable pub handled_at : DraftText → List (List ℕ) → List ℕ → Result (List ℕ × Handler) DeckReason
+handled_at d names words = do
+  few ← room 8 (length names)
+  name ← new_name_at names words
+  handler ← handler_at d name.1
+  e ← end_at handler.1
+  Ok (name.0, handler.0)
+
 -- `interrupt NAME OBJECT.PROCEDURE`
 unfoldable pub interrupt_line : DraftText → List ℕ → Result DraftText DeckReason
 interrupt_line d words = do
-  few ← room 8 (length d.interrupts)
-  name ← new_name_at d.interrupts words
-  handler ← handler_at d name.1
-  e ← end_at handler.1
-  Ok (record d { interrupts = d.interrupts ++ name.0 ∷ []; interrupt_handlers = d.interrupt_handlers ++ handler.0 ∷ [] })
+  new ← handled_at d d.interrupts words
+  Ok (record d { interrupts = d.interrupts ++ new.0 ∷ []; interrupt_handlers = d.interrupt_handlers ++ new.1 ∷ [] })
 
 -- `timer NAME OBJECT.PROCEDURE`
 unfoldable pub timer_line : DraftText → List ℕ → Result DraftText DeckReason
 timer_line d words = do
-  few ← room 8 (length d.timers)
-  name ← new_name_at d.timers words
-  handler ← handler_at d name.1
-  e ← end_at handler.1
-  Ok (record d { timers = d.timers ++ name.0 ∷ []; timer_handlers = d.timer_handlers ++ handler.0 ∷ [] })
+  new ← handled_at d d.timers words
+  Ok (record d { timers = d.timers ++ new.0 ∷ []; timer_handlers = d.timer_handlers ++ new.1 ∷ [] })
 
 -- a line that declares something of this kind
 abbrev pub declaration_line : DraftText → Kind → List ℕ → Result DraftText DeckReason

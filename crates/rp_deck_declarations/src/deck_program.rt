@@ -6,14 +6,14 @@ use rp_machine::TallyProgram;
 use rp_object::{Handler, Program};
 
 /// A task that is declared.
-#[derive(Clone, Copy, Debug, PartialEq, Eq)]
+#[derive(Clone, Copy)]
 pub struct Task {
     pub priority: u8,
     ghost in_range: { (1 ≤ priority) × (priority ≤ 30) },
 }
 
 /// What the tasks call.
-#[derive(Debug, Drop)]
+#[derive(Drop)]
 pub enum DeckProgram {
     /// So many sums.
     Tally(TallyProgram),

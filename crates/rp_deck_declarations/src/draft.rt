@@ -1,14 +1,17 @@
 //! What a deck declares so far, and the lines by which it goes on.
 
-ghost use Rattle.std.specs.Prelude.{◌≡◌, ◌≤◌, ◌<◌, ◌∷◌, ◌++◌, [], All, true, false, length, IfSome, IfOk, IfErr, OnOk};
+ghost use Rattle.std.specs.Prelude.{◌≡◌, ◌≤◌, ◌<◌, ◌∷◌, ◌++◌, [], All, true, false, length, option_map, IfSome, IfOk, IfErr, OnOk};
 ghost use Rattle.indexmap.specs.IndexMap.{index_map_len};
 ghost use Rattle.indexmap.specs.IndexSet.{index_set_len};
 ghost use Rattle.rp_words.specs.Ahead.{text_of};
 ghost use Rattle.rp_deck_declarations.specs.DraftViews.{draft_text};
-ghost use Rattle.rp_deck_declarations.specs.Drafts.{is_new, empty_draft, profile_of, last_object, is_in_body, kind_named, allows, kind_of, profile_named, positions_line, profile_line, task_line, tally_name, tally_names, tally_line, object_line, handler_at, interrupt_line, timer_line, declaration_line, script_line};
+ghost use Rattle.rp_deck_declarations.specs.Drafts.{is_new, empty_draft, profile_of, last_object, is_in_body, kind_named, allows, kind_of, profile_named, positions_line, profile_line, task_line, tally_name, tally_names, tally_line, object_line, procedure_of, handler_at, handled_at, interrupt_line, timer_line, declaration_line, script_line};
 ghost use Rattle.rp_deck_declarations.specs.Declaring.{object_line_of, declaring_line, ends_declarations, missing};
 ghost use Rattle.rp_words.specs.Reading.{Gives, Makes};
-ghost use Rattle.rp_words.specs.Tables.{place_of, set_names};
+ghost use Rattle.rp_words.specs.Tables.{is_declared, place_of, find, key_names, set_names};
+ghost use Rattle.rp_base.specs.declared.action.Operation.TheVariants.{Procedure};
+ghost use Rattle.rp_object.specs.Program.{has_operation};
+ghost use Rattle.rp_deck_objects.specs.ObjectViews.{object_text};
 ghost use Rattle.rp_words.specs.Words.{unread};
 ghost use Rattle.rp_deck_declarations.specs.Declarations.{IsNodeCount, IsNameSet, procedure_counts, IsHandled, IsDraft, IsFinishable};
 ghost use Rattle.rp_deck_objects.specs.ObjectLimits.{IsObject};
@@ -16,7 +19,7 @@ ghost use Rattle.rp_deck_objects.specs.ObjectLimits.{IsObject};
 use crate::deck_program::Task;
 use indexmap::{IndexMap, IndexSet};
 use rp_base::{DeckReason, Position};
-use rp_deck_objects::{ObjectDraft, OperationName};
+use rp_deck_objects::{Index, ObjectDraft, OperationName};
 use rp_object::{Handler, Profile};
 use rp_words::{
     LineError, TextLine, Words, add_name, declare, is_word, read_dotted, take_name_not_in,
@@ -53,7 +56,7 @@ pub struct Draft {
 }
 
 /// A declaration of the deck's own, which belongs to no object.
-#[derive(Clone, Copy, Debug, PartialEq, Eq)]
+#[derive(Clone, Copy)]
 pub enum Kind {
     Positions,
     Profile,
@@ -323,38 +326,52 @@ impl Draft {
 
     /// Reads the rest of `interrupt NAME OBJECT.PROCEDURE`.
     #[tactic(auto, using(rp_words::proofs::TablesLemmas::map_last), unfolding(crate::specs::Drafts::interrupt_line))]
-    fn read_interrupt(&mut self, alloc: Global, mut words: Words<'_>) -> Result<(), LineError>
+    fn read_interrupt(&mut self, alloc: Global, words: Words<'_>) -> Result<(), LineError>
         requires { IsDraft self.old }
         ensures read { Makes (λ _. draft_text self.new) result
             (interrupt_line (draft_text self.old) (unread words.entry)) }
         ensures draft { OnOk result (IsDraft self.new × (self.new.nodes ≡ self.old.nodes)) }
     {
-        if self.interrupts.len() >= MOST {
-            return Err(LineError::Bad(DeckReason::TooMany));
-        }
-        let name = take_new_name(&mut words, &self.interrupts)?;
-        let handler = self.take_handler(&mut words)?;
-        words.end()?;
+        let (name, handler) = self.take_handled(words, &self.interrupts)?;
         declare(alloc, &mut self.interrupts, name, handler)?;
         Ok(())
     }
 
     /// Reads the rest of `timer NAME OBJECT.PROCEDURE`.
     #[tactic(auto, using(rp_words::proofs::TablesLemmas::map_last), unfolding(crate::specs::Drafts::timer_line))]
-    fn read_timer(&mut self, alloc: Global, mut words: Words<'_>) -> Result<(), LineError>
+    fn read_timer(&mut self, alloc: Global, words: Words<'_>) -> Result<(), LineError>
         requires { IsDraft self.old }
         ensures read { Makes (λ _. draft_text self.new) result
             (timer_line (draft_text self.old) (unread words.entry)) }
         ensures draft { OnOk result (IsDraft self.new × (self.new.nodes ≡ self.old.nodes)) }
     {
-        if self.timers.len() >= MOST {
-            return Err(LineError::Bad(DeckReason::TooMany));
-        }
-        let name = take_new_name(&mut words, &self.timers)?;
-        let handler = self.take_handler(&mut words)?;
-        words.end()?;
+        let (name, handler) = self.take_handled(words, &self.timers)?;
         declare(alloc, &mut self.timers, name, handler)?;
         Ok(())
+    }
+
+    /// The rest of the line, a name that the table does not have and a procedure of an object.
+    #[tactic(auto, unfolding(crate::specs::Drafts::handled_at))]
+    fn take_handled<'w>(
+        &self,
+        mut words: Words<'w>,
+        table: &IndexMap<String, Handler>,
+    ) -> Result<(&'w str, Handler), DeckReason>
+        requires { IsNameSet self.now.objects }
+        ensures few { OnOk result (index_map_len table.now < 8) }
+        ensures new { IfOk result (λ new. is_declared new.0.now (key_names table.now) ≡ false) }
+        ensures handled { (profile : Profile) → All (IsObject profile) self.now.drafts.items
+            → IfOk result (λ new. IsHandled (procedure_counts self.now.drafts.items) new.1) }
+        ensures read { Gives (λ new. (new.0.now, new.1)) result
+            (handled_at (draft_text self.now) (key_names table.now) (unread words.entry)) }
+    {
+        if table.len() >= MOST {
+            return Err(DeckReason::TooMany);
+        }
+        let name = take_new_name(&mut words, table)?;
+        let handler = self.take_handler(&mut words)?;
+        words.end()?;
+        Ok((name, handler))
     }
 
     /// The next word, a procedure of an object.
@@ -371,13 +388,13 @@ impl Draft {
         let Some(draft) = self.drafts.get(place) else {
             return Err(DeckReason::UnknownName);
         };
-        match draft.operation(procedure) {
-            Some(OperationName::Procedure(index)) => Ok(Handler {
-                object: place as u8 + 1,
-                procedure: index.number,
-            }),
-            _ => Err(DeckReason::UnknownName),
-        }
+        let Some(index) = procedure_named(draft, procedure) else {
+            return Err(DeckReason::UnknownName);
+        };
+        Ok(Handler {
+            object: place as u8 + 1,
+            procedure: index.number,
+        })
     }
 
     /// Ends the declarations, at `script`.
@@ -394,6 +411,20 @@ impl Draft {
             return Err(DeckReason::ObjectExpected);
         }
         words.end()
+    }
+}
+
+/// The number of the object's procedure of this name.
+fn procedure_named(object: &ObjectDraft, name: &str) -> Option<Index>
+    ensures number { option_map (λ index. index.number) result
+        ≡ procedure_of (find name.now (object_text object.now).operation_names
+        (object_text object.now).operations) }
+    ensures handled { IfSome result (λ index. (profile : Profile) → IsObject profile object.now
+        → has_operation (Procedure index.number) object.now.operations ≡ true) }
+{
+    match object.operation(name)? {
+        OperationName::Procedure(index) => Some(index),
+        _ => None,
     }
 }
 

@@ -11,7 +11,7 @@ pub returns-clause-draft : goal.returns-clause-draft
 returns-clause-draft c =
     let self = c.args.self.now in
     let handled = IsHandled (procedure_counts self.drafts.items) in
-    let more = all_last handled (values self.timers) c.in_ok-handler.handler c.requires.timers_handled (c.in_ok-handler.ensures.handled (unwrap_or self.profile Ravenscar) c.requires.kept) in (
+    let more = all_last handled (values self.timers) c.in_ok-name.handler c.requires.timers_handled (c.in_ok-name.ensures.handled (unwrap_or self.profile Ravenscar) c.requires.kept) in (
       record {
         nodes = search rules;
         tasks = search rules;

@@ -176,17 +176,6 @@ again_at d words = do
   node ← number_at 1 d.nodes task.1
   Ok (Again task.0 node.0, node.1)
 
--- `stop NODE`, `restart NODE`
-unfoldable pub stop_at : ℕ → List ℕ → Result (Event × List ℕ) DeckReason
-stop_at nodes words = do
-  node ← number_at 1 nodes words
-  Ok (Stop node.0, node.1)
-
-unfoldable pub restart_at : ℕ → List ℕ → Result (Event × List ℕ) DeckReason
-restart_at nodes words = do
-  node ← number_at 1 nodes words
-  Ok (Restart node.0, node.1)
-
 -- `cut KEPT lead NODE [POSITION]`, `cut KEPT deliver M`
 unfoldable pub cut_at : ℕ → List ℕ → Result (Event × List ℕ) DeckReason
 cut_at nodes words = do
@@ -204,7 +193,7 @@ lose_at words = do
   last ← last_at first.0 first.1
   Ok (Lose first.0 last.0, last.1)
 
--- what a line asks for, by its first word
+-- what a line asks for, by its first word; after `stop` and `restart` that is NODE
 abbrev pub command_at : DeclaredNames → Verb → List ℕ → Result (CommandText × List ℕ) DeckReason
 command_at d verbs.Call words = made_of Take (call_at d words)
 command_at d verbs.Arm words = made_of Take (arm_at d words)
@@ -214,8 +203,8 @@ command_at d verbs.Lead words = made_of (λ step. Take (Makes step)) (lead_at d.
 command_at d verbs.Deliver words = made_of (λ step. Take (Makes step)) (deliver_at words)
 command_at d verbs.Lose words = lose_at words
 command_at d verbs.Drain words = Ok (Drain, words)
-command_at d verbs.Stop words = made_of Take (stop_at d.nodes words)
-command_at d verbs.Restart words = made_of Take (restart_at d.nodes words)
+command_at d verbs.Stop words = made_of (λ node. Take (Stop node)) (number_at 1 d.nodes words)
+command_at d verbs.Restart words = made_of (λ node. Take (Restart node)) (number_at 1 d.nodes words)
 command_at d verbs.Cut words = made_of Take (cut_at d.nodes words)
 command_at d verbs.Interrupt words = made_of (λ step. Take (Makes step)) (interrupt_at d words)
 command_at d verbs.Tick words = made_of (λ step. Take (Makes step)) (tick_at d.nodes words)

@@ -48,7 +48,7 @@ pub fn read_call(words: &mut Words<'_>, declared: &Declared) -> Result<Event, De
 }
 
 /// An operation of an object, both by number.
-#[derive(Clone, Copy, Debug, PartialEq, Eq)]
+#[derive(Clone, Copy)]
 struct Called {
     object: u8,
     operation: Operation,
@@ -141,7 +141,7 @@ pub fn read_disarm(words: &mut Words<'_>, declared: &Declared) -> Result<Event, 
 }
 
 /// A timing event: its number, and the object of its handler.
-#[derive(Clone, Copy, Debug, PartialEq, Eq)]
+#[derive(Clone, Copy)]
 struct Timer {
     index: Index,
     object: u8,

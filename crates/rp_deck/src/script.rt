@@ -8,7 +8,7 @@ ghost use Rattle.rp_words.specs.LineFaults.{IsDeckFault, Reads};
 ghost use Rattle.rp_deck.specs.Live.{IsLiveCommand, IsTaken};
 ghost use Rattle.rp_words.specs.Reading.{Gives};
 ghost use Rattle.rp_deck.specs.Script.{IsRightCommand, IsRightLine, IsRightEvent, IsStepDeclared, IsStepWithin, IsEventDeclared, IsEventWithin, IsCommandDeclared, IsMessage, FitsIn};
-ghost use Rattle.rp_deck.specs.ScriptLines.{script_of, command_line, command_at, is_live, lose_at, last_at, message_at, lead_at, deliver_at, position_at, step_from, again_at, stop_at, restart_at, cut_at};
+ghost use Rattle.rp_deck.specs.ScriptLines.{script_of, command_line, command_at, is_live, lose_at, last_at, message_at, lead_at, deliver_at, position_at, step_from, again_at, cut_at};
 ghost use Rattle.rp_deck_declarations.specs.DeclaredViews.{names_of};
 ghost use Rattle.rp_deck.specs.DeckViews.{command_text, line_command};
 ghost use Rattle.rp_words.specs.Words.{unread};
@@ -92,8 +92,8 @@ fn command_of(verb: Verb, words: &mut Words<'_>, declared: &Declared) -> Result<
         Verb::Arm => Ok(Command::Take(read_arm(words, declared)?)),
         Verb::Disarm => Ok(Command::Take(read_disarm(words, declared)?)),
         Verb::Again => Ok(Command::Take(read_again(words, declared)?)),
-        Verb::Stop => Ok(Command::Take(read_stop(words, declared.nodes)?)),
-        Verb::Restart => Ok(Command::Take(read_restart(words, declared.nodes)?)),
+        Verb::Stop => Ok(Command::Take(Event::Stop(read_node(words, declared.nodes)?))),
+        Verb::Restart => Ok(Command::Take(Event::Restart(read_node(words, declared.nodes)?))),
         Verb::Cut => Ok(Command::Take(read_cut(words, declared.nodes)?)),
         Verb::Lead => Ok(Command::Take(Event::Node(read_lead(words, declared.nodes)?))),
         Verb::Deliver => Ok(Command::Take(Event::Node(read_deliver(words)?))),
@@ -116,34 +116,6 @@ fn read_again(words: &mut Words<'_>, declared: &Declared) -> Result<Event, DeckR
     let task = read_task(words, declared)?;
     let node = read_node(words, declared.nodes)?;
     Ok(Event::Again { task, node })
-}
-
-/// Reads the rest of `stop NODE`.
-#[tactic(auto, unfolding(crate::specs::ScriptLines::stop_at))]
-fn read_stop(words: &mut Words<'_>, nodes: u8) -> Result<Event, DeckReason>
-    requires { nodes ≤ 7 }
-    ensures read { Gives (λ event. (event_of event, unread words.new)) result
-        (stop_at nodes (unread words.old)) }
-    ensures within { IfOk result (λ event. (tasks objects : ℕ)
-        → IsEventWithin nodes tasks objects event) }
-    ensures declared { IfOk result (λ event. (program : DeckProgram) (interrupts : ℕ)
-        → IsEventDeclared program interrupts event) }
-{
-    Ok(Event::Stop(read_node(words, nodes)?))
-}
-
-/// Reads the rest of `restart NODE`.
-#[tactic(auto, unfolding(crate::specs::ScriptLines::restart_at))]
-fn read_restart(words: &mut Words<'_>, nodes: u8) -> Result<Event, DeckReason>
-    requires { nodes ≤ 7 }
-    ensures read { Gives (λ event. (event_of event, unread words.new)) result
-        (restart_at nodes (unread words.old)) }
-    ensures within { IfOk result (λ event. (tasks objects : ℕ)
-        → IsEventWithin nodes tasks objects event) }
-    ensures declared { IfOk result (λ event. (program : DeckProgram) (interrupts : ℕ)
-        → IsEventDeclared program interrupts event) }
-{
-    Ok(Event::Restart(read_node(words, nodes)?))
 }
 
 /// Reads the rest of `cut KEPT lead NODE [POSITION]` or `cut KEPT deliver M`.

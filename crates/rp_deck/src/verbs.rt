@@ -7,7 +7,7 @@ use crate::deck::Mode;
 use rp_words::is_word;
 
 /// The first word of a line of the script.
-#[derive(Clone, Copy, Debug, PartialEq, Eq)]
+#[derive(Clone, Copy)]
 pub enum Verb {
     Call,
     Arm,

@@ -1,12 +1,6 @@
 -- A step or an event that names so many nodes names what is declared.
 use Rattle.rp_deck.proofs.script.command_of.Goals as goal
 
-pub returns-in_ok-read_stop-in-Stop-clause-right : goal.returns-in_ok-read_stop-in-Stop-clause-right
-returns-in_ok-read_stop-in-Stop-clause-right c = (c.in_ok-read_stop-in-Stop.ensures.within _ _, c.in_ok-read_stop-in-Stop.ensures.declared _ _)
-
-pub returns-in_ok-read_restart-in-Restart-clause-right : goal.returns-in_ok-read_restart-in-Restart-clause-right
-returns-in_ok-read_restart-in-Restart-clause-right c = (c.in_ok-read_restart-in-Restart.ensures.within _ _, c.in_ok-read_restart-in-Restart.ensures.declared _ _)
-
 pub returns-in_ok-read_cut-in-Cut-clause-right : goal.returns-in_ok-read_cut-in-Cut-clause-right
 returns-in_ok-read_cut-in-Cut-clause-right c = (c.in_ok-read_cut-in-Cut.ensures.within _ _, c.in_ok-read_cut-in-Cut.ensures.declared _ _)
 

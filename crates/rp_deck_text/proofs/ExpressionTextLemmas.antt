@@ -15,7 +15,7 @@ use Rattle.rp_base.specs.declared.fault.DeckReason.TheVariants.{BadExpression, U
 use Rattle.rp_deck_bodies.specs.declared.expressions.CondWord.TheVariants as words
 use Rattle.rp_deck_bodies.specs.declared.names.Component.{Component}
 use Rattle.rp_deck_bodies.specs.declared.names.Component.TheVariants as components
-use Rattle.rp_deck_bodies.specs.Expressions.{ExprText, Number, Arg, Out, Int, Add, Sub, CondText, Constant, Named, Less, LessOrEqual, Equal, Not, And, Or, component_of, int_of, bool_of, int_place, bool_place, node_at, two_at, one_at, expr_from, expr_at, expr_line, cond_of, cond_at, cond_line, cond_word_named, expression_words}
+use Rattle.rp_deck_bodies.specs.Expressions.{ExprText, Number, Arg, Out, Int, Add, Sub, CondText, Constant, Named, Less, LessOrEqual, Equal, Not, And, Or, component_of, int_of, bool_of, int_place, bool_place, node_at, two_at, one_at, tree_at, tree_line, expr_from, expr_at, expr_line, cond_of, cond_at, cond_line, cond_word_named, expression_words}
 use Rattle.rp_deck_text.specs.ExpressionTexts.{is_int, is_bool, component_name, expr_nodes, cond_nodes, HasOne, AreComponents, expr_words, truth_word, cond_words, IsExprOf, IsCondOf}
 use Rattle.rp_words.specs.Reading.{◌>>=◌, some_or, unless, name_of}
 use Rattle.rp_deck_text.specs.ScriptText.{spaced, is_distinct}
@@ -112,7 +112,7 @@ module _ (names : List (List ℕ)) (declared : List Component) where
   some_left : (left : ℕ) → 1 ≤ left → (left == 0) ≡ false
   some_left left some = grind (arith, nat_tests)
 
-  node_back : (left : ℕ) (word : List ℕ) (words : List (List ℕ)) → is_solid word ≡ true → 1 ≤ left → node_at names declared left (spaced (word ∷ words)) ≡ Ok (word, left - 1, spaced words)
+  node_back : (left : ℕ) (word : List ℕ) (words : List (List ℕ)) → is_solid word ≡ true → 1 ≤ left → node_at left (spaced (word ∷ words)) ≡ Ok (word, left - 1, spaced words)
   unfolding node_at
   node_back left word words solid some = rw (word_back word words solid, some_left left some) refl
 
@@ -120,7 +120,7 @@ module _ (names : List (List ℕ)) (declared : List Component) where
 
   expr_step : (depth left : ℕ) (word : List ℕ) (words : List (List ℕ)) → is_solid word ≡ true → 1 ≤ left
       → expr_at names declared (suc depth) left (spaced (word ∷ words)) ≡ expr_from names declared (expr_at names declared depth) word (left - 1) (spaced words)
-  unfolding expr_at
+  unfolding tree_at
   expr_step depth left word words solid some =
       ap (λ (r : Result (List ℕ × ℕ × List ℕ) DeckReason). r >>= (λ (n : List ℕ × ℕ × List ℕ). expr_from names declared (expr_at names declared depth) n.0 n.1 n.2)) (node_back left word words solid some)
 
@@ -132,11 +132,11 @@ module _ (names : List (List ℕ)) (declared : List Component) where
   unfolding expr_from
   from_out part left rest = refl
 
-  from_add : (part : ℕ → List ℕ → Result (ExprText × ℕ × List ℕ) DeckReason) (left : ℕ) (rest : List ℕ) → expr_from names declared part (codes "add") left rest ≡ two_at names declared part Add left rest
+  from_add : (part : ℕ → List ℕ → Result (ExprText × ℕ × List ℕ) DeckReason) (left : ℕ) (rest : List ℕ) → expr_from names declared part (codes "add") left rest ≡ two_at part Add left rest
   unfolding expr_from
   from_add part left rest = refl
 
-  from_sub : (part : ℕ → List ℕ → Result (ExprText × ℕ × List ℕ) DeckReason) (left : ℕ) (rest : List ℕ) → expr_from names declared part (codes "sub") left rest ≡ two_at names declared part Sub left rest
+  from_sub : (part : ℕ → List ℕ → Result (ExprText × ℕ × List ℕ) DeckReason) (left : ℕ) (rest : List ℕ) → expr_from names declared part (codes "sub") left rest ≡ two_at part Sub left rest
   unfolding expr_from
   from_sub part left rest = refl
 
@@ -208,11 +208,11 @@ module _ (names : List (List ℕ)) (declared : List Component) where
 
   two_back : {X Y : Type 0} (part : ℕ → List ℕ → Result (X × ℕ × List ℕ) DeckReason) (make : X → X → Y) (left n m : ℕ) (one two more : List (List ℕ)) (a b : X)
       → part left (spaced (one ++ (two ++ more))) ≡ Ok (a, left - n, spaced (two ++ more)) → part (left - n) (spaced (two ++ more)) ≡ Ok (b, left - n - m, spaced more)
-      → two_at names declared part make left (spaced ((one ++ two) ++ more)) ≡ Ok (make a b, left - n - m, spaced more)
+      → two_at part make left (spaced ((one ++ two) ++ more)) ≡ Ok (make a b, left - n - m, spaced more)
   two_back part make left n m one two more a b first second = rw (append_assoc one two more, first, second) refl
 
   one_back : {X Y : Type 0} (part : ℕ → List ℕ → Result (X × ℕ × List ℕ) DeckReason) (make : X → Y) (left n : ℕ) (rest : List ℕ) (more : List (List ℕ)) (a : X)
-      → part left rest ≡ Ok (a, left - n, spaced more) → one_at names declared part make left rest ≡ Ok (make a, left - n, spaced more)
+      → part left rest ≡ Ok (a, left - n, spaced more) → one_at part make left rest ≡ Ok (make a, left - n, spaced more)
   one_back part make left n rest more a is = rw is refl
 
   some_nodes : (e : ExprText) → 1 ≤ expr_nodes e
@@ -260,7 +260,7 @@ module _ (names : List (List ℕ)) (declared : List Component) where
 
   -- a whole expression
   pub expr_line_back : (e : ExprText) → AreComponents names declared → IsExprOf names declared e → expr_nodes e ≤ 32 → expr_line names declared (spaced (expr_words names declared e)) ≡ Ok e
-  unfolding expr_line
+  unfolding tree_line
   expr_line_back e c is few =
       let read : expr_at names declared 32 32 (spaced (expr_words names declared e)) ≡ Ok (e, 32 - expr_nodes e, spaced []) =
       subst (λ (l : List (List ℕ)). expr_at names declared 32 32 (spaced l) ≡ Ok (e, 32 - expr_nodes e, spaced [])) (append-nil (expr_words names declared e)) (expr_back 31 32 e [] c is few few) in
@@ -270,7 +270,7 @@ module _ (names : List (List ℕ)) (declared : List Component) where
 
   cond_step : (depth left : ℕ) (word : List ℕ) (rest : List (List ℕ)) → is_solid word ≡ true → 1 ≤ left
       → cond_at names declared (suc depth) left (spaced (word ∷ rest)) ≡ cond_of names declared (cond_at names declared depth) (cond_word_named word) word (left - 1) (spaced rest)
-  unfolding cond_at
+  unfolding tree_at
   cond_step depth left word rest solid some =
       ap (λ (r : Result (List ℕ × ℕ × List ℕ) DeckReason). r >>= (λ (n : List ℕ × ℕ × List ℕ). cond_of names declared (cond_at names declared depth) (cond_word_named n.0) n.0 n.1 n.2)) (node_back left word rest solid some)
 
@@ -287,27 +287,27 @@ module _ (names : List (List ℕ)) (declared : List Component) where
       let free = free_of word is.is_free in
       rw (free.is_true, free.is_false, free.lt, free.le, free.eq, free.negated, free.both_of, free.one_of, bool_back place word is) refl
 
-  from_less : (part : ℕ → List ℕ → Result (CondText × ℕ × List ℕ) DeckReason) (left : ℕ) (rest : List ℕ) → cond_of names declared part (cond_word_named (codes "lt")) (codes "lt") left rest ≡ two_at names declared (expr_at names declared 32) Less left rest
+  from_less : (part : ℕ → List ℕ → Result (CondText × ℕ × List ℕ) DeckReason) (left : ℕ) (rest : List ℕ) → cond_of names declared part (cond_word_named (codes "lt")) (codes "lt") left rest ≡ two_at (expr_at names declared 32) Less left rest
   unfolding cond_of
   from_less part left rest = refl
 
-  from_less_or_equal : (part : ℕ → List ℕ → Result (CondText × ℕ × List ℕ) DeckReason) (left : ℕ) (rest : List ℕ) → cond_of names declared part (cond_word_named (codes "le")) (codes "le") left rest ≡ two_at names declared (expr_at names declared 32) LessOrEqual left rest
+  from_less_or_equal : (part : ℕ → List ℕ → Result (CondText × ℕ × List ℕ) DeckReason) (left : ℕ) (rest : List ℕ) → cond_of names declared part (cond_word_named (codes "le")) (codes "le") left rest ≡ two_at (expr_at names declared 32) LessOrEqual left rest
   unfolding cond_of
   from_less_or_equal part left rest = refl
 
-  from_equal : (part : ℕ → List ℕ → Result (CondText × ℕ × List ℕ) DeckReason) (left : ℕ) (rest : List ℕ) → cond_of names declared part (cond_word_named (codes "eq")) (codes "eq") left rest ≡ two_at names declared (expr_at names declared 32) Equal left rest
+  from_equal : (part : ℕ → List ℕ → Result (CondText × ℕ × List ℕ) DeckReason) (left : ℕ) (rest : List ℕ) → cond_of names declared part (cond_word_named (codes "eq")) (codes "eq") left rest ≡ two_at (expr_at names declared 32) Equal left rest
   unfolding cond_of
   from_equal part left rest = refl
 
-  from_not : (part : ℕ → List ℕ → Result (CondText × ℕ × List ℕ) DeckReason) (left : ℕ) (rest : List ℕ) → cond_of names declared part (cond_word_named (codes "not")) (codes "not") left rest ≡ one_at names declared part Not left rest
+  from_not : (part : ℕ → List ℕ → Result (CondText × ℕ × List ℕ) DeckReason) (left : ℕ) (rest : List ℕ) → cond_of names declared part (cond_word_named (codes "not")) (codes "not") left rest ≡ one_at part Not left rest
   unfolding cond_of
   from_not part left rest = refl
 
-  from_and : (part : ℕ → List ℕ → Result (CondText × ℕ × List ℕ) DeckReason) (left : ℕ) (rest : List ℕ) → cond_of names declared part (cond_word_named (codes "and")) (codes "and") left rest ≡ two_at names declared part And left rest
+  from_and : (part : ℕ → List ℕ → Result (CondText × ℕ × List ℕ) DeckReason) (left : ℕ) (rest : List ℕ) → cond_of names declared part (cond_word_named (codes "and")) (codes "and") left rest ≡ two_at part And left rest
   unfolding cond_of
   from_and part left rest = refl
 
-  from_or : (part : ℕ → List ℕ → Result (CondText × ℕ × List ℕ) DeckReason) (left : ℕ) (rest : List ℕ) → cond_of names declared part (cond_word_named (codes "or")) (codes "or") left rest ≡ two_at names declared part Or left rest
+  from_or : (part : ℕ → List ℕ → Result (CondText × ℕ × List ℕ) DeckReason) (left : ℕ) (rest : List ℕ) → cond_of names declared part (cond_word_named (codes "or")) (codes "or") left rest ≡ two_at part Or left rest
   unfolding cond_of
   from_or part left rest = refl
 
@@ -324,7 +324,7 @@ module _ (names : List (List ℕ)) (declared : List Component) where
   -- two expressions that are compared
   compared : (make : ExprText → ExprText → CondText) (left : ℕ) (first second : ExprText) (more : List (List ℕ)) → AreComponents names declared → IsExprOf names declared first → IsExprOf names declared second → left ≤ 32
       → expr_nodes first + expr_nodes second ≤ left
-      → two_at names declared (expr_at names declared 32) make left (spaced ((expr_words names declared first ++ expr_words names declared second) ++ more)) ≡ Ok (make first second, left - expr_nodes first - expr_nodes second, spaced more)
+      → two_at (expr_at names declared 32) make left (spaced ((expr_words names declared first ++ expr_words names declared second) ++ more)) ≡ Ok (make first second, left - expr_nodes first - expr_nodes second, spaced more)
   compared make left first second more c one two few many =
       two_back (expr_at names declared 32) make left (expr_nodes first) (expr_nodes second) (expr_words names declared first) (expr_words names declared second) more first second
       (expr_back 31 left first (expr_words names declared second ++ more) c one (omega (arith, few, many)) (omega (arith, many)))
@@ -386,7 +386,7 @@ module _ (names : List (List ℕ)) (declared : List Component) where
 
   -- a whole condition
   pub cond_line_back : (k : CondText) → AreComponents names declared → IsCondOf names declared k → cond_nodes k ≤ 32 → cond_line names declared (spaced (cond_words names declared k)) ≡ Ok k
-  unfolding cond_line
+  unfolding tree_line
   cond_line_back k c is few =
       let read : cond_at names declared 32 32 (spaced (cond_words names declared k)) ≡ Ok (k, 32 - cond_nodes k, spaced []) =
       subst (λ (l : List (List ℕ)). cond_at names declared 32 32 (spaced l) ≡ Ok (k, 32 - cond_nodes k, spaced [])) (append-nil (cond_words names declared k)) (cond_back 31 32 k [] c is few few (omega arith)) in

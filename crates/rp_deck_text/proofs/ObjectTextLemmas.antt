@@ -15,7 +15,7 @@ use Rattle.rp_deck_declarations.specs.declared.draft.Kind.{Kind}
 use Rattle.rp_deck_declarations.specs.declared.draft.Kind.TheVariants as kinds
 use Rattle.rp_deck_declarations.specs.Declaring.{on_line, declaring_line, line_of_kind, ends_declarations, declarations_from, declarations_of}
 use Rattle.rp_deck_text.specs.DraftTexts.{at_object, Declares}
-use Rattle.rp_deck_declarations.specs.Drafts.{DraftText, empty_draft, profile_line, last_object, has_body, is_in_body, allows, kind_of, profile_of, object_line, handler_at, interrupt_line, timer_line, declaration_line}
+use Rattle.rp_deck_declarations.specs.Drafts.{DraftText, empty_draft, profile_line, last_object, has_body, is_in_body, allows, kind_of, profile_of, object_line, handler_at, handled_at, interrupt_line, timer_line, declaration_line}
 use Rattle.rp_deck_objects.specs.Objects.{ObjectText, empty_object}
 use Rattle.rp_deck_text.specs.ObjectTexts.{DeclaredObject, DeclaredHandler, with_object, object_lines, IsObjectOf, with_objects, objects_lines, AreObjectsOf, handler_of, IsHandlerOf, with_interrupt, with_timer, handler_words, with_interrupts, with_timers, AreInterruptsOf, AreTimersOf, handlers_lines, ObjectsText, profile_word, profile_words, tasks_draft, objects_draft, declared_lines, IsObjectsText}
 use Rattle.rp_deck_text.specs.PartTexts.{PartText, IsNew, shut, with_parts, parts_lines}
@@ -39,15 +39,18 @@ unfolding handler_at
 handler_back d h is =
     rw (word_back (h.object ++ 46 ∷ h.procedure) [] (dotted_solid h.object h.procedure is.object_is.0 is.procedure_is.0), dotted_back h.object h.procedure is.object_is.0 is.procedure_is.0, is.place, is.holder_is, is.number) refl
 
+handled_back : (d : DraftText) (names : List (List ℕ)) (h : DeclaredHandler) → length names < 8 → IsNew names h.name → IsHandlerOf d h → handled_at d names (spaced (handler_words h)) ≡ Ok (h.name, handler_of h)
+unfolding handled_at
+handled_back d names h few new is =
+    rw (lt-ltb (length names) 8 few, new_back names h.name ((h.object ++ 46 ∷ h.procedure) ∷ []) new.0 new.1, handler_back d h is, end_back) refl
+
 interrupt_back : (d : DraftText) (h : DeclaredHandler) → length d.interrupts < 8 → IsNew d.interrupts h.name → IsHandlerOf d h → interrupt_line d (spaced (handler_words h)) ≡ Ok (with_interrupt d h)
 unfolding interrupt_line
-interrupt_back d h few new is =
-    rw (lt-ltb (length d.interrupts) 8 few, new_back d.interrupts h.name ((h.object ++ 46 ∷ h.procedure) ∷ []) new.0 new.1, handler_back d h is, end_back) refl
+interrupt_back d h few new is = rw (handled_back d d.interrupts h few new is) refl
 
 timer_back : (d : DraftText) (h : DeclaredHandler) → length d.timers < 8 → IsNew d.timers h.name → IsHandlerOf d h → timer_line d (spaced (handler_words h)) ≡ Ok (with_timer d h)
 unfolding timer_line
-timer_back d h few new is =
-    rw (lt-ltb (length d.timers) 8 few, new_back d.timers h.name ((h.object ++ 46 ∷ h.procedure) ∷ []) new.0 new.1, handler_back d h is, end_back) refl
+timer_back d h few new is = rw (handled_back d d.timers h few new is) refl
 
 -- ---- lines where no body is open, and there is no tally
 

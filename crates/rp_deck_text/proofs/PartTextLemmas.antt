@@ -21,7 +21,7 @@ use Rattle.rp_deck_text.specs.BodyTexts.{body_count, body_lines}
 use Rattle.rp_deck_declarations.specs.Declaring.{ends_declarations, line_of_kind, declaring_line}
 use Rattle.rp_deck_text.specs.DraftTexts.{at_object, Declares}
 use Rattle.rp_deck_declarations.specs.Drafts.{DraftText, profile_of, is_in_body, kind_named, kind_allowed, kind_of}
-use Rattle.rp_deck_objects.specs.Objects.{ObjectText, FunctionText, Value, Truth, component_name_at, int_line, bool_line, function_line, procedure_line, most_entries, queue_at, longest_at, entry_line, begun_operation, completed_as, part_named, part_line, object_step}
+use Rattle.rp_deck_objects.specs.Objects.{ObjectText, FunctionText, Value, Truth, component_name_at, ranged_at, int_line, bool_line, function_line, procedure_line, most_entries, queue_at, longest_at, entry_line, begun_operation, completed_as, part_named, part_line, object_step}
 use Rattle.rp_deck_text.specs.ExpressionTexts.{is_bool, component_name, AreComponents, HasOne, truth_word, expr_words, cond_words}
 use Rattle.rp_words.specs.Lines.{LineText}
 use Rattle.rp_deck_bodies.specs.Expressions.{expression_words}
@@ -44,6 +44,12 @@ component_back : (names : List (List ℕ)) (name : List ℕ) (words : List (List
 unfolding component_name_at
 component_back names name words new free = rw (name_back name words new.0, free, new.1) refl
 
+ranged_back : (low high value : ℤ) → FitsSigned w64 low → FitsSigned w64 high → FitsSigned w64 value → is_within low high value ≡ true
+    → ranged_at (spaced (signed_decimal low ∷ signed_decimal high ∷ signed_decimal value ∷ [])) ≡ Ok (record { low = low; high = high; value = value }, spaced [])
+unfolding ranged_at
+ranged_back low high value a b c within =
+    rw (integer_back low (signed_decimal high ∷ signed_decimal value ∷ []) a, integer_back high (signed_decimal value ∷ []) b, integer_back value [] c, within) refl
+
 int_back : (o : ObjectText) (name : List ℕ) (low high value : ℤ) (profile : Profile) → IsPartOf profile o (IntPart name low high value)
     → int_line o (spaced (name ∷ signed_decimal low ∷ signed_decimal high ∷ signed_decimal value ∷ [])) ≡ Ok (with_part o (IntPart name low high value))
 unfolding int_line
@@ -51,10 +57,7 @@ int_back o name low high value profile is =
     rw (
       lt-ltb (len o.store.ints) 8 is.0,
       component_back o.component_names name (signed_decimal low ∷ signed_decimal high ∷ signed_decimal value ∷ []) is.1 is.2,
-      integer_back low (signed_decimal high ∷ signed_decimal value ∷ []) is.3,
-      integer_back high (signed_decimal value ∷ []) is.4,
-      integer_back value [] is.5,
-      is.6,
+      ranged_back low high value is.3 is.4 is.5 is.6,
       end_back,
     ) refl
 

@@ -23,7 +23,7 @@ use Rattle.rp_words.specs.Reading.{◌>>=◌, some_or, made_of, word_at, end_at,
 use Rattle.rp_deck.specs.Script.{IsUpTo, IsMessage}
 use Rattle.rp_deck_objects.specs.ObjectViews.{OperationsText}
 use Rattle.rp_deck_declarations.specs.ScriptNames.{DeclaredNames}
-use Rattle.rp_deck.specs.ScriptLines.{declared_at, operation_at, timer_at, message_at, argument_at, position_at, last_at, lead_at, deliver_at, interrupt_at, tick_at, step_from, call_at, arm_at, disarm_at, again_at, stop_at, restart_at, cut_at, lose_at, CommandText, Take, Lose, Drain, Show, verb_named, command_at, command_line}
+use Rattle.rp_deck.specs.ScriptLines.{declared_at, operation_at, timer_at, message_at, argument_at, position_at, last_at, lead_at, deliver_at, interrupt_at, tick_at, step_from, call_at, arm_at, disarm_at, again_at, cut_at, lose_at, CommandText, Take, Lose, Drain, Show, verb_named, command_at, command_line}
 use Rattle.rp_deck_text.specs.ScriptText.{spaced, line_of, step_words, submit_words, event_words, command_words, name_numbered, same_operation, operation_name_in, operation_name, operations_numbered, is_distinct, are_names, AreOperations, AreDeclared, IsOneOf, IsCallOf, IsTimerOf, IsSubmitOf, IsStepOf, MayBeCut, IsEventOf, IsCommandOf}
 use Rattle.rp_words.proofs.WordsLemmas.{both, and_true}
 use Rattle.rp_words.proofs.TablesLemmas.{found_step}
@@ -286,13 +286,10 @@ again_back : (d : DeclaredNames) (task node : ℕ) → AreDeclared d → IsUpTo 
 unfolding again_at
 again_back d task node right is within = rw (declared_back d.tasks task (decimal node ∷ []) right.tasks is, node_back d node [] right within) refl
 
-stop_back : (d : DeclaredNames) (node : ℕ) → AreDeclared d → IsUpTo d.nodes node → stop_at d.nodes (spaced (decimal node ∷ [])) ≡ Ok (Stop node, spaced [])
-unfolding stop_at
-stop_back d node right within = rw (node_back d node [] right within) refl
-
-restart_back : (d : DeclaredNames) (node : ℕ) → AreDeclared d → IsUpTo d.nodes node → restart_at d.nodes (spaced (decimal node ∷ [])) ≡ Ok (Restart node, spaced [])
-unfolding restart_at
-restart_back d node right within = rw (node_back d node [] right within) refl
+-- a node alone
+at_node : (d : DeclaredNames) (node : ℕ) (make : ℕ → Event) → AreDeclared d → IsUpTo d.nodes node
+    → made_of (λ (n : ℕ). Take (make n)) (number_at 1 d.nodes (spaced (decimal node ∷ []))) ≡ Ok (Take (make node), spaced [])
+at_node d node make right within = ap (λ (read : Result (ℕ × List ℕ) DeckReason). made_of (λ (n : ℕ). Take (make n)) read) (node_back d node [] right within)
 
 -- a step that is cut: its first word, and the words after it
 cut_back : (d : DeclaredNames) (kept : ℕ) (first : List ℕ) (words : List (List ℕ)) (step : Step) → kept < 2 ^ 63 → is_solid first ≡ true
@@ -368,8 +365,8 @@ event_back d number (Submit task node object operation arg) right is = call_line
 event_back d number (Again task node) right is = line_back d number (codes "again") (name_numbered d.tasks task ∷ decimal node ∷ []) verbs.Again _ refl (ap taken (again_back d task node right is.0 is.1))
 event_back d number (Makes step) right is = step_back d number step right is
 event_back d number (Cut step kept) right is = cut_line d number kept step right is.0 is.1 is.2
-event_back d number (Stop node) right is = line_back d number (codes "stop") (decimal node ∷ []) verbs.Stop _ refl (ap taken (stop_back d node right is))
-event_back d number (Restart node) right is = line_back d number (codes "restart") (decimal node ∷ []) verbs.Restart _ refl (ap taken (restart_back d node right is))
+event_back d number (Stop node) right is = line_back d number (codes "stop") (decimal node ∷ []) verbs.Stop _ refl (at_node d node Stop right is)
+event_back d number (Restart node) right is = line_back d number (codes "restart") (decimal node ∷ []) verbs.Restart _ refl (at_node d node Restart right is)
 
 pub command_back : (d : DeclaredNames) (number : ℕ) (command : CommandText) → AreDeclared d → IsCommandOf d command → command_line Script d (line_of number (command_words d command)) ≡ Ok command
 command_back d number (Take event) right is = event_back d number event right is

@@ -1,5 +1,5 @@
 -- The text of an expression and of a condition: one way to write each, which reading gives back.
-use Rattle.std.specs.Prelude.{ℕ, ◌≡◌, ◌+◌, ℤ, FitsSigned, Bool, true, false, not, nat_eq, IsTrue, List, [], ◌∷◌, ◌++◌, codes, length, ◌⊎◌, if◌then◌else◌}
+use Rattle.std.specs.Prelude.{ℕ, ◌≡◌, ◌+◌, FitsSigned, Bool, true, false, not, nat_eq, IsTrue, List, [], ◌∷◌, ◌++◌, codes, length, ◌⊎◌, if◌then◌else◌}
 use Rattle.std.specs.Fmt.{signed_decimal}
 use Rattle.std.specs.Int.{w64}
 use Rattle.std.specs.List.{list_all}

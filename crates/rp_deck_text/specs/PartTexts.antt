@@ -1,5 +1,5 @@
 -- The lines of an object: one way to write each part of it, which reading gives back.
-use Rattle.std.specs.Prelude.{ℕ, ◌≡◌, ◌<◌, ◌≤◌, ◌+◌, ℤ, FitsSigned, Bool, true, false, IsTrue, List, [], ◌∷◌, ◌++◌, codes, length, Option, Some, None}
+use Rattle.std.specs.Prelude.{ℕ, ◌≡◌, ◌<◌, ◌≤◌, ◌+◌, ℤ, FitsSigned, Bool, true, false, IsTrue, List, [], ◌∷◌, ◌++◌, codes, length, None}
 use Rattle.std.specs.FinMap.{insert, len}
 use Rattle.std.specs.Fmt.{decimal, signed_decimal}
 use Rattle.std.specs.Int.{w64}
@@ -11,7 +11,7 @@ use Rattle.rp_deck_bodies.specs.declared.names.Component.TheVariants as componen
 use Rattle.rp_deck_objects.specs.declared.objects.Head.TheVariants as heads
 use Rattle.rp_deck_bodies.specs.Bodies.{BodyText}
 use Rattle.rp_deck_text.specs.BodyTexts.{body_count, body_lines, IsBodyOf}
-use Rattle.rp_deck_objects.specs.Objects.{ObjectText, FunctionText, Value, Truth, most_entries, completed_as}
+use Rattle.rp_deck_objects.specs.Objects.{with_int, with_bool, with_function, ObjectText, FunctionText, Value, Truth, most_entries, completed_as}
 use Rattle.rp_deck_text.specs.ExpressionTexts.{is_bool, component_name, HasOne, AreComponents, expr_nodes, cond_nodes, expr_words, cond_words, IsExprOf, IsCondOf, truth_word}
 use Rattle.rp_deck_bodies.specs.Expressions.{expression_words}
 use Rattle.rp_deck.specs.Script.{IsUpTo}
@@ -28,23 +28,9 @@ pub data PartText : Type 0 where
 
 -- what an object has with it
 abbrev pub with_part : ObjectText → PartText → ObjectText
-with_part o (IntPart name low high value) = record o {
-  component_names = o.component_names ++ name ∷ [];
-  components = o.components ++ components.Int (len o.store.ints) ∷ [];
-  int_names = o.int_names ++ name ∷ [];
-  store = record o.store { ints = insert o.store.ints (len o.store.ints) (record { low = low; high = high; value = value }) };
-}
-with_part o (BoolPart name value) = record o {
-  component_names = o.component_names ++ name ∷ [];
-  components = o.components ++ components.Bool (len o.store.bools) ∷ [];
-  bool_names = o.bool_names ++ name ∷ [];
-  store = record o.store { bools = insert o.store.bools (len o.store.bools) value };
-}
-with_part o (FunctionPart name function) = record o {
-  operation_names = o.operation_names ++ name ∷ [];
-  operations = o.operations ++ operations.Function (length o.functions + 1) ∷ [];
-  functions = o.functions ++ function ∷ [];
-}
+with_part o (IntPart name low high value) = with_int o name (record { low = low; high = high; value = value })
+with_part o (BoolPart name value) = with_bool o name value
+with_part o (FunctionPart name function) = with_function o name function
 with_part o (ProcedurePart name body) = completed_as heads.Procedure name body o
 with_part o (EntryPart name barrier longest body) = completed_as (heads.Entry barrier longest) name body o
 

@@ -1,5 +1,5 @@
 -- The text of a script's line: one way to write each command, which reading gives back.
-use Rattle.std.specs.Prelude.{ℕ, ◌≡◌, ◌<◌, ◌≤◌, ◌+◌, ◌-◌, ◌^◌, ℤ, pos, FitsSigned, Bool, true, false, nat_eq, not, ◌&&◌, IsTrue, List, [], ◌∷◌, ◌++◌, codes, length, map, slice_get, slice_index_or, Option, Some, None, ◌⊎◌, if◌then◌else◌, IfSome}
+use Rattle.std.specs.Prelude.{ℕ, ◌≡◌, ◌<◌, ◌≤◌, ◌+◌, ◌-◌, ◌^◌, ℤ, pos, FitsSigned, Bool, true, false, nat_eq, not, ◌&&◌, IsTrue, List, [], ◌∷◌, ◌++◌, codes, length, map, slice_get, slice_index_or, Some, None, ◌⊎◌, if◌then◌else◌, IfSome}
 use Rattle.std.specs.Fmt.{decimal, signed_decimal}
 use Rattle.std.specs.Int.{w64}
 use Rattle.std.specs.List.{list_all}

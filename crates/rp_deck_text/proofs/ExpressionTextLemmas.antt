@@ -15,7 +15,7 @@ use Rattle.rp_base.specs.declared.fault.DeckReason.TheVariants.{BadExpression, U
 use Rattle.rp_deck_bodies.specs.declared.expressions.CondWord.TheVariants as words
 use Rattle.rp_deck_bodies.specs.declared.names.Component.{Component}
 use Rattle.rp_deck_bodies.specs.declared.names.Component.TheVariants as components
-use Rattle.rp_deck_bodies.specs.Expressions.{ExprText, Number, Arg, Out, Int, Add, Sub, CondText, Constant, Named, Less, LessOrEqual, Equal, Not, And, Or, component_of, int_of, bool_of, int_place, bool_place, node_at, two_at, one_at, tree_at, tree_line, expr_from, expr_at, expr_line, cond_of, cond_at, cond_line, cond_word_named, expression_words}
+use Rattle.rp_deck_bodies.specs.Expressions.{NodeReader, ExprText, Number, Arg, Out, Int, Add, Sub, CondText, Constant, Named, Less, LessOrEqual, Equal, Not, And, Or, component_of, int_of, bool_of, int_place, bool_place, node_at, two_at, one_at, tree_at, tree_line, expr_from, expr_at, expr_line, cond_of, cond_from, cond_at, cond_line, cond_word_named, expression_words}
 use Rattle.rp_deck_text.specs.ExpressionTexts.{is_int, is_bool, component_name, expr_nodes, cond_nodes, HasOne, AreComponents, expr_words, truth_word, cond_words, IsExprOf, IsCondOf}
 use Rattle.rp_words.specs.Reading.{◌>>=◌, some_or, unless, name_of}
 use Rattle.rp_deck_text.specs.ScriptText.{spaced, is_distinct}
@@ -106,23 +106,44 @@ signed_begins : (z : ℤ) → FitsSigned w64 z → begins_as_number (signed_deci
 signed_begins (pos n) fits = digits_begin (decimal n) (decimal_digits n (omega (arith, fits.sfits)))
 signed_begins (negsuc n) fits = refl
 
--- ---- one node
+-- ---- a node and its parts
+
+some_left : (left : ℕ) → 1 ≤ left → (left == 0) ≡ false
+some_left left some = grind (arith, nat_tests)
+
+node_back : (left : ℕ) (word : List ℕ) (words : List (List ℕ)) → is_solid word ≡ true → 1 ≤ left → node_at left (spaced (word ∷ words)) ≡ Ok (word, left - 1, spaced words)
+unfolding node_at
+node_back left word words solid some = rw (word_back word words solid, some_left left some) refl
+
+two_back : {X Y : Type 0} (part : NodeReader X) (make : X → X → Y) (left n m : ℕ) (one two more : List (List ℕ)) (a b : X)
+    → part left (spaced (one ++ (two ++ more))) ≡ Ok (a, left - n, spaced (two ++ more)) → part (left - n) (spaced (two ++ more)) ≡ Ok (b, left - n - m, spaced more)
+    → two_at part make left (spaced ((one ++ two) ++ more)) ≡ Ok (make a b, left - n - m, spaced more)
+two_back part make left n m one two more a b first second = rw (append_assoc one two more, first, second) refl
+
+one_back : {X Y : Type 0} (part : NodeReader X) (make : X → Y) (left n : ℕ) (rest : List ℕ) (more : List (List ℕ)) (a : X)
+    → part left rest ≡ Ok (a, left - n, spaced more) → one_at part make left rest ≡ Ok (make a, left - n, spaced more)
+one_back part make left n rest more a is = rw is refl
+
+module _ {X : Type 0} (from : NodeReader X → List ℕ → NodeReader X) where
+  tree_step : (depth left : ℕ) (word : List ℕ) (words : List (List ℕ)) → is_solid word ≡ true → 1 ≤ left
+      → tree_at from (suc depth) left (spaced (word ∷ words)) ≡ from (tree_at from depth) word (left - 1) (spaced words)
+  unfolding tree_at
+  tree_step depth left word words solid some =
+      ap (λ (r : Result (List ℕ × ℕ × List ℕ) DeckReason). r >>= (λ (n : List ℕ × ℕ × List ℕ). from (tree_at from depth) n.0 n.1 n.2)) (node_back left word words solid some)
+
+  -- a word with two parts
+  two_parts : (word : List ℕ) (make : X → X → X) (depth left n m : ℕ) (one two more : List (List ℕ)) (a b : X) → is_solid word ≡ true → 1 ≤ left
+      → ((rest : List ℕ) → from (tree_at from depth) word (left - 1) rest ≡ two_at (tree_at from depth) make (left - 1) rest)
+      → tree_at from depth (left - 1) (spaced (one ++ (two ++ more))) ≡ Ok (a, left - 1 - n, spaced (two ++ more))
+      → tree_at from depth (left - 1 - n) (spaced (two ++ more)) ≡ Ok (b, left - 1 - n - m, spaced more)
+      → tree_at from (suc depth) left (spaced (word ∷ ((one ++ two) ++ more))) ≡ Ok (make a b, left - (1 + (n + m)), spaced more)
+  two_parts word make depth left n m one two more a b solid some is first second =
+      let count : left - 1 - n - m ≡ left - (1 + (n + m)) = omega arith in
+      tree_step depth left word ((one ++ two) ++ more) solid some ∙ is (spaced ((one ++ two) ++ more))
+      ∙ two_back (tree_at from depth) make (left - 1) n m one two more a b first second ∙ ap (λ (k : ℕ). Ok (make a b, k, spaced more)) count
 
 module _ (names : List (List ℕ)) (declared : List Component) where
-  some_left : (left : ℕ) → 1 ≤ left → (left == 0) ≡ false
-  some_left left some = grind (arith, nat_tests)
-
-  node_back : (left : ℕ) (word : List ℕ) (words : List (List ℕ)) → is_solid word ≡ true → 1 ≤ left → node_at left (spaced (word ∷ words)) ≡ Ok (word, left - 1, spaced words)
-  unfolding node_at
-  node_back left word words solid some = rw (word_back word words solid, some_left left some) refl
-
   -- ---- an expression by its first word
-
-  expr_step : (depth left : ℕ) (word : List ℕ) (words : List (List ℕ)) → is_solid word ≡ true → 1 ≤ left
-      → expr_at names declared (suc depth) left (spaced (word ∷ words)) ≡ expr_from names declared (expr_at names declared depth) word (left - 1) (spaced words)
-  unfolding tree_at
-  expr_step depth left word words solid some =
-      ap (λ (r : Result (List ℕ × ℕ × List ℕ) DeckReason). r >>= (λ (n : List ℕ × ℕ × List ℕ). expr_from names declared (expr_at names declared depth) n.0 n.1 n.2)) (node_back left word words solid some)
 
   from_arg : (part : ℕ → List ℕ → Result (ExprText × ℕ × List ℕ) DeckReason) (left : ℕ) (rest : List ℕ) → expr_from names declared part (codes "arg") left rest ≡ Ok (Arg, left, rest)
   unfolding expr_from
@@ -204,17 +225,6 @@ module _ (names : List (List ℕ)) (declared : List Component) where
       let free = free_of word is.is_free in
       rw (free.arg, free.out, free.add, free.sub, not_number word is.name_is, int_back place word is) refl
 
-  -- ---- two parts
-
-  two_back : {X Y : Type 0} (part : ℕ → List ℕ → Result (X × ℕ × List ℕ) DeckReason) (make : X → X → Y) (left n m : ℕ) (one two more : List (List ℕ)) (a b : X)
-      → part left (spaced (one ++ (two ++ more))) ≡ Ok (a, left - n, spaced (two ++ more)) → part (left - n) (spaced (two ++ more)) ≡ Ok (b, left - n - m, spaced more)
-      → two_at part make left (spaced ((one ++ two) ++ more)) ≡ Ok (make a b, left - n - m, spaced more)
-  two_back part make left n m one two more a b first second = rw (append_assoc one two more, first, second) refl
-
-  one_back : {X Y : Type 0} (part : ℕ → List ℕ → Result (X × ℕ × List ℕ) DeckReason) (make : X → Y) (left n : ℕ) (rest : List ℕ) (more : List (List ℕ)) (a : X)
-      → part left rest ≡ Ok (a, left - n, spaced more) → one_at part make left rest ≡ Ok (make a, left - n, spaced more)
-  one_back part make left n rest more a is = rw is refl
-
   some_nodes : (e : ExprText) → 1 ≤ expr_nodes e
   some_nodes (Number number) = omega arith
   some_nodes Arg = omega arith
@@ -226,37 +236,27 @@ module _ (names : List (List ℕ)) (declared : List Component) where
   pub expr_back : (depth left : ℕ) (e : ExprText) (more : List (List ℕ)) → AreComponents names declared → IsExprOf names declared e → expr_nodes e ≤ suc depth → expr_nodes e ≤ left
       → expr_at names declared (suc depth) left (spaced (expr_words names declared e ++ more)) ≡ Ok (e, left - expr_nodes e, spaced more)
   expr_back depth left (Number number) more c is deep many =
-      expr_step depth left (signed_decimal number) more (signed_solid number is) many
+      tree_step (expr_from names declared) depth left (signed_decimal number) more (signed_solid number is) many
       ∙ from_number (expr_at names declared depth) (signed_decimal number) number (left - 1) (spaced more) (signed_begins number is) (signed_back number is)
-  expr_back depth left Arg more c is deep many = expr_step depth left (codes "arg") more refl many ∙ from_arg (expr_at names declared depth) (left - 1) (spaced more)
-  expr_back depth left Out more c is deep many = expr_step depth left (codes "out") more refl many ∙ from_out (expr_at names declared depth) (left - 1) (spaced more)
+  expr_back depth left Arg more c is deep many = tree_step (expr_from names declared) depth left (codes "arg") more refl many ∙ from_arg (expr_at names declared depth) (left - 1) (spaced more)
+  expr_back depth left Out more c is deep many = tree_step (expr_from names declared) depth left (codes "out") more refl many ∙ from_out (expr_at names declared depth) (left - 1) (spaced more)
   expr_back depth left (Int place) more c is deep many =
       let t = both (list_all is_name names) (is_distinct names) c.names_are in
       let found = finds (is_int place) names declared t.0 t.1 c.free c.even is in
       let word : List ℕ = component_name (is_int place) names declared in
-      expr_step depth left word more (name_solid word found.name_is) many ∙ from_int (expr_at names declared depth) word place (left - 1) (spaced more) found
+      tree_step (expr_from names declared) depth left word more (name_solid word found.name_is) many ∙ from_int (expr_at names declared depth) word place (left - 1) (spaced more) found
   expr_back zero left (Add first second) more c is deep many = absurd (omega (arith, deep, some_nodes first, some_nodes second))
   expr_back (suc depth) left (Add first second) more c is deep many =
-      let one = some_nodes first in
-      let two = some_nodes second in
-      let count : left - 1 - expr_nodes first - expr_nodes second ≡ left - (1 + (expr_nodes first + expr_nodes second)) = omega arith in
-      expr_step (suc depth) left (codes "add") ((expr_words names declared first ++ expr_words names declared second) ++ more) refl (omega (arith, many))
-      ∙ from_add (expr_at names declared (suc depth)) (left - 1) (spaced ((expr_words names declared first ++ expr_words names declared second) ++ more))
-      ∙ two_back (expr_at names declared (suc depth)) Add (left - 1) (expr_nodes first) (expr_nodes second) (expr_words names declared first) (expr_words names declared second) more first second
-      (expr_back depth (left - 1) first (expr_words names declared second ++ more) c is.0 (omega (arith, deep, two)) (omega (arith, many)))
-      (expr_back depth (left - 1 - expr_nodes first) second more c is.1 (omega (arith, deep, one)) (omega (arith, many)))
-      ∙ ap (λ (n : ℕ). Ok (Add first second, n, spaced more)) count
+      two_parts (expr_from names declared) (codes "add") Add (suc depth) left (expr_nodes first) (expr_nodes second) (expr_words names declared first) (expr_words names declared second) more first second refl (omega (arith, many))
+      (from_add (expr_at names declared (suc depth)) (left - 1))
+      (expr_back depth (left - 1) first (expr_words names declared second ++ more) c is.0 (omega (arith, deep, some_nodes second)) (omega (arith, many)))
+      (expr_back depth (left - 1 - expr_nodes first) second more c is.1 (omega (arith, deep, some_nodes first)) (omega (arith, many)))
   expr_back zero left (Sub first second) more c is deep many = absurd (omega (arith, deep, some_nodes first, some_nodes second))
   expr_back (suc depth) left (Sub first second) more c is deep many =
-      let one = some_nodes first in
-      let two = some_nodes second in
-      let count : left - 1 - expr_nodes first - expr_nodes second ≡ left - (1 + (expr_nodes first + expr_nodes second)) = omega arith in
-      expr_step (suc depth) left (codes "sub") ((expr_words names declared first ++ expr_words names declared second) ++ more) refl (omega (arith, many))
-      ∙ from_sub (expr_at names declared (suc depth)) (left - 1) (spaced ((expr_words names declared first ++ expr_words names declared second) ++ more))
-      ∙ two_back (expr_at names declared (suc depth)) Sub (left - 1) (expr_nodes first) (expr_nodes second) (expr_words names declared first) (expr_words names declared second) more first second
-      (expr_back depth (left - 1) first (expr_words names declared second ++ more) c is.0 (omega (arith, deep, two)) (omega (arith, many)))
-      (expr_back depth (left - 1 - expr_nodes first) second more c is.1 (omega (arith, deep, one)) (omega (arith, many)))
-      ∙ ap (λ (n : ℕ). Ok (Sub first second, n, spaced more)) count
+      two_parts (expr_from names declared) (codes "sub") Sub (suc depth) left (expr_nodes first) (expr_nodes second) (expr_words names declared first) (expr_words names declared second) more first second refl (omega (arith, many))
+      (from_sub (expr_at names declared (suc depth)) (left - 1))
+      (expr_back depth (left - 1) first (expr_words names declared second ++ more) c is.0 (omega (arith, deep, some_nodes second)) (omega (arith, many)))
+      (expr_back depth (left - 1 - expr_nodes first) second more c is.1 (omega (arith, deep, some_nodes first)) (omega (arith, many)))
 
   -- a whole expression
   pub expr_line_back : (e : ExprText) → AreComponents names declared → IsExprOf names declared e → expr_nodes e ≤ 32 → expr_line names declared (spaced (expr_words names declared e)) ≡ Ok e
@@ -267,12 +267,6 @@ module _ (names : List (List ℕ)) (declared : List Component) where
       rw (read, end_back) refl
 
   -- ---- conditions
-
-  cond_step : (depth left : ℕ) (word : List ℕ) (rest : List (List ℕ)) → is_solid word ≡ true → 1 ≤ left
-      → cond_at names declared (suc depth) left (spaced (word ∷ rest)) ≡ cond_of names declared (cond_at names declared depth) (cond_word_named word) word (left - 1) (spaced rest)
-  unfolding tree_at
-  cond_step depth left word rest solid some =
-      ap (λ (r : Result (List ℕ × ℕ × List ℕ) DeckReason). r >>= (λ (n : List ℕ × ℕ × List ℕ). cond_of names declared (cond_at names declared depth) (cond_word_named n.0) n.0 n.1 n.2)) (node_back left word rest solid some)
 
   from_truth : (part : ℕ → List ℕ → Result (CondText × ℕ × List ℕ) DeckReason) (truth : Bool) (left : ℕ) (rest : List ℕ)
       → cond_of names declared part (cond_word_named (truth_word names declared truth)) (truth_word names declared truth) left rest ≡ Ok (Constant truth, left, rest)
@@ -332,57 +326,47 @@ module _ (names : List (List ℕ)) (declared : List Component) where
 
   pub cond_back : (depth left : ℕ) (k : CondText) (more : List (List ℕ)) → AreComponents names declared → IsCondOf names declared k → cond_nodes k ≤ suc depth → cond_nodes k ≤ left → left ≤ 32
       → cond_at names declared (suc depth) left (spaced (cond_words names declared k ++ more)) ≡ Ok (k, left - cond_nodes k, spaced more)
-  cond_back depth left (Constant true) more c is deep many few = cond_step depth left (codes "true") more refl many ∙ from_truth (cond_at names declared depth) true (left - 1) (spaced more)
-  cond_back depth left (Constant false) more c is deep many few = cond_step depth left (codes "false") more refl many ∙ from_truth (cond_at names declared depth) false (left - 1) (spaced more)
+  cond_back depth left (Constant true) more c is deep many few = tree_step (cond_from names declared) depth left (codes "true") more refl many ∙ from_truth (cond_at names declared depth) true (left - 1) (spaced more)
+  cond_back depth left (Constant false) more c is deep many few = tree_step (cond_from names declared) depth left (codes "false") more refl many ∙ from_truth (cond_at names declared depth) false (left - 1) (spaced more)
   cond_back depth left (Named place) more c is deep many few =
       let t = both (list_all is_name names) (is_distinct names) c.names_are in
       let found = finds (is_bool place) names declared t.0 t.1 c.free c.even is in
       let word : List ℕ = component_name (is_bool place) names declared in
-      cond_step depth left word more (name_solid word found.name_is) many ∙ from_bool (cond_at names declared depth) word place (left - 1) (spaced more) found
+      tree_step (cond_from names declared) depth left word more (name_solid word found.name_is) many ∙ from_bool (cond_at names declared depth) word place (left - 1) (spaced more) found
   cond_back depth left (Less first second) more c is deep many few =
       let count : left - 1 - expr_nodes first - expr_nodes second ≡ left - (1 + (expr_nodes first + expr_nodes second)) = omega arith in
       let rest : List (List ℕ) = (expr_words names declared first ++ expr_words names declared second) ++ more in
-      cond_step depth left (codes "lt") rest refl (omega (arith, many)) ∙ from_less (cond_at names declared depth) (left - 1) (spaced rest)
+      tree_step (cond_from names declared) depth left (codes "lt") rest refl (omega (arith, many)) ∙ from_less (cond_at names declared depth) (left - 1) (spaced rest)
       ∙ compared Less (left - 1) first second more c is.0 is.1 (omega (arith, few)) (omega (arith, many)) ∙ ap (λ (n : ℕ). Ok (Less first second, n, spaced more)) count
   cond_back depth left (LessOrEqual first second) more c is deep many few =
       let count : left - 1 - expr_nodes first - expr_nodes second ≡ left - (1 + (expr_nodes first + expr_nodes second)) = omega arith in
       let rest : List (List ℕ) = (expr_words names declared first ++ expr_words names declared second) ++ more in
-      cond_step depth left (codes "le") rest refl (omega (arith, many)) ∙ from_less_or_equal (cond_at names declared depth) (left - 1) (spaced rest)
+      tree_step (cond_from names declared) depth left (codes "le") rest refl (omega (arith, many)) ∙ from_less_or_equal (cond_at names declared depth) (left - 1) (spaced rest)
       ∙ compared LessOrEqual (left - 1) first second more c is.0 is.1 (omega (arith, few)) (omega (arith, many)) ∙ ap (λ (n : ℕ). Ok (LessOrEqual first second, n, spaced more)) count
   cond_back depth left (Equal first second) more c is deep many few =
       let count : left - 1 - expr_nodes first - expr_nodes second ≡ left - (1 + (expr_nodes first + expr_nodes second)) = omega arith in
       let rest : List (List ℕ) = (expr_words names declared first ++ expr_words names declared second) ++ more in
-      cond_step depth left (codes "eq") rest refl (omega (arith, many)) ∙ from_equal (cond_at names declared depth) (left - 1) (spaced rest)
+      tree_step (cond_from names declared) depth left (codes "eq") rest refl (omega (arith, many)) ∙ from_equal (cond_at names declared depth) (left - 1) (spaced rest)
       ∙ compared Equal (left - 1) first second more c is.0 is.1 (omega (arith, few)) (omega (arith, many)) ∙ ap (λ (n : ℕ). Ok (Equal first second, n, spaced more)) count
   cond_back zero left (Not negated) more c is deep many few = absurd (omega (arith, deep, some_cond negated))
   cond_back (suc depth) left (Not negated) more c is deep many few =
       let rest : List (List ℕ) = cond_words names declared negated ++ more in
       let count : left - 1 - cond_nodes negated ≡ left - (1 + cond_nodes negated) = omega arith in
-      cond_step (suc depth) left (codes "not") rest refl (omega (arith, many)) ∙ from_not (cond_at names declared (suc depth)) (left - 1) (spaced rest)
+      tree_step (cond_from names declared) (suc depth) left (codes "not") rest refl (omega (arith, many)) ∙ from_not (cond_at names declared (suc depth)) (left - 1) (spaced rest)
       ∙ one_back (cond_at names declared (suc depth)) Not (left - 1) (cond_nodes negated) (spaced rest) more negated (cond_back depth (left - 1) negated more c is (omega (arith, deep)) (omega (arith, many)) (omega (arith, few)))
       ∙ ap (λ (n : ℕ). Ok (Not negated, n, spaced more)) count
   cond_back zero left (And first second) more c is deep many few = absurd (omega (arith, deep, some_cond first, some_cond second))
   cond_back (suc depth) left (And first second) more c is deep many few =
-      let one = some_cond first in
-      let two = some_cond second in
-      let count : left - 1 - cond_nodes first - cond_nodes second ≡ left - (1 + (cond_nodes first + cond_nodes second)) = omega arith in
-      let rest : List (List ℕ) = (cond_words names declared first ++ cond_words names declared second) ++ more in
-      cond_step (suc depth) left (codes "and") rest refl (omega (arith, many)) ∙ from_and (cond_at names declared (suc depth)) (left - 1) (spaced rest)
-      ∙ two_back (cond_at names declared (suc depth)) And (left - 1) (cond_nodes first) (cond_nodes second) (cond_words names declared first) (cond_words names declared second) more first second
-      (cond_back depth (left - 1) first (cond_words names declared second ++ more) c is.0 (omega (arith, deep, two)) (omega (arith, many)) (omega (arith, few)))
-      (cond_back depth (left - 1 - cond_nodes first) second more c is.1 (omega (arith, deep, one)) (omega (arith, many)) (omega (arith, few)))
-      ∙ ap (λ (n : ℕ). Ok (And first second, n, spaced more)) count
+      two_parts (cond_from names declared) (codes "and") And (suc depth) left (cond_nodes first) (cond_nodes second) (cond_words names declared first) (cond_words names declared second) more first second refl (omega (arith, many))
+      (from_and (cond_at names declared (suc depth)) (left - 1))
+      (cond_back depth (left - 1) first (cond_words names declared second ++ more) c is.0 (omega (arith, deep, some_cond second)) (omega (arith, many)) (omega (arith, few)))
+      (cond_back depth (left - 1 - cond_nodes first) second more c is.1 (omega (arith, deep, some_cond first)) (omega (arith, many)) (omega (arith, few)))
   cond_back zero left (Or first second) more c is deep many few = absurd (omega (arith, deep, some_cond first, some_cond second))
   cond_back (suc depth) left (Or first second) more c is deep many few =
-      let one = some_cond first in
-      let two = some_cond second in
-      let count : left - 1 - cond_nodes first - cond_nodes second ≡ left - (1 + (cond_nodes first + cond_nodes second)) = omega arith in
-      let rest : List (List ℕ) = (cond_words names declared first ++ cond_words names declared second) ++ more in
-      cond_step (suc depth) left (codes "or") rest refl (omega (arith, many)) ∙ from_or (cond_at names declared (suc depth)) (left - 1) (spaced rest)
-      ∙ two_back (cond_at names declared (suc depth)) Or (left - 1) (cond_nodes first) (cond_nodes second) (cond_words names declared first) (cond_words names declared second) more first second
-      (cond_back depth (left - 1) first (cond_words names declared second ++ more) c is.0 (omega (arith, deep, two)) (omega (arith, many)) (omega (arith, few)))
-      (cond_back depth (left - 1 - cond_nodes first) second more c is.1 (omega (arith, deep, one)) (omega (arith, many)) (omega (arith, few)))
-      ∙ ap (λ (n : ℕ). Ok (Or first second, n, spaced more)) count
+      two_parts (cond_from names declared) (codes "or") Or (suc depth) left (cond_nodes first) (cond_nodes second) (cond_words names declared first) (cond_words names declared second) more first second refl (omega (arith, many))
+      (from_or (cond_at names declared (suc depth)) (left - 1))
+      (cond_back depth (left - 1) first (cond_words names declared second ++ more) c is.0 (omega (arith, deep, some_cond second)) (omega (arith, many)) (omega (arith, few)))
+      (cond_back depth (left - 1 - cond_nodes first) second more c is.1 (omega (arith, deep, some_cond first)) (omega (arith, many)) (omega (arith, few)))
 
   -- a whole condition
   pub cond_line_back : (k : CondText) → AreComponents names declared → IsCondOf names declared k → cond_nodes k ≤ 32 → cond_line names declared (spaced (cond_words names declared k)) ≡ Ok k

@@ -1,6 +1,6 @@
 -- The lines of a body are read back.
-use Rattle.std.proofs.Common.{◌≡◌, ℕ, zero, suc, ◌+◌, ◌-◌, ◌<◌, ◌≤◌, ◌==◌, ◌&&◌, not, List, [], ◌∷◌, ◌++◌, Bool, true, false, cond, length, map, Option, Some, None, Result, Ok, Err, nat_lt, arith, ap, refl, sym, subst, ◌∙◌, append_assoc, length-append}
-use Rattle.std.specs.Prelude.{codes, slice_get, slice_set, is_some}
+use Rattle.std.proofs.Common.{◌≡◌, ℕ, suc, ◌+◌, ◌-◌, ◌<◌, ◌≤◌, ◌==◌, ◌&&◌, not, List, [], ◌∷◌, ◌++◌, Bool, true, false, cond, length, Option, Some, None, Result, Ok, arith, ap, refl, ◌∙◌, append_assoc, length-append}
+use Rattle.std.specs.Prelude.{codes, slice_get, slice_set}
 use Rattle.std.proofs.lemmas.Bool.{lt-ltb}
 use Rattle.std.proofs.lemmas.Bool.Decides.{nat_tests}
 use Rattle.std.specs.List.{list_all}
@@ -12,17 +12,16 @@ use Rattle.rp_deck_bodies.specs.declared.statements.BodyWord.{BodyWord}
 use Rattle.rp_deck_bodies.specs.declared.statements.BodyWord.TheVariants.{Statement, Else, End}
 use Rattle.rp_deck_bodies.specs.declared.statements.StatementWord.{StatementWord}
 use Rattle.rp_deck_bodies.specs.declared.statements.StatementWord.TheVariants as words
-use Rattle.rp_deck_bodies.specs.Bodies.{BodyText, Empty, Set, Put, Out, If, OpenIfText, OpenBodyText, begun_body, body_word, may_follow, body_word_named, one_more, statement_line, body_line_of, body_line}
+use Rattle.rp_deck_bodies.specs.Bodies.{BodyText, Empty, Set, Put, Out, If, OpenIfText, OpenBodyText, body_word, may_follow, body_word_named, one_more, statement_line, body_line_of, body_line}
 use Rattle.rp_deck_text.specs.BodyTexts.{body_count, body_lines, IsBodyOf}
 use Rattle.rp_deck_text.specs.DraftTexts.{at_object, Declares}
 use Rattle.rp_deck_declarations.specs.Declaring.{with_last_object, ends_declarations, line_of_kind, declaring_line, declarations_from}
-use Rattle.rp_words.specs.LineFaults.{BadLine}
-use Rattle.rp_deck_declarations.specs.Drafts.{DraftText, last_object, has_body, is_in_body, kind_named, kind_allowed, kind_of, profile_of}
-use Rattle.rp_deck_objects.specs.Objects.{ObjectText, OpenOperationText, operation_line, object_step, line_within, with_body, completed_as}
+use Rattle.rp_deck_declarations.specs.Drafts.{DraftText, last_object, has_body, kind_named, kind_allowed, kind_of, profile_of}
+use Rattle.rp_deck_objects.specs.Objects.{ObjectText, OpenOperationText, operation_line, object_step, with_body, completed_as}
 use Rattle.rp_deck_text.specs.ExpressionTexts.{is_int, is_bool, component_name, HasOne, AreComponents, expr_nodes, cond_nodes, expr_words, cond_words, IsExprOf, IsCondOf}
-use Rattle.rp_deck_bodies.specs.Expressions.{ExprText, CondText, int_of, bool_of, expr_line, cond_line}
+use Rattle.rp_deck_bodies.specs.Expressions.{ExprText, CondText}
 use Rattle.rp_words.specs.Lines.{LineText}
-use Rattle.rp_words.specs.Reading.{◌>>=◌, unless, word_at, end_at}
+use Rattle.rp_words.specs.Reading.{◌>>=◌}
 use Rattle.rp_deck_text.specs.ScriptText.{numbered_lines, spaced, line_of, is_distinct}
 use Rattle.rp_words.specs.Words.{is_name}
 use Rattle.rp_words.proofs.WordsLemmas.{both}

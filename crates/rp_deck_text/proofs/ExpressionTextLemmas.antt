@@ -1,27 +1,25 @@
 -- The text of an expression and of a condition is read back.
-use Rattle.std.proofs.Common.{◌≡◌, ◌⊎◌, ℕ, zero, suc, ◌+◌, ◌-◌, ◌<◌, ◌≤◌, ◌==◌, ◌||◌, ◌&&◌, not, List, [], ◌∷◌, ◌++◌, Bool, true, false, cond, length, Option, Some, None, Result, Ok, Err, arith, inl, inr, ap, refl, sym, subst, ◌∙◌, append_assoc}
-use Rattle.std.specs.Prelude.{ℤ, pos, negsuc, IsTrue, FitsSigned, codes, nat_eq}
+use Rattle.std.proofs.Common.{◌≡◌, ℕ, zero, suc, ◌+◌, ◌-◌, ◌≤◌, ◌==◌, ◌||◌, ◌&&◌, not, List, [], ◌∷◌, ◌++◌, Bool, true, false, cond, length, Some, Result, Ok, arith, inl, inr, ap, refl, sym, subst, ◌∙◌, append_assoc}
+use Rattle.std.specs.Prelude.{ℤ, pos, negsuc, FitsSigned, codes}
 use Rattle.std.specs.Fmt.{decimal, signed_decimal}
 use Rattle.std.specs.Int.{w64}
-use Rattle.std.specs.List.{prefix_len, list_all, list_any}
+use Rattle.std.specs.List.{list_all}
 use Rattle.std.specs.Char.{is_ascii_digit, is_ascii_alphabetic}
 use Rattle.std.specs.Str.{bytes_eq}
 use Rattle.std.proofs.lemmas.List.{append-nil}
-use Rattle.std.proofs.lemmas.Bool.{cases_Bool, cond-true, cond-false, eqb-true, leb-true}
+use Rattle.std.proofs.lemmas.Bool.{cases_Bool, cond-true, cond-false, eqb-true}
 use Rattle.std.proofs.lemmas.Bool.Decides.{nat_tests}
 use Rattle.std.proofs.lemmas.Slice.Eq.{bytes_eq-Decides}
 use Rattle.rp_base.specs.declared.fault.DeckReason.{DeckReason}
-use Rattle.rp_base.specs.declared.fault.DeckReason.TheVariants.{BadExpression, UnknownName}
-use Rattle.rp_deck_bodies.specs.declared.expressions.CondWord.TheVariants as words
 use Rattle.rp_deck_bodies.specs.declared.names.Component.{Component}
 use Rattle.rp_deck_bodies.specs.declared.names.Component.TheVariants as components
-use Rattle.rp_deck_bodies.specs.Expressions.{NodeReader, ExprText, Number, Arg, Out, Int, Add, Sub, CondText, Constant, Named, Less, LessOrEqual, Equal, Not, And, Or, component_of, int_of, bool_of, int_place, bool_place, node_at, two_at, one_at, tree_at, tree_line, expr_from, expr_at, expr_line, cond_of, cond_from, cond_at, cond_line, cond_word_named, expression_words}
+use Rattle.rp_deck_bodies.specs.Expressions.{NodeReader, ExprText, Number, Arg, Out, Int, Add, Sub, CondText, Constant, Named, Less, LessOrEqual, Equal, Not, And, Or, component_of, int_of, bool_of, node_at, two_at, one_at, tree_at, tree_line, expr_from, expr_at, expr_line, cond_of, cond_from, cond_at, cond_line, cond_word_named, expression_words}
 use Rattle.rp_deck_text.specs.ExpressionTexts.{is_int, is_bool, component_name, expr_nodes, cond_nodes, HasOne, AreComponents, expr_words, truth_word, cond_words, IsExprOf, IsCondOf}
-use Rattle.rp_words.specs.Reading.{◌>>=◌, some_or, unless, name_of}
+use Rattle.rp_words.specs.Reading.{◌>>=◌}
 use Rattle.rp_deck_text.specs.ScriptText.{spaced, is_distinct}
 use Rattle.rp_words.specs.Tables.{is_declared, find}
 use Rattle.rp_words.specs.Words.{begins_with, is_name, is_digits, begins_as_number, number_of, is_of_name}
-use Rattle.rp_words.proofs.WordsLemmas.{both, and_true}
+use Rattle.rp_words.proofs.WordsLemmas.{both}
 use Rattle.rp_deck_text.proofs.SpacedLemmas.{end_back, is_solid, word_back, name_is, name_solid, signed_solid, signed_back, decimal_digits}
 use Rattle.rp_deck_text.proofs.ScriptTextLemmas.{same_text, or_right, no_first, another, find_step}
 

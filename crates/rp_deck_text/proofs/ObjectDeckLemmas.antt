@@ -1,7 +1,6 @@
 -- The text of a deck of protected objects is read back.
-use Rattle.std.proofs.Common.{◌≡◌, ℕ, suc, ◌+◌, ◌≤◌, List, [], ◌∷◌, ◌++◌, Bool, true, false, length, map, Option, Some, None, Result, Ok, arith, ap, refl, ◌∙◌}
-use Rattle.std.specs.Prelude.{codes, IfSome}
-use Rattle.std.specs.Fmt.{decimal, signed_decimal}
+use Rattle.std.proofs.Common.{◌≡◌, ℕ, suc, List, [], ◌∷◌, ◌++◌, Bool, true, false, Option, Some, None, Ok, arith, refl}
+use Rattle.std.specs.Prelude.{codes}
 use Rattle.std.specs.List.{list_all, AllByRecursion}
 use Rattle.rp_object.specs.declared.program.Profile.{Profile}
 use Rattle.rp_object.specs.declared.program.Profile.TheVariants.{Ravenscar, Jorvik}
@@ -9,27 +8,23 @@ use Rattle.rp_deck.specs.declared.deck.Mode.TheVariants.{Script}
 use Rattle.rp_deck_bodies.specs.declared.names.Component.{Component}
 use Rattle.rp_deck_bodies.specs.Bodies.{BodyText, Empty, Set, Put, Out, If}
 use Rattle.rp_deck_text.specs.BodyTexts.{body_lines, IsBodyOf}
-use Rattle.rp_deck_declarations.specs.Declaring.{declarations_of}
-use Rattle.rp_words.specs.LineFaults.{BadLine}
 use Rattle.rp_deck_declarations.specs.Drafts.{DraftText, profile_of}
 use Rattle.rp_deck_objects.specs.Objects.{ObjectText, Value, Truth, empty_object}
 use Rattle.rp_deck_bodies.specs.Expressions.{ExprText, Number, Arg, Out as OutExpr, Int, Add, Sub, CondText, Constant, Named, Less, LessOrEqual, Equal, Not, And, Or}
-use Rattle.rp_deck_text.specs.ExpressionTexts.{is_int, is_bool, component_name, HasOne, AreComponents, expr_words, truth_word, cond_words, IsExprOf, IsCondOf}
-use Rattle.rp_deck.specs.Meaning.{DeckText, texts_of, line_after, meaning_of}
-use Rattle.rp_deck_text.specs.ObjectTexts.{DeclaredObject, DeclaredHandler, with_object, object_lines, IsObjectOf, objects_lines, AreObjectsOf, IsHandlerOf, with_interrupt, with_timer, handler_words, AreInterruptsOf, AreTimersOf, handlers_lines, ObjectsText, profile_word, profile_words, tasks_draft, objects_draft, declared_lines, IsObjectsText, objects_text, objects_deck}
+use Rattle.rp_deck_text.specs.ExpressionTexts.{is_int, is_bool, component_name, HasOne, AreComponents, expr_words, cond_words, IsExprOf, IsCondOf}
+use Rattle.rp_deck.specs.Meaning.{meaning_of}
+use Rattle.rp_deck_text.specs.ObjectTexts.{DeclaredObject, DeclaredHandler, with_object, object_lines, objects_lines, AreObjectsOf, with_interrupt, with_timer, AreInterruptsOf, AreTimersOf, handlers_lines, ObjectsText, profile_words, tasks_draft, objects_draft, declared_lines, IsObjectsText, objects_text, objects_deck}
 use Rattle.rp_deck_text.specs.PartTexts.{PartText, IntPart, BoolPart, FunctionPart, ProcedurePart, EntryPart, with_part, queue_words, ended, part_lines, parts_lines, IsLongest, IsWholeBody, IsPartOf, ArePartsOf}
-use Rattle.rp_deck.specs.Script.{IsUpTo}
-use Rattle.rp_deck.specs.ScriptLines.{CommandText, LineCommand, script_of}
+use Rattle.rp_deck.specs.ScriptLines.{CommandText}
 use Rattle.rp_deck_declarations.specs.ScriptNames.{declared_names}
-use Rattle.rp_deck_text.specs.ScriptText.{numbered_lines, command_words, numbered_commands, AreDeclared, IsCommandOf, is_distinct}
+use Rattle.rp_deck_text.specs.ScriptText.{AreDeclared, IsCommandOf, is_distinct}
 use Rattle.rp_deck_text.specs.TallyTexts.{positions_words, task_words}
 use Rattle.rp_words.specs.Words.{is_name}
-use Rattle.rp_words.specs.Lines.{LineText}
 use Rattle.rp_words.proofs.WordsLemmas.{both}
 use Rattle.rp_deck_text.proofs.SpacedLemmas.{is_solid, name_solid, decimal_solid, signed_solid, dotted_solid}
 use Rattle.rp_deck_text.proofs.ExpressionTextLemmas.{finds}
-use Rattle.rp_deck_text.proofs.TextsLemmas.{numbered_append, AreSolid, IsLine, AreLines, texts_back, script_back, script_lines}
-use Rattle.rp_deck_text.proofs.TallyTextLemmas.{lines_append, positions_lines, task_lines}
+use Rattle.rp_deck_text.proofs.TextsLemmas.{AreSolid, AreLines}
+use Rattle.rp_deck_text.proofs.TallyTextLemmas.{lines_append, positions_lines, task_lines, whole_back}
 use Rattle.rp_deck_text.proofs.ObjectTextLemmas.{declared_back}
 
 solid_append : (one two : List (List ℕ)) → AreSolid one → AreSolid two → AreSolid (one ++ two)
@@ -135,16 +130,5 @@ declared_are_lines t is = (
 
 pub objects_back_whole : (t : ObjectsText) (commands : List CommandText) → IsObjectsText t → AreDeclared (declared_names (objects_draft t)) → AllByRecursion (IsCommandOf (declared_names (objects_draft t))) commands
     → meaning_of Script (objects_text t commands) ≡ Ok (objects_deck t commands)
-unfolding meaning_of
-objects_back_whole t commands is right are =
-    let d = declared_names (objects_draft t) in
-    let text : List ℕ = objects_text t commands in
-    let last : ℕ = line_after text in
-    let script : List (List (List ℕ)) = map (command_words d) commands in
-    let behind : ℕ = 1 + length (declared_lines t) in
-    let read : texts_of text ≡ numbered_lines 1 (declared_lines t) ++ numbered_lines behind script =
-    texts_back 1 (declared_lines t ++ script) (lines_append (declared_lines t) script (declared_are_lines t is) (script_lines d commands right are)) ∙ numbered_append 1 (declared_lines t) script in
-    let declared : declarations_of last (texts_of text) ≡ Ok (objects_draft t, numbered_lines behind script) =
-    ap (declarations_of last) read ∙ declared_back last t (numbered_lines behind script) is in
-    let scripted : script_of Script d (numbered_lines behind script) ≡ Ok (numbered_commands behind commands) = script_back d behind commands right are in
-    rw (declared, scripted) refl
+objects_back_whole t commands is =
+    whole_back (declared_lines t) (objects_draft t) commands (declared_are_lines t is) (λ last rest. declared_back last t rest is)

@@ -1,5 +1,5 @@
 -- The objects, interrupts and timing events of a deck are read back.
-use Rattle.std.proofs.Common.{◌≡◌, ℕ, ◌+◌, ◌<◌, ◌≤◌, ◌&&◌, not, List, [], ◌∷◌, ◌++◌, Bool, true, false, cond, length, map, Option, Some, None, Result, Ok, Err, nat_lt, arith, ap, refl, sym, ◌∙◌, append_assoc}
+use Rattle.std.proofs.Common.{◌≡◌, ℕ, ◌+◌, ◌<◌, ◌&&◌, not, List, [], ◌∷◌, ◌++◌, Bool, true, false, cond, length, Option, Some, None, Result, Ok, arith, ap, refl, sym, ◌∙◌, append_assoc}
 use Rattle.std.specs.Prelude.{codes, IfSome}
 use Rattle.std.proofs.lemmas.List.{append-nil}
 use Rattle.rp_base.specs.declared.fault.DeckReason.{DeckReason}
@@ -10,15 +10,14 @@ use Rattle.rp_deck_text.specs.TallyTexts.{positions_words, task_words, AreTasks}
 use Rattle.std.specs.Fmt.{decimal}
 use Rattle.std.specs.Str.{bytes_eq}
 use Rattle.std.proofs.lemmas.Bool.{lt-ltb}
-use Rattle.rp_object.specs.declared.program.Handler.{Handler}
 use Rattle.rp_deck_declarations.specs.declared.draft.Kind.{Kind}
 use Rattle.rp_deck_declarations.specs.declared.draft.Kind.TheVariants as kinds
-use Rattle.rp_deck_declarations.specs.Declaring.{on_line, declaring_line, line_of_kind, ends_declarations, declarations_from, declarations_of}
+use Rattle.rp_deck_declarations.specs.Declaring.{on_line, declarations_from, declarations_of}
 use Rattle.rp_deck_text.specs.DraftTexts.{at_object, Declares}
-use Rattle.rp_deck_declarations.specs.Drafts.{DraftText, empty_draft, profile_line, last_object, has_body, is_in_body, allows, kind_of, profile_of, object_line, handler_at, handled_at, interrupt_line, timer_line, declaration_line}
-use Rattle.rp_deck_objects.specs.Objects.{ObjectText, empty_object}
+use Rattle.rp_deck_declarations.specs.Drafts.{DraftText, empty_draft, profile_line, has_body, is_in_body, allows, profile_of, object_line, handler_at, handled_at, interrupt_line, timer_line}
+use Rattle.rp_deck_objects.specs.Objects.{empty_object}
 use Rattle.rp_deck_text.specs.ObjectTexts.{DeclaredObject, DeclaredHandler, with_object, object_lines, IsObjectOf, with_objects, objects_lines, AreObjectsOf, handler_of, IsHandlerOf, with_interrupt, with_timer, handler_words, with_interrupts, with_timers, AreInterruptsOf, AreTimersOf, handlers_lines, ObjectsText, profile_word, profile_words, tasks_draft, objects_draft, declared_lines, IsObjectsText}
-use Rattle.rp_deck_text.specs.PartTexts.{PartText, IsNew, shut, with_parts, parts_lines}
+use Rattle.rp_deck_text.specs.PartTexts.{IsNew, shut, with_parts, parts_lines}
 use Rattle.rp_deck.specs.Script.{IsUpTo}
 use Rattle.rp_deck_text.specs.ScriptText.{spaced, line_of, numbered_lines}
 use Rattle.rp_deck_text.proofs.SpacedLemmas.{word_back, number_back, dotted_back, dotted_solid, end_back}

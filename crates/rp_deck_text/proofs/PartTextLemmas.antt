@@ -1,13 +1,12 @@
 -- The lines of an object are read back.
-use Rattle.std.proofs.Common.{◌≡◌, ℕ, suc, ◌+◌, ◌-◌, ◌<◌, ◌≤◌, ◌==◌, ◌&&◌, not, List, [], ◌∷◌, ◌++◌, Bool, true, false, cond, length, Option, Some, None, Result, Ok, Err, nat_lt, arith, ap, refl, sym, subst, ◌∙◌, append_assoc}
-use Rattle.std.specs.Prelude.{codes, ℤ, FitsSigned, IsTrue}
+use Rattle.std.proofs.Common.{◌≡◌, ℕ, ◌-◌, ◌<◌, ◌&&◌, not, List, [], ◌∷◌, Bool, true, false, cond, length, Option, Some, None, Ok, arith, ap, refl, sym, ◌∙◌}
+use Rattle.std.specs.Prelude.{codes, ℤ, FitsSigned}
 use Rattle.std.specs.FinMap.{len}
 use Rattle.std.specs.Fmt.{decimal, signed_decimal}
 use Rattle.std.specs.Int.{w64}
 use Rattle.std.specs.List.{list_all}
 use Rattle.std.specs.Str.{bytes_eq}
 use Rattle.std.proofs.lemmas.Bool.{lt-ltb}
-use Rattle.rp_base.specs.declared.fault.DeckReason.{DeckReason}
 use Rattle.rp_body.specs.Store.{is_within}
 use Rattle.rp_object.specs.declared.program.Profile.{Profile}
 use Rattle.rp_object.specs.declared.program.Profile.TheVariants.{Ravenscar, Jorvik}
@@ -16,21 +15,20 @@ use Rattle.rp_deck_objects.specs.declared.objects.Head.{Head}
 use Rattle.rp_deck_objects.specs.declared.objects.Head.TheVariants as heads
 use Rattle.rp_deck_objects.specs.declared.objects.Part.{Part}
 use Rattle.rp_deck_objects.specs.declared.objects.Part.TheVariants as parts
-use Rattle.rp_deck_bodies.specs.Bodies.{BodyText, begun_body}
+use Rattle.rp_deck_bodies.specs.Bodies.{BodyText}
 use Rattle.rp_deck_text.specs.BodyTexts.{body_count, body_lines}
-use Rattle.rp_deck_declarations.specs.Declaring.{ends_declarations, line_of_kind, declaring_line}
+use Rattle.rp_deck_declarations.specs.Declaring.{line_of_kind, declaring_line}
 use Rattle.rp_deck_text.specs.DraftTexts.{at_object, Declares}
 use Rattle.rp_deck_declarations.specs.Drafts.{DraftText, profile_of, is_in_body, kind_named, kind_allowed, kind_of}
 use Rattle.rp_deck_objects.specs.Objects.{ObjectText, FunctionText, Value, Truth, component_name_at, ranged_at, int_line, bool_line, function_line, procedure_line, most_entries, queue_at, longest_at, entry_line, begun_operation, completed_as, part_named, part_line, object_step}
 use Rattle.rp_deck_text.specs.ExpressionTexts.{is_bool, component_name, AreComponents, HasOne, truth_word, expr_words, cond_words}
-use Rattle.rp_words.specs.Lines.{LineText}
 use Rattle.rp_deck_bodies.specs.Expressions.{expression_words}
-use Rattle.rp_deck_text.specs.PartTexts.{shut, PartText, IntPart, BoolPart, FunctionPart, ProcedurePart, EntryPart, with_part, function_words, queue_words, ended, part_lines, IsNew, IsFunctionOf, IsLongest, IsWholeBody, IsPartOf, with_parts, parts_lines, ArePartsOf}
-use Rattle.rp_words.specs.Reading.{◌>>=◌, word_at, end_at, name_at, new_name_at, integer_at, number_at}
+use Rattle.rp_deck_text.specs.PartTexts.{shut, PartText, IntPart, BoolPart, FunctionPart, ProcedurePart, EntryPart, with_part, function_words, queue_words, ended, part_lines, IsNew, IsLongest, IsWholeBody, IsPartOf, with_parts, parts_lines, ArePartsOf}
+use Rattle.rp_words.specs.Reading.{word_at}
 use Rattle.rp_deck.specs.Script.{IsUpTo}
 use Rattle.rp_deck_text.specs.ScriptText.{spaced, line_of, is_distinct}
 use Rattle.rp_words.specs.Tables.{is_declared}
-use Rattle.rp_words.specs.Words.{is_name, is_at_end, truth_named}
+use Rattle.rp_words.specs.Words.{is_name, truth_named}
 use Rattle.rp_words.proofs.WordsLemmas.{both}
 use Rattle.rp_deck_text.proofs.SpacedLemmas.{word_back, word_there, name_back, name_solid, number_back, integer_back, end_back}
 use Rattle.rp_deck_text.proofs.ExpressionTextLemmas.{finds, bool_back, expr_line_back, cond_line_back}

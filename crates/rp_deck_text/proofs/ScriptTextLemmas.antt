@@ -1,9 +1,9 @@
 -- The text of a script's line is read back.
-use Rattle.std.proofs.Common.{◌≡◌, ◌⊎◌, ℕ, zero, suc, ◌+◌, ◌-◌, ◌^◌, ◌<◌, ◌≤◌, ◌||◌, ◌&&◌, not, List, [], ◌∷◌, ◌++◌, Bool, true, false, cond, length, Option, Some, None, Result, Ok, Err, nat_lt, arith, inl, inr, ap, refl, sym, subst, ◌∙◌}
+use Rattle.std.proofs.Common.{◌≡◌, ℕ, zero, suc, ◌+◌, ◌-◌, ◌^◌, ◌<◌, ◌||◌, ◌&&◌, not, List, [], ◌∷◌, ◌++◌, Bool, true, false, cond, length, Some, None, Result, Ok, nat_lt, arith, inl, inr, ap, refl, sym, subst, ◌∙◌}
 use Rattle.std.specs.Prelude.{ℤ, pos, IsTrue, FitsSigned, codes, slice_get, slice_index_or}
 use Rattle.std.specs.Fmt.{decimal, signed_decimal}
 use Rattle.std.specs.Int.{w64}
-use Rattle.std.specs.List.{prefix_len, list_all, list_any}
+use Rattle.std.specs.List.{prefix_len, list_all}
 use Rattle.std.specs.Str.{bytes_eq}
 use Rattle.std.proofs.lemmas.Bool.{cases_Bool, cond-true, cond-false, eqb-true, eq-eqb, lt-ltb}
 use Rattle.std.proofs.lemmas.Option.{slice_get_within, get_or_from_slice_get}
@@ -11,21 +11,19 @@ use Rattle.std.proofs.lemmas.Slice.Eq.{bytes_eq-Decides}
 use Rattle.rp_base.specs.declared.action.Operation.{Operation}
 use Rattle.rp_base.specs.declared.action.Operation.TheVariants as operations
 use Rattle.rp_base.specs.declared.fault.DeckReason.{DeckReason}
-use Rattle.rp_base.specs.declared.fault.DeckReason.TheVariants.{UnknownName, BadName}
 use Rattle.rp_model.specs.Events.{Event, Step, Submit, Again, Makes, Cut, Stop, Restart, Deliver, Lead, Interrupt, Tick, Report}
-use Rattle.rp_object.specs.declared.program.Handler.{Handler}
 use Rattle.rp_deck.specs.declared.deck.Mode.TheVariants.{Script}
 use Rattle.rp_deck.specs.declared.verbs.Verb.{Verb}
 use Rattle.rp_deck.specs.declared.verbs.Verb.TheVariants as verbs
 use Rattle.rp_words.specs.Words.{is_name}
 use Rattle.rp_words.specs.Tables.{is_declared, place_of, find}
-use Rattle.rp_words.specs.Reading.{◌>>=◌, some_or, made_of, word_at, end_at, name_of, name_at, integer_at, number_at, dotted_of}
+use Rattle.rp_words.specs.Reading.{made_of, number_at}
 use Rattle.rp_deck.specs.Script.{IsUpTo, IsMessage}
 use Rattle.rp_deck_objects.specs.ObjectViews.{OperationsText}
 use Rattle.rp_deck_declarations.specs.ScriptNames.{DeclaredNames}
 use Rattle.rp_deck.specs.ScriptLines.{declared_at, operation_at, timer_at, message_at, argument_at, position_at, last_at, lead_at, deliver_at, interrupt_at, tick_at, step_from, call_at, arm_at, disarm_at, again_at, cut_at, lose_at, CommandText, Take, Lose, Drain, Show, verb_named, command_at, command_line}
-use Rattle.rp_deck_text.specs.ScriptText.{spaced, line_of, step_words, submit_words, event_words, command_words, name_numbered, same_operation, operation_name_in, operation_name, operations_numbered, is_distinct, are_names, AreOperations, AreDeclared, IsOneOf, IsCallOf, IsTimerOf, IsSubmitOf, IsStepOf, MayBeCut, IsEventOf, IsCommandOf}
-use Rattle.rp_words.proofs.WordsLemmas.{both, and_true}
+use Rattle.rp_deck_text.specs.ScriptText.{spaced, line_of, step_words, submit_words, event_words, command_words, name_numbered, same_operation, operation_name_in, operation_name, operations_numbered, is_distinct, are_names, AreDeclared, IsOneOf, IsCallOf, IsTimerOf, IsSubmitOf, IsStepOf, MayBeCut, IsEventOf, IsCommandOf}
+use Rattle.rp_words.proofs.WordsLemmas.{both}
 use Rattle.rp_words.proofs.TablesLemmas.{found_step}
 use Rattle.rp_deck_text.proofs.SpacedLemmas.{is_solid, word_back, word_there, signed_solid, decimal_solid, name_back, number_back, integer_back, dotted_back, dotted_solid, end_back}
 

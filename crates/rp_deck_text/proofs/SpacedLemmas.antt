@@ -1,19 +1,18 @@
 -- Words with a space before each are read back, one after the other.
-use Rattle.std.proofs.Common.{◌≡◌, ◌⊎◌, ℕ, zero, suc, ◌+◌, ◌-◌, ◌^◌, ◌<◌, ◌≤◌, ◌==◌, ◌||◌, ◌&&◌, not, List, [], ◌∷◌, ◌++◌, Bool, true, false, cond, take, drop, length, Option, Some, None, Result, Ok, Err, position, nat_lt, arith, inl, inr, ap, refl, sym, subst, ◌∙◌, append_assoc, length-append}
-use Rattle.std.specs.Prelude.{ℤ, pos, negsuc, neg_ℤ, IsTrue, FitsSigned, slice_get, slice_index_or, nat_le}
+use Rattle.std.proofs.Common.{◌≡◌, ℕ, suc, ◌+◌, ◌^◌, ◌<◌, ◌≤◌, ◌==◌, ◌&&◌, not, List, [], ◌∷◌, ◌++◌, Bool, true, false, cond, take, drop, length, Option, Some, None, Result, Ok, Err, position, nat_lt, arith, ap, refl, ◌∙◌, length-append}
+use Rattle.std.specs.Prelude.{ℤ, pos, negsuc, neg_ℤ, IsTrue, FitsSigned, nat_le}
 use Rattle.std.specs.Fmt.{decimal, signed_decimal}
 use Rattle.std.specs.Int.{w64}
-use Rattle.std.specs.List.{prefix_len, list_all, list_any}
+use Rattle.std.specs.List.{prefix_len, list_all}
 use Rattle.std.specs.Char.{is_ascii_digit, is_ascii_alphabetic}
-use Rattle.std.specs.Str.{bytes_eq}
-use Rattle.std.specs.Str.Parse.{digits_value, AllDigits, starts_with_minus}
+use Rattle.std.specs.Str.Parse.{digits_value, starts_with_minus}
 use Rattle.std.proofs.Math.Seq.{take-append_seam}
-use Rattle.std.proofs.lemmas.Bool.{cases_Bool, ltb-true, lt-ltb, leb-true, le-leb}
+use Rattle.std.proofs.lemmas.Bool.{lt-ltb, leb-true, le-leb}
 use Rattle.std.proofs.lemmas.Bool.Decides.{nat_tests}
 use Rattle.std.proofs.lemmas.Fmt.{decimal_is_IsNumeral}
 use Rattle.rp_base.specs.declared.fault.DeckReason.{DeckReason}
 use Rattle.rp_base.specs.declared.fault.DeckReason.TheVariants.{WrongNumberOfWords, BadName, BadNumber}
-use Rattle.rp_words.specs.Words.{begins_with, is_blank, is_of_name, is_name, IsName, without_blanks, is_at_end, first_word, after_word, without_minus, is_digits, number_written, number_of, number_within, fits_64}
+use Rattle.rp_words.specs.Words.{begins_with, is_blank, is_of_name, is_name, without_blanks, is_at_end, first_word, after_word, is_digits, number_of, number_within, fits_64}
 use Rattle.rp_words.specs.Reading.{◌>>=◌, some_or, word_at, end_at, name_of, name_at, integer_at, number_at, dotted_of}
 use Rattle.rp_deck_text.specs.ScriptText.{spaced}
 use Rattle.rp_words.proofs.WordsLemmas.{both, and_true, of_numeral, of_fits}

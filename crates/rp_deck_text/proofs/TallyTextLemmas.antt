@@ -1,32 +1,30 @@
 -- The text of a deck whose objects are a tally is read back.
-use Rattle.std.proofs.Common.{◌≡◌, ℕ, zero, suc, ◌+◌, ◌<◌, ◌≤◌, ◌==◌, not, List, [], ◌∷◌, ◌++◌, Bool, true, false, cond, length, map, Option, Some, None, Result, Ok, Err, nat_lt, arith, ap, refl, sym, subst, ◌∙◌, append_assoc, length-append}
-use Rattle.std.specs.Prelude.{codes, IfSome, IsTrue}
+use Rattle.std.proofs.Common.{◌≡◌, ℕ, zero, suc, ◌+◌, ◌<◌, ◌≤◌, List, [], ◌∷◌, ◌++◌, true, false, length, map, Option, Some, None, Result, Ok, nat_lt, arith, ap, refl, sym, ◌∙◌, append_assoc, length-append}
+use Rattle.std.specs.Prelude.{codes, IfSome}
 use Rattle.std.specs.Fmt.{decimal}
 use Rattle.std.proofs.lemmas.List.{append-nil}
 use Rattle.std.proofs.lemmas.Bool.{lt-ltb}
 use Rattle.std.proofs.lemmas.Bool.Decides.{nat_tests}
 use Rattle.rp_base.specs.declared.fault.DeckReason.{DeckReason}
-use Rattle.rp_base.specs.declared.fault.DeckReason.TheVariants.{DuplicateName, TooMany}
 use Rattle.rp_deck.specs.declared.deck.Mode.TheVariants.{Script}
 use Rattle.rp_deck_declarations.specs.declared.draft.Kind.{Kind}
 use Rattle.rp_deck_declarations.specs.declared.draft.Kind.TheVariants as kinds
-use Rattle.rp_deck_declarations.specs.Declaring.{on_line, ends_declarations, declaring_line, line_of_kind, declarations_from, declarations_of}
-use Rattle.rp_words.specs.LineFaults.{BadLine}
+use Rattle.rp_deck_declarations.specs.Declaring.{on_line, declaring_line, declarations_from, declarations_of}
 use Rattle.rp_deck_declarations.specs.Drafts.{DraftText, empty_draft, is_empty, kind_of, nodes_line, positions_line, task_line, tally_name, tally_names, tally_line, declaration_line, script_line}
 use Rattle.rp_words.specs.Lines.{LineText}
-use Rattle.rp_deck.specs.Meaning.{DeckText, texts_of, line_after, deck_of, meaning_of}
-use Rattle.rp_words.specs.Reading.{◌>>=◌, unless, end_at, name_at, new_name_at, number_at}
+use Rattle.rp_deck.specs.Meaning.{texts_of, line_after, deck_of, meaning_of}
+use Rattle.rp_words.specs.Reading.{new_name_at}
 use Rattle.rp_deck.specs.Script.{IsUpTo}
-use Rattle.rp_deck.specs.ScriptLines.{CommandText, LineCommand, script_of}
+use Rattle.rp_deck.specs.ScriptLines.{CommandText, script_of}
 use Rattle.rp_deck_declarations.specs.ScriptNames.{declared_names}
-use Rattle.rp_deck_text.specs.ScriptText.{numbered_lines, spaced, line_of, command_words, numbered_commands, AreDeclared, IsCommandOf}
+use Rattle.rp_deck_text.specs.ScriptText.{numbered_lines, text_of_lines, spaced, line_of, command_words, numbered_commands, AreDeclared, IsCommandOf}
 use Rattle.std.specs.List.{AllByRecursion}
 use Rattle.rp_words.specs.Tables.{is_declared}
 use Rattle.rp_deck_text.specs.TallyTexts.{TallyText, positions_words, task_words, tally_lines, tally_draft, tally_text, tally_deck, AreTasks, IsTallyText}
 use Rattle.rp_words.specs.Words.{is_name}
-use Rattle.rp_deck_text.proofs.SpacedLemmas.{is_solid, name_solid, decimal_solid, name_back, number_back, end_back}
+use Rattle.rp_deck_text.proofs.SpacedLemmas.{name_solid, decimal_solid, name_back, number_back, end_back}
 use Rattle.rp_deck_declarations.proofs.DeclaringLemmas.{next_line, script_ends}
-use Rattle.rp_deck_text.proofs.TextsLemmas.{numbered_append, AreSolid, IsLine, AreLines, number_of_line, texts_back, script_back, script_lines}
+use Rattle.rp_deck_text.proofs.TextsLemmas.{numbered_append, AreLines, texts_back, script_back, script_lines}
 
 -- ---- lines of a draft without objects
 
@@ -168,18 +166,25 @@ tally_are_lines t is = (
       ((refl, refl, (decimal_solid t.count (omega (arith, is.count.1)), tt)), ((refl, refl, tt), tt))),
 )
 
-pub tally_back_whole : (t : TallyText) (commands : List CommandText) → IsTallyText t → AreDeclared (declared_names (tally_draft t)) → AllByRecursion (IsCommandOf (declared_names (tally_draft t))) commands
-    → meaning_of Script (tally_text t commands) ≡ Ok (tally_deck t commands)
+-- the lines up to `script` that mean a draft, and then commands of it
+pub whole_back : (lines : List (List (List ℕ))) (draft : DraftText) (commands : List CommandText) → AreLines lines
+    → ((last : ℕ) (rest : List LineText) → declarations_of last (numbered_lines 1 lines ++ rest) ≡ Ok (draft, rest))
+    → AreDeclared (declared_names draft) → AllByRecursion (IsCommandOf (declared_names draft)) commands
+    → meaning_of Script (text_of_lines (lines ++ map (command_words (declared_names draft)) commands)) ≡ Ok (deck_of draft (numbered_commands (1 + length lines) commands))
 unfolding meaning_of
-tally_back_whole t commands is right are =
-    let d = declared_names (tally_draft t) in
-    let text : List ℕ = tally_text t commands in
-    let last : ℕ = line_after text in
+whole_back lines draft commands are_lines means right are =
+    let d = declared_names draft in
     let script : List (List (List ℕ)) = map (command_words d) commands in
-    let behind : ℕ = 1 + length (tally_lines t) in
-    let read : texts_of text ≡ numbered_lines 1 (tally_lines t) ++ numbered_lines behind script =
-    texts_back 1 (tally_lines t ++ script) (lines_append (tally_lines t) script (tally_are_lines t is) (script_lines d commands right are)) ∙ numbered_append 1 (tally_lines t) script in
-    let declared : declarations_of last (texts_of text) ≡ Ok (tally_draft t, numbered_lines behind script) =
-    ap (declarations_of last) read ∙ declared_first last t (numbered_lines behind script) is in
+    let text : List ℕ = text_of_lines (lines ++ script) in
+    let behind : ℕ = 1 + length lines in
+    let read : texts_of text ≡ numbered_lines 1 lines ++ numbered_lines behind script =
+    texts_back 1 (lines ++ script) (lines_append lines script are_lines (script_lines d commands right are)) ∙ numbered_append 1 lines script in
+    let declared : declarations_of (line_after text) (texts_of text) ≡ Ok (draft, numbered_lines behind script) =
+    ap (declarations_of (line_after text)) read ∙ means (line_after text) (numbered_lines behind script) in
     let scripted : script_of Script d (numbered_lines behind script) ≡ Ok (numbered_commands behind commands) = script_back d behind commands right are in
     rw (declared, scripted) refl
+
+pub tally_back_whole : (t : TallyText) (commands : List CommandText) → IsTallyText t → AreDeclared (declared_names (tally_draft t)) → AllByRecursion (IsCommandOf (declared_names (tally_draft t))) commands
+    → meaning_of Script (tally_text t commands) ≡ Ok (tally_deck t commands)
+tally_back_whole t commands is =
+    whole_back (tally_lines t) (tally_draft t) commands (tally_are_lines t is) (λ last rest. declared_first last t rest is)

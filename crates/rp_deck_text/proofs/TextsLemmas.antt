@@ -1,6 +1,6 @@
 -- A text of lines is read back, line by line.
-use Rattle.std.proofs.Common.{◌≡◌, ℕ, zero, suc, ◌+◌, ◌^◌, ◌<◌, ◌≤◌, ◌==◌, ◌||◌, ◌&&◌, not, List, [], ◌∷◌, ◌++◌, Bool, true, false, cond, take, drop, length, map, Option, Some, None, Result, Ok, Err, arith, ap, refl, sym, subst, ◌∙◌, length-append}
-use Rattle.std.specs.Prelude.{ℤ, nat_le, nat_eq, option_to_list, codes, FitsSigned}
+use Rattle.std.proofs.Common.{◌≡◌, ℕ, ◌+◌, ◌==◌, ◌||◌, ◌&&◌, not, List, [], ◌∷◌, ◌++◌, Bool, true, false, cond, take, drop, length, map, Option, Some, None, Ok, arith, ap, refl, ◌∙◌}
+use Rattle.std.specs.Prelude.{ℤ, nat_le, nat_eq, option_to_list, FitsSigned}
 use Rattle.std.specs.Fmt.{decimal, signed_decimal}
 use Rattle.std.specs.Int.{w64}
 use Rattle.std.specs.List.{prefix_len, list_all, AllByRecursion}
@@ -11,11 +11,10 @@ use Rattle.rp_base.specs.declared.action.Operation.TheVariants as operations
 use Rattle.rp_base.specs.declared.action.Operation.{Operation}
 use Rattle.rp_model.specs.Events.{Event, Step, Submit, Again, Makes, Cut, Stop, Restart, Deliver, Lead, Interrupt, Tick, Report}
 use Rattle.rp_deck.specs.declared.deck.Mode.TheVariants.{Script}
-use Rattle.rp_words.specs.LineFaults.{BadLine}
-use Rattle.rp_deck.specs.Script.{IsUpTo, IsMessage}
+use Rattle.rp_deck.specs.Script.{IsUpTo}
 use Rattle.rp_deck_declarations.specs.ScriptNames.{DeclaredNames}
-use Rattle.rp_deck.specs.ScriptLines.{LineCommand, CommandText, Take, Lose, Drain, Show, script_of}
-use Rattle.rp_deck_text.specs.ScriptText.{numbered_lines, spaced, joined, line_of, text_of_lines, script_text, numbered_commands, name_numbered, operation_name, step_words, submit_words, event_words, command_words, AreDeclared, IsCallOf, IsTimerOf, IsSubmitOf, IsStepOf, MayBeCut, IsEventOf, IsCommandOf}
+use Rattle.rp_deck.specs.ScriptLines.{CommandText, Take, Lose, Drain, Show, script_of}
+use Rattle.rp_deck_text.specs.ScriptText.{numbered_lines, spaced, joined, line_of, text_of_lines, script_text, numbered_commands, name_numbered, operation_name, step_words, submit_words, event_words, command_words, AreDeclared, IsCallOf, IsSubmitOf, IsStepOf, IsEventOf, IsCommandOf}
 use Rattle.rp_words.specs.Lines.{is_line_feed, in_front, lines_of, LineText, is_skipped, text_at, texts_from}
 use Rattle.rp_words.specs.Words.{begins_with, is_blank, without_blanks, is_at_end, first_word, after_word, is_name}
 use Rattle.rp_words.proofs.WordsLemmas.{both, and_true}

@@ -1,13 +1,11 @@
 -- The lines of an object: one way to write each part of it, which reading gives back.
-use Rattle.std.specs.Prelude.{ℕ, ◌≡◌, ◌<◌, ◌≤◌, ◌+◌, ℤ, FitsSigned, Bool, true, false, IsTrue, List, [], ◌∷◌, ◌++◌, codes, length, None}
-use Rattle.std.specs.FinMap.{insert, len}
+use Rattle.std.specs.Prelude.{ℕ, ◌≡◌, ◌<◌, ◌≤◌, ℤ, FitsSigned, Bool, true, false, IsTrue, List, [], ◌∷◌, ◌++◌, codes, length, None}
+use Rattle.std.specs.FinMap.{len}
 use Rattle.std.specs.Fmt.{decimal, signed_decimal}
 use Rattle.std.specs.Int.{w64}
-use Rattle.rp_base.specs.declared.action.Operation.TheVariants as operations
 use Rattle.rp_body.specs.Store.{is_within}
 use Rattle.rp_object.specs.declared.program.Profile.{Profile}
 use Rattle.rp_object.specs.declared.program.Profile.TheVariants.{Ravenscar, Jorvik}
-use Rattle.rp_deck_bodies.specs.declared.names.Component.TheVariants as components
 use Rattle.rp_deck_objects.specs.declared.objects.Head.TheVariants as heads
 use Rattle.rp_deck_bodies.specs.Bodies.{BodyText}
 use Rattle.rp_deck_text.specs.BodyTexts.{body_count, body_lines, IsBodyOf}

@@ -14,6 +14,24 @@ use Rattle.rp_words.proofs.TablesLemmas.{same_len}
 use Rattle.rp_deck_declarations.proofs.ProgramLemmas.{names_of_tally, names_of_objects, declared_of_tally, declared_of_objects}
 use Rattle.rp_deck_declarations.proofs.program.finish.Goals as goal
 
+pub returns-clause-complete : goal.returns-clause-complete
+returns-clause-complete c =
+    let limits = c.requires.limits in
+    let made = c.in_ok-made.ensures in
+    record {
+      nodes = limits.nodes;
+      tasks = limits.tasks;
+      some_task = c.requires.tasks;
+      objects = limits.objects;
+      some_object = c.requires.objects;
+      program = made.program;
+      kept = made.declared;
+      operations = made.operations;
+      named = made.named;
+      interrupts = limits.interrupts;
+      timers = limits.timers;
+    }
+
 pub returns-clause-names : goal.returns-clause-names
 returns-clause-names c =
     let draft = c.args.draft in

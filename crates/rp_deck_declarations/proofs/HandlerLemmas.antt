@@ -1,5 +1,5 @@
 -- Handlers stay procedures of objects as more is declared.
-use Rattle.std.proofs.Common.{◌≡◌, ℕ, zero, suc, ◌+◌, ◌-◌, ◌<◌, ◌≤◌, List, [], ◌∷◌, ◌++◌, true, length, map, Option, Some, arith, ap, refl, sym, subst, ◌∙◌}
+use Rattle.std.proofs.Common.{◌≡◌, ℕ, zero, suc, ◌+◌, ◌≤◌, List, [], ◌∷◌, ◌++◌, true, length, map, Some, arith, ap, refl, sym, subst, ◌∙◌}
 use Rattle.std.specs.Prelude.{All, is_some, slice_get, slice_set, option_map, Vec}
 use Rattle.std.specs.declared.alloc.Global.{Global}
 use Rattle.rp_body.specs.declared.statement.Stmt.{Stmt}

@@ -1,19 +1,11 @@
 -- Names of operations, as operations and names are added.
-use Rattle.std.proofs.Common.{◌≡◌, ◌⊎◌, ℕ, zero, suc, ◌+◌, ◌<◌, Bool, true, Some, Result, Ok, Err, OnOk, List, [], ◌∷◌, ◌++◌, length, arith, inl, inr, refl, sym, ap, subst, ◌∙◌}
-use Rattle.std.specs.Prelude.{All, OnErr, String, Vec, is_some, slice_get, slice_index_or}
+use Rattle.std.proofs.Common.{◌≡◌, ◌⊎◌, ℕ, zero, suc, ◌<◌, true, Some, List, [], ◌∷◌, ◌++◌, length, arith, inl, inr, refl, sym, ap, subst, ◌∙◌}
+use Rattle.std.specs.Prelude.{All, String, slice_get}
 use Rattle.std.specs.Arc.{arc_value}
 use Rattle.std.specs.List.{IsAmong}
-use Rattle.std.specs.Map.{values_of}
-use Rattle.std.proofs.lemmas.Bool.{cases_Bool, cond-true, cond-false}
 use Rattle.std.proofs.lemmas.Option.{slice_get_within}
-use Rattle.std.specs.declared.alloc.Global.{Global}
-use Rattle.indexmap.specs.IndexMap.{IndexMap, insert_entry, values, IsUnchanged}
-use Rattle.rp_body.specs.declared.statement.Stmt.{Stmt}
+use Rattle.indexmap.specs.IndexMap.{IndexMap, values}
 use Rattle.rp_base.specs.declared.action.Operation.TheVariants as operations
-use Rattle.rp_entry.specs.Operations.{of_index}
-use Rattle.rp_entry.specs.declared.operations.Entry.{Entry as DeclaredEntry}
-use Rattle.rp_entry.specs.declared.operations.Function.{Function as DeclaredFunction}
-use Rattle.rp_entry.specs.declared.operations.Operations.{Operations}
 use Rattle.rp_object.specs.Program.{operations_of, has_operation, is_some_and, is_offered}
 use Rattle.rp_object.specs.declared.program.Declarations.{Declarations}
 use Rattle.rp_object.specs.declared.program.ObjectDeclaration.{ObjectDeclaration}

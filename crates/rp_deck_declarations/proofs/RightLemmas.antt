@@ -1,5 +1,5 @@
 -- The declarations of a deck are those of a right program.
-use Rattle.std.proofs.Common.{◌≡◌, ℕ, zero, suc, ◌+◌, ◌≤◌, List, [], ◌∷◌, true, length, map, Option, Some, arith, ap, refl, sym, subst, ◌∙◌}
+use Rattle.std.proofs.Common.{◌≡◌, ℕ, zero, suc, ◌≤◌, List, [], ◌∷◌, true, length, map, Some, arith, ap, refl, sym, ◌∙◌}
 use Rattle.std.specs.Prelude.{All, is_some, slice_get, Vec}
 use Rattle.std.specs.declared.alloc.Global.{Global}
 use Rattle.indexmap.specs.IndexMap.{IndexMap, values, index_map_len}

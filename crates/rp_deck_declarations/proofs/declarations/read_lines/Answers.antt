@@ -1,5 +1,5 @@
 -- One line after another.
-use Rattle.std.proofs.Common.{◌≡◌, Err, ap, sym, subst, ◌∙◌}
+use Rattle.std.proofs.Common.{Err, ap, sym, subst, ◌∙◌}
 use Rattle.rp_words.specs.Ahead.{ahead, after_last, text_of}
 use Rattle.rp_deck_declarations.specs.Declaring.{declarations_from}
 use Rattle.rp_deck_declarations.specs.DraftViews.{draft_text}

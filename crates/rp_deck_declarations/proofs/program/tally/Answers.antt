@@ -1,7 +1,7 @@
 -- One object more.
-use Rattle.std.proofs.Common.{◌≡◌, ◌∷◌, ◌++◌, [], List, map, rules, ap, sym, subst, ◌∙◌}
+use Rattle.std.proofs.Common.{◌∷◌, ◌++◌, [], map, rules, ap, sym, subst, ◌∙◌}
 use Rattle.std.proofs.lemmas.List.{replicate_more}
-use Rattle.rp_deck_objects.specs.ObjectViews.{OperationsText, own_operations}
+use Rattle.rp_deck_objects.specs.ObjectViews.{own_operations}
 use Rattle.rp_deck_declarations.specs.ScriptNames.{tally_operations}
 use Rattle.rp_deck_declarations.proofs.Offering.{AreTallyNames, all_tally_more}
 use Rattle.rp_words.proofs.TablesLemmas.{map_last}

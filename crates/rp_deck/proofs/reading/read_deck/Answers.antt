@@ -1,4 +1,4 @@
-use Rattle.std.proofs.Common.{◌≡◌, ℕ, List, map, Result, Ok, Err, ap, sym, subst, ◌∙◌}
+use Rattle.std.proofs.Common.{ℕ, List, map, Result, Ok, Err, ap, sym, subst, ◌∙◌}
 use Rattle.std.proofs.lemmas.Result.{err_from_is_err_and}
 use Rattle.rp_base.specs.declared.fault.Fault.{Fault}
 use Rattle.rp_deck.specs.declared.deck.Deck.{Deck}
@@ -7,7 +7,7 @@ use Rattle.rp_deck_declarations.specs.Declaring.{declarations_of}
 use Rattle.rp_words.specs.LineFaults.{BadLine, Reads, Refuses}
 use Rattle.rp_deck_declarations.specs.DeclaredViews.{declared_text, names_of}
 use Rattle.rp_deck.specs.DeckViews.{deck_text, line_command}
-use Rattle.rp_deck.specs.Meaning.{DeckText, meaning_of}
+use Rattle.rp_deck.specs.Meaning.{meaning_of}
 use Rattle.rp_deck_declarations.specs.DeclaredTexts.{known}
 use Rattle.rp_words.specs.Reading.{◌>>=◌}
 use Rattle.rp_deck.specs.ScriptLines.{LineCommand, script_of}

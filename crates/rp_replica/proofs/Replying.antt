@@ -1,5 +1,5 @@
 -- Replies to the answers whose call is pending.
-use Rattle.std.proofs.Common.{◌≡◌, ℕ, suc, ◌+◌, ◌*◌, ◌≤◌, Bool, true, false, ◌&&◌, nat_eq, List, [], ◌∷◌, ◌++◌, length, map, take, drop, if◌then◌else◌, refl, sym, ap, subst, ◌∙◌, inl, inr, arith, append_assoc, append-nil, eqb-true}
+use Rattle.std.proofs.Common.{◌≡◌, ℕ, ◌+◌, ◌*◌, ◌≤◌, Bool, true, false, ◌&&◌, nat_eq, List, [], ◌∷◌, ◌++◌, length, map, take, drop, if◌then◌else◌, refl, sym, ap, subst, ◌∙◌, inl, inr, arith, append_assoc, append-nil, eqb-true}
 use Rattle.std.specs.Prelude.{filter}
 use Rattle.std.specs.List.{list_any}
 use Rattle.std.proofs.lemmas.Bool.{or_cases}
@@ -10,7 +10,6 @@ use Rattle.rp_base.specs.declared.action.Action.TheVariants.{Noop, Call, Interru
 use Rattle.rp_base.specs.declared.reply.Answer.{Answer}
 use Rattle.rp_base.specs.Sets.{Has, IsSet}
 use Rattle.rp_base.proofs.Members.{has_left, has_right, has_passing, has_mapped, mapped_has}
-use Rattle.rp_codec.specs.Text.{text_of}
 use Rattle.rp_codec.specs.Message.{Message}
 use Rattle.rp_codec.specs.declared.packet.Body.TheVariants.{Reply}
 use Rattle.rp_log.specs.Contents.{Contents}
@@ -21,37 +20,9 @@ use Rattle.rp_machine.proofs.Replaying.{replay_from-append}
 use Rattle.rp_machine.proofs.Few.{set_within, calls_few}
 use Rattle.rp_model.specs.Pending.{is_answered_by, replies_to}
 use Rattle.rp_model.specs.Says.{says_to_task}
-use Rattle.rp_replica.specs.Packets.{Run, RoomyRun, texts_of, run_of, with_packet, with_packets, longest_text}
+use Rattle.rp_replica.specs.Packets.{Run, RoomyRun, with_packets, longest_text}
 use Rattle.rp_replica.specs.Applying.{AppliesMore, HasReplied}
-
--- ---- packets more
-
-pub texts_append : (xs ys : List Message) → texts_of (xs ++ ys) ≡ texts_of xs ++ texts_of ys
-texts_append [] ys = refl
-texts_append (x ∷ xs) ys = ap (λ (t : List ℕ). text_of x ++ t) (texts_append xs ys) ∙ sym (append_assoc (text_of x) (texts_of xs) (texts_of ys))
-
-pub no_packet : (run : Run) → run ≡ with_packets run []
-no_packet run =
-    let same : run.packets ≡ run.packets + 0 = omega arith in
-    λ i. record { bytes = sym (append-nil run.bytes) i; packets = same i }
-
-pub one_packet : (run : Run) (m : Message) → with_packet run m ≡ with_packets run (m ∷ [])
-one_packet run m =
-    let same : suc run.packets ≡ run.packets + 1 = omega arith in
-    λ i. record { bytes = run.bytes ++ sym (append-nil (text_of m)) i; packets = same i }
-
-pub packets_then : (run : Run) (xs ys : List Message) → with_packets (with_packets run xs) ys ≡ with_packets run (xs ++ ys)
-packets_then run xs ys =
-    let bytes : (run.bytes ++ texts_of xs) ++ texts_of ys ≡ run.bytes ++ texts_of (xs ++ ys) =
-    append_assoc run.bytes (texts_of xs) (texts_of ys) ∙ ap (λ (t : List ℕ). run.bytes ++ t) (sym (texts_append xs ys)) in
-    let long : length (xs ++ ys) ≡ length xs + length ys = length-append xs ys in
-    let count : run.packets + length xs + length ys ≡ run.packets + length (xs ++ ys) = omega (arith, long) in
-    λ i. record { bytes = bytes i; packets = count i }
-
-pub packets_behind : (xs ys : List Message) → with_packets (run_of xs) ys ≡ run_of (xs ++ ys)
-packets_behind xs ys =
-    let long : length xs + length ys ≡ length (xs ++ ys) = sym (length-append xs ys) in
-    λ i. record { bytes = sym (texts_append xs ys) i; packets = long i }
+use Rattle.rp_replica.proofs.Saying.{no_packet, packets_then}
 
 -- ---- replies to several answers
 

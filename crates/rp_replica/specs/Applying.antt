@@ -1,14 +1,21 @@
 -- What learning and applying come to for a replica (no public clause names it).
-use Rattle.std.specs.Prelude.{◌≡◌, ℕ, ◌+◌, ◌*◌, ◌≤◌, List, [], ◌++◌, length}
+use Rattle.std.specs.Prelude.{◌≡◌, ℕ, ◌+◌, ◌*◌, ◌≤◌, Bool, List, [], ◌++◌, length, if◌then◌else◌}
 use Rattle.rp_base.specs.declared.action.Action.{Action}
 use Rattle.rp_base.specs.declared.reply.Answer.{Answer}
+use Rattle.rp_codec.specs.Message.{Message}
+use Rattle.rp_codec.specs.declared.packet.Body.TheVariants.{Decided}
 use Rattle.rp_log.specs.Contents.{Contents}
 use Rattle.rp_machine.specs.Numbered.{Applied, outcome}
 use Rattle.rp_model.specs.Parts.{Turn}
 use Rattle.rp_model.specs.Learner.{learns}
 use Rattle.rp_model.specs.Pending.{replies_to}
+use Rattle.rp_model.specs.Says.{says_to_others}
 use Rattle.rp_replica.specs.Held.{Held}
 use Rattle.rp_replica.specs.Packets.{RoomyRun, longest_text, with_packets}
+
+-- the packets that go before the replies: the other nodes hear of it where this one tells them
+abbrev pub told_first : ℕ → ℕ → ℕ → Action → Bool → List Message
+told_first nodes me i v tells = if tells then says_to_others nodes me (Decided i v) else []
 
 module _ {S : Type 0} (next : S → Action → S) (answers : S → Action → List Answer) where
   -- the turn of a replica that learns an action at a position, with no packet but the replies

@@ -9,5 +9,6 @@ pub mod Opening
 pub mod Standing
 pub mod Plans
 pub mod Inputs
+pub mod Committing
 pub mod Cutting
 pub mod Applying

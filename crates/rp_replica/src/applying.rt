@@ -12,7 +12,7 @@ ghost use Rattle.rp_replica.specs.Applying.{AppliesMore, HasReplied};
 ghost use Rattle.rp_replica.specs.Packets.{longest_text, with_packets};
 
 use crate::pending::Pending;
-use crate::sent::RoomyOutbox;
+use crate::sent::Outbox;
 use rp_base::{Action, Answer, Answers, NodeId};
 use rp_log::Log;
 use rp_machine::{Machine, Numbered};
@@ -56,7 +56,7 @@ pub(crate) fn apply_and_reply<M: Machine>(
     log: &mut Log,
     me: NodeId,
     pending: &Pending,
-    out: &mut RoomyOutbox,
+    out: &mut Outbox,
 )
     requires right { (i : ℕ) (v : Action) → action_at log.old i ≡ Some v → IsRight v }
     requires taken { machine.old.actions ≡ log.old.taken }
@@ -73,7 +73,7 @@ pub(crate) fn apply_and_reply<M: Machine>(
 }
 
 /// Pushes a reply for each of the answers whose call is pending.
-fn reply_to(me: NodeId, pending: &Pending, answers: &[Answer], out: &mut RoomyOutbox)
+fn reply_to(me: NodeId, pending: &Pending, answers: &[Answer], out: &mut Outbox)
     requires { longest_text * length (replies_to me pending.now answers.now) ≤ out.old.room }
     ensures run { out.new.run
         ≡ with_packets out.old.run (replies_to me pending.now answers.now) }

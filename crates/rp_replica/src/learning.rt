@@ -1,43 +1,49 @@
 //! An action that is learned (Lamport, "Paxos Made Simple", section 2.3).
 
-ghost use Rattle.std.specs.Prelude.{◌≡◌, ◌+◌, ◌*◌, ◌≤◌, Some, length, drop, OnOk, IfErr, false};
+ghost use Rattle.std.specs.Prelude.{◌≡◌, ◌+◌, ◌*◌, ◌≤◌, ◌++◌, Some, length, drop, OnOk, OnErr, IfErr, false};
 ghost use Rattle.rp_base.specs.Action.{IsRight};
 ghost use Rattle.rp_base.specs.declared.action.Action.{Action};
 ghost use Rattle.rp_base.specs.declared.record.Rec.TheVariants.{Learned};
 ghost use Rattle.rp_model.specs.Learner.{missing_position};
-ghost use Rattle.rp_replica.specs.Applying.{learns_alone};
+ghost use Rattle.rp_replica.specs.Applying.{learns_alone, told_first};
 ghost use Rattle.rp_replica.specs.Held.{held_after};
 ghost use Rattle.rp_replica.specs.Packets.{longest_text, with_packets};
 ghost use Rattle.rp_replica.specs.Turning.{Stops};
 
 use crate::applying::apply_and_reply;
 use crate::replica::{Replica, write};
-use crate::sent::RoomyOutbox;
+use crate::sent::Outbox;
 use crate::window::follow;
 use rp_base::{Action, Fault, Position, Rec};
+use rp_codec::Body;
 use rp_log::Log;
 use rp_machine::Machine;
 use rp_store::Device;
 
 impl<M: Machine, D: Device> Replica<M, D> {
-    /// Learns an action at a position of the log: it is written, all that is ready then is applied,
-    /// and each answer whose call is pending is replied to. Behind the write it takes no memory.
+    /// Learns an action at a position of the log: it is written, the other nodes hear of it if this
+    /// one tells them, all that is ready then is applied, and each answer whose call is pending is
+    /// replied to. After the write it takes no memory.
     pub(crate) fn learn(
         &mut self,
         position: Position,
         action: &Action,
-        out: &mut RoomyOutbox,
+        tells: bool,
+        out: &mut Outbox,
     ) -> Result<(), Fault>
         requires working { self.old.failed ≡ false }
         requires place { position ≤ self.old.config.max_positions }
         requires right { IsRight action.now }
-        requires room { longest_text * length self.old.running.pending ≤ out.old.room }
+        requires room { longest_text
+            * (self.old.config.nodes + length self.old.running.pending) ≤ out.old.room }
         ensures learned { OnOk result (self.new ≡ held_after self.old
             (learns_alone M.next M.answers self.old position action.now)) }
         ensures replied { OnOk result (out.new.run ≡ with_packets out.old.run
-            (learns_alone M.next M.answers self.old position action.now).sent) }
-        ensures room { OnOk result (out.old.room
-            ≤ out.new.room + longest_text * length self.old.running.pending) }
+            (told_first self.old.config.nodes self.old.me position action.now tells
+            ++ (learns_alone M.next M.answers self.old position action.now).sent)) }
+        ensures room { OnOk result (out.old.room ≤ out.new.room
+            + longest_text * (self.old.config.nodes + length self.old.running.pending)) }
+        ensures unsent { OnErr result (out.new.run ≡ out.old.run) }
         ensures err { IfErr result (λ fault.
             Stops (Some (Learned position action.now)) self.old self.new fault) }
     {
@@ -47,6 +53,13 @@ impl<M: Machine, D: Device> Replica<M, D> {
             &mut self.acceptor,
             &Rec::Learned(position, *action),
         )?;
+        if tells {
+            let decided = Body::Decided {
+                position,
+                action: *action,
+            };
+            out.say_to_others(self.me, self.config.nodes, decided);
+        }
         self.proposer.settled(position);
         self.learner.settled(position);
         self.heard.settle(position, *action);

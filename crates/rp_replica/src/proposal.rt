@@ -1,23 +1,22 @@
 //! The plans of a leader, committed: a proposal begins, and promises and refusals count (Lamport,
 //! "Paxos Made Simple", section 2.2).
 
-ghost use Rattle.std.specs.Prelude.{◌≡◌, ◌+◌, ◌<◌, [], Some, None, IfOk, IfErr, OnOk, IsOkUnless, false};
+ghost use Rattle.std.specs.Prelude.{◌≡◌, [], Some, None, IfErr, OnOk, OnErr, false};
 ghost use Rattle.rp_base.specs.Action.{IsRight};
 ghost use Rattle.rp_base.specs.declared.record.Rec.TheVariants.{Started};
-ghost use Rattle.rp_base.specs.declared.fault.Fault.TheVariants as faults;
 ghost use Rattle.rp_codec.specs.declared.packet.Body.TheVariants as bodies;
 ghost use Rattle.rp_model.specs.Leader.{on_nack};
 ghost use Rattle.rp_model.specs.Says.{says_to_all, notes, sends, writes};
+ghost use Rattle.rp_replica.specs.Committing.{Commits};
 ghost use Rattle.rp_replica.specs.Held.{held_after};
-ghost use Rattle.rp_replica.specs.Packets.{run_of};
 ghost use Rattle.rp_replica.specs.Plans.{MayBegin, MayCount, once_promised};
 ghost use Rattle.rp_replica.specs.Proposed.{started_running};
-ghost use Rattle.rp_replica.specs.Turning.{Turns, Stops};
+ghost use Rattle.rp_replica.specs.Turning.{Stops};
 
 use crate::plan::CountedPromise;
 use crate::replica::{Replica, write};
-use crate::sent::{Outbox, Sent};
-use rp_base::{Action, Ballot, Fault, NodeId, Position, Rec};
+use crate::sent::Outbox;
+use rp_base::{Action, Ballot, Fault, Position, Rec};
 use rp_codec::Body;
 use rp_machine::Machine;
 use rp_model::Dropped;
@@ -28,71 +27,61 @@ impl<M: Machine, D: Device> Replica<M, D> {
     /// node is asked for a promise.
     pub(crate) fn begin(
         &mut self,
-        buffer: Vec<u8>,
+        out: &mut Outbox,
         position: Position,
         ballot: Ballot,
         own: &Action,
-    ) -> Result<Sent, Fault>
+    ) -> Result<(), Fault>
         requires working { self.old.failed ≡ false }
         requires may { MayBegin self.old position ballot own.now }
-        ensures ok { IfOk result (λ sent. Turns (writes (Started ballot)
+        ensures ok { OnOk result (Commits (writes (Started ballot)
             (started_running self.old.running position ballot own.now)
             (says_to_all self.old.config.nodes self.old.me (bodies.Prepare position ballot)))
-            self.old self.new sent) }
+            self.old self.new out.old.run out.new.run Dropped.No) }
         ensures err { IfErr result (λ fault.
             Stops (Some (Started ballot)) self.old self.new fault) }
+        ensures unsent { OnErr result (out.new.run ≡ out.old.run) }
     {
-        let out = self.prepare_to_all(buffer, position, ballot)?;
+        out.reserve(usize::from(self.config.nodes))?;
         self.start(position, ballot, own)?;
-        Ok(out.sent(Dropped::No))
-    }
-
-    /// A promise counts, and makes no majority.
-    pub(crate) fn count(&mut self, buffer: Vec<u8>, promise: &CountedPromise) -> Sent
-        requires may { MayCount self.old promise.now }
-        ensures { Turns (notes (once_promised self.old promise.now)) self.old self.new result }
-    {
-        self.note_promise(promise);
-        Outbox::new(buffer).sent(Dropped::No)
+        out.say_to_all(
+            self.me,
+            self.config.nodes,
+            Body::Prepare { position, ballot },
+        );
+        Ok(())
     }
 
     /// A promise makes a majority, and the action is offered to all.
     pub(crate) fn offer(
         &mut self,
-        buffer: Vec<u8>,
+        out: &mut Outbox,
         promise: &CountedPromise,
         action: &Action,
-    ) -> Result<Sent, Fault>
+    ) -> Result<(), Fault>
         requires working { self.old.failed ≡ false }
         requires may { MayCount self.old promise.now }
         requires right { IsRight action.now }
-        ensures ok { IfOk result (λ sent. Turns (sends (once_promised self.old promise.now)
+        ensures ok { OnOk result (Commits (sends (once_promised self.old promise.now)
             (says_to_all self.old.config.nodes self.old.me
             (bodies.Accept promise.now.position promise.now.ballot action.now)))
-            self.old self.new sent) }
+            self.old self.new out.old.run out.new.run Dropped.No) }
         ensures err { IfErr result (λ fault. Stops None self.old self.new fault) }
+        ensures unsent { OnErr result (out.new.run ≡ out.old.run) }
     {
-        let out = self.accept_to_all(buffer, promise.position, promise.ballot, action)?;
+        out.reserve(usize::from(self.config.nodes))?;
         self.note_promise(promise);
-        Ok(out.sent(Dropped::No))
+        let offered = Body::Accept {
+            position: promise.position,
+            ballot: promise.ballot,
+            action: *action,
+        };
+        out.say_to_all(self.me, self.config.nodes, offered);
+        Ok(())
     }
 
     /// A proposal is refused by a bound.
-    pub(crate) fn give_up(
-        &mut self,
-        buffer: Vec<u8>,
-        position: Position,
-        ballot: Ballot,
-        bound: Ballot,
-    ) -> Sent
-        ensures { Turns (on_nack self.old.running position ballot bound) self.old self.new result }
-    {
-        self.note_refusal(position, ballot, bound);
-        Outbox::new(buffer).sent(Dropped::No)
-    }
-
-    /// Notes a refusal.
-    fn note_refusal(&mut self, position: Position, ballot: Ballot, bound: Ballot)
+    pub(crate) fn note_refusal(&mut self, position: Position, ballot: Ballot, bound: Ballot)
         ensures { self.new ≡ held_after self.old
             (on_nack self.old.running position ballot bound) }
     {
@@ -116,8 +105,8 @@ impl<M: Machine, D: Device> Replica<M, D> {
         Ok(())
     }
 
-    /// Notes a promise.
-    fn note_promise(&mut self, promise: &CountedPromise)
+    /// A promise counts, and makes no majority.
+    pub(crate) fn note_promise(&mut self, promise: &CountedPromise)
         requires may { MayCount self.old promise.now }
         ensures { self.new ≡ held_after self.old (notes (once_promised self.old promise.now)) }
     {
@@ -129,57 +118,4 @@ impl<M: Machine, D: Device> Replica<M, D> {
         } = *promise;
         self.proposer.note_promise(from, position, ballot, last);
     }
-
-    /// A `Prepare` to each node.
-    fn prepare_to_all(
-        &self,
-        buffer: Vec<u8>,
-        position: Position,
-        ballot: Ballot,
-    ) -> Result<Outbox, Fault>
-        ensures said { IfOk result (λ out. out ≡ run_of
-            (says_to_all self.now.config.nodes self.now.me (bodies.Prepare position ballot))) }
-        ensures only { IsOkUnless result faults.OutOfMemory }
-    {
-        let mut out = Outbox::new(buffer);
-        for place in 0..self.config.nodes {
-            let body = Body::Prepare { position, ballot };
-            out.say(self.me, node_after(place), body)?;
-        }
-        Ok(out)
-    }
-
-    /// An `Accept` to each node.
-    fn accept_to_all(
-        &self,
-        buffer: Vec<u8>,
-        position: Position,
-        ballot: Ballot,
-        action: &Action,
-    ) -> Result<Outbox, Fault>
-        requires right { IsRight action.now }
-        ensures said { IfOk result (λ out. out ≡ run_of
-            (says_to_all self.now.config.nodes self.now.me
-            (bodies.Accept position ballot action.now))) }
-        ensures only { IsOkUnless result faults.OutOfMemory }
-    {
-        let mut out = Outbox::new(buffer);
-        for place in 0..self.config.nodes {
-            let body = Body::Accept {
-                position,
-                ballot,
-                action: *action,
-            };
-            out.say(self.me, node_after(place), body)?;
-        }
-        Ok(out)
-    }
-}
-
-/// The node of the number that is one above `place`.
-pub(crate) fn node_after(place: u8) -> NodeId
-    requires { place < 7 }
-    ensures { result ≡ place + 1 }
-{
-    NodeId::new(place + 1).unwrap()
 }

@@ -1,16 +1,15 @@
 //! A replica that tells the audit what it has applied.
 
-ghost use Rattle.std.specs.Prelude.{◌≡◌, ◌-◌, ◌<◌, ◌^◌, [], ◌∷◌, length, take, drop, IfOk, IsOkUnless};
+ghost use Rattle.std.specs.Prelude.{◌≡◌, ◌-◌, ◌<◌, ◌^◌, [], ◌∷◌, length, take, drop, IfOk, OnOk, OnErr, IsOkUnless};
 ghost use Rattle.rp_base.specs.declared.fault.Fault.TheVariants as faults;
 ghost use Rattle.rp_base.specs.Records.{applied_of};
 ghost use Rattle.rp_codec.specs.Message.{report_len};
 ghost use Rattle.rp_model.specs.Effect.{report_of};
 ghost use Rattle.rp_model.specs.Says.{sends};
-ghost use Rattle.rp_replica.specs.Packets.{run_of};
-ghost use Rattle.rp_replica.specs.Turning.{Turns};
+ghost use Rattle.rp_replica.specs.Committing.{Commits};
 
 use crate::replica::Replica;
-use crate::sent::{Outbox, Sent};
+use crate::sent::Outbox;
 use rp_base::{Action, Fault, Position};
 use rp_codec::{Actions, Body, Packet, Party, report_len};
 use rp_machine::Machine;
@@ -25,27 +24,14 @@ impl<M: Machine, D: Device> Replica<M, D> {
     pub(crate) fn report_applied(
         &self,
         alloc: Global,
-        buffer: Vec<u8>,
+        out: &mut Outbox,
         first: Position,
-    ) -> Result<Sent, Fault>
-        ensures ok { IfOk result (λ sent. Turns (sends self.now.running
+    ) -> Result<(), Fault>
+        ensures ok { OnOk result (Commits (sends self.now.running
             (report_of self.now.me first (applied_of self.now.records) ∷ []))
-            self.now self.now sent) }
+            self.now self.now out.old.run out.new.run Dropped.No) }
         ensures only { IsOkUnless result faults.OutOfMemory }
-    {
-        Ok(self.tells_applied(alloc, buffer, first)?.sent(Dropped::No))
-    }
-
-    /// The packet of a report.
-    fn tells_applied(
-        &self,
-        alloc: Global,
-        buffer: Vec<u8>,
-        first: Position,
-    ) -> Result<Outbox, Fault>
-        ensures said { IfOk result (λ out. out
-            ≡ run_of (report_of self.now.me first (applied_of self.now.records) ∷ [])) }
-        ensures only { IsOkUnless result faults.OutOfMemory }
+        ensures unsent { OnErr result (out.new.run ≡ out.old.run) }
     {
         let applied = self.log.taken();
         let body = Body::Report {
@@ -53,9 +39,8 @@ impl<M: Machine, D: Device> Replica<M, D> {
             applied: applied.len() as u16,
             actions: Actions::from_vec(told(alloc, applied, first)?),
         };
-        let mut out = Outbox::new(buffer);
         out.push(&Packet::new(Party::Node(self.me), Party::Audit, body))?;
-        Ok(out)
+        Ok(())
     }
 }
 

@@ -1,13 +1,13 @@
 //! The packets of one step.
 
-ghost use Rattle.std.specs.Prelude.{◌≡◌, ◌+◌, ◌≤◌, [], ◌∷◌, ◌++◌, length, IfOk, OnOk};
+ghost use Rattle.std.specs.Prelude.{◌≡◌, ◌+◌, ◌*◌, ◌≤◌, ◌<◌, ◌++◌, [], length, slice_set, OnOk, OnErr};
 ghost use Rattle.rp_base.specs.Action.{IsCount};
-ghost use Rattle.rp_codec.specs.declared.packet.Body.TheVariants.{Reply as Answered};
-ghost use Rattle.rp_model.specs.Says.{says, says_to_task};
 ghost use Rattle.rp_codec.specs.Decoding.{IsReportBody};
-ghost use Rattle.rp_replica.specs.Packets.{run_of, with_packet, longest_text};
 ghost use Rattle.rp_codec.specs.Message.{MaySay};
 ghost use Rattle.rp_codec.specs.declared.packet.Party.TheVariants.{Node};
+ghost use Rattle.rp_codec.specs.declared.packet.Body.TheVariants.{Reply as Answered};
+ghost use Rattle.rp_model.specs.Says.{says, says_to_all, says_to_others, says_to_task};
+ghost use Rattle.rp_replica.specs.Packets.{run_of, with_packet, with_packets, longest_text};
 
 use rp_base::{Answer, NodeId};
 use rp_codec::{Body, Packet, Party, encode_onto, text_of_packet};
@@ -16,7 +16,10 @@ use std::alloc::AllocError;
 use std::marker::Model;
 
 /// How many bytes the text of a packet has at most, if it is no report.
-pub(crate) const LONGEST_TEXT: usize = 40;
+const LONGEST_TEXT: usize = 40;
+
+/// The place of a text at which its receiver stands, from 0.
+const RECEIVER: usize = 3;
 
 /// What a step sends.
 #[derive(Debug, Drop)]
@@ -28,7 +31,7 @@ pub struct Sent {
     pub dropped: Dropped,
 }
 
-/// Packets that are to be sent.
+/// Packets that are to be sent, with room for more. What is put into the room takes no memory.
 #[derive(Debug, Drop)]
 pub(crate) struct Outbox {
     bytes: Vec<u8>,
@@ -36,84 +39,6 @@ pub(crate) struct Outbox {
 }
 
 impl Model for Outbox {
-    ghost use Rattle.std.specs.Prelude.{◌≤◌, length};
-    ghost use Rattle.rp_replica.specs.Packets.{Run};
-
-    ghost Value = { Run };
-
-    ghost view = { λ o. record { bytes = o.bytes.items; packets = o.packets } };
-
-    ghost invariant = { λ o. o.packets ≤ length o.bytes.items };
-}
-
-impl Outbox {
-    /// No packet yet: they are put into the buffer, in place of what it holds.
-    pub(crate) fn new(buffer: Vec<u8>) -> Self
-        ensures { result ≡ run_of [] }
-    {
-        let mut bytes = buffer;
-        bytes.clear();
-        Outbox { bytes, packets: 0 }
-    }
-
-    /// One packet more.
-    #[inline(always)]
-    pub(crate) fn push(&mut self, packet: &Packet) -> Result<(), AllocError>
-        ensures { OnOk result (self.new ≡ with_packet self.old packet.now) }
-    {
-        encode_onto(packet, &mut self.bytes)?;
-        self.packets += 1;
-        Ok(())
-    }
-
-    /// One packet more, from node to node.
-    #[inline(always)]
-    pub(crate) fn say(&mut self, me: NodeId, to: NodeId, body: Body) -> Result<(), AllocError>
-        requires { MaySay (Node me) (Node to) body }
-        ensures { OnOk result (self.new ≡ with_packet self.old (says me body to)) }
-    {
-        self.push(&Packet::new(Party::Node(me), Party::Node(to), body))
-    }
-
-    /// The same packets, with room for so many bytes more.
-    pub(crate) fn with_room(self, bytes: usize) -> Result<RoomyOutbox, AllocError>
-        ensures packets { IfOk result (λ out. out.run ≡ self) }
-        ensures room { IfOk result (λ out. bytes ≤ out.room) }
-    {
-        let Outbox {
-            bytes: mut texts,
-            packets,
-        } = self;
-        texts.reserve(bytes)?;
-        Ok(RoomyOutbox {
-            bytes: texts,
-            packets,
-        })
-    }
-
-    /// The packets of a step that drops this.
-    pub(crate) fn sent(self, dropped: Dropped) -> Sent
-        ensures bytes { result.bytes.items ≡ self.bytes }
-        ensures packets { result.packets ≡ self.packets }
-        ensures dropped { result.dropped ≡ dropped }
-    {
-        let Outbox { bytes, packets } = self;
-        Sent {
-            bytes,
-            packets,
-            dropped,
-        }
-    }
-}
-
-/// Packets that are to be sent, with room for more bytes.
-#[derive(Debug, Drop)]
-pub(crate) struct RoomyOutbox {
-    bytes: Vec<u8>,
-    packets: usize,
-}
-
-impl Model for RoomyOutbox {
     ghost use Rattle.std.specs.Prelude.{◌-◌, ◌≤◌, length, vec_len, vec_capacity};
     ghost use Rattle.rp_replica.specs.Packets.{RoomyRun};
 
@@ -127,9 +52,38 @@ impl Model for RoomyOutbox {
     ghost invariant = { λ o. o.packets ≤ length o.bytes.items };
 }
 
-impl RoomyOutbox {
-    /// One packet more, which is no report. It takes no memory.
-    pub(crate) fn push(&mut self, packet: &Packet)
+impl Outbox {
+    /// No packet yet: they are put into the buffer, in place of what it holds.
+    pub(crate) fn new(buffer: Vec<u8>) -> Self
+        ensures { result.run ≡ run_of [] }
+    {
+        let mut bytes = buffer;
+        bytes.clear();
+        Outbox { bytes, packets: 0 }
+    }
+
+    /// Makes room for as many packets more, at most 64 of them, if none is a report.
+    pub(crate) fn reserve(&mut self, packets: usize) -> Result<(), AllocError>
+        requires few { packets ≤ 64 }
+        ensures run { self.new.run ≡ self.old.run }
+        ensures room { OnOk result (longest_text * packets ≤ self.new.room) }
+    {
+        self.bytes.reserve(LONGEST_TEXT * packets)
+    }
+
+    /// One packet more. Where memory is refused, the packets stay as they are.
+    pub(crate) fn push(&mut self, packet: &Packet) -> Result<(), AllocError>
+        ensures ok { OnOk result (self.new.run ≡ with_packet self.old.run packet.now) }
+        ensures err { OnErr result (self.new.run ≡ self.old.run) }
+    {
+        encode_onto(packet, &mut self.bytes)?;
+        self.packets += 1;
+        Ok(())
+    }
+
+    /// One packet more, which is no report, into the room.
+    #[inline(always)]
+    pub(crate) fn put(&mut self, packet: &Packet)
         requires short { ¬ IsReportBody packet.now.body }
         requires room { longest_text ≤ self.old.room }
         ensures run { self.new.run ≡ with_packet self.old.run packet.now }
@@ -140,7 +94,69 @@ impl RoomyOutbox {
         self.packets += 1;
     }
 
-    /// A reply more, to the call of an answer. It takes no memory.
+    /// One packet more, from node to node, into the room.
+    #[inline(always)]
+    pub(crate) fn say(&mut self, me: NodeId, to: NodeId, body: Body)
+        requires may { MaySay (Node me) (Node to) body }
+        requires room { longest_text ≤ self.old.room }
+        ensures run { self.new.run ≡ with_packet self.old.run (says me body to) }
+        ensures room { self.old.room ≤ self.new.room + longest_text }
+    {
+        self.put(&Packet::new(Party::Node(me), Party::Node(to), body));
+    }
+
+    /// A text between nodes, to this node, into the room.
+    #[inline(always)]
+    fn put_to(&mut self, text: &[u8], to: NodeId)
+        requires receiver { 3 < length text.now }
+        requires short { length text.now ≤ longest_text }
+        requires room { longest_text ≤ self.old.room }
+        ensures run { self.new.run ≡ record {
+          bytes = self.old.run.bytes ++ slice_set text.now 3 to;
+          packets = self.old.run.packets + 1;
+        } }
+        ensures room { self.old.room ≤ self.new.room + longest_text }
+    {
+        let receiver = self.bytes.len() + RECEIVER;
+        self.bytes.extend_from_slice(text).unwrap();
+        self.bytes[receiver] = to.get();
+        self.packets += 1;
+    }
+
+    /// A packet to each node, itself too, into the room. Its text is made once.
+    pub(crate) fn say_to_all(&mut self, me: NodeId, nodes: u8, body: Body)
+        requires nodes { nodes ≤ 7 }
+        requires may { MaySay (Node me) (Node me) body }
+        requires short { ¬ IsReportBody body }
+        requires room { longest_text * nodes ≤ self.old.room }
+        ensures run { self.new.run ≡ with_packets self.old.run (says_to_all nodes me body) }
+        ensures room { self.old.room ≤ self.new.room + longest_text * nodes }
+    {
+        let text = text_of_packet(&Packet::new(Party::Node(me), Party::Node(me), body));
+        for place in 0..nodes {
+            self.put_to(text.as_slice(), node_after(place));
+        }
+    }
+
+    /// A packet to each other node, into the room. Its text is made once.
+    pub(crate) fn say_to_others(&mut self, me: NodeId, nodes: u8, body: Body)
+        requires nodes { nodes ≤ 7 }
+        requires may { MaySay (Node me) (Node me) body }
+        requires short { ¬ IsReportBody body }
+        requires room { longest_text * nodes ≤ self.old.room }
+        ensures run { self.new.run ≡ with_packets self.old.run (says_to_others nodes me body) }
+        ensures room { self.old.room ≤ self.new.room + longest_text * nodes }
+    {
+        let text = text_of_packet(&Packet::new(Party::Node(me), Party::Node(me), body));
+        for place in 0..nodes {
+            let to = node_after(place);
+            if to != me {
+                self.put_to(text.as_slice(), to);
+            }
+        }
+    }
+
+    /// A reply more, to the call of an answer, into the room.
     pub(crate) fn reply(&mut self, me: NodeId, answer: &Answer)
         requires count { IsCount answer.now.number }
         requires room { longest_text ≤ self.old.room }
@@ -154,20 +170,28 @@ impl RoomyOutbox {
             reply,
         } = *answer;
         let body = Body::Reply { number, reply };
-        self.push(&Packet::new(Party::Node(me), Party::Task(task), body));
+        self.put(&Packet::new(Party::Node(me), Party::Task(task), body));
     }
 
-    /// The packets of a step that drops nothing.
-    pub(crate) fn sent(self) -> Sent
+    /// The packets of a step that drops this.
+    pub(crate) fn sent(self, dropped: Dropped) -> Sent
         ensures bytes { result.bytes.items ≡ self.run.bytes }
         ensures packets { result.packets ≡ self.run.packets }
-        ensures dropped { result.dropped ≡ Dropped.No }
+        ensures dropped { result.dropped ≡ dropped }
     {
-        let RoomyOutbox { bytes, packets } = self;
+        let Outbox { bytes, packets } = self;
         Sent {
             bytes,
             packets,
-            dropped: Dropped::No,
+            dropped,
         }
     }
+}
+
+/// The node of the number that is one above `place`.
+fn node_after(place: u8) -> NodeId
+    requires { place < 7 }
+    ensures { result ≡ place + 1 }
+{
+    NodeId::new(place + 1).unwrap()
 }

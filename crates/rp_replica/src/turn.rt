@@ -12,7 +12,7 @@ ghost use Rattle.rp_replica.specs.Turning.{Answers, StopsIf, effect_of};
 use crate::input::Input;
 use crate::plan::Plan;
 use crate::replica::Replica;
-use crate::sent::Sent;
+use crate::sent::{Outbox, Sent};
 use rp_base::{Fault, Position};
 use rp_codec::decode;
 use rp_machine::Machine;
@@ -56,9 +56,10 @@ impl<M: Machine, D: Device> Replica<M, D> {
             (effect_if_given M.next M.answers self.now (packet_given (all_of bytes.now)))
             self.now self.now fault) }
     {
-        match &decode(alloc, bytes)? {
-            Ok(packet) => Ok(self.on_packet(packet)),
-            Err(reason) => Err(Fault::BadPacket(*reason)),
+        match &decode(alloc, bytes) {
+            Ok(Ok(packet)) => Ok(self.on_packet(packet)),
+            Ok(Err(reason)) => Err(Fault::BadPacket(*reason)),
+            Err(_) => Err(Fault::OutOfMemory),
         }
     }
 
@@ -100,8 +101,14 @@ impl<M: Machine, D: Device> Replica<M, D> {
         ensures { Answers (input_effect M.next M.answers self.old input.now)
             self.old self.new result }
     {
-        match self.decide(alloc, input) {
-            Ok(plan) => self.commit(alloc, buffer, &plan),
+        let mut out = Outbox::new(buffer);
+        // By reference, so that the plan is not copied.
+        let committed = match &self.decide(alloc, input) {
+            Ok(plan) => self.commit(alloc, &mut out, plan),
+            Err(fault) => Err(*fault),
+        };
+        match committed {
+            Ok(dropped) => Ok(out.sent(dropped)),
             Err(fault) => Err(fault),
         }
     }

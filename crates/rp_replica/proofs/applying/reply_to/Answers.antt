@@ -6,7 +6,8 @@ use Rattle.rp_model.specs.Says.{says_to_task}
 use Rattle.rp_model.specs.Pending.{replies_to}
 use Rattle.rp_model.proofs.Replying.{replies_one_more, replies_no_more}
 use Rattle.rp_replica.specs.Packets.{Run, RoomyRun, with_packet, with_packets}
-use Rattle.rp_replica.proofs.Replying.{one_packet, packets_then, first_replies}
+use Rattle.rp_replica.proofs.Replying.{first_replies}
+use Rattle.rp_replica.proofs.Saying.{one_packet, packets_then}
 use Rattle.rp_replica.proofs.applying.reply_to.Goals.{then-awaits, else-awaits}
 use Rattle.rp_replica.proofs.applying.reply_to.Goals as goal
 

@@ -1,17 +1,21 @@
-use Rattle.std.proofs.Common.{◌≤◌, Some, ap, subst, sym, ◌∙◌}
+use Rattle.std.proofs.Common.{◌≡◌, ◌≤◌, Bool, Some, ap, subst, sym, ◌∙◌}
 use Rattle.rp_base.specs.declared.record.Rec.TheVariants.{Learned}
 use Rattle.rp_base.specs.declared.record.Rec.{Rec}
 use Rattle.rp_codec.specs.Record.{record_text}
 use Rattle.rp_model.specs.Parts.{Running}
 use Rattle.rp_replica.proofs.Cuts.{held_with, stops_by, given_on}
-use Rattle.rp_replica.specs.Applying.{learns_alone}
+use Rattle.rp_codec.specs.declared.packet.Body.TheVariants.{Decided}
+use Rattle.rp_model.specs.Says.{says_to_others}
+use Rattle.rp_replica.specs.Applying.{learns_alone, told_first}
 use Rattle.rp_replica.specs.Cutting.{MayWrite}
 use Rattle.rp_replica.specs.Turning.{Stops}
 use Rattle.std.proofs.lemmas.Bool.{le-leb}
 use Rattle.rp_replica.specs.Held.{Held, held_after}
-use Rattle.rp_replica.specs.Packets.{with_packets}
+use Rattle.rp_replica.specs.Packets.{Run, RoomyRun, with_packets}
+use Rattle.rp_replica.proofs.Saying.{no_packet, packets_then}
 use Rattle.rp_replica.proofs.Keeping.{tied_refused}
 use Rattle.rp_replica.proofs.Learned.{tied_room, log_learned, learned_is_right, follows_on, follows_alike, tied_learned, held_learned, replies_learned}
+use Rattle.rp_replica.proofs.replica.Replica.learn.Goals.{then-tells, else-tells}
 use Rattle.rp_replica.proofs.replica.Replica.learn.Goals as goal
 
 pub invariant_of-self-in_err-write : goal.invariant_of-self-in_err-write
@@ -35,7 +39,7 @@ follow-requires-clause-on g c =
     let r = c.self.inside in
     let i = c.args.position in
     follows_on m.next m.answers g.D.Device.disk r.me r.config r.store c.write.new.store r.acceptor.records c.write.new.acceptor.records r.proposer c.settled.new.self
-    r.learner c.settled-2.new.self r.heard c.settle.new.self r.log c.reserve.new.self c.learn.new.self c.apply_and_reply.new.log r.machine c.apply_and_reply.new.machine r.pending c.args.out.now c.apply_and_reply.new.out i c.args.action.now
+    r.learner c.settled-2.new.self r.heard c.settle.new.self r.log c.reserve.new.self c.learn.new.self c.apply_and_reply.new.log r.machine c.apply_and_reply.new.machine r.pending c.if-tells.out c.apply_and_reply.new.out i c.args.action.now
     c.self.invariant c.in_ok-write.ensures.put c.in_ok-write.ensures.noted c.settled.ensures c.settled-2.ensures.settled c.settle.ensures
     c.in_ok-reserve.ensures.ok c.learn.ensures c.apply_and_reply.ensures.replied c.apply_and_reply.ensures.ordered c.apply_and_reply.ensures.none
 
@@ -45,7 +49,7 @@ follow-requires-clause-alike g c =
     let r = c.self.inside in
     let i = c.args.position in
     follows_alike m.next m.answers g.D.Device.disk r.me r.config r.store c.write.new.store r.acceptor.records c.write.new.acceptor.records r.proposer c.settled.new.self
-    r.learner c.settled-2.new.self r.heard c.settle.new.self r.log c.reserve.new.self c.learn.new.self c.apply_and_reply.new.log r.machine c.apply_and_reply.new.machine r.pending c.args.out.now c.apply_and_reply.new.out i c.args.action.now
+    r.learner c.settled-2.new.self r.heard c.settle.new.self r.log c.reserve.new.self c.learn.new.self c.apply_and_reply.new.log r.machine c.apply_and_reply.new.machine r.pending c.if-tells.out c.apply_and_reply.new.out i c.args.action.now
     c.self.invariant c.in_ok-write.ensures.put c.in_ok-write.ensures.noted c.settled.ensures c.settled-2.ensures.settled c.settle.ensures
     c.in_ok-reserve.ensures.ok c.learn.ensures c.apply_and_reply.ensures.replied c.apply_and_reply.ensures.ordered c.apply_and_reply.ensures.none
 
@@ -56,7 +60,7 @@ invariant_of-self-2 g c =
     let i = c.args.position in
     let within : i ≤ r.config.max_positions = subst (λ (h : Held g.row.M.Denot). i ≤ h.config.max_positions) (sym c.self.view_is) c.requires.place in
     tied_learned m.next m.answers g.D.Device.disk r.me r.config r.store c.write.new.store r.acceptor.records c.write.new.acceptor.records r.proposer c.settled.new.self
-    r.learner c.settled-2.new.self r.heard c.settle.new.self r.log c.reserve.new.self c.learn.new.self c.apply_and_reply.new.log r.machine c.apply_and_reply.new.machine r.pending c.args.out.now c.apply_and_reply.new.out i c.args.action.now
+    r.learner c.settled-2.new.self r.heard c.settle.new.self r.log c.reserve.new.self c.learn.new.self c.apply_and_reply.new.log r.machine c.apply_and_reply.new.machine r.pending c.if-tells.out c.apply_and_reply.new.out i c.args.action.now
     c.self.invariant c.in_ok-write.ensures.put c.in_ok-write.ensures.noted c.settled.ensures c.settled-2.ensures.settled c.settle.ensures
     c.in_ok-reserve.ensures.ok c.learn.ensures c.apply_and_reply.ensures.replied c.apply_and_reply.ensures.ordered c.apply_and_reply.ensures.none
     c.follow.new.learner c.follow.ensures c.in_ok-write.ensures.range c.requires.right (le-leb i r.config.max_positions within)
@@ -68,7 +72,7 @@ returns-clause-learned g c =
     let i = c.args.position in
     let v = c.args.action.now in
     held_learned m.next m.answers g.D.Device.disk r.me r.config r.store c.write.new.store r.acceptor.records c.write.new.acceptor.records r.proposer c.settled.new.self
-    r.learner c.settled-2.new.self r.heard c.settle.new.self r.log c.reserve.new.self c.learn.new.self c.apply_and_reply.new.log r.machine c.apply_and_reply.new.machine r.pending c.args.out.now c.apply_and_reply.new.out i v
+    r.learner c.settled-2.new.self r.heard c.settle.new.self r.log c.reserve.new.self c.learn.new.self c.apply_and_reply.new.log r.machine c.apply_and_reply.new.machine r.pending c.if-tells.out c.apply_and_reply.new.out i v
     c.self.invariant c.in_ok-write.ensures.put c.in_ok-write.ensures.noted c.settled.ensures c.settled-2.ensures.settled c.settle.ensures
     c.in_ok-reserve.ensures.ok c.learn.ensures c.apply_and_reply.ensures.replied c.apply_and_reply.ensures.ordered c.apply_and_reply.ensures.none
     c.settle-2.new.self c.taken_since.result.now c.applied-before.result c.applied-before.ensures.count c.taken_since.ensures c.settle-2.ensures
@@ -80,11 +84,26 @@ returns-clause-replied g c =
     let r = c.self.inside in
     let i = c.args.position in
     let v = c.args.action.now in
+    let start = c.args.out.now.run in
+    let told : c.if-tells.out.run ≡ with_packets start (told_first c.args.self.now.config.nodes c.args.self.now.me i v c.args.tells) =
+    elim c.if-tells.branch [
+      | then-tells w ↦
+          ap (λ (out : RoomyRun). out.run) w.out-is
+          ∙ w.say_to_others.ensures.run
+          ∙ ap (λ (h : Held g.row.M.Denot). with_packets start (says_to_others h.config.nodes h.me (Decided i v))) c.self.view_is
+          ∙ ap (λ (b : Bool). with_packets start (told_first c.args.self.now.config.nodes c.args.self.now.me i v b)) (sym w.if-tells.true)
+      | else-tells w ↦
+          ap (λ (out : RoomyRun). out.run) w.out-is
+          ∙ no_packet start
+          ∙ ap (λ (b : Bool). with_packets start (told_first c.args.self.now.config.nodes c.args.self.now.me i v b)) (sym w.if-tells.false)
+    ] in
     replies_learned m.next m.answers g.D.Device.disk r.me r.config r.store c.write.new.store r.acceptor.records c.write.new.acceptor.records r.proposer c.settled.new.self
-    r.learner c.settled-2.new.self r.heard c.settle.new.self r.log c.reserve.new.self c.learn.new.self c.apply_and_reply.new.log r.machine c.apply_and_reply.new.machine r.pending c.args.out.now c.apply_and_reply.new.out i v
+    r.learner c.settled-2.new.self r.heard c.settle.new.self r.log c.reserve.new.self c.learn.new.self c.apply_and_reply.new.log r.machine c.apply_and_reply.new.machine r.pending c.if-tells.out c.apply_and_reply.new.out i v
     c.self.invariant c.in_ok-write.ensures.put c.in_ok-write.ensures.noted c.settled.ensures c.settled-2.ensures.settled c.settle.ensures
     c.in_ok-reserve.ensures.ok c.learn.ensures c.apply_and_reply.ensures.replied c.apply_and_reply.ensures.ordered c.apply_and_reply.ensures.none
-    ∙ ap (λ (h : Held g.row.M.Denot). with_packets c.args.out.now.run (learns_alone m.next m.answers h i v).sent) c.self.view_is
+    ∙ ap (λ (h : Held g.row.M.Denot). with_packets c.if-tells.out.run (learns_alone m.next m.answers h i v).sent) c.self.view_is
+    ∙ ap (λ (r : Run). with_packets r (learns_alone m.next m.answers c.args.self.now i v).sent) told
+    ∙ packets_then c.args.out.now.run (told_first c.args.self.now.config.nodes c.args.self.now.me i v c.args.tells) (learns_alone m.next m.answers c.args.self.now i v).sent
 
 pub returns-in_err-write-clause-err : goal.returns-in_err-write-clause-err
 returns-in_err-write-clause-err g c =

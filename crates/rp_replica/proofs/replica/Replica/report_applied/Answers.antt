@@ -1,4 +1,4 @@
-use Rattle.std.proofs.Common.{◌≡◌, ◌-◌, [], List, length, take, drop, sym, ap, subst, ◌∙◌}
+use Rattle.std.proofs.Common.{◌≡◌, ◌-◌, List, length, take, drop, refl, sym, ap, subst, ◌∙◌}
 use Rattle.std.specs.Prelude.{All}
 use Rattle.std.specs.List.{AllByRecursion}
 use Rattle.std.proofs.lemmas.List.Elements.{All-from_recursion, All-take, All-drop}
@@ -14,11 +14,11 @@ use Rattle.rp_log.proofs.RecordedRuns.{all_taken}
 use Rattle.rp_model.specs.Effect.{report_of}
 use Rattle.rp_model.specs.Parts.{is_in_log}
 use Rattle.rp_replica.specs.Held.{Held}
-use Rattle.rp_replica.specs.Packets.{Run, with_packet, run_of}
+use Rattle.rp_replica.specs.Packets.{with_packet}
 use Rattle.rp_replica.proofs.Answering.{right_records}
 use Rattle.rp_replica.proofs.Reporting.{run_right}
-use Rattle.rp_replica.proofs.Saying.{run_then}
-use Rattle.rp_replica.proofs.replica.Replica.tells_applied.Goals as goal
+use Rattle.rp_replica.proofs.Saying.{one_packet}
+use Rattle.rp_replica.proofs.replica.Replica.report_applied.Goals as goal
 
 pub new-requires : goal.new-requires
 new-requires g c =
@@ -41,8 +41,8 @@ new-requires g c =
       },
     )
 
-pub returns-clause-said : goal.returns-clause-said
-returns-clause-said g c =
+pub returns-clause-ok : goal.returns-clause-ok
+returns-clause-ok g c =
     let h = c.args.self.now in
     let r = c.self.inside in
     let a = c.self.invariant.applies in
@@ -54,5 +54,8 @@ returns-clause-said g c =
     let told : c.from_vec.result ≡ take (report_len first (length applied)) (drop (first - 1) applied) = c.from_vec.ensures ∙ c.in_ok-told.ensures.told in
     let said : c.new.result ≡ report_of h.me first applied =
     c.new.ensures ∙ (λ i. record { from = Node (me_is i); to = Audit; body = Report first (length applied) (told i) }) in
-    c.in_ok-push.ensures ∙ ap (λ (out : Run). with_packet out c.new.result) c.new-out.ensures ∙ ap (with_packet (run_of [])) (said ∙ ap (report_of h.me first) is)
-    ∙ run_then [] (report_of h.me first (applied_of h.records))
+    record {
+      goes = refl;
+      sent = c.in_ok-push.ensures.ok ∙ ap (with_packet c.args.out.now.run) (said ∙ ap (report_of h.me first) is) ∙ one_packet c.args.out.now.run (report_of h.me first (applied_of h.records));
+      is_dropped = refl;
+    }

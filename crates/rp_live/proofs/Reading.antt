@@ -35,7 +35,7 @@ some_so Q R so None is = tt
 some_so Q R so (Some x) is = so x is
 
 -- of no node is anything known
-nothing_at : (n place : ℕ) → unwrap_or (slice_get (replicate n []) place) [] ≡ []
+nothing_at : (n place : ℕ) → unwrap_or {T = List Action} (slice_get (replicate n []) place) [] ≡ []
 nothing_at zero zero = refl
 nothing_at zero (suc place) = refl
 nothing_at (suc n) zero = refl

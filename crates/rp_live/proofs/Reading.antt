@@ -1,5 +1,5 @@
 -- The logs of the nodes are read, one after the other.
-use Rattle.std.proofs.Common.{◌≡◌, ◌≢◌, ◌≤◌, ◌<◌, ◌+◌, ℕ, zero, suc, Option, Some, None, List, [], ◌∷◌, ◌++◌, length, slice_get, refl, sym, ap, subst, ◌∙◌, arith}
+use Rattle.std.proofs.Common.{◌≡◌, ◌≢◌, ◌≤◌, ◌<◌, ◌+◌, ℕ, zero, suc, Option, Some, None, List, [], ◌∷◌, ◌++◌, length, replicate, slice_get, unwrap_or, refl, sym, ap, subst, ◌∙◌, arith}
 use Rattle.std.proofs.lemmas.List.{length-append}
 use Rattle.std.specs.List.{AllZip}
 use Rattle.std.specs.Prelude.{IfSome}
@@ -30,14 +30,28 @@ zip_read R T so xs ys zip = zip_weaker R T so xs ys zip
 pub one_longer : {A : Type 0} (xs grown : List A) (x : A) → grown ≡ xs ++ x ∷ [] → length grown ≡ length xs + 1
 one_longer xs grown x is = ap length is ∙ length-append xs (x ∷ [])
 
+some_so : {A : Type 0} (Q R : A → Type 0) → ((x : A) → Q x → R x) → (o : Option A) → IfSome o Q → IfSome o R
+some_so Q R so None is = tt
+some_so Q R so (Some x) is = so x is
+
+-- of no node is anything known
+nothing_at : (n place : ℕ) → unwrap_or {T = List Action} (slice_get (replicate n []) place) [] ≡ []
+nothing_at zero zero = refl
+nothing_at zero (suc place) = refl
+nothing_at (suc n) zero = refl
+nothing_at (suc n) (suc place) = nothing_at n place
+
+nothing_of : (n node : ℕ) → known_of (replicate n []) node ≡ []
+nothing_of n zero = refl
+nothing_of n (suc place) = nothing_at n place
+
+pub nothing_known : (known : List (List Action)) → known ≡ replicate 7 [] → KnowsNothingAbove 0 known
+nothing_known known is = λ node above. ap (λ (l : List (List Action)). known_of l node) is ∙ nothing_of 7 node
+
 module _ {M D P : Type 0} where
   -- the end that comes next is that of the next node
   pub next_number : (number : ℕ) (rest left : List (NodeEnd M D P)) (end : NodeEnd M D P) → rest ≡ end ∷ left → AreNumbered number rest → end.seat.number ≡ number + 1
   next_number number rest left end steps numbers = let e = subst (λ (l : List (NodeEnd M D P)). AreNumbered number l) steps numbers 0 in omega (arith, e)
-
-  some_so : {A : Type 0} (Q R : A → Type 0) → ((x : A) → Q x → R x) → (o : Option A) → IfSome o Q → IfSome o R
-  some_so Q R so None is = tt
-  some_so Q R so (Some x) is = so x is
 
   pub left_numbered : (number more : ℕ) (rest left : List (NodeEnd M D P)) (end : NodeEnd M D P) → rest ≡ end ∷ left → more ≡ number + 1 → AreNumbered number rest → AreNumbered more left
   left_numbered number more rest left end steps is numbers = λ place.

@@ -5,5 +5,4 @@ pub mod Faults
 pub mod Seats
 pub mod Noted
 pub mod Calls
-pub mod Figures
 pub mod Lived

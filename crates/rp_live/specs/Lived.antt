@@ -22,7 +22,6 @@ use Rattle.rp_live.specs.Events.{call_by}
 use Rattle.rp_live.specs.Lines.{party_line}
 use Rattle.rp_live.specs.Noted.{AreNoted}
 use Rattle.rp_live.specs.Pace.{paced, heard, heard_task}
-use Rattle.rp_live.specs.Figures.{figures_of}
 use Rattle.rp_live.specs.Seats.{HasOnlyReported, IsRead}
 use Rattle.rp_live.specs.declared.run.Lived.{Lived}
 
@@ -64,7 +63,6 @@ module _ {S P : Type 0} (next : S → Action → S) (answers : S → Action → 
     pub together : AreTogether next answers begin known last (map (λ end. end.seat) tasks)
     pub replies : lived.replies.items ≡ flat_map replies_at tasks
     pub agree : (lived.agree ≡ true) ↔ KnowsAll known.known lived.applied.items
-    pub figures : lived.figures ≡ figures_of nodes tasks
 
   -- A whole run. In the one order the counted calls of each task are the calls among the events, in order, that it made.
   pub record IsLived (config : Config) (program : P) (events : List Event) (seed turns : ℕ) (lived : Lived) : Type 0 where

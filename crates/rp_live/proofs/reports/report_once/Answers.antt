@@ -1,6 +1,7 @@
 -- What the audit fetches is a report, and it stays at its seat.
-use Rattle.std.proofs.Common.{List, sym, subst, ◌∙◌}
+use Rattle.std.proofs.Common.{ℕ, List, sym, ap, subst, ◌∙◌}
 use Rattle.rp_boxes.specs.Seats.{Chair}
+use Rattle.rp_codec.specs.declared.packet.Party.TheVariants.{Node}
 use Rattle.rp_threads.specs.Loops.{IsSameSeat}
 use Rattle.rp_threads.proofs.Steps.{same_part}
 use Rattle.rp_boxes.specs.Audits.{IsGotReport}
@@ -28,6 +29,8 @@ pub returns-in_ok-add-clause-others : goal.returns-in_ok-add-clause-others
 returns-in_ok-add-clause-others g c =
     let fetched = c.in-Some.ensures.some in
     let text = c.as_slice.ensures.value ∙ fetched.text in
+    let number = c.number.ensures ∙ ap (λ (s : Chair g.row.M-Program.Denot). s.number) c.in_ok-send_report.ensures.reported.1.after in
+    let sender = fetched.sender ∙ ap (λ (n : ℕ). Node n) number in
     subst (λ (known : List (List Action)). KnowsSameBut c.args.seat.now.number known c.add.new.self.known) c.fetch.ensures.known
-    (added_others c.one_text.ensures c.args.seat.now.number c.fetch.new.self c.as_slice.result.now c.add.new.self c.in_ok-add.field-0 fetched.packet fetched.right text fetched.sender
+    (added_others c.one_text.ensures c.args.seat.now.number c.fetch.new.self c.as_slice.result.now c.add.new.self c.in_ok-add.field-0 fetched.packet fetched.right text sender
     c.in_ok-add.ensures.ok)

@@ -6,6 +6,7 @@ use Rattle.rp_boxes.specs.Together.{AreTogether}
 use Rattle.rp_threads.specs.Loops.{IsSameSeat}
 use Rattle.rp_live.specs.Lived.{KnowsAll}
 use Rattle.rp_live.specs.Seats.{HasOnlyReported}
+use Rattle.rp_live.proofs.Reading.{nothing_known}
 use Rattle.rp_live.proofs.Seating.{zip_length}
 use Rattle.rp_live.proofs.Zips.{all_unmapped, zip_all}
 use Rattle.rp_live.proofs.run.audited.Goals as goal
@@ -45,6 +46,8 @@ returns-clause-told g c =
       same = subst (λ (s : Chair g.row.M-Program.Denot). IsSameSeat s audit.seat) (ap (λ (a : Audited g.row.M-Program.Denot). a.seat) c.new-audit.ensures) told.same;
       together = subst (AreTogether m.next m.answers m.begin audit c.in_ok-nodes.nodes.items) c.in_ok-tasks.ensures.seats c.look_together.ensures;
       replies = c.in_ok-tasks.ensures.replies;
-      figures = c.of-figures.ensures;
       agree = subst (λ (l : List ℕ). (c.knows_all-agree.result ≡ true) ↔ KnowsAll audit.known l) c.as_slice-3.ensures.value c.knows_all-agree.ensures;
     }
+
+pub read_logs-requires-clause-unread : goal.read_logs-requires-clause-unread
+read_logs-requires-clause-unread g c = nothing_known c.new-audit.result.known (ap (λ (a : Audited g.row.M-Program.Denot). a.known) c.new-audit.ensures)

@@ -16,6 +16,7 @@ use rp_store::Device;
 
 impl<M: Machine, D: Device> Replica<M, D> {
     /// A `Prepare` comes.
+    #[inline(never)]
     pub(crate) fn on_prepare(&self, from: NodeId, position: Position, ballot: Ballot) -> Plan
         requires place { position ≤ self.now.config.max_positions }
         ensures turn { turn_of M.next M.answers self.now result
@@ -31,6 +32,7 @@ impl<M: Machine, D: Device> Replica<M, D> {
     }
 
     /// An `Accept` comes, with a right action.
+    #[inline(never)]
     pub(crate) fn on_accept(
         &self,
         from: NodeId,

@@ -1,0 +1,24 @@
+#compdef rp_console
+# Made by tools/words. Copy it to a folder of $fpath as _rp_console.
+_rp_console() {
+    local -a commands=('script:Runs the script of the deck that standard input holds, and prints what happens' 'live:Runs the deck that standard input holds in threads, and prints what came of it')
+    local state line
+    _arguments -C '-h[Print help]' \
+                '--help[Print help]' \
+                '-V[Print version]' \
+                '--version[Print version]' \
+                '1: :->command' '*:: :->rest'
+    case $state in
+        command) _describe command commands ;;
+        rest) case $line[1] in
+            script) _arguments '--trace[Prints each packet that is sent]' \
+                '-h[Print help]' \
+                '--help[Print help]' ;;
+            live) _arguments '--seed[Picks which packets are lost, repeated and reordered (default: 0)]:S:' \
+                '--turns[How many turns each node and each task makes, 1 to 1000000 (default: 10000)]:T:' \
+                '-h[Print help]' \
+                '--help[Print help]' ;;
+        esac ;;
+    esac
+}
+_rp_console "$@"

@@ -11,9 +11,9 @@ use Rattle.rp_codec.specs.Message.{Message, IsPacket}
 use Rattle.rp_codec.specs.Text.{text_of}
 use Rattle.rp_codec.proofs.VersionLaws.{latest_before}
 use Rattle.rp_codec.specs.declared.packet.Party.{Party}
-use Rattle.rp_replica.specs.Packets.{texts_of}
+use Rattle.rp_replica.specs.Packets.{Run, texts_of, run_of}
 use Rattle.rp_replica.specs.declared.sent.Sent.{Sent}
-use Rattle.rp_replica.proofs.Replying.{texts_append}
+use Rattle.rp_replica.proofs.Saying.{packets_then}
 use Rattle.rp_boxes.specs.Parts.{Part}
 use Rattle.rp_boxes.specs.Seats.{Chair, IsSentText}
 use Rattle.rp_threads.specs.Turns.{AreOffered, AreSent, AreSentTexts, IsAllOffered, IsOffered}
@@ -75,7 +75,7 @@ module _ {S P : Type 0} (next : S → Action → S) (answers : S → Action → 
   more_offered seat a b first then = record {
     are = record {
       packets = first.are.packets ++ then.are.packets;
-      texts = ap (λ (t : List ℕ). t ++ b) first.are.texts ∙ ap (λ (t : List ℕ). texts_of first.are.packets ++ t) then.are.texts ∙ sym (texts_append first.are.packets then.are.packets);
+      texts = ap (λ (t : List ℕ). t ++ b) first.are.texts ∙ ap (λ (t : List ℕ). texts_of first.are.packets ++ t) then.are.texts ∙ ap (λ (r : Run). r.bytes) (packets_then (run_of []) first.are.packets then.are.packets);
       sent = λ m has. elim (has_split m first.are.packets then.are.packets has) [ inl here ↦ first.are.sent m here | inr there ↦ then.are.sent m there ];
     };
     each = λ m has. elim (has_split m first.are.packets then.are.packets has) [ inl here ↦ first.each m here | inr there ↦ then.each m there ];

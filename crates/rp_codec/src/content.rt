@@ -1,9 +1,9 @@
-//! What was read of a packet, before memory is taken for a report's actions.
+//! What was read of a packet, before memory is taken for a report's actions or a promise's votes.
 
 use crate::packet::{Body, Party};
 use crate::reader::Reader;
 use crate::version::Version;
-use rp_base::Position;
+use rp_base::{Ballot, Position, PositionRange};
 
 /// What a packet says.
 #[derive(Drop)]
@@ -17,6 +17,21 @@ pub(crate) enum Content<'a> {
         count: u8,
         actions: Reader<'a>,
     },
+    /// A promise for a range, whose votes are the first ones at `votes`.
+    Voted {
+        reported: Reported,
+        votes: Reader<'a>,
+    },
+}
+
+/// What a promise for a range says before its votes.
+#[derive(Clone, Copy)]
+pub(crate) struct Reported {
+    pub(crate) version: Version,
+    pub(crate) range: PositionRange,
+    pub(crate) ballot: Ballot,
+    /// How many votes it reports.
+    pub(crate) count: u8,
 }
 
 /// A packet's parties and what it says.

@@ -1,8 +1,8 @@
 -- A body that is read is the body that was written, and what was written is read again.
-use Rattle.std.proofs.Common.{◌≡◌, ℕ, ◌<◌, true, false, ltb, eqb, List, ◌∷◌, ◌++◌, length, Option, Some, None, Ok, refl, sym, ap, ◌∙◌, append_assoc, leb, ◌≤◌, arith}
+use Rattle.std.proofs.Common.{◌≡◌, ℕ, ◌<◌, true, false, ltb, eqb, List, ◌∷◌, ◌++◌, length, Option, Some, None, Ok, refl, sym, ap, ◌∙◌, append_assoc, ◌≤◌, arith}
 use Rattle.std.specs.Prelude.{IfSome}
 use Rattle.std.specs.Int.{w16, w32}
-use Rattle.std.proofs.lemmas.Bool.{eqb-true, eq-eqb, ltb-true, lt-ltb, leb-true, le-leb}
+use Rattle.std.proofs.lemmas.Bool.{eqb-true, eq-eqb, ltb-true, lt-ltb}
 use Rattle.rp_base.specs.Ballot.{IsBallot}
 use Rattle.rp_base.specs.declared.reply.Reply.{Reply}
 use Rattle.rp_base.specs.declared.reply.Reply.TheVariants as replies
@@ -15,12 +15,11 @@ use Rattle.rp_codec.specs.declared.kind.Kind.TheVariants.{Call, Prepare, Promise
 use Rattle.rp_base.specs.Right.{IsReply}
 use Rattle.rp_codec.specs.declared.version.Version.{Version}
 use Rattle.rp_codec.specs.Message.{IsBody, IsNodeParty, IsTaskParty, IsAudit, IsVoteBelow, MaySay, report_len}
-use Rattle.rp_codec.specs.Text.{number_text, position_text, ballot_text, action_text_at, reply_text, last_text_at, kind_number, body_text_at, HasActionText, HasBodyText, range_text}
+use Rattle.rp_codec.specs.Text.{number_text, position_text, ballot_text, action_text_at, reply_text, last_text_at, kind_number, body_text_at, HasActionText, HasBodyText, range_text, votes_text_at}
 use Rattle.rp_codec.specs.Reading.{value_at, truth_at, reply_at, lower_ballot_at, higher_ballot_at, vote_at, last_at, prepare_at, promise_at, accept_at, accepted_at, decided_at, ask_at, nack_at, answer_at, report_at, task_call_at, body_at, prepare_range_at, promise_range_at}
 use Rattle.rp_codec.proofs.Steps.{IsBytes, Yields, Took, then, when, keeps, guarded}
 use Rattle.rp_codec.proofs.FieldLaws.{TookByte, TookNumber16, number16_took, number16_again, TookSigned, TookCount, TookPosition, TookBallot, byte_took, signed_took, signed_again, count_took, count_again, position_took, position_again, ballot_took, ballot_again, TookLower, lower_took, lower_again, TookHigher, higher_took, higher_again, TookRange, range_took, range_again}
-use Rattle.rp_base.specs.Ranges.{end_of}
-use Rattle.rp_codec.proofs.VotesLaws.{TookVotes, each_placed, votes_took, votes_again, rising_short}
+use Rattle.rp_codec.proofs.VotesLaws.{TookReported, reported_took, reported_again}
 use Rattle.rp_codec.proofs.ActionLaws.{TookActions, each_text, actions_took, actions_again, TookAction, TookOwn, action_took, action_again, own_call_took, own_call_again}
 
 -- ---- replies
@@ -248,14 +247,9 @@ unfolding promise_range_at
 promise_range_took v from bytes h =
     then (TookRange bytes) (TookBody v PromiseRange from bytes) _ _ (range_took bytes h)
     (λ range r. then (TookBallot range.1) (TookBody v PromiseRange from bytes) _ _ (ballot_took range.1 r.rest)
-    (λ ballot b. then (TookByte ballot.1) (TookBody v PromiseRange from bytes) _ _ (byte_took ballot.1 b.rest)
-    (λ count c. guarded (TookBody v PromiseRange from bytes) (leb count.0 range.0.count) count _
-    (λ e. then (TookVotes v ballot.0 (end_of range.0) range.0.first count.0 count.1) (TookBody v PromiseRange from bytes) _ _
-    (votes_took v ballot.0 (end_of range.0) range.0.first count.0 count.1 c.rest)
-    (λ votes t.
-    let counted : count.0 ≡ length votes.0 = sym t.right.len in
-    record {
-      parts = rw (r.parts, b.parts, c.parts, t.parts) (ap (λ (k : ℕ). range_text range.0 ++ (ballot_text ballot.0 ++ (k ∷ (each_placed v votes.0 ++ votes.1)))) counted ∙ simp append_assoc);
+    (λ ballot b. then (TookReported v range.0 ballot.0 ballot.1) (TookBody v PromiseRange from bytes) _ _ (reported_took v range.0 ballot.0 ballot.1 b.rest)
+    (λ votes t. record {
+      parts = rw (r.parts, b.parts, t.parts) (simp append_assoc);
       rest = t.rest;
       right = record {
         number = refl;
@@ -263,7 +257,7 @@ promise_range_took v from bytes h =
         has = t.right.has;
         rules = λ to f u. ((f, u), record { rising = t.right.rising; below = t.right.below; right = t.right.right });
       };
-    })))))
+    })))
 
 pub body_took : (v : Version) (kind : Kind) (from : Party) (bytes : List ℕ) → IsBytes bytes → Yields (TookBody v kind from bytes) (body_at v kind from bytes)
 unfolding body_at
@@ -325,8 +319,7 @@ body_again v from to (bodies.PrepareRange range ballot) rest ranges rules has =
     ap prepare_range_at (append_assoc (range_text range) (ballot_text ballot) rest) ∙ rw (range_again range (ballot_text ballot ++ rest) ranges.0, ballot_again ballot rest ranges.1) refl
 body_again v from to (bodies.PromiseRange range ballot votes) rest ranges rules has =
     let reported = rules.1 in
-    let few : length votes ≤ range.count = omega (arith, rising_short range.first (end_of range) votes (omega arith) reported.rising) in
-    let behind : List ℕ = length votes ∷ (each_placed v votes ++ rest) in
-    let parts : body_text_at v (bodies.PromiseRange range ballot votes) ++ rest ≡ range_text range ++ (ballot_text ballot ++ (length votes ∷ (each_placed v votes ++ rest))) = simp append_assoc in
-    ap (promise_range_at v) parts
-    ∙ rw (range_again range (ballot_text ballot ++ behind) ranges.0, ballot_again ballot behind ranges.1, le-leb _ _ few, votes_again v ballot (end_of range) range.first votes rest ranges.0.first.0 ranges.0.last (record { len = refl; rising = reported.rising; ballots = ranges.2; below = reported.below; right = reported.right; has = has })) refl
+    let behind : List ℕ = votes_text_at v votes ++ rest in
+    ap (promise_range_at v) (regroup (range_text range) (ballot_text ballot) (votes_text_at v votes) rest)
+    ∙ rw (range_again range (ballot_text ballot ++ behind) ranges.0, ballot_again ballot behind ranges.1,
+      reported_again v range ballot votes rest ranges.0 (record { len = refl; rising = reported.rising; ballots = ranges.2; below = reported.below; right = reported.right; has = has })) refl

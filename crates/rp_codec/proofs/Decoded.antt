@@ -244,7 +244,7 @@ front_none bytes e none (p, rest, packet, text) = no_fault (p, rest) e (sym (pac
 long_body : (content : Content) (after : List ℕ) (body : Body) → IsList content → StandsFor content after body → IsLongBody body
 long_body (WholeBody whole) after body list stands = absurd list
 long_body (Listed version first applied count text) after body list (actions, read, same) = subst IsLongBody (sym same) tt
-long_body (Voted reported text) after body list (votes, read, same) = subst IsLongBody (sym same) tt
+long_body (Voted version range ballot text) after body list (votes, read, same) = subst IsLongBody (sym same) tt
 
 pub long_text : (bytes : List ℕ) (found : Found) (body : Body) (after : List ℕ) → IsBytes bytes → IsList found.content → StandsFor found.content after body → all_of bytes ≡ Ok (with_body found body) → IsLongText bytes
 long_text bytes found body after h list stands e =

@@ -1,5 +1,5 @@
 -- The votes of a promise for a range that are read are those that were written, and what was written is read again.
-use Rattle.std.proofs.Common.{◌≡◌, ℕ, zero, suc, ◌+◌, ◌^◌, ◌<◌, ◌≤◌, true, leb, ltb, ◌&&◌, List, [], ◌∷◌, ◌++◌, length, Ok, refl, ap, ◌∙◌, append_assoc, arith}
+use Rattle.std.proofs.Common.{◌≡◌, ℕ, zero, suc, ◌+◌, ◌^◌, ◌<◌, ◌≤◌, true, leb, ltb, ◌&&◌, List, [], ◌∷◌, ◌++◌, length, Ok, refl, sym, ap, ◌∙◌, append_assoc, arith}
 use Rattle.std.specs.Prelude.{All, flat_map}
 use Rattle.std.proofs.lemmas.Bool.{and_parts, and_from, leb-true, le-leb, ltb-true, lt-ltb}
 use Rattle.std.proofs.lemmas.List.Elements.{All-nil, All-cons, All-head, All-tail}
@@ -8,11 +8,12 @@ use Rattle.rp_base.specs.Ballot.{IsBallot}
 use Rattle.rp_base.specs.Right.{IsRightVote}
 use Rattle.rp_base.specs.declared.placed.PlacedVote.{PlacedVote}
 use Rattle.rp_base.specs.PlacedVotes.{AreRising}
+use Rattle.rp_base.specs.Ranges.{Range, end_of, IsRange}
 use Rattle.rp_codec.specs.declared.version.Version.{Version}
-use Rattle.rp_codec.specs.Text.{position_text, ballot_text, action_text_at, placed_text_at, HasPlacedText}
-use Rattle.rp_codec.specs.Reading.{reported_at, votes_at}
-use Rattle.rp_codec.proofs.Steps.{IsBytes, Yields, Took, then, guarded}
-use Rattle.rp_codec.proofs.FieldLaws.{TookPosition, position_took, position_again, IsLower, TookLower, lower_took, lower_again}
+use Rattle.rp_codec.specs.Text.{position_text, ballot_text, action_text_at, placed_text_at, votes_text_at, HasPlacedText}
+use Rattle.rp_codec.specs.Reading.{reported_at, votes_at, reported_votes_at}
+use Rattle.rp_codec.proofs.Steps.{IsBytes, Yields, Took, then, guarded, weaker}
+use Rattle.rp_codec.proofs.FieldLaws.{TookByte, byte_took, TookPosition, position_took, position_again, IsLower, TookLower, lower_took, lower_again}
 use Rattle.rp_codec.proofs.ActionLaws.{IsActionAt, TookAction, action_took, action_again}
 
 -- ---- one vote
@@ -136,3 +137,28 @@ rising_short first end [] within rising = omega (arith, within)
 rising_short first end (placed ∷ rest) within rising =
     let later = rising_short (suc placed.position) end rest (omega (arith, rising.1)) rising.2 in
     omega (arith, rising.0, later)
+
+-- ---- how many there are, and each
+
+abbrev pub TookReported : Version → Range → ℕ → List ℕ → List PlacedVote × List ℕ → Type 0
+TookReported v range ballot bytes x = Took (votes_text_at v) (AreVotes v ballot (end_of range) range.first (length x.0)) bytes x
+
+pub reported_took : (v : Version) (range : Range) (ballot : ℕ) (bytes : List ℕ) → IsBytes bytes → Yields (TookReported v range ballot bytes) (reported_votes_at v range ballot bytes)
+unfolding reported_votes_at
+reported_took v range ballot bytes h =
+    then (TookByte bytes) (TookReported v range ballot bytes) _ _ (byte_took bytes h)
+    (λ count c. guarded (TookReported v range ballot bytes) (leb count.0 range.count) count _
+    (λ e. weaker (TookVotes v ballot (end_of range) range.first count.0 count.1) (TookReported v range ballot bytes) _
+    (λ votes t. record {
+      parts = c.parts ∙ ap (λ (k : ℕ). k ∷ count.1) (sym t.right.len) ∙ ap (λ (l : List ℕ). length votes.0 ∷ l) t.parts;
+      rest = t.rest;
+      right = record { len = refl; rising = t.right.rising; ballots = t.right.ballots; below = t.right.below; right = t.right.right; has = t.right.has };
+    })
+    (votes_took v ballot (end_of range) range.first count.0 count.1 c.rest)))
+
+pub reported_again : (v : Version) (range : Range) (ballot : ℕ) (votes : List PlacedVote) (rest : List ℕ) → IsRange range
+    → AreVotes v ballot (end_of range) range.first (length votes) votes → reported_votes_at v range ballot (votes_text_at v votes ++ rest) ≡ Ok (votes, rest)
+unfolding reported_votes_at
+reported_again v range ballot votes rest right is =
+    let few : length votes ≤ range.count = omega (arith, rising_short range.first (end_of range) votes (omega arith) is.rising) in
+    rw (le-leb _ _ few, votes_again v ballot (end_of range) range.first votes rest right.first.0 right.last is) refl

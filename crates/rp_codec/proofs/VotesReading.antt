@@ -1,15 +1,12 @@
 -- Votes that are read one after another, each at a position above the one before.
-use Rattle.std.proofs.Common.{◌≡◌, ℕ, suc, ◌+◌, ◌-◌, ◌<◌, ◌≤◌, List, [], ◌∷◌, ◌++◌, length, get_or, take, Ok, Err, refl, sym, ap, ◌∙◌, append_assoc, arith}
-use Rattle.std.specs.Prelude.{flat_map}
-use Rattle.std.proofs.lemmas.Bool.{le-leb}
-use Rattle.std.proofs.lemmas.List.{append-nil, flat_map_more, take_more, take_all}
+use Rattle.std.proofs.Common.{◌≡◌, ℕ, suc, ◌+◌, ◌-◌, ◌<◌, ◌≤◌, List, [], ◌∷◌, ◌++◌, Bool, true, false, leb, Result, Ok, Err, refl, sym, ap, ◌∙◌, arith}
+use Rattle.std.proofs.lemmas.List.{append-nil}
 use Rattle.rp_base.specs.declared.fault.PacketReason.{PacketReason}
 use Rattle.rp_base.specs.declared.placed.PlacedVote.{PlacedVote}
 use Rattle.rp_base.specs.Ranges.{Range, end_of}
 use Rattle.rp_codec.specs.declared.version.Version.{Version}
 use Rattle.rp_codec.specs.declared.packet.Body.TheVariants.{PromiseRange}
-use Rattle.rp_codec.specs.Text.{placed_text}
-use Rattle.rp_codec.specs.Reading.{Read, byte_at, ballot_at, range_at, reported_at, votes_at, promise_range_at}
+use Rattle.rp_codec.specs.Reading.{◌>>=◌, Read, ruled, byte_at, ballot_at, range_at, reported_at, votes_at, reported_votes_at, promise_range_at}
 use Rattle.rp_codec.proofs.ListReading.{prefixed, prefixed_nil, joined}
 
 -- so many were read, the others are at positions from the next on, and stand where the rest begins
@@ -60,24 +57,22 @@ all_votes_read v ballot end first count bytes done next front rest h whole =
     let counted : count - done ≡ 0 = omega arith in
     h.read ∙ ap (λ (k : ℕ). prefixed front (votes_at v ballot end next k rest)) counted ∙ last_step v ballot end next front rest
 
+-- what stands behind the count, where the whole is read
+through : {A B : Type 0} (b : Bool) (x : A) (f : A → Result B PacketReason) (y : B) → (ruled b x >>= f) ≡ Ok y → f x ≡ Ok y
+through true x f y e = e
+through {A} {B} false x f y e = absurd cc
+
+pub counted_votes : (v : Version) (range : Range) (ballot : ℕ) (bytes text : List ℕ) (count : ℕ) (votes : List PlacedVote) (after : List ℕ)
+    → byte_at bytes ≡ Ok (count, text) → reported_votes_at v range ballot bytes ≡ Ok (votes, after) → votes_at v ballot (end_of range) range.first count text ≡ Ok (votes, after)
+unfolding reported_votes_at
+counted_votes v range ballot bytes text count votes after e whole =
+    through (leb count range.count) (count, text) (λ n. votes_at v ballot (end_of range) range.first n.0 n.1) (votes, after)
+    (ap (λ (r : Read ℕ). r >>= λ n. ruled (leb n.0 range.count) n >>= λ count. votes_at v ballot (end_of range) range.first count.0 count.1) (sym e) ∙ whole)
+
 -- a promise for a range, field by field
-pub promise_range_found : (v : Version) (bytes after_range after_ballot text told after : List ℕ) (range : Range) (ballot count : ℕ) (votes : List PlacedVote)
-    → range_at bytes ≡ Ok (range, after_range) → ballot_at after_range ≡ Ok (ballot, after_ballot) → byte_at after_ballot ≡ Ok (count, text)
-    → count ≤ range.count → told ≡ text → votes_at v ballot (end_of range) range.first count text ≡ Ok (votes, after)
-    → (votes_at v ballot (end_of range) range.first count told ≡ Ok (votes, after)) × (promise_range_at v bytes ≡ Ok (PromiseRange range ballot votes, after))
+pub promise_range_found : (v : Version) (bytes after_range text told after : List ℕ) (range : Range) (ballot : ℕ) (votes : List PlacedVote)
+    → range_at bytes ≡ Ok (range, after_range) → ballot_at after_range ≡ Ok (ballot, text) → told ≡ text → reported_votes_at v range ballot text ≡ Ok (votes, after)
+    → (reported_votes_at v range ballot told ≡ Ok (votes, after)) × (promise_range_at v bytes ≡ Ok (PromiseRange range ballot votes, after))
 unfolding promise_range_at
-promise_range_found v bytes after_range after_ballot text told after range ballot count votes e1 e2 e3 few same e4 =
-    (ap (votes_at v ballot (end_of range) range.first count) same ∙ e4, rw (e1, e2, e3, le-leb _ _ few, e4) refl)
-
--- ---- and written
-
-pub one_more_put : (front : List ℕ) (votes : List PlacedVote) (i : ℕ) (placed : PlacedVote) → i < length votes → placed ≡ get_or votes i placed
-    → (front ++ flat_map placed_text (take i votes)) ++ placed_text placed ≡ front ++ flat_map placed_text (take (i + 1) votes)
-one_more_put front votes i placed within item =
-    flat_map_more placed_text front (take i votes) placed
-    ∙ ap (λ (l : List PlacedVote). front ++ flat_map placed_text l) (ap (λ (p : PlacedVote). take i votes ++ p ∷ []) item ∙ sym (take_more votes i placed within))
-
-pub all_put : (front : List ℕ) (votes : List PlacedVote) (i : ℕ) → length votes ≤ i
-    → (front ++ length votes ∷ []) ++ flat_map placed_text (take i votes) ≡ front ++ (length votes ∷ flat_map placed_text votes)
-all_put front votes i whole =
-    ap (λ (l : List PlacedVote). (front ++ length votes ∷ []) ++ flat_map placed_text l) (take_all i votes whole) ∙ append_assoc front (length votes ∷ []) (flat_map placed_text votes)
+promise_range_found v bytes after_range text told after range ballot votes e1 e2 same e3 =
+    (ap (reported_votes_at v range ballot) same ∙ e3, rw (e1, e2, e3) refl)

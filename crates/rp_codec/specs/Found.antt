@@ -1,36 +1,35 @@
 -- What was read of a packet, before memory is taken for a report's actions or a promise's votes.
-use Rattle.std.specs.Prelude.{◌≡◌, ℕ, List, Result, Ok, Err}
+use Rattle.std.specs.Prelude.{◌≡◌, ℕ, suc, List, Result, Ok, Err}
 use Rattle.rp_base.specs.declared.fault.PacketReason.{PacketReason}
 use Rattle.rp_base.specs.declared.action.Action.{Action}
 use Rattle.rp_codec.specs.declared.packet.Body.{Body}
 use Rattle.rp_codec.specs.declared.packet.Body.TheVariants.{Report, PromiseRange}
 use Rattle.rp_base.specs.declared.placed.PlacedVote.{PlacedVote}
-use Rattle.rp_base.specs.Ranges.{end_of}
+use Rattle.rp_base.specs.Ranges.{Range}
 use Rattle.rp_codec.specs.declared.content.Content.{Content}
 use Rattle.rp_codec.specs.declared.content.Content.TheVariants.{Whole, Listed, Voted}
-use Rattle.rp_codec.specs.declared.content.Reported.{Reported}
 use Rattle.rp_codec.specs.declared.content.Found.{Found}
 use Rattle.rp_codec.specs.declared.version.Version.{Version}
 use Rattle.rp_codec.specs.Message.{Message, KeepsRules}
-use Rattle.rp_codec.specs.Reading.{Read, actions_at, votes_at}
+use Rattle.rp_codec.specs.Reading.{Read, actions_at, reported_votes_at}
 
 -- a list was read, and not kept
 abbrev pub Skips : {A : Type 0} → Result (Unit {0}) PacketReason → List ℕ → Read A → Type 0
 Skips {A} (Ok _) after read = (x : A) × (read ≡ Ok (x, after))
 Skips (Err e) after read = read ≡ Err e
 
--- the votes that are reported at the front of the bytes
-abbrev pub votes_reported : Reported → List ℕ → Read (List PlacedVote)
-votes_reported reported text =
-    votes_at reported.version reported.ballot (end_of reported.range) reported.range.first reported.count text
+-- a vote was read, and not kept: what comes next is after its position
+abbrev pub SkipsVote : Result ℕ PacketReason → List ℕ → Read PlacedVote → Type 0
+SkipsVote (Ok next) after read = (placed : PlacedVote) × (read ≡ Ok (placed, after)) × (next ≡ suc placed.position)
+SkipsVote (Err e) after read = read ≡ Err e
 
 -- a content that ends where these bytes begin stands for this body
 abbrev pub StandsFor : Content → List ℕ → Body → Type 0
 StandsFor (Whole whole) after body = body ≡ whole
 StandsFor (Listed version first applied count text) after body =
     (actions : List Action) × (actions_at version count text ≡ Ok (actions, after)) × (body ≡ Report first applied actions)
-StandsFor (Voted reported text) after body =
-    (votes : List PlacedVote) × (votes_reported reported text ≡ Ok (votes, after)) × (body ≡ PromiseRange reported.range reported.ballot votes)
+StandsFor (Voted version range ballot text) after body =
+    (votes : List PlacedVote) × (reported_votes_at version range ballot text ≡ Ok (votes, after)) × (body ≡ PromiseRange range ballot votes)
 
 -- what a function returned, and the bytes that it left, stand for what reading gives
 abbrev pub Finds : Result Content PacketReason → List ℕ → Read Body → Type 0
@@ -61,8 +60,9 @@ AreFirst list version count text =
     (actions : List Action) (after : List ℕ) → actions_at version count text ≡ Ok (actions, after) → list ≡ actions
 
 -- the list is that of the votes that are reported
-abbrev pub AreFirstVotes : List PlacedVote → Reported → List ℕ → Type 0
-AreFirstVotes list reported text = (votes : List PlacedVote) (after : List ℕ) → votes_reported reported text ≡ Ok (votes, after) → list ≡ votes
+abbrev pub AreFirstVotes : List PlacedVote → Version → Range → ℕ → List ℕ → Type 0
+AreFirstVotes list version range ballot text =
+    (votes : List PlacedVote) (after : List ℕ) → reported_votes_at version range ballot text ≡ Ok (votes, after) → list ≡ votes
 
 -- the packet is the one that was found
 abbrev pub IsListed : Message → Found → Type 0
@@ -72,4 +72,4 @@ IsListed packet found = (body : Body) (after : List ℕ) → StandsFor found.con
 abbrev pub IsList : Content → Type 0
 IsList (Whole body) = ⊥
 IsList (Listed version first applied count text) = Unit {0}
-IsList (Voted reported text) = Unit {0}
+IsList (Voted version range ballot text) = Unit {0}

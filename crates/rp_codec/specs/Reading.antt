@@ -350,14 +350,18 @@ votes_at version ballot end first (suc more) bytes = do
   others ← votes_at version ballot end (suc placed.0.position) more placed.1
   Ok (placed.0 ∷ others.0, others.1)
 
--- a promise for a range, with at most as many votes as the range has positions
+-- how many votes there are, at most as many as the range has positions, and each of them
+unfoldable pub reported_votes_at : Version → Range → ℕ → List ℕ → Read (List PlacedVote)
+reported_votes_at version range ballot bytes = do
+  n ← byte_at bytes
+  count ← ruled (nat_le n.0 range.count) n
+  votes_at version ballot (end_of range) range.first count.0 count.1
+
 unfoldable pub promise_range_at : Version → List ℕ → Read Body
 promise_range_at version bytes = do
   range ← range_at bytes
   ballot ← ballot_at range.1
-  n ← byte_at ballot.1
-  count ← ruled (nat_le n.0 range.0.count) n
-  votes ← votes_at version ballot.0 (end_of range.0) range.0.first count.0 count.1
+  votes ← reported_votes_at version range.0 ballot.0 ballot.1
   Ok (bodies.PromiseRange range.0 ballot.0 votes.0, votes.1)
 
 unfoldable pub body_at : Version → Kind → Party → List ℕ → Read Body

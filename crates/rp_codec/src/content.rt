@@ -17,21 +17,13 @@ pub(crate) enum Content<'a> {
         count: u8,
         actions: Reader<'a>,
     },
-    /// A promise for a range, whose votes are the first ones at `votes`.
+    /// A promise for a range. How many votes it reports, and then each of them, stand at `votes`.
     Voted {
-        reported: Reported,
+        version: Version,
+        range: PositionRange,
+        ballot: Ballot,
         votes: Reader<'a>,
     },
-}
-
-/// What a promise for a range says before its votes.
-#[derive(Clone, Copy)]
-pub(crate) struct Reported {
-    pub(crate) version: Version,
-    pub(crate) range: PositionRange,
-    pub(crate) ballot: Ballot,
-    /// How many votes it reports.
-    pub(crate) count: u8,
 }
 
 /// A packet's parties and what it says.

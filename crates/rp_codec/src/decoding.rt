@@ -175,11 +175,16 @@ fn listed(alloc: Global, found: Found) -> Result<Packet, AllocError>
                 actions,
             }
         }
-        Content::Voted { reported, votes } => {
-            let votes = list_votes(alloc, votes, reported)?;
+        Content::Voted {
+            version,
+            range,
+            ballot,
+            votes,
+        } => {
+            let votes = list_votes(alloc, votes, version, range, ballot)?;
             Body::PromiseRange {
-                range: reported.range,
-                ballot: reported.ballot,
+                range,
+                ballot,
                 votes,
             }
         }

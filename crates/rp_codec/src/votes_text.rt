@@ -4,18 +4,18 @@
 ghost use Rattle.std.specs.Prelude.{◌≡◌, ◌≤◌, ◌<◌, ◌+◌, ◌++◌, length, take, IsOk, IfOk, OnOk, OnErr};
 ghost use Rattle.rp_base.specs.Ranges.{end_of};
 ghost use Rattle.rp_codec.specs.Text.{placed_text, reported_text};
-ghost use Rattle.rp_codec.specs.Reading.{Gives, reported_at, votes_at, promise_range_at};
-ghost use Rattle.rp_codec.specs.Found.{Skips, Finds, AreFirstVotes};
+ghost use Rattle.rp_codec.specs.Reading.{Gives, reported_at, votes_at, reported_votes_at, promise_range_at};
+ghost use Rattle.rp_codec.specs.Found.{Skips, SkipsVote, Finds, AreFirstVotes};
 
 use crate::action_text::{put_action, read_action};
 use crate::body_text::read_lower_ballot;
-use crate::content::{Content, Reported};
+use crate::content::Content;
 use crate::fields::{put_ballot, put_position, read_ballot, read_position, read_range};
 use crate::reader::Reader;
 use crate::short_text::ShortText;
 use crate::version::Version;
 use crate::votes::Votes;
-use rp_base::{Ballot, PacketReason, PlacedVote, Vote};
+use rp_base::{Ballot, PacketReason, PlacedVote, PositionRange, Vote};
 use std::alloc::{AllocError, Global};
 
 /// A vote in a lower ballot than this one, at a position that is the first or a later one, and below
@@ -44,24 +44,55 @@ fn read_reported(
     Ok(PlacedVote { position, vote })
 }
 
-/// Reads the votes that are reported, and keeps none.
-fn skip_votes(reader: &mut Reader, reported: Reported) -> Result<(), PacketReason>
-    ensures { Skips result reader.new (votes_at reported.version reported.ballot
-        (end_of reported.range) reported.range.first reported.count reader.old) }
+/// Reads a vote and keeps nothing of it. The next position is the one after the vote's.
+#[inline(always)]
+fn skip_vote(
+    reader: &mut Reader,
+    version: Version,
+    ballot: Ballot,
+    first: u32,
+    end: u32,
+) -> Result<u32, PacketReason>
+    ensures { SkipsVote result reader.new (reported_at version ballot end first reader.old) }
 {
-    let Reported {
-        version,
-        range,
-        ballot,
-        count,
-    } = reported;
+    let placed = read_reported(reader, version, ballot, first, end)?;
+    Ok(u32::from(placed.position.get()) + 1)
+}
+
+/// Reads so many votes, and keeps none.
+fn skip_each(
+    reader: &mut Reader,
+    version: Version,
+    range: PositionRange,
+    ballot: Ballot,
+    count: u8,
+) -> Result<(), PacketReason>
+    ensures { Skips result reader.new
+        (votes_at version ballot (end_of range) range.first count reader.old) }
+{
     let end = range.end();
     let mut first = u32::from(range.first().get());
     for _ in 0..count {
-        let placed = read_reported(reader, version, ballot, first, end)?;
-        first = u32::from(placed.position.get()) + 1;
+        first = skip_vote(reader, version, ballot, first, end)?;
     }
     Ok(())
+}
+
+/// Reads how many votes are reported, and each of them, and keeps none.
+#[tactic(auto, unfolding(crate::specs::Reading::reported_votes_at))]
+fn skip_votes(
+    reader: &mut Reader,
+    version: Version,
+    range: PositionRange,
+    ballot: Ballot,
+) -> Result<(), PacketReason>
+    ensures { Skips result reader.new (reported_votes_at version range ballot reader.old) }
+{
+    let count = reader.byte()?;
+    if count > range.count() {
+        return Err(PacketReason::Field);
+    }
+    skip_each(reader, version, range, ballot, count)
 }
 
 #[tactic(auto, unfolding(crate::specs::Reading::promise_range_at))]
@@ -73,45 +104,39 @@ pub(crate) fn read_promise_range<'a>(
 {
     let range = read_range(reader)?;
     let ballot = read_ballot(reader)?;
-    let count = reader.byte()?;
-    if count > range.count() {
-        return Err(PacketReason::Field);
-    }
     let votes = reader.again();
-    let reported = Reported {
+    skip_votes(reader, version, range, ballot)?;
+    let content = Content::Voted {
         version,
         range,
         ballot,
-        count,
+        votes,
     };
-    skip_votes(reader, reported)?;
-    Ok(Content::Voted { reported, votes })
+    Ok(content)
 }
 
 /// The votes that are reported at the front of what is left.
 pub(crate) fn list_votes(
     alloc: Global,
     mut reader: Reader,
-    reported: Reported,
+    version: Version,
+    range: PositionRange,
+    ballot: Ballot,
 ) -> Result<Votes, AllocError>
-    requires { IsOk (votes_at reported.version reported.ballot (end_of reported.range)
-        reported.range.first reported.count reader) }
-    ensures { IfOk result (λ list. AreFirstVotes list reported reader.entry) }
+    requires { IsOk (reported_votes_at version range ballot reader) }
+    ensures { IfOk result (λ list. AreFirstVotes list version range ballot reader.entry) }
 {
-    let Reported {
-        version,
-        range,
-        ballot,
-        count,
-    } = reported;
+    let Ok(count) = reader.byte() else {
+        unreachable!()
+    };
     let end = range.end();
     let mut first = u32::from(range.first().get());
     let mut votes = Vec::with_capacity(alloc, usize::from(count))?;
     for _ in 0..count {
         match read_reported(&mut reader, version, ballot, first, end) {
-            Ok(placed) => {
-                first = u32::from(placed.position.get()) + 1;
-                votes.push(placed)?;
+            Ok(PlacedVote { position, vote }) => {
+                first = u32::from(position.get()) + 1;
+                votes.push(PlacedVote { position, vote })?;
             }
             Err(_) => unreachable!(),
         }

@@ -1,5 +1,5 @@
 -- The votes of a promise for a range that are read are those that were written, and what was written is read again.
-use Rattle.std.proofs.Common.{◌≡◌, ℕ, zero, suc, ◌+◌, ◌^◌, ◌<◌, ◌≤◌, true, leb, ltb, ◌&&◌, List, [], ◌∷◌, ◌++◌, length, Ok, refl, sym, ap, ◌∙◌, append_assoc, arith}
+use Rattle.std.proofs.Common.{◌≡◌, ℕ, zero, suc, ◌+◌, ◌^◌, ◌<◌, ◌≤◌, true, leb, ltb, ◌&&◌, List, [], ◌∷◌, ◌++◌, length, Ok, refl, sym, ap, subst, ◌∙◌, append_assoc, arith}
 use Rattle.std.specs.Prelude.{All, flat_map}
 use Rattle.std.proofs.lemmas.Bool.{and_parts, and_from, leb-true, le-leb, ltb-true, lt-ltb}
 use Rattle.std.proofs.lemmas.List.Elements.{All-nil, All-cons, All-head, All-tail}
@@ -10,6 +10,8 @@ use Rattle.rp_base.specs.declared.placed.PlacedVote.{PlacedVote}
 use Rattle.rp_base.specs.PlacedVotes.{AreRising}
 use Rattle.rp_base.specs.Ranges.{Range, end_of, IsRange}
 use Rattle.rp_codec.specs.declared.version.Version.{Version}
+use Rattle.rp_codec.specs.declared.packet.Body.TheVariants.{PromiseRange}
+use Rattle.rp_codec.specs.Message.{Message, IsBody, MaySay, IsPacket}
 use Rattle.rp_codec.specs.Text.{position_text, ballot_text, action_text_at, placed_text_at, votes_text_at, HasPlacedText}
 use Rattle.rp_codec.specs.Reading.{reported_at, votes_at, reported_votes_at}
 use Rattle.rp_codec.proofs.Steps.{IsBytes, Yields, Took, then, guarded, weaker}
@@ -162,3 +164,10 @@ unfolding reported_votes_at
 reported_again v range ballot votes rest right is =
     let few : length votes ≤ range.count = omega (arith, rising_short range.first (end_of range) votes (omega arith) is.rising) in
     rw (le-leb _ _ few, votes_again v ballot (end_of range) range.first votes rest right.first.0 right.last is) refl
+
+-- a packet has few votes
+pub few_votes : (m : Message) (range : Range) (ballot : ℕ) (votes : List PlacedVote) → IsPacket m → m.body ≡ PromiseRange range ballot votes → length votes < 256
+few_votes m range ballot votes is e =
+    let rules : MaySay m.from m.to (PromiseRange range ballot votes) = subst (MaySay m.from m.to) e is.rules in
+    let ranges : IsBody (PromiseRange range ballot votes) = subst IsBody e is.ranges.body in
+    omega (arith, ranges.0.count.1, rising_short range.first (end_of range) votes (omega arith) rules.1.rising)

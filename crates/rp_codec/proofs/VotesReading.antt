@@ -1,5 +1,6 @@
 -- Votes that are read one after another, each at a position above the one before.
-use Rattle.std.proofs.Common.{◌≡◌, ℕ, suc, ◌+◌, ◌-◌, ◌<◌, ◌≤◌, List, [], ◌∷◌, ◌++◌, Bool, true, false, leb, Result, Ok, Err, refl, sym, ap, ◌∙◌, arith}
+use Rattle.std.proofs.Common.{◌≡◌, ℕ, suc, ◌+◌, ◌-◌, ◌<◌, ◌≤◌, List, [], ◌∷◌, ◌++◌, Bool, true, false, leb, Result, Ok, Err, refl, sym, ap, subst, ◌∙◌, arith}
+use Rattle.std.specs.Prelude.{IsOk}
 use Rattle.std.proofs.lemmas.List.{append-nil}
 use Rattle.rp_base.specs.declared.fault.PacketReason.{PacketReason}
 use Rattle.rp_base.specs.declared.placed.PlacedVote.{PlacedVote}
@@ -57,6 +58,13 @@ all_votes_read v ballot end first count bytes done next front rest h whole =
     let counted : count - done ≡ 0 = omega arith in
     h.read ∙ ap (λ (k : ℕ). prefixed front (votes_at v ballot end next k rest)) counted ∙ last_step v ballot end next front rest
 
+wrong : {A : Type 0} (read : Read A) (reason : PacketReason) → read ≡ Err reason → IsOk read → ⊥
+wrong (Ok x) reason e ok = absurd cc
+wrong (Err other) reason e ok = absurd cc
+
+pub begun : (v : Version) (ballot end first count : ℕ) (bytes : List ℕ) (next : ℕ) → next ≡ first → HasVotes v ballot end first count bytes 0 next [] bytes
+begun v ballot end first count bytes next same = subst (λ (n : ℕ). HasVotes v ballot end first count bytes 0 n [] bytes) (sym same) (no_votes_read v ballot end first count bytes)
+
 -- what stands behind the count, where the whole is read
 through : {A B : Type 0} (b : Bool) (x : A) (f : A → Result B PacketReason) (y : B) → (ruled b x >>= f) ≡ Ok y → f x ≡ Ok y
 through true x f y e = e
@@ -68,6 +76,23 @@ unfolding reported_votes_at
 counted_votes v range ballot bytes text count votes after e whole =
     through (leb count range.count) (count, text) (λ n. votes_at v ballot (end_of range) range.first n.0 n.1) (votes, after)
     (ap (λ (r : Read ℕ). r >>= λ n. ruled (leb n.0 range.count) n >>= λ count. votes_at v ballot (end_of range) range.first count.0 count.1) (sym e) ∙ whole)
+
+-- a fault of the count or of a vote is one of the whole
+fails : {A B : Type 0} (b : Bool) (x : A) (f : A → Read B) (reason : PacketReason) → f x ≡ Err reason → IsOk (ruled b x >>= f) → ⊥
+fails {A} {B} true x f reason e ok = wrong (f x) reason e ok
+fails {A} {B} false x f reason e ok = absurd cc
+
+pub no_count : (v : Version) (range : Range) (ballot : ℕ) (bytes : List ℕ) (reason : PacketReason) → byte_at bytes ≡ Err reason → reported_votes_at v range ballot bytes ≡ Err reason
+unfolding reported_votes_at
+no_count v range ballot bytes reason e = rw e refl
+
+pub no_votes_fault : (v : Version) (range : Range) (ballot end : ℕ) (bytes text : List ℕ) (count : ℕ) (reason : PacketReason)
+    → byte_at bytes ≡ Ok (count, text) → end ≡ end_of range → votes_at v ballot end range.first count text ≡ Err reason → IsOk (reported_votes_at v range ballot bytes) → ⊥
+unfolding reported_votes_at
+no_votes_fault v range ballot end bytes text count reason e same fault ok =
+    fails (leb count range.count) (count, text) (λ n. votes_at v ballot (end_of range) range.first n.0 n.1) reason
+    (ap (λ (k : ℕ). votes_at v ballot k range.first count text) (sym same) ∙ fault)
+    (subst (λ (r : Read ℕ). IsOk (r >>= λ n. ruled (leb n.0 range.count) n >>= λ count. votes_at v ballot (end_of range) range.first count.0 count.1)) e ok)
 
 -- a promise for a range, field by field
 pub promise_range_found : (v : Version) (bytes after_range text told after : List ℕ) (range : Range) (ballot : ℕ) (votes : List PlacedVote)

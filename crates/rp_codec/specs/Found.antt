@@ -1,9 +1,10 @@
 -- What was read of a packet, before memory is taken for a report's actions or a promise's votes.
-use Rattle.std.specs.Prelude.{◌≡◌, ℕ, suc, List, Result, Ok, Err}
+use Rattle.std.specs.Prelude.{◌≡◌, ℕ, List, Result, Ok, Err}
 use Rattle.rp_base.specs.declared.fault.PacketReason.{PacketReason}
 use Rattle.rp_base.specs.declared.action.Action.{Action}
 use Rattle.rp_codec.specs.declared.packet.Body.{Body}
 use Rattle.rp_codec.specs.declared.packet.Body.TheVariants.{Report, PromiseRange}
+use Rattle.rp_base.specs.declared.record.Vote.{Vote}
 use Rattle.rp_base.specs.declared.placed.PlacedVote.{PlacedVote}
 use Rattle.rp_base.specs.Ranges.{Range}
 use Rattle.rp_codec.specs.declared.content.Content.{Content}
@@ -18,10 +19,10 @@ abbrev pub Skips : {A : Type 0} → Result (Unit {0}) PacketReason → List ℕ 
 Skips {A} (Ok _) after read = (x : A) × (read ≡ Ok (x, after))
 Skips (Err e) after read = read ≡ Err e
 
--- a vote was read, and not kept: what comes next is after its position
-abbrev pub SkipsVote : Result ℕ PacketReason → List ℕ → Read PlacedVote → Type 0
-SkipsVote (Ok next) after read = (placed : PlacedVote) × (read ≡ Ok (placed, after)) × (next ≡ suc placed.position)
-SkipsVote (Err e) after read = read ≡ Err e
+-- a position was read, and a vote for it
+abbrev pub GivesVote : Result (ℕ × Vote) PacketReason → List ℕ → Read PlacedVote → Type 0
+GivesVote (Ok x) after read = read ≡ Ok (record { position = x.0; vote = x.1 }, after)
+GivesVote (Err e) after read = read ≡ Err e
 
 -- a content that ends where these bytes begin stands for this body
 abbrev pub StandsFor : Content → List ℕ → Body → Type 0

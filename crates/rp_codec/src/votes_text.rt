@@ -4,8 +4,8 @@
 ghost use Rattle.std.specs.Prelude.{◌≡◌, ◌≤◌, ◌<◌, ◌+◌, ◌++◌, length, take, IsOk, IfOk, OnOk, OnErr};
 ghost use Rattle.rp_base.specs.Ranges.{end_of};
 ghost use Rattle.rp_codec.specs.Text.{placed_text, reported_text};
-ghost use Rattle.rp_codec.specs.Reading.{Gives, reported_at, votes_at, reported_votes_at, promise_range_at};
-ghost use Rattle.rp_codec.specs.Found.{Skips, SkipsVote, Finds, AreFirstVotes};
+ghost use Rattle.rp_codec.specs.Reading.{reported_at, votes_at, reported_votes_at, promise_range_at};
+ghost use Rattle.rp_codec.specs.Found.{Skips, GivesVote, Finds, AreFirstVotes};
 
 use crate::action_text::{put_action, read_action};
 use crate::body_text::read_lower_ballot;
@@ -15,11 +15,11 @@ use crate::reader::Reader;
 use crate::short_text::ShortText;
 use crate::version::Version;
 use crate::votes::Votes;
-use rp_base::{Ballot, PacketReason, PlacedVote, PositionRange, Vote};
+use rp_base::{Ballot, PacketReason, PlacedVote, Position, PositionRange, Vote};
 use std::alloc::{AllocError, Global};
 
-/// A vote in a lower ballot than this one, at a position that is the first or a later one, and below
-/// the end.
+/// A position that is the first or a later one, and below the end, and a vote there in a lower ballot
+/// than this one.
 #[tactic(auto, unfolding(crate::specs::Reading::reported_at))]
 fn read_reported(
     reader: &mut Reader,
@@ -27,8 +27,8 @@ fn read_reported(
     ballot: Ballot,
     first: u32,
     end: u32,
-) -> Result<PlacedVote, PacketReason>
-    ensures { Gives result reader.new (reported_at version ballot end first reader.old) }
+) -> Result<(Position, Vote), PacketReason>
+    ensures { GivesVote result reader.new (reported_at version ballot end first reader.old) }
 {
     let position = read_position(reader)?;
     let number = u32::from(position.get());
@@ -41,22 +41,7 @@ fn read_reported(
         ballot: lower,
         action,
     };
-    Ok(PlacedVote { position, vote })
-}
-
-/// Reads a vote and keeps nothing of it. The next position is the one after the vote's.
-#[inline(always)]
-fn skip_vote(
-    reader: &mut Reader,
-    version: Version,
-    ballot: Ballot,
-    first: u32,
-    end: u32,
-) -> Result<u32, PacketReason>
-    ensures { SkipsVote result reader.new (reported_at version ballot end first reader.old) }
-{
-    let placed = read_reported(reader, version, ballot, first, end)?;
-    Ok(u32::from(placed.position.get()) + 1)
+    Ok((position, vote))
 }
 
 /// Reads so many votes, and keeps none.
@@ -73,7 +58,8 @@ fn skip_each(
     let end = range.end();
     let mut first = u32::from(range.first().get());
     for _ in 0..count {
-        first = skip_vote(reader, version, ballot, first, end)?;
+        let (position, _vote) = read_reported(reader, version, ballot, first, end)?;
+        first = u32::from(position.get()) + 1;
     }
     Ok(())
 }
@@ -134,7 +120,7 @@ pub(crate) fn list_votes(
     let mut votes = Vec::with_capacity(alloc, usize::from(count))?;
     for _ in 0..count {
         match read_reported(&mut reader, version, ballot, first, end) {
-            Ok(PlacedVote { position, vote }) => {
+            Ok((position, vote)) => {
                 first = u32::from(position.get()) + 1;
                 votes.push(PlacedVote { position, vote })?;
             }

@@ -4,7 +4,6 @@ use Rattle.rp_base.specs.declared.fault.PacketReason.{PacketReason}
 use Rattle.rp_base.specs.declared.action.Action.{Action}
 use Rattle.rp_codec.specs.declared.packet.Body.{Body}
 use Rattle.rp_codec.specs.declared.packet.Body.TheVariants.{Report, PromiseRange}
-use Rattle.rp_base.specs.declared.record.Vote.{Vote}
 use Rattle.rp_base.specs.declared.placed.PlacedVote.{PlacedVote}
 use Rattle.rp_base.specs.Ranges.{Range}
 use Rattle.rp_codec.specs.declared.content.Content.{Content}
@@ -19,9 +18,9 @@ abbrev pub Skips : {A : Type 0} → Result (Unit {0}) PacketReason → List ℕ 
 Skips {A} (Ok _) after read = (x : A) × (read ≡ Ok (x, after))
 Skips (Err e) after read = read ≡ Err e
 
--- a position was read, and a vote for it
-abbrev pub GivesVote : Result (ℕ × Vote) PacketReason → List ℕ → Read PlacedVote → Type 0
-GivesVote (Ok x) after read = read ≡ Ok (record { position = x.0; vote = x.1 }, after)
+-- a position was read, and the ballot and the action of a vote there
+abbrev pub GivesVote : Result (ℕ × ℕ × Action) PacketReason → List ℕ → Read PlacedVote → Type 0
+GivesVote (Ok x) after read = read ≡ Ok (record { position = x.0; vote = record { ballot = x.1; action = x.2 } }, after)
 GivesVote (Err e) after read = read ≡ Err e
 
 -- a content that ends where these bytes begin stands for this body

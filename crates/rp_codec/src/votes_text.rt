@@ -15,7 +15,7 @@ use crate::reader::Reader;
 use crate::short_text::ShortText;
 use crate::version::Version;
 use crate::votes::Votes;
-use rp_base::{Ballot, PacketReason, PlacedVote, Position, PositionRange, Vote};
+use rp_base::{Action, Ballot, PacketReason, PlacedVote, Position, PositionRange, Vote};
 use std::alloc::{AllocError, Global};
 
 /// A position that is the first or a later one, and below the end, and a vote there in a lower ballot
@@ -27,7 +27,7 @@ fn read_reported(
     ballot: Ballot,
     first: u32,
     end: u32,
-) -> Result<(Position, Vote), PacketReason>
+) -> Result<(Position, Ballot, Action), PacketReason>
     ensures { GivesVote result reader.new (reported_at version ballot end first reader.old) }
 {
     let position = read_position(reader)?;
@@ -37,11 +37,7 @@ fn read_reported(
     }
     let lower = read_lower_ballot(reader, ballot)?;
     let action = read_action(reader, version)?;
-    let vote = Vote {
-        ballot: lower,
-        action,
-    };
-    Ok((position, vote))
+    Ok((position, lower, action))
 }
 
 /// Reads so many votes, and keeps none.
@@ -58,7 +54,7 @@ fn skip_each(
     let end = range.end();
     let mut first = u32::from(range.first().get());
     for _ in 0..count {
-        let (position, _vote) = read_reported(reader, version, ballot, first, end)?;
+        let (position, _, _) = read_reported(reader, version, ballot, first, end)?;
         first = u32::from(position.get()) + 1;
     }
     Ok(())
@@ -120,8 +116,10 @@ pub(crate) fn list_votes(
     let mut votes = Vec::with_capacity(alloc, usize::from(count))?;
     for _ in 0..count {
         match read_reported(&mut reader, version, ballot, first, end) {
-            Ok((position, vote)) => {
+            Ok(read) => {
+                let (position, ballot, action) = read;
                 first = u32::from(position.get()) + 1;
+                let vote = Vote { ballot, action };
                 votes.push(PlacedVote { position, vote })?;
             }
             Err(_) => unreachable!(),

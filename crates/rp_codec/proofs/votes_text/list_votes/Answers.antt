@@ -19,8 +19,8 @@ unreachable-requires-in-Err c =
 pub loop-preserved : goal.loop-preserved
 loop-preserved c =
     let (text, counted, has) = c.loop.invariant in
-    let placed : PlacedVote = record { position = c.in-Ok-read_reported.position; vote = c.in-Ok-read_reported.vote } in
-    let follows : c.from-first-in-Ok-read_reported.result + 1 ≡ suc c.in-Ok-read_reported.position = omega (arith, c.from-first-in-Ok-read_reported.ensures, c.get-in-Ok-read_reported.ensures.value) in
+    let placed : PlacedVote = record { position = c.in-Ok-read_reported.read.0; vote = record { ballot = c.in-Ok-read_reported.read.1; action = c.in-Ok-read_reported.read.2 } } in
+    let follows : c.from-first-in-Ok-read_reported.result + 1 ≡ suc c.in-Ok-read_reported.read.0 = omega (arith, c.from-first-in-Ok-read_reported.ensures, c.get-in-Ok-read_reported.ensures.value) in
     (text, counted, rw c.in_ok-push-in-Ok-read_reported.ensures.items (one_more_vote c.args.version c.args.ballot c.end-end.result c.args.range.first c.in-Ok.count text c.loop.counter c.loop.first c.loop.votes.items c.loop.reader placed c.read_reported.new.reader (c.from-first-in-Ok-read_reported.result + 1) has c.loop-test.true c.in-Ok-read_reported.ensures follows))
 
 pub returns : goal.returns

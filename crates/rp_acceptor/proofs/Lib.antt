@@ -1,2 +1,4 @@
-pub mod Noting
-pub mod Pages
+mod Noting
+mod Pages
+mod Splitting
+mod Raising

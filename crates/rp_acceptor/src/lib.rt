@@ -10,6 +10,7 @@
 mod acceptor;
 mod page;
 mod slot;
+mod steps;
 
 pub use acceptor::Acceptor;
 pub use rp_base::{AcceptAnswer, PrepareAnswer};

@@ -1,4 +1,5 @@
-mod Noting
-mod Pages
 mod Splitting
 mod Raising
+mod Noting
+mod Pages
+mod Keeping

@@ -35,17 +35,17 @@ at_least low i (step ∷ rest) are has =
       | inr behind ↦ let h = at_least step.from i rest are.1 behind in omega (arith, are.0, h)
     ]
 
-between : (first end i : ℕ) → first ≤ i → i < end → is_between first end i ≡ true
+pub between : (first end i : ℕ) → first ≤ i → i < end → is_between first end i ≡ true
 between first end i from below =
     elim (leb_tells first i) [
       | inl le ↦ elim (leb_tells (suc i) end) [ inl lt ↦ rw (le.0, lt.0) refl | inr ge ↦ absurd (omega (arith, ge.1, below)) ]
       | inr gt ↦ absurd (omega (arith, gt.1, from))
     ]
 
-below_all : (first end i : ℕ) → i < first → is_between first end i ≡ false
+pub below_all : (first end i : ℕ) → i < first → is_between first end i ≡ false
 below_all first end i below = elim (leb_tells first i) [ inl le ↦ absurd (omega (arith, le.1, below)) | inr gt ↦ rw gt.0 refl ]
 
-above_all : (first end i : ℕ) → end ≤ i → is_between first end i ≡ false
+pub above_all : (first end i : ℕ) → end ≤ i → is_between first end i ≡ false
 above_all first end i above =
     elim (leb_tells first i) [
       | inl le ↦ elim (leb_tells (suc i) end) [ inl lt ↦ absurd (omega (arith, lt.1, above)) | inr ge ↦ rw (le.0, ge.0) refl ]

@@ -9,6 +9,7 @@
 
 mod acceptor;
 mod page;
+mod range;
 mod slot;
 mod steps;
 

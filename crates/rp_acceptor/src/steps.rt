@@ -5,8 +5,10 @@ ghost use Rattle.std.specs.Prelude.{◌≡◌, ℕ, ◌+◌, ◌<◌, ◌≤◌,
 ghost use Rattle.std.specs.List.{AllWithin};
 ghost use Rattle.rp_base.specs.Ballot.{number_of};
 ghost use Rattle.rp_acceptor.specs.Steps.{Level, IsRising, held_at, ballot_before, begins_at, HasStep, raised_at, raised_step};
+ghost use Rattle.rp_acceptor.specs.Slots.{stretch_in, promise_at, HasEnds};
 
-use rp_base::Ballot;
+use crate::slot::stretch_in;
+use rp_base::{Ballot, Rec};
 use std::alloc::{AllocError, Global};
 use std::marker::Model;
 
@@ -164,5 +166,28 @@ fn raise(steps: &mut Vec<Step>, first: usize, end: usize, ballot: Ballot)
     while index < steps.len() && steps[index].from() < end {
         steps[index].raise(ballot);
         index += 1;
+    }
+}
+
+/// Has a step begin at two positions, if there is memory. No ballot changes, and no step is gone.
+pub fn split_ends(steps: &mut Steps, first: usize, end: usize) -> Result<(), AllocError>
+    ensures same { (i : ℕ) → held_at steps.new i ≡ held_at steps.old i }
+    ensures keeps { (i : ℕ) → HasStep steps.old i → HasStep steps.new i }
+    ensures ends { OnOk result (HasStep steps.new first × HasStep steps.new end) }
+    ensures full { OnErr result (¬ (HasStep steps.old first × HasStep steps.old end)) }
+{
+    steps.split(first)?;
+    steps.split(end)
+}
+
+/// Notes the promise that a record is, if it is one. A step begins at each of its ends.
+pub fn raise_promised(steps: &mut Steps, rec: &Rec)
+    requires { HasEnds steps.old (stretch_in rec.now) }
+    ensures raised { (i : ℕ) → held_at steps.new i
+        ≡ max (held_at steps.old i) (promise_at i (stretch_in rec.now)) }
+    ensures keeps { (i : ℕ) → HasStep steps.old i → HasStep steps.new i }
+{
+    if let Some(stretch) = stretch_in(rec) {
+        steps.raise(stretch.first, stretch.end, stretch.ballot);
     }
 }

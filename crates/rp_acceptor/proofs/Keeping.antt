@@ -4,12 +4,13 @@ use Rattle.std.specs.Prelude.{flat_map}
 use Rattle.rp_base.specs.declared.record.Vote.{Vote}
 use Rattle.rp_base.specs.declared.record.Rec.{Rec}
 use Rattle.rp_base.specs.declared.record.Rec.TheVariants.{Started, Promised, Voted, Learned, PromisedRange}
+use Rattle.rp_base.specs.Records.{last_vote_at}
 use Rattle.rp_base.specs.Ranges.{Range, end_of}
 use Rattle.rp_base.specs.Sets.{Has}
 use Rattle.rp_base.proofs.Members.{has_left, has_right, has_split}
 use Rattle.rp_acceptor.specs.Noted.{Noted, HasRoom, reserves, reserves_vote, reserves_range, reserves_for, notes, promised_in, voted_in, ranges_in}
 use Rattle.rp_acceptor.specs.Steps.{Level, held_at, HasStep}
-use Rattle.rp_acceptor.specs.Slots.{HasEnds, stretch_in, promise_at, AreBounds, vote_of, page_at, HasSlot, HasMore, AreVotes, HaveEnds, ArePages, AreKept}
+use Rattle.rp_acceptor.specs.Slots.{ballot_of_vote, HasEnds, stretch_in, promise_at, AreBounds, vote_of, page_at, HasSlot, HasMore, AreVotes, HaveEnds, ArePages, AreKept}
 use Rattle.rp_acceptor.proofs.Noting.{bounds_noted}
 use Rattle.rp_acceptor.proofs.Pages.{pages_still, pages_more, pages_noted}
 
@@ -31,7 +32,7 @@ ends_still before after reserved ranges keeps ends = record {
 
 -- the same bounds by other steps
 bounds_still : (before after : List Level) (records : List Rec) → ((i : ℕ) → held_at after i ≡ held_at before i) → AreBounds before records → AreBounds after records
-bounds_still before after records same are = λ i. ap (λ (n : ℕ). max n _) (same i) ∙ are i
+bounds_still before after records same are = λ i. ap (λ (n : ℕ). max n (ballot_of_vote (last_vote_at records i))) (same i) ∙ are i
 
 -- a record is noted
 pub kept_noted : (steps after : List Level) (pages pages' : List (List (Option Vote))) (noted : Noted) (rec : Rec)

@@ -3,3 +3,4 @@ mod Raising
 mod Noting
 mod Pages
 mod Keeping
+mod Covering

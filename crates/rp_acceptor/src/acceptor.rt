@@ -3,6 +3,7 @@
 ghost use Rattle.std.specs.Prelude.{◌≡◌, ◌≤◌, ◌<◌, [], ◌∷◌, ◌++◌, max, flat_map, IfOk, IfSome, IfNone, OnOk, OnErr, IsOkUnless};
 ghost use Rattle.rp_base.specs.Ballot.{number_of};
 ghost use Rattle.rp_base.specs.Records.{bound_at, last_vote_at};
+ghost use Rattle.rp_base.specs.Ranges.{positions_of};
 ghost use Rattle.rp_base.specs.Sets.{Has};
 ghost use Rattle.rp_acceptor.specs.Noted.{nothing_noted, places_in, HasRoom, reserves, reserves_vote, reserves_range, reserves_for, notes, restored};
 ghost use Rattle.rp_acceptor.specs.Slots.{ballot_of_vote};
@@ -146,6 +147,7 @@ impl Acceptor {
         ensures ok { OnOk result (self.new ≡ reserves_range self.old range) }
         ensures err { OnErr result (self.new ≡ self.old) }
         ensures full { OnErr result (¬ Has range self.old.ranges) }
+        ensures some { OnErr result (¬ (positions_of range ≡ [])) }
         ensures only { IsOkUnless result Fault.OutOfMemory }
     {
         let first = usize::from(range.first().get());

@@ -26,6 +26,7 @@ impl Acceptor {
     }
 
     /// Whether the ballot lies above the bound at each position of the range.
+    #[tactic(auto, using(crate::proofs::Covering::range_next))]
     fn is_above_bounds(&self, range: PositionRange, ballot: Ballot) -> bool
         ensures { result ≡ is_above_bounds self.now.records range ballot }
     {
@@ -40,6 +41,7 @@ impl Acceptor {
 
     /// The refusal by the least position of the range whose bound lies above the ballot, if one
     /// does.
+    #[tactic(auto, using(crate::proofs::Covering::range_next))]
     fn range_refusal(&self, range: PositionRange, ballot: Ballot) -> RangeAnswer
         ensures { result
             ≡ range_refusal self.now.records (refusing_position self.now.records range ballot) }
@@ -55,6 +57,7 @@ impl Acceptor {
     }
 
     /// The last votes at the positions of the range.
+    #[tactic(auto, using(crate::proofs::Covering::range_next))]
     fn last_votes(&self, range: PositionRange) -> RangeVotes
         ensures { result ≡ last_votes self.now.records range }
     {

@@ -136,13 +136,15 @@ prepared_by nodes None = None
 prepared_by nodes (Some p) =
     if is_prepared nodes p then Some (p.ballot, option_map (λ vote. vote.action) (highest_vote p.promises)) else None
 
--- a prepared proposal offers: its second phase begins, with this own action where no promise reports a vote
+-- a proposal once it is told to offer: if it is prepared its second phase begins, with this own action where no
+-- promise reports a vote
+abbrev pub once_offered : ℕ → Action → Proposal → Proposal
+once_offered nodes own p = if is_prepared nodes p then as_offered own p else p
+
+-- the proposal that runs at a position is told to offer
 abbrev pub offers : ProposerPart → Action → Option Proposal → ProposerPart
 offers part own None = part
-offers part own (Some p) =
-    if is_prepared part.nodes p
-    then record part { proposals = with_proposal part.proposals (as_offered own p) }
-    else part
+offers part own (Some p) = record part { proposals = with_proposal part.proposals (once_offered part.nodes own p) }
 
 -- A refusal of the proposal that runs at the position, in its ballot: the proposal ends, and each other of the
 -- ballot that gathers promises, and the bound counts.

@@ -3,8 +3,8 @@
 ghost use Rattle.std.specs.Prelude.{◌≡◌, ℕ, ◌≤◌, List, option_map};
 ghost use Rattle.rp_base.specs.Action.{equal_items};
 ghost use Rattle.rp_base.specs.Promises.{Promise, highest_vote, offer_of};
-ghost use Rattle.rp_base.specs.Proposals.{Proposal as RunningProposal, new_proposal, range_proposal, is_preparing, with_promise, is_promised, is_prepared, is_gathering, takes_range_promise, once_promised, as_offered, is_given_up};
-ghost use Rattle.rp_proposer.specs.Proposing.{progress_of, once_noted, offers_made, is_own};
+ghost use Rattle.rp_base.specs.Proposals.{Proposal as RunningProposal, new_proposal, range_proposal, is_preparing, with_promise, is_promised, is_prepared, is_gathering, takes_range_promise, once_promised, own_unless, is_given_up};
+ghost use Rattle.rp_proposer.specs.Proposing.{progress_of, once_noted, once_offered, offers_made, is_own};
 
 use crate::promise::{HeardPromise, HeardRange};
 use rp_base::{Action, Ballot, History, NodeId, Phase, PlacedVote, Position, Senders, Vote, majority};
@@ -152,15 +152,16 @@ impl Proposal {
         }
     }
 
-    /// Begins its second phase, with this own action where no promise reports a vote.
-    pub(crate) fn offer(&mut self, own: Action)
-        ensures { self.new ≡ as_offered own self.old }
+    /// Begins its second phase, if it is prepared, with this own action where no promise reports a
+    /// vote.
+    pub(crate) fn offer(&mut self, nodes: u8, own: Action)
+        requires { nodes ≤ 7 }
+        ensures { self.new ≡ once_offered nodes own self.old }
     {
-        self.own = match self.last {
-            Some(_) => None,
-            None => Some(own),
-        };
-        self.phase = Phase::Offering;
+        if self.is_prepared(nodes) {
+            self.own = own_unless(own, self.last);
+            self.phase = Phase::Offering;
+        }
     }
 
     /// Notes a promise for a range, if it counts for it.
@@ -254,6 +255,16 @@ impl Proposal {
                 self.phase = Phase::Offering;
             }
         }
+    }
+}
+
+/// The action, where there is no vote.
+fn own_unless(own: Action, vote: Option<Vote>) -> Option<Action>
+    ensures { result ≡ own_unless own vote }
+{
+    match vote {
+        Some(_) => None,
+        None => Some(own),
     }
 }
 

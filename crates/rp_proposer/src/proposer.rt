@@ -1,9 +1,9 @@
 //! A node as a proposer.
 
-ghost use Rattle.std.specs.Prelude.{◌≡◌, ℕ, List, ◌↔◌, ◌+◌, ◌<◌, ◌≤◌, ◌^◌, Some, max, map, filter, not, slice_get, slice_set, length, vec_capacity, IsTrue, IfOk, IsErrOf, IsOkUnless, option_copied, if◌then◌else◌};
+ghost use Rattle.std.specs.Prelude.{◌≡◌, ℕ, List, ◌↔◌, ◌+◌, ◌<◌, ◌≤◌, ◌^◌, max, map, filter, not, length, vec_capacity, IsTrue, IfOk, IsErrOf, IsOkUnless, option_copied};
 ghost use Rattle.rp_base.specs.Ballot.{number_of, round_of, next_ballot, IsAbove, IsNext};
 ghost use Rattle.rp_base.specs.Records.{started_of};
-ghost use Rattle.rp_base.specs.Proposals.{Proposal as RunningProposal, is_in, proposal_at, without_proposal, with_proposal, with_range, is_prepared, once_promised, as_offered, is_given_up};
+ghost use Rattle.rp_base.specs.Proposals.{Proposal as RunningProposal, is_in, proposal_at, without_proposal, with_proposal, with_range, once_promised, is_given_up};
 ghost use Rattle.rp_proposer.specs.Proposing.{counted_by, restored, ballot_at, HasRoom, begins, is_own_elsewhere, index_from, AreInWindow, IsInWindow, progress_in, notes_promise, notes_refusal, settles, most_running, unskipped, begins_range, notes_range, prepared_by, offers};
 
 use crate::promise::{HeardPromise, HeardRange};
@@ -140,7 +140,7 @@ impl Proposer {
         ensures nodes { self.new.nodes ≡ self.old.nodes }
     {
         if let Some(index) = index_of(&self.proposals, position) {
-            offer_at(&mut self.proposals, index, self.nodes, own);
+            self.proposals[index].offer(self.nodes, own);
         }
     }
 
@@ -343,21 +343,6 @@ fn put_range(proposals: &mut Vec<Proposal>, range: PositionRange, skip: u64, bal
         if skip >> index & 1 == 0 {
             put(proposals, Proposal::of_range(range.at(index), ballot));
         }
-    }
-}
-
-/// Begins the second phase of the proposal at an index, if it is prepared.
-fn offer_at(proposals: &mut Vec<Proposal>, index: usize, nodes: u8, own: Action)
-    requires index { index < length proposals.old.items }
-    requires nodes { nodes ≤ 7 }
-    ensures items { (p : RunningProposal) → slice_get proposals.old.items index ≡ Some p
-        → proposals.new.items ≡ slice_set proposals.old.items index
-        (if is_prepared nodes p then as_offered own p else p) }
-    ensures capacity { vec_capacity proposals.new ≡ vec_capacity proposals.old }
-{
-    let proposal = &mut proposals[index];
-    if proposal.is_prepared(nodes) {
-        proposal.offer(own);
     }
 }
 

@@ -1,7 +1,8 @@
 -- How an acceptor keeps what its records say (this project's own; callers see none of it).
-use Rattle.std.specs.Prelude.{max, ◌≡◌, ◌⊎◌, ℕ, ◌+◌, ◌/◌, ◌%◌, ◌<◌, ◌≤◌, Option, Some, None, List, [], ◌∷◌, ◌++◌, length, slice_index_or, if◌then◌else◌}
+use Rattle.std.specs.Prelude.{max, ◌≡◌, ◌⊎◌, ℕ, ◌+◌, ◌/◌, ◌%◌, ◌<◌, ◌≤◌, Option, Some, None, option_map, List, [], ◌∷◌, ◌++◌, length, slice_index_or, if◌then◌else◌}
 use Rattle.rp_base.specs.declared.record.Rec.{Rec}
 use Rattle.rp_base.specs.declared.record.Rec.TheVariants.{Started, Promised, Voted, Learned, PromisedRange}
+use Rattle.rp_base.specs.declared.placed.PlacedVote.{PlacedVote}
 use Rattle.rp_base.specs.declared.record.Vote.{Vote}
 use Rattle.rp_base.specs.Sets.{Has}
 use Rattle.rp_base.specs.Ranges.{Range, end_of}
@@ -15,6 +16,10 @@ use Rattle.rp_acceptor.specs.Steps.{Level, held_at, HasStep, is_between}
 abbrev pub ballot_of_vote : Option Vote → ℕ
 ballot_of_vote None = 0
 ballot_of_vote (Some vote) = vote.ballot
+
+-- the last vote at a position, with the position, if there is one
+abbrev pub placed_if : ℕ → Option Vote → Option PlacedVote
+placed_if i last = option_map (λ vote. record { position = i; vote = vote }) last
 
 -- a promise: its ballot, from a position on and below another
 pub record Stretch : Type 0 where

@@ -1,12 +1,13 @@
 //! The acceptor's questions for a range of positions.
 
-ghost use Rattle.std.specs.Prelude.{◌≡◌, nat_lt};
+ghost use Rattle.std.specs.Prelude.{◌≡◌, ◌+◌, ◌<◌, ◌≤◌, ◌++◌, length, nat_lt, option_to_list};
 ghost use Rattle.rp_base.specs.Ballot.{number_of};
 ghost use Rattle.rp_base.specs.PlacedVotes.{last_votes};
+ghost use Rattle.rp_acceptor.specs.Slots.{placed_if};
 ghost use Rattle.rp_base.specs.Voting.{is_above_bounds, refusing_position, range_refusal, range_answer};
 
 use crate::acceptor::{Acceptor, refusing};
-use rp_base::{Ballot, PlacedVote, PositionRange, RangeAnswer, RangeVotes, Rec};
+use rp_base::{Ballot, PlacedVote, Position, PositionRange, RangeAnswer, RangeVotes, Rec, Vote};
 
 impl Acceptor {
     /// What is answered to a `PrepareRange` of the ballot for the range (sections 2.2 and 3, phase
@@ -64,9 +65,7 @@ impl Acceptor {
         let mut votes = RangeVotes::new();
         for index in 0..range.count() {
             let position = range.at(index);
-            if let Some(vote) = self.slot(position).last {
-                votes.push(PlacedVote { position, vote });
-            }
+            push_last(&mut votes, position, self.slot(position).last);
         }
         votes
     }
@@ -79,5 +78,16 @@ fn is_above(bound: Option<Ballot>, ballot: Ballot) -> bool
     match bound {
         Some(bound) => bound < ballot,
         None => true,
+    }
+}
+
+/// Adds the last vote at a position to the others, if there is one.
+fn push_last(votes: &mut RangeVotes, position: Position, last: Option<Vote>)
+    requires { length votes.old < 64 }
+    ensures items { votes.new ≡ votes.old ++ option_to_list (placed_if position last) }
+    ensures few { length votes.new ≤ length votes.old + 1 }
+{
+    if let Some(vote) = last {
+        votes.push(PlacedVote { position, vote });
     }
 }

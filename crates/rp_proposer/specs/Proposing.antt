@@ -79,7 +79,7 @@ begins part i b own =
 
 -- the positions of a range, but for those whose bit, counted from the first position, is set in a mask
 abbrev pub unskipped : Range → ℕ → List ℕ
-unskipped range skip = filter (λ i. nat_eq (bit_at skip (i - range.first)) 0) (positions_of range)
+unskipped range skip = filter (λ i. not (nat_eq (bit_at skip (i - range.first)) 1)) (positions_of range)
 
 -- a proposal begins at each of these positions, in place of any other there, and its ballot is counted as started
 abbrev pub begins_range : ProposerPart → List ℕ → ℕ → ProposerPart

@@ -1,6 +1,7 @@
 //! A node as a proposer.
 
-ghost use Rattle.std.specs.Prelude.{◌≡◌, ℕ, List, ◌↔◌, ◌+◌, ◌<◌, ◌≤◌, ◌^◌, max, map, filter, not, length, vec_capacity, IsTrue, IfOk, IsErrOf, IsOkUnless, option_copied};
+ghost use Rattle.std.specs.Prelude.{◌≡◌, ℕ, List, ◌↔◌, ◌+◌, ◌<◌, ◌≤◌, ◌^◌, max, map, filter, nat_eq, not, length, vec_capacity, IsTrue, IfOk, IsErrOf, IsOkUnless, option_copied};
+ghost use Rattle.std.specs.Int.{bit_at};
 ghost use Rattle.rp_base.specs.Ballot.{number_of, round_of, next_ballot, IsAbove, IsNext};
 ghost use Rattle.rp_base.specs.Records.{started_of};
 ghost use Rattle.rp_base.specs.Proposals.{Proposal as RunningProposal, is_in, proposal_at, without_proposal, with_proposal, with_range, once_promised, is_given_up};
@@ -340,10 +341,18 @@ fn put_range(proposals: &mut Vec<Proposal>, range: PositionRange, skip: u64, bal
     ensures capacity { vec_capacity proposals.new ≡ vec_capacity proposals.old }
 {
     for index in 0..range.count() {
-        if skip >> index & 1 == 0 {
+        if !has_bit(skip, index) {
             put(proposals, Proposal::of_range(range.at(index), ballot));
         }
     }
+}
+
+/// Whether the bit at an index is set.
+fn has_bit(mask: u64, index: u8) -> bool
+    requires { index < 64 }
+    ensures { result ≡ nat_eq (bit_at mask index) 1 }
+{
+    mask >> index & 1 == 1
 }
 
 /// Notes a promise for a range at each proposal that takes it.

@@ -369,7 +369,7 @@ module _ {S : Type 0} (next : S → Action → S) (answers : S → Action → Li
 
 -- ---- LeadRange
 
-started_range : (sent : List Message) (records : List Rec) (i b : ℕ) → Has (Started b) records → ((v : Action) → ¬ IsOffered sent i b v) → IsProposal sent records (range_proposal i b)
+started_range : (sent : List Message) (records : List Rec) (i b : ℕ) → Has (Started b) records → ((v : Action) → ¬ IsOffered sent i b v) → IsProposal sent records (range_proposal b i)
 started_range sent records i b started unoffered = record {
   started = started;
   promised = λ a last h. absurd h;
@@ -381,8 +381,8 @@ runs_ranged : (sent : List Message) (records : List Rec) (b : ℕ) → Has (Star
     → IsRunning sent records running → IsRunning sent records (record running { proposals = with_range running.proposals b positions })
 runs_ranged sent records b started unoffered [] running runs = runs
 runs_ranged sent records b started unoffered (i ∷ rest) running runs =
-    runs_ranged sent records b started unoffered rest (record running { proposals = with_proposal running.proposals (range_proposal i b) })
-    (runs_with sent records running (range_proposal i b) runs (started_range sent records i b started (unoffered i)))
+    runs_ranged sent records b started unoffered rest (record running { proposals = with_proposal running.proposals (range_proposal b i) })
+    (runs_with sent records running (range_proposal b i) runs (started_range sent records i b started (unoffered i)))
 
 leads_range_sound : (config : Config) (x : ℕ) (node : ℕ → NodePart) (sent : List Message) (running : Running) (range : Range)
     → IsSound config.nodes node sent → IsRunning sent (node x).records running → x < 8

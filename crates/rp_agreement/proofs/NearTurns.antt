@@ -291,7 +291,7 @@ ranged_near : (me : ℕ) (records : List Rec) (Votes : ℕ → ℕ → Type 0) (
     → AreNear records (with_range ps b positions)
 ranged_near me records Votes b [] ps each near = near
 ranged_near me records Votes b (i ∷ rest) ps each near =
-    ranged_near me records Votes b rest (with_proposal ps (range_proposal i b)) (λ j h. each j (inr h)) (with_near me records Votes ps (range_proposal i b) near (each i (inl refl)))
+    ranged_near me records Votes b rest (with_proposal ps (range_proposal b i)) (λ j h. each j (inr h)) (with_near me records Votes ps (range_proposal b i) near (each i (inl refl)))
 
 -- no position of the list passes the test
 none_any : (test : ℕ → Bool) (xs : List ℕ) → list_any test xs ≡ false → (x : ℕ) → Has x xs → test x ≡ false

@@ -248,8 +248,8 @@ range_is first count range place is = by (in_range 1 64 count) (nat_lt (2 ^ 16) 
 begun_ranged : (b : ℕ) (positions : List ℕ) (proposals : List Proposal) → IsBallot b → ((i : ℕ) → Has i positions → IsPosition i) → AreProposals proposals → AreProposals (with_range proposals b positions)
 begun_ranged b [] proposals ballot places all = all
 begun_ranged b (i ∷ rest) proposals ballot places all =
-    let new : IsRangedProposal (range_proposal i b) = record { position = places i (inl refl); ballot = ballot; own = tt; reported = λ a vote h. absurd h } in
-    begun_ranged b rest (with_proposal proposals (range_proposal i b)) ballot (λ j h. places j (inr h)) (with_ranged proposals (range_proposal i b) all new)
+    let new : IsRangedProposal (range_proposal b i) = record { position = places i (inl refl); ballot = ballot; own = tt; reported = λ a vote h. absurd h } in
+    begun_ranged b rest (with_proposal proposals (range_proposal b i)) ballot (λ j h. places j (inr h)) (with_ranged proposals (range_proposal b i) all new)
 
 lead_range_ranged : (config : Config) (me : ℕ) (records : List Rec) (running : Running) (first count : ℕ) (range : Result Range Fault) → range_of first count ≡ range → IsRightConfig config → IsNode me
     → IsPosition first → IsRangedRunning running → IsRangedIf (on_lead_range config me records running range)

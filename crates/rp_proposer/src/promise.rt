@@ -21,6 +21,7 @@ impl Model for HeardPromise {
 }
 
 /// A promise for a range: who sent it, its range and ballot, and the last votes that it reports.
+#[derive(Clone, Copy)]
 pub(crate) struct HeardRange<'a> {
     pub(crate) from: NodeId,
     pub(crate) range: PositionRange,

@@ -76,7 +76,7 @@ impl Proposal {
 
     /// A proposal that begins with a range: it has no action of its own yet.
     pub(crate) fn of_range(position: Position, ballot: Ballot) -> Proposal
-        ensures { result ≡ range_proposal position ballot }
+        ensures { result ≡ range_proposal ballot position }
     {
         Proposal {
             position,

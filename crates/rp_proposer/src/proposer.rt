@@ -1,6 +1,6 @@
 //! A node as a proposer.
 
-ghost use Rattle.std.specs.Prelude.{◌≡◌, ℕ, List, ◌↔◌, ◌+◌, ◌<◌, ◌≤◌, ◌^◌, max, map, filter, nat_eq, not, length, vec_capacity, IsTrue, IfOk, IsErrOf, IsOkUnless, option_copied};
+ghost use Rattle.std.specs.Prelude.{◌≡◌, ℕ, List, ◌↔◌, ◌+◌, ◌<◌, ◌≤◌, ◌^◌, max, map, filter, nat_eq, not, false, length, vec_capacity, IsTrue, IfOk, IsErrOf, IsOkUnless, option_copied, if◌then◌else◌};
 ghost use Rattle.std.specs.Int.{bit_at};
 ghost use Rattle.rp_base.specs.Ballot.{number_of, round_of, next_ballot, IsAbove, IsNext};
 ghost use Rattle.rp_base.specs.Records.{started_of};
@@ -341,9 +341,21 @@ fn put_range(proposals: &mut Vec<Proposal>, range: PositionRange, skip: u64, bal
     ensures capacity { vec_capacity proposals.new ≡ vec_capacity proposals.old }
 {
     for index in 0..range.count() {
-        if !has_bit(skip, index) {
-            put(proposals, Proposal::of_range(range.at(index), ballot));
-        }
+        let proposal = Proposal::of_range(range.at(index), ballot);
+        put_unless(proposals, has_bit(skip, index), proposal);
+    }
+}
+
+/// Puts a proposal in place of the one at its position, or behind the others, unless it is skipped.
+fn put_unless(proposals: &mut Vec<Proposal>, skipped: bool, proposal: Proposal)
+    requires { skipped ≡ false → length (without_proposal proposals.old.items proposal.position)
+        < vec_capacity proposals.old }
+    ensures items { proposals.new.items ≡ (if skipped then proposals.old.items
+        else with_proposal proposals.old.items proposal) }
+    ensures capacity { vec_capacity proposals.new ≡ vec_capacity proposals.old }
+{
+    if !skipped {
+        put(proposals, proposal);
     }
 }
 

@@ -37,7 +37,7 @@ use Rattle.rp_model.specs.Says.{says, says_to_all, says_to_others, says_to_task}
 use Rattle.rp_model.specs.Acceptor.{tells_promise, tells_range, tells_vote}
 use Rattle.rp_model.specs.Leader.{chosen_position, is_beyond, is_out_of_reach, starts_above, on_promise_to, begins, begins_if, offers, leads_at, unlearned_in, begins_range, on_lead_range, on_promise_range}
 use Rattle.rp_model.specs.Learner.{missing_position, asks_for, tells_learned, learns, on_vote, on_decision}
-use Rattle.rp_model.specs.Pending.{adds_pending, most_pending, is_answered_by, replies_to, on_numbered, on_call, is_same_call}
+use Rattle.rp_model.specs.Pending.{adds_pending, most_pending, is_answered_by, replies_to, on_numbered, on_call, is_same_call, own_action}
 use Rattle.rp_model.specs.Receiving.{is_for_node, party_number, on_body}
 use Rattle.rp_model.specs.Effect.{Setting, NodeInput, Receive, Lead, LeadRange, Interrupt, Tick, Report, running_effect}
 

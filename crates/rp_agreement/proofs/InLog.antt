@@ -1,5 +1,5 @@
 -- What a node's turn writes is at a position of the log, or at none.
-use Rattle.std.proofs.Common.{◌≡◌, ℕ, Bool, true, false, if◌then◌else◌, Result, Ok, Err, Option, Some, None, List, refl, sym, subst}
+use Rattle.std.proofs.Common.{◌≡◌, ℕ, Bool, true, false, if◌then◌else◌, Result, Ok, Err, Option, Some, None, List, refl, sym, subst, suc}
 use Rattle.std.specs.Prelude.{nat_lt, nat_le, nat_eq, not, is_some, ◌&&◌, ◌^◌}
 use Rattle.std.proofs.lemmas.Bool.{and_parts, ltb-false, le-leb}
 use Rattle.rp_base.specs.declared.action.Action.{Action}

@@ -3,11 +3,12 @@ use Rattle.std.proofs.Common.{◌≡◌, ℕ, true, Option, Some, None, List, []
 use Rattle.std.specs.Prelude.{nat_eq, IfSome, unwrap_or}
 use Rattle.std.proofs.lemmas.Bool.{leb-true, and_parts}
 use Rattle.std.proofs.lemmas.Bool.Decides.{Decides-eqb}
+use Rattle.rp_base.specs.PlacedVotes.{placed_at}
 use Rattle.rp_base.specs.declared.action.Action.{Action}
 use Rattle.rp_base.specs.declared.action.Action.TheVariants.{Noop}
 use Rattle.rp_base.specs.declared.record.Vote.{Vote}
 use Rattle.rp_base.specs.declared.record.Rec.{Rec}
-use Rattle.rp_base.specs.declared.record.Rec.TheVariants.{Promised}
+use Rattle.rp_base.specs.declared.record.Rec.TheVariants.{Promised, PromisedRange}
 use Rattle.rp_base.specs.Number.{in_range}
 use Rattle.rp_base.specs.Sets.{Has}
 use Rattle.rp_base.specs.Majority.{majority_of, nodes_among, is_majority}
@@ -20,7 +21,7 @@ use Rattle.rp_codec.specs.declared.packet.Body.TheVariants as bodies
 use Rattle.rp_model.specs.Parts.{NodePart}
 use Rattle.rp_model.specs.Facts.{IsPromise, HasPromised, IsOffered}
 use Rattle.rp_agreement.specs.Told.{IsAsked}
-use Rattle.rp_agreement.specs.Founded.{Reports, IsFounded}
+use Rattle.rp_agreement.specs.Founded.{Reports, IsFounded, HasWritten}
 use Rattle.rp_agreement.specs.Sound.{IsMember, IsSo, SaysSo, IsSound}
 use Rattle.rp_agreement.proofs.Lists.{has_picked, highest_has}
 

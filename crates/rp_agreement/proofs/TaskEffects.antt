@@ -176,6 +176,8 @@ hears_done t part (bodies.Ask i) waits = goes_on t part waits
 hears_done t part (bodies.Nack i b bound) waits = goes_on t part waits
 hears_done t part (bodies.Reply number reply) waits = reply_done t part number reply waits
 hears_done t part (bodies.Report first applied told) waits = goes_on t part waits
+hears_done t part (bodies.PrepareRange range b) waits = goes_on t part waits
+hears_done t part (bodies.PromiseRange range b votes) waits = goes_on t part waits
 
 done_if : (t : ℕ) (b : Bool) (fault : Fault) (done : Done TaskPart) → IsTaskDone t done → IsTaskDoneIf t (if b then Err fault else Ok done)
 done_if t true fault done is = tt

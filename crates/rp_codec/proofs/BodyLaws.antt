@@ -1,8 +1,8 @@
 -- A body that is read is the body that was written, and what was written is read again.
-use Rattle.std.proofs.Common.{◌≡◌, ℕ, ◌<◌, true, false, ltb, eqb, List, ◌∷◌, ◌++◌, length, Option, Some, None, Ok, refl, sym, ap, ◌∙◌, append_assoc, ◌≤◌, arith}
+use Rattle.std.proofs.Common.{◌≡◌, ℕ, true, false, eqb, List, ◌∷◌, ◌++◌, length, Option, Some, None, Ok, refl, sym, ap, ◌∙◌, append_assoc}
 use Rattle.std.specs.Prelude.{IfSome}
 use Rattle.std.specs.Int.{w16, w32}
-use Rattle.std.proofs.lemmas.Bool.{eqb-true, eq-eqb, ltb-true, lt-ltb}
+use Rattle.std.proofs.lemmas.Bool.{eqb-true, eq-eqb}
 use Rattle.rp_base.specs.Ballot.{IsBallot}
 use Rattle.rp_base.specs.declared.reply.Reply.{Reply}
 use Rattle.rp_base.specs.declared.reply.Reply.TheVariants as replies
@@ -16,8 +16,8 @@ use Rattle.rp_base.specs.Right.{IsReply}
 use Rattle.rp_codec.specs.declared.version.Version.{Version}
 use Rattle.rp_codec.specs.Message.{IsBody, IsNodeParty, IsTaskParty, IsAudit, IsVoteBelow, MaySay, report_len}
 use Rattle.rp_codec.specs.Text.{number_text, position_text, ballot_text, action_text_at, reply_text, last_text_at, kind_number, body_text_at, HasActionText, HasBodyText, range_text, votes_text_at}
-use Rattle.rp_codec.specs.Reading.{value_at, truth_at, reply_at, lower_ballot_at, higher_ballot_at, vote_at, last_at, prepare_at, promise_at, accept_at, accepted_at, decided_at, ask_at, nack_at, answer_at, report_at, task_call_at, body_at, prepare_range_at, promise_range_at}
-use Rattle.rp_codec.proofs.Steps.{IsBytes, Yields, Took, then, when, keeps, guarded}
+use Rattle.rp_codec.specs.Reading.{value_at, truth_at, reply_at, vote_at, last_at, prepare_at, promise_at, accept_at, accepted_at, decided_at, ask_at, nack_at, answer_at, report_at, task_call_at, body_at, prepare_range_at, promise_range_at}
+use Rattle.rp_codec.proofs.Steps.{IsBytes, Yields, Took, then, when, guarded}
 use Rattle.rp_codec.proofs.FieldLaws.{TookByte, TookNumber16, number16_took, number16_again, TookSigned, TookCount, TookPosition, TookBallot, byte_took, signed_took, signed_again, count_took, count_again, position_took, position_again, ballot_took, ballot_again, TookLower, lower_took, lower_again, TookHigher, higher_took, higher_again, TookRange, range_took, range_again}
 use Rattle.rp_codec.proofs.VotesLaws.{TookReported, reported_took, reported_again}
 use Rattle.rp_codec.proofs.ActionLaws.{TookActions, each_text, actions_took, actions_again, TookAction, TookOwn, action_took, action_again, own_call_took, own_call_again}

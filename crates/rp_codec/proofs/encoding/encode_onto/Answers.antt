@@ -1,4 +1,4 @@
-use Rattle.std.proofs.Common.{◌<◌, length, sym, ap, ◌∙◌, arith}
+use Rattle.std.proofs.Common.{◌<◌, length, sym, ◌∙◌}
 use Rattle.rp_codec.proofs.VotesLaws.{few_votes}
 use Rattle.rp_codec.proofs.encoding.encode_onto.Goals as goal
 

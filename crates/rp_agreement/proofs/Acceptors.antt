@@ -86,10 +86,10 @@ prepare_sound nodes x records sent running from i b runs =
 all_within : (test : ℕ → Bool) (first n i : ℕ) → list_all test (range_with_len first n) ≡ true → first ≤ i → i < first + n → test i ≡ true
 all_within test first zero i all from below = absurd (omega (arith, from, below))
 all_within test first (suc n) i all from below =
-    let both = and_parts (test first) (list_all test (range_with_len (suc first) n)) all in
+    let both = and_parts (test first) (list_all test (range_with_len (first + 1) n)) all in
     elim (cases_eq first i) [
       | inl same ↦ subst (λ (k : ℕ). test k ≡ true) same both.0
-      | inr other ↦ all_within test (suc first) n i both.1 (omega (arith, from, other)) (omega (arith, below))
+      | inr other ↦ all_within test (first + 1) n i both.1 (omega (arith, from, other)) (omega (arith, below))
     ]
 
 -- the ballot is above the bound at each position of the range

@@ -40,7 +40,7 @@ use Rattle.rp_model.specs.Leader.{chosen_position, is_beyond, is_out_of_reach, s
 use Rattle.rp_model.specs.Says.{drops_foreign}
 use Rattle.rp_model.specs.Learner.{tells_learned, on_vote, on_decision}
 use Rattle.rp_model.specs.Pending.{adds_pending, most_pending, on_numbered, on_call, is_same_call}
-use Rattle.rp_model.specs.Receiving.{is_node, is_no_node_above, party_number, is_allowed, is_for_node, on_body, receives}
+use Rattle.rp_model.specs.Receiving.{is_node, is_no_node_above, party_number, is_allowed, is_for_node, on_body, receives, is_range_within}
 use Rattle.rp_model.specs.Effect.{Setting, NodeInput, Receive, Lead, LeadRange, Interrupt, Tick, Report, running_effect}
 
 -- the record that is written, if one is, is at a position of the log, or at none

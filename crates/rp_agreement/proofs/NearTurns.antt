@@ -1,6 +1,6 @@
 -- A node offers near its first unlearned position, and votes for offers alone.
-use Rattle.std.proofs.Common.{◌≡◌, ℕ, ◌+◌, ◌<◌, Bool, true, false, if◌then◌else◌, is_some, nat_lt, nat_le, Option, Some, None, Result, Ok, Err, List, [], ◌∷◌, ◌++◌, map, length, filter, inl, inr, refl, sym, subst}
-use Rattle.std.specs.Prelude.{◌^◌, ◌||◌, nat_eq}
+use Rattle.std.proofs.Common.{◌≡◌, ℕ, ◌+◌, ◌<◌, Bool, true, false, if◌then◌else◌, is_some, nat_lt, nat_le, Option, Some, None, Result, Ok, Err, List, [], ◌∷◌, ◌++◌, map, length, filter, inl, inr, refl, sym, subst, ap, ◌∙◌}
+use Rattle.std.specs.Prelude.{◌^◌, ◌||◌, nat_eq, not}
 use Rattle.std.specs.List.{list_any}
 use Rattle.std.proofs.lemmas.Bool.{both_ways, leb-false}
 use Rattle.rp_base.specs.declared.action.Action.{Action}
@@ -43,6 +43,7 @@ use Rattle.rp_model.specs.Receiving.{is_for_node, party_number, on_body}
 use Rattle.rp_model.specs.Effect.{Setting, NodeInput, Receive, Lead, LeadRange, Interrupt, Tick, Report, report_of, running_effect}
 use Rattle.rp_agreement.proofs.Lists.{found_has}
 use Rattle.rp_agreement.proofs.RangedParts.{with_or_old}
+use Rattle.rp_agreement.proofs.Leaders.{promised_there}
 
 -- the position is less than 64 above the first that the records do not learn
 abbrev pub IsNear : List Rec → ℕ → Type 0
@@ -296,11 +297,11 @@ ranged_near me records Votes b (i ∷ rest) ps each near =
 -- no position of the list passes the test
 none_any : (test : ℕ → Bool) (xs : List ℕ) → list_any test xs ≡ false → (x : ℕ) → Has x xs → test x ≡ false
 none_any test [] e x h = absurd h
-none_any test (y ∷ ys) e x h = by (test y) refl e
+none_any test (y ∷ ys) e x h = by (test y) refl e (λ none later. none_any test ys none x later)
   where
-    by : (t : Bool) → test y ≡ t → (t || list_any test ys) ≡ false → test x ≡ false
-    by true is e = absurd (both_ways true e refl)
-    by false is e = elim h [ inl same ↦ ap test same ∙ is | inr later ↦ none_any test ys e x later ]
+    by : (t : Bool) → test y ≡ t → (t || list_any test ys) ≡ false → (list_any test ys ≡ false → Has x ys → test x ≡ false) → test x ≡ false
+    by true is e more = absurd (both_ways true e refl)
+    by false is e more = elim h [ inl same ↦ ap test same ∙ is | inr later ↦ more e later ]
 
 lead_range_near : {S : Type 0} (s : Setting S) (me : ℕ) (records : List Rec) (Votes : ℕ → ℕ → Type 0) (running : Running) (range : Result Range Fault) → AreNear records running.proposals
     → IsNearIf me records Votes (on_lead_range s.config me records running range)

@@ -164,7 +164,7 @@ in_range_of first zero i h = absurd h
 in_range_of first (suc n) i h =
     elim h [
       | inl same ↦ (omega (arith, same), omega (arith, same))
-      | inr later ↦ let is = in_range_of (suc first) n i later in (omega (arith, is.0), omega (arith, is.1))
+      | inr later ↦ let is = in_range_of (first + 1) n i later in (omega (arith, is.0), omega (arith, is.1))
     ]
 
 pub range_position : (range : Range) (i : ℕ) → IsRange range → Has i (positions_of range) → IsPosition i

@@ -43,7 +43,7 @@ module _ {S : Type 0} (next : S → Action → S) (answers : S → Action → Li
   node_body nodes x node sent running a k (bodies.Report first applied actions) sound runs so h = quiet nodes x (node x).records sent running runs
   node_body nodes x node sent running a k (bodies.PrepareRange range b) sound runs so h = prepare_range_sound nodes x (node x).records sent running a range b runs
   node_body nodes x node sent running a k (bodies.PromiseRange range b votes) sound runs so h =
-      promise_range_sound nodes x (node x).records sent running a range b votes runs
+      promise_range_sound nodes x node sent running a range b votes runs
       (λ i covered. (record { from = Node a; to = Node k; body = bodies.PromiseRange range b votes }, h, refl, (covered, refl, refl)))
 
   -- what a task says to a node: a call of its own

@@ -2,7 +2,7 @@
 use Rattle.std.specs.Prelude.{◌≡◌, ℕ, ◌+◌, ◌-◌, ◌^◌, ◌<◌, ◌≤◌, nat_lt, Some, unwrap_or, List, [], ◌++◌, length, take, slice_get, if◌then◌else◌}
 use Rattle.rp_base.specs.Sets.{Has}
 use Rattle.rp_base.specs.declared.action.Action.{Action}
-use Rattle.rp_codec.specs.Message.{Message}
+use Rattle.rp_codec.specs.Message.{Message, IsPacket}
 use Rattle.rp_codec.specs.Text.{text_of}
 use Rattle.rp_codec.specs.declared.packet.Body.TheVariants.{Report}
 use Rattle.rp_codec.specs.declared.packet.Party.TheVariants.{Node, Audit}
@@ -65,11 +65,12 @@ pub record IsJoined {P : Type 0} (old : Audited P) (node first : ℕ) (actions :
       → (new ≡ record old { known = with_part old.known node (with_reported (known_of old.known node) first actions) })
       × (outcome ≡ added.Added node (length (with_reported (known_of old.known node) first actions)))
 
--- the same, where the bytes are the text of that report
+-- the same, where the bytes are the text of that report, which is a right packet
 pub record IsAdded {P : Type 0} (old : Audited P) (bytes : List ℕ) (new : Audited P) (outcome : Added) : Type 0 where
   pub node : ℕ
   pub first : ℕ
   pub applied : ℕ
   pub actions : List Action
+  pub right : IsPacket (report node first applied actions)
   pub text : bytes ≡ text_of (report node first applied actions)
   pub joined : IsJoined old node first actions new outcome

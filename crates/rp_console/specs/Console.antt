@@ -1,5 +1,5 @@
 -- What the program does with the words of the command line, and how it ends.
-use Rattle.std.specs.Prelude.{◌≡◌, ◌≢◌, ◌⊎◌, ℕ, true, false, Option, Some, None, Result, Ok, Err, List, [], codes, option_map, IsSome, IfOk, OnOk, IfErr, OnErr}
+use Rattle.std.specs.Prelude.{◌≡◌, ◌≢◌, ◌⊎◌, ℕ, true, false, Option, Some, None, Result, Ok, Err, List, [], codes, option_map, IfOk, OnOk, IfErr, OnErr}
 use Rattle.std.specs.Io.KnownBytes.{Appends}
 use Rattle.clap.specs.Kinds.{IsAmong}
 use Rattle.clap.specs.Words.{Text, fault_of, subcommand_of}
@@ -15,6 +15,8 @@ use Rattle.rp_script.specs.Faults.{IsBadDeck, IsProgramFault}
 use Rattle.rp_script.specs.Figures.{figures_line_of}
 use Rattle.rp_script.specs.Given.{IsMeant}
 use Rattle.rp_script.specs.LiveRun.{LiveBegins, LivePrints}
+use Rattle.rp_script.specs.Stream.{Begins}
+use Rattle.rp_console.specs.Help.{asked_text}
 use Rattle.rp_console.specs.Status.{status_after, status_of}
 use Rattle.rp_script.specs.FaultLine.{fault_line_of, with_line_feed}
 use Rattle.rp_console.specs.declared.args.Args.{Args}
@@ -30,10 +32,12 @@ pub record AsksFor (words : List Text) (args : Args) : Type 0 where
   pub quiet : trace_of words ≡ Some (codes "false") → args ≡ Script false
   pub live : (seed turns : ℕ) → ReadsAs (seed_of words) seed → ReadsAs (turns_of words) turns → args ≡ Live seed turns
 
--- what a run without a fault prints, of the deck that the bytes given to it mean
-abbrev pub Prints : Args → Option (List ℕ) → Option (List ℕ) → Option (List ℕ) → Type 0
-Prints (Script traced) given old new = ScriptPrints traced given old new
-Prints (Live seed turns) given old new = LivePrints seed turns given old new
+-- what a run without a fault prints, of the deck that the bytes given to it mean: a run in threads has its figures to
+-- report, and a script has none
+abbrev pub Prints : Args → Option (List ℕ) → Option (List ℕ) → Option (List ℕ) → Option FiguresLine → Type 0
+Prints (Script traced) given old new figures = ScriptPrints traced given old new × (figures ≡ None)
+Prints (Live seed turns) given old new None = ⊥
+Prints (Live seed turns) given old new (Some line) = LivePrints seed turns given old new line.figures
 
 -- what a run that a fault ends printed: nothing, or a beginning of that
 abbrev pub HasBegun : Args → Option (List ℕ) → Option (List ℕ) → Option (List ℕ) → Type 0
@@ -44,11 +48,6 @@ HasBegun (Live seed turns) given old new = LiveBegins seed turns given old new
 abbrev pub mode_of : Args → Mode
 mode_of (Script traced) = modes.Script
 mode_of (Live seed turns) = modes.Live
-
--- a run in threads has figures to report, and a script has none
-abbrev pub HasFiguresFor : Args → Option FiguresLine → Type 0
-HasFiguresFor (Script traced) figures = figures ≡ None
-HasFiguresFor (Live seed turns) figures = IsSome figures
 
 -- what is reported of a run: the line of its figures or of its fault, if it has any
 abbrev pub report_of : Result (Option FiguresLine) Fault → List ℕ
@@ -62,11 +61,10 @@ report_of (Err fault) = with_line_feed (fault_line_of fault)
 -- is reported; so are a live run's figures.
 pub record RunsAs (args : Args) (given output output_after errors errors_after : Option (List ℕ)) (ending : Ending) : Type 0 where
   pub ran : Result (Option FiguresLine) Fault
-  pub printed : OnOk ran (Prints args given output output_after)
+  pub printed : IfOk ran (Prints args given output output_after)
   pub begun : OnErr ran (HasBegun args given output output_after)
   pub meant : IfErr ran (IsMeant (mode_of args) given)
   pub bad : IfErr ran (λ fault. IsBadDeck fault → output_after ≡ output)
-  pub figures : IfOk ran (HasFiguresFor args)
   pub fault : IfErr ran IsProgramFault
   pub status : ending.status ≡ status_after ran
   pub reported : OnOk ending.reported (Appends errors errors_after (report_of ran))
@@ -75,13 +73,25 @@ pub record RunsAs (args : Args) (given output output_after errors errors_after :
 abbrev pub IsAskedFor : ErrorKind → Type 0
 IsAskedFor kind = (kind ≡ DisplayHelp) ⊎ (kind ≡ DisplayVersion)
 
--- Wrong words were reported, and help alone was printed. The status is the one of this kind of mistake; where help could
--- not be printed it is that of `Io`, which is reported.
-pub record RefusesAs (kind : ErrorKind) (output output_after errors errors_after : Option (List ℕ)) (ending : Ending) : Type 0 where
-  pub status : (ending.status ≡ words_status_of kind) ⊎ (IsAskedFor kind × (ending.status ≡ status_of faults.Io)
-      × OnOk ending.reported (Appends errors errors_after (report_of (Err faults.Io))))
+-- The text that was asked for was printed, and nothing was reported.
+pub record IsShown (text : Text) (output output_after errors errors_after : Option (List ℕ)) (ending : Ending) : Type 0 where
+  pub status : ending.status ≡ 0
+  pub printed : Appends output output_after text
+  pub quiet : errors_after ≡ errors
+
+-- It was not printed, or a beginning of it was, since the writer failed, which was reported.
+pub record IsNotShown (text : Text) (output output_after errors errors_after : Option (List ℕ)) (ending : Ending) : Type 0 where
+  pub status : ending.status ≡ status_of faults.Io
+  pub begun : Begins output output_after text
+  pub reported : OnOk ending.reported (Appends errors errors_after (report_of (Err faults.Io)))
+
+-- The words ask for help or the version, which was printed or was not; or they are wrong and nothing was printed: the
+-- status is the one of this kind of mistake. That memory ran out was reported.
+pub record RefusesAs (kind : ErrorKind) (words : List Text) (output output_after errors errors_after : Option (List ℕ)) (ending : Ending) : Type 0 where
+  pub asked : IsAskedFor kind → IsShown (asked_text kind words) output output_after errors errors_after ending
+      ⊎ IsNotShown (asked_text kind words) output output_after errors errors_after ending
   pub output_kept : kind ≢ DisplayHelp → kind ≢ DisplayVersion → output_after ≡ output
-  pub errors_kept : kind ≡ DisplayHelp → ending.status ≡ words_status_of kind → errors_after ≡ errors
+  pub status : kind ≢ DisplayHelp → kind ≢ DisplayVersion → ending.status ≡ words_status_of kind
   pub memory : kind ≡ OutOfMemory → OnOk ending.reported (Appends errors errors_after (report_of (Err faults.OutOfMemory)))
 
 -- one of the words is not UTF-8, or memory ran out for saying so
@@ -92,4 +102,4 @@ IsUnread kind = (kind ≡ InvalidValue) ⊎ (kind ≡ OutOfMemory)
 abbrev pub FollowsWords : List Text → Option (List ℕ) → Option (List ℕ) → Option (List ℕ) → Option (List ℕ) → Option (List ℕ) → Ending → Type 0
 FollowsWords words given output output_after errors errors_after ending =
     ((args : Args) × AsksFor words args × RunsAs args given output output_after errors errors_after ending)
-    ⊎ ((kind : ErrorKind) × ((kind ≡ OutOfMemory) ⊎ IsAmong kind (fault_of console words)) × RefusesAs kind output output_after errors errors_after ending)
+    ⊎ ((kind : ErrorKind) × ((kind ≡ OutOfMemory) ⊎ IsAmong kind (fault_of console words)) × RefusesAs kind words output output_after errors errors_after ending)

@@ -1,3 +1,4 @@
 pub mod CommandLine
 pub mod Console
+pub mod Help
 pub mod Status

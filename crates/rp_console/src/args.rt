@@ -28,18 +28,14 @@ pub enum Args {
     },
 }
 
-/// The program's version.
-const VERSION: &str = "1.0.0";
-
-/// What the program takes.
+/// What the program takes. Its help and its version are texts of the module `help`.
 fn command<'a>(alloc: Global) -> Result<Command<'a>, AllocError>
     ensures { IfOk result (λ command. app_of command ≡ console) }
 {
     let script = script_command(alloc)?;
     let live = live_command(alloc)?;
     Command::new(alloc, "rp_console")
-        .about("Runs a program of tasks and objects on a cluster of nodes in memory")
-        .version(VERSION)
+        .version("1.0.0")
         .subcommand_required(true)
         .disable_help_subcommand(true)
         .subcommand(script)?
@@ -53,11 +49,8 @@ fn script_command<'a>(alloc: Global) -> Result<Command<'a>, AllocError>
 {
     let trace = Arg::new(alloc, "trace")
         .long("trace")
-        .help("Prints each packet that is sent")
         .action(ArgAction::SetTrue);
-    Command::new(alloc, "script")
-        .about("Runs the script of the deck that standard input holds, and prints what happens")
-        .arg(trace)
+    Command::new(alloc, "script").arg(trace)
 }
 
 /// The subcommand `live`.
@@ -68,19 +61,14 @@ fn live_command<'a>(alloc: Global) -> Result<Command<'a>, AllocError>
     let seed = Arg::new(alloc, "seed")
         .long("seed")
         .value_name("S")
-        .help("Picks which packets are lost, repeated and reordered")
         .value_parser(value_parser!(u32))
         .default_value("0");
     let turns = Arg::new(alloc, "turns")
         .long("turns")
         .value_name("T")
-        .help("How many turns each node and each task makes, 1 to 1000000")
         .value_parser(value_parser!(u32).range(1..=1_000_000))
         .default_value("10000");
-    Command::new(alloc, "live")
-        .about("Runs the deck that standard input holds in threads, and prints what came of it")
-        .arg(seed)?
-        .arg(turns)
+    Command::new(alloc, "live").arg(seed)?.arg(turns)
 }
 
 /// Reads the words, of which the first is the program's name. An error has the text that the user

@@ -1,20 +1,22 @@
 //! Does what the words of the command line ask for, and reports its faults.
 
-ghost use Rattle.std.specs.Prelude.{◌≡◌, IfErr, IfOk, OnErr, OnOk, map};
+ghost use Rattle.std.specs.Prelude.{◌≡◌, [], IfErr, IfOk, OnErr, OnOk, map};
 ghost use Rattle.std.specs.Io.KnownBytes.{Appends};
 ghost use Rattle.clap.specs.Values.{kind_of};
-ghost use Rattle.rp_console.specs.Console.{FollowsWords, HasBegun, HasFiguresFor, IsUnread, Prints, mode_of, RefusesAs, report_of};
+ghost use Rattle.rp_console.specs.Console.{FollowsWords, HasBegun, IsUnread, Prints, mode_of, RefusesAs, report_of};
 ghost use Rattle.rp_script.specs.Faults.{IsBadDeck, IsProgramFault};
 ghost use Rattle.rp_console.specs.Status.{status_after, status_of};
 ghost use Rattle.rp_script.specs.Given.{IsMeant};
 ghost use Rattle.rp_script.specs.FaultLine.{fault_line_of, with_line_feed};
+ghost use Rattle.rp_script.specs.Stream.{Writes};
 
 use crate::args::{Args, read_args, unread_words, words_status};
+use crate::help::asked_text;
 use crate::status::status;
 use clap::Error;
 use clap::error::ErrorKind;
 use rp_base::Fault;
-use rp_script::{FiguresLine, run_live, run_script, tell, write_out};
+use rp_script::{FiguresLine, run_live, run_script, tell, write_out, write_whole};
 use std::alloc::Global;
 use std::convert::AsStr;
 use std::io;
@@ -56,7 +58,7 @@ pub fn obey<T: Threads + Wait + Clock, S: AsStr, R: Read + Drop, W: Write + Drop
             let ran = run_as(rt, alloc, args, &mut streams.reader, &mut streams.writer);
             end(&mut streams.errors, ran)
         }
-        Err(error) => refuse(&error, streams),
+        Err(error) => refuse(&error, words, streams),
     }
 }
 
@@ -69,14 +71,13 @@ fn run_as<T: Threads + Wait + Clock, R: Read, W: Write>(
     reader: &mut R,
     writer: &mut W,
 ) -> Result<Option<FiguresLine>, Fault>
-    ensures output { OnOk result (Prints args (R.remaining reader.old)
+    ensures output { IfOk result (Prints args (R.remaining reader.old)
         (W.contents writer.old) (W.contents writer.new)) }
     ensures begun { OnErr result (HasBegun args (R.remaining reader.old)
         (W.contents writer.old) (W.contents writer.new)) }
     ensures meant { IfErr result (IsMeant (mode_of args) (R.remaining reader.old)) }
     ensures bad { IfErr result (λ fault. IsBadDeck fault
         → W.contents writer.new ≡ W.contents writer.old) }
-    ensures figures { IfOk result (HasFiguresFor args) }
     ensures fault { IfErr result IsProgramFault }
 {
     match args {
@@ -96,19 +97,21 @@ pub fn refuse_unread<R: Read + Drop, W: Write + Drop, E: Write + Drop>(
     alloc: Global,
     streams: &mut Streams<R, W, E>,
 ) -> Ending
-    ensures refused { (why : ErrorKind) × IsUnread why × RefusesAs why
+    ensures refused { (why : ErrorKind) × IsUnread why × RefusesAs why []
         (W.contents streams.old.writer) (W.contents streams.new.writer)
         (E.contents streams.old.errors) (E.contents streams.new.errors) result }
 {
-    refuse(&unread_words(alloc), streams)
+    let words: [&str; 0] = [];
+    refuse(&unread_words(alloc), &words, streams)
 }
 
-/// Reports why the words are wrong, or prints the help that they ask for.
-fn refuse<R: Read + Drop, W: Write + Drop, E: Write + Drop>(
+/// Reports why the words are wrong, or prints the help or the version that they ask for.
+fn refuse<S: AsStr, R: Read + Drop, W: Write + Drop, E: Write + Drop>(
     error: &Error,
+    words: &[S],
     streams: &mut Streams<R, W, E>,
 ) -> Ending
-    ensures refused { RefusesAs (kind_of error.now)
+    ensures refused { RefusesAs (kind_of error.now) (map S.text words.now)
         (W.contents streams.old.writer) (W.contents streams.new.writer)
         (E.contents streams.old.errors) (E.contents streams.new.errors) result }
 {
@@ -121,13 +124,22 @@ fn refuse<R: Read + Drop, W: Write + Drop, E: Write + Drop>(
             reported: write!(streams.errors, "{error}"),
         };
     }
-    if write!(streams.writer, "{error}").is_err() || write_out(&mut streams.writer).is_err() {
-        return fail(&mut streams.errors, Fault::Io);
+    let text = asked_text(error.kind(), words);
+    match print_text(&mut streams.writer, text) {
+        Ok(()) => Ending {
+            status: 0,
+            reported: Ok(()),
+        },
+        Err(_) => fail(&mut streams.errors, Fault::Io),
     }
-    Ending {
-        status: words_status(error),
-        reported: Ok(()),
-    }
+}
+
+/// Prints a text, and lets it out.
+fn print_text<W: Write>(writer: &mut W, text: &str) -> Result<(), Fault>
+    ensures { Writes (W.contents writer.old) (W.contents writer.new) text.now result }
+{
+    write_whole(writer, text.as_bytes())?;
+    write_out(writer)
 }
 
 /// Reports a run's figures or its fault, if it has any.

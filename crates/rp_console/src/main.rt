@@ -3,11 +3,13 @@
 //! In reading order:
 //! - `console`: does what the words of the command line ask for, and reports its faults
 //! - `args`: what the words of the command line ask for
+//! - `help`: what is printed where they ask for help or the version
 //! - `status`: the status that the program ends with
 #![tactic(auto)]
 
 mod args;
 mod console;
+mod help;
 mod status;
 
 use console::{Streams, fail, obey, refuse_unread};

@@ -2,7 +2,8 @@ pub mod Running
 pub mod Seating
 pub mod Noting
 pub mod Zips
-pub mod Reporting
+pub mod Reading
+mod Reporting
 pub mod Counting
 pub mod Loops
 pub mod Living

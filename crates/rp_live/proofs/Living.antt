@@ -1,5 +1,6 @@
 -- A whole run, by its parts.
-use Rattle.std.proofs.Common.{◌≡◌, ℕ, Bool, List, [], All, length, map, filter_map, sym, ap, subst, ◌∙◌}
+use Rattle.std.proofs.Common.{◌≡◌, ◌+◌, ℕ, suc, Bool, List, [], All, length, map, filter_map, slice_get, sym, ap, subst, ◌∙◌, arith}
+use Rattle.std.specs.Prelude.{IfSome, slice_index}
 use Rattle.std.specs.List.{AllZip}
 use Rattle.rp_base.specs.declared.action.Action.{Action}
 use Rattle.rp_base.specs.declared.config.Config.{Config}
@@ -9,7 +10,7 @@ use Rattle.rp_machine.specs.Replay.{kept_of}
 use Rattle.rp_model.specs.declared.event.Event.{Event}
 use Rattle.rp_store.specs.Disk.{Memory}
 use Rattle.rp_tasks.specs.Line.{Line}
-use Rattle.rp_boxes.specs.Making.{AreSeats}
+use Rattle.rp_boxes.specs.Making.{AreSeats, first_seat}
 use Rattle.rp_boxes.specs.Seats.{Chair, HasApplied}
 use Rattle.rp_boxes.specs.Together.{IsTaskOf}
 use Rattle.rp_threads.specs.Loops.{IsSameSeat}
@@ -24,46 +25,46 @@ use Rattle.rp_live.specs.Events.{call_by}
 use Rattle.rp_live.specs.Lines.{party_line}
 use Rattle.rp_live.specs.Lived.{IsLived, IsTold}
 use Rattle.rp_live.specs.Noted.{AreNoted}
-use Rattle.rp_live.specs.Pace.{paced}
-use Rattle.rp_live.specs.Seats.{HasOnlyReported, IsEndOfRun, Runs, StillRuns}
+use Rattle.rp_live.specs.Pace.{paced, heard, heard_task}
+use Rattle.rp_live.specs.Seats.{AreNumbered, HasOnlyReported, IsEndOfRun, Runs, StillRuns}
 use Rattle.rp_live.specs.declared.run.Lived.{Lived}
 use Rattle.rp_live.proofs.Counting.{counts_calls}
 use Rattle.rp_live.proofs.Loops.{turns_run}
 use Rattle.rp_live.proofs.Noting.{all_noted}
 use Rattle.rp_live.proofs.Seating.{all_mapped, first_tables, some_then, zip_length}
-use Rattle.rp_live.proofs.Zips.{all_both, zip_all, zip_kinds}
+use Rattle.rp_live.proofs.Zips.{all_both, zip_all, zip_kinds, zip_places}
 
 module _ {S P : Type 0} (next : S → Action → S) (answers : S → Action → List Answer) (begin : P → S) (config : Config) (program : P) (events : List Event) (seed turns : ℕ)
     (first_nodes first_tasks : List (Chair P)) (audit : Chair P) (failures : List ℕ) (seats : AreSeats config program failures first_nodes first_tasks audit)
     (noted : List (Chair P)) (notes : AreNoted next answers begin events (length events) first_nodes noted) (runs : All (λ seat. Runs seat.part) noted)
     (nodes : List (NodeEnd S Memory P)) (tasks : List (TaskEnd S P)) where
   abbrev IsNodeLoop : Chair P → NodeEnd S Memory P → Type 0
-  IsNodeLoop seat end = IsLooped next answers begin paced config.nodes turns seat (party_line seed (Node seat.number)) end
+  IsNodeLoop seat end = IsLooped next answers begin paced heard config.nodes turns seat (party_line seed (Node seat.number)) end
 
   abbrev calls_at : ℕ → List TaskCall
   calls_at number = filter_map (call_by number) events
 
   abbrev IsTaskLoop : Chair P → TaskEnd S P → Type 0
-  IsTaskLoop seat end = IsTaskLooped next answers begin config.nodes turns (calls_at seat.number) seat (party_line seed (Task seat.number)) end
+  IsTaskLoop seat end = IsTaskLooped next answers begin heard_task config.nodes turns (calls_at seat.number) seat (party_line seed (Task seat.number)) end
 
   -- the loops of what was ready to run
   pub node_loops_by : {A : Type 0} (f : A → Chair P) (g : A → Line) (starts : List A) (count : ℕ) → map f starts ≡ noted → All (λ s. g s ≡ party_line seed (Node (f s).number)) starts
-      → count ≡ config.nodes → AllZip (λ s end. IsLooped next answers begin paced count turns (f s) (g s) end) starts nodes → AllZip IsNodeLoop noted nodes
+      → count ≡ config.nodes → AllZip (λ s end. IsLooped next answers begin paced heard count turns (f s) (g s) end) starts nodes → AllZip IsNodeLoop noted nodes
   node_loops_by f g starts count is lines same zip =
       subst (λ (l : List (Chair P)). AllZip IsNodeLoop l nodes) is
-      (zip_kinds f g (λ seat. party_line seed (Node seat.number)) (λ seat line end. IsLooped next answers begin paced config.nodes turns seat line end) starts nodes lines
-      (subst (λ (n : ℕ). AllZip (λ s end. IsLooped next answers begin paced n turns (f s) (g s) end) starts nodes) same zip))
+      (zip_kinds f g (λ seat. party_line seed (Node seat.number)) (λ seat line end. IsLooped next answers begin paced heard config.nodes turns seat line end) starts nodes lines
+      (subst (λ (n : ℕ). AllZip (λ s end. IsLooped next answers begin paced heard n turns (f s) (g s) end) starts nodes) same zip))
 
   pub task_loops_by : {A : Type 0} (f : A → Chair P) (h : A → List TaskCall) (g : A → Line) (starts : List A) (count : ℕ) → map f starts ≡ first_tasks
       → All (λ s. h s ≡ calls_at (f s).number) starts → All (λ s. g s ≡ party_line seed (Task (f s).number)) starts → count ≡ config.nodes
-      → AllZip (λ s end. IsTaskLooped next answers begin count turns (h s) (f s) (g s) end) starts tasks → AllZip IsTaskLoop first_tasks tasks
+      → AllZip (λ s end. IsTaskLooped next answers begin heard_task count turns (h s) (f s) (g s) end) starts tasks → AllZip IsTaskLoop first_tasks tasks
   task_loops_by {A} f h g starts count is calls lines same zip =
       let kind : A → List TaskCall × Line = λ s. (h s, g s) in
       let by : Chair P → List TaskCall × Line = λ seat. (calls_at seat.number, party_line seed (Task seat.number)) in
       let both = all_both (λ s. h s ≡ calls_at (f s).number) (λ s. g s ≡ party_line seed (Task (f s).number)) (λ s. kind s ≡ by (f s)) (λ s c l. λ i. (c i, l i)) starts calls lines in
       subst (λ (l : List (Chair P)). AllZip IsTaskLoop l tasks) is
-      (zip_kinds f kind by (λ seat k end. IsTaskLooped next answers begin config.nodes turns k.0 seat k.1 end) starts tasks both
-      (subst (λ (n : ℕ). AllZip (λ s end. IsTaskLooped next answers begin n turns (h s) (f s) (g s) end) starts tasks) same zip))
+      (zip_kinds f kind by (λ seat k end. IsTaskLooped next answers begin heard_task config.nodes turns k.0 seat k.1 end) starts tasks both
+      (subst (λ (n : ℕ). AllZip (λ s end. IsTaskLooped next answers begin heard_task n turns (h s) (f s) (g s) end) starts tasks) same zip))
 
   module _ (node_loops : AllZip IsNodeLoop noted nodes) (task_loops : AllZip IsTaskLoop first_tasks tasks) where
     abbrev IsHere : Chair P → Type 0
@@ -80,6 +81,18 @@ module _ {S P : Type 0} (next : S → Action → S) (answers : S → Action → 
         zip_all IsHere IsTaskLoop (λ end. end.seat.table ≡ audit.table) (λ seat end here ran. ran.same.table ∙ here) first_tasks tasks
         (first_tables audit.table config program 8 [] first_tasks seats.tasks_are) task_loops
 
+    abbrev IsOfNumber : ℕ → Chair P → Type 0
+    IsOfNumber place seat = seat.number ≡ 0 + place + 1
+
+    pub nodes_numbered : AreNumbered 0 nodes
+    nodes_numbered =
+        let first : (place : ℕ) → IfSome (slice_get first_nodes place) (IsOfNumber place) = λ place.
+        some_then (λ seat. seat ≡ first_seat audit.table config program (suc place) (1 + place) (slice_index failures place)) (IsOfNumber place)
+        (λ seat is. let e : seat.number ≡ suc place = ap (λ (c : Chair P). c.number) is in omega (arith, e)) (slice_get first_nodes place) (seats.nodes_are place) in
+        let before = zip_places IsOfNumber IsSameSeat IsOfNumber (λ place old new here same. same.number ∙ here) first_nodes noted first
+        (all_noted next answers begin events (length events) first_nodes noted notes) in
+        zip_places IsOfNumber IsNodeLoop (λ place end. IsOfNumber place end.seat) (λ place seat end here ran. ran.same.number ∙ here) noted nodes before node_loops
+
     pub nodes_ended : All IsEndOfRun nodes
     nodes_ended = zip_all (λ seat. Runs seat.part) IsNodeLoop IsEndOfRun
         (λ seat end run ran. (seat, (run, some_then _ (IsNodeFault seat end.seat) (λ fault ended. ended.1.cause) end.fault ran.fault))) noted nodes runs node_loops
@@ -87,7 +100,7 @@ module _ {S P : Type 0} (next : S → Action → S) (answers : S → Action → 
     pub nodes_still : All StillRuns nodes
     nodes_still = zip_all (λ seat. Runs seat.part) IsNodeLoop StillRuns
         (λ seat end run ran none. let t = ran.turned none in
-        turns_run next answers begin paced config.nodes (before_turns seat (party_line seed (Node seat.number))) turns (node_at_end end t.0) t.1 run) noted nodes runs node_loops
+        turns_run next answers begin paced heard config.nodes (before_turns seat (party_line seed (Node seat.number))) turns (node_at_end end t.0) t.1 run) noted nodes runs node_loops
 
     -- each task made calls among the events
     abbrev HasCalls : TaskEnd S P → Type 0

@@ -9,7 +9,7 @@ use Rattle.rp_tasks.specs.Line.{Line}
 use Rattle.rp_boxes.specs.Seats.{Chair}
 use Rattle.rp_threads.specs.Lines.{given_on}
 use Rattle.rp_threads.specs.Loops.{is_refusal, sender_at}
-use Rattle.rp_threads.specs.Rounds.{AreTurns, IsLeadAnew, IsMade, IsMadeOrSkipped, IsUnmade, NodeAt, is_to_lead}
+use Rattle.rp_threads.specs.Rounds.{AreTurns, IsLeadAnew, IsMade, IsMadeOrSkipped, IsUnmade, NodeAt, is_to_lead, turned_so}
 use Rattle.rp_threads.specs.Turns.{IsNodeTurn, MayFetch, Works}
 use Rattle.rp_threads.specs.declared.turns.Turn as declared
 use Rattle.rp_threads.specs.declared.turns.Turned.{Turned}
@@ -35,9 +35,9 @@ module _ {S P : Type 0} (next : S → Action → S) (answers : S → Action → 
     own_runs between turned t runs =
         works_runs (given_on t.full) lead t.between between turned.sent t.works (fetch_runs t.brought.fetched from (Node old.number) old t.between t.brought.fetch runs)
 
-    made_runs : (turn : declared.Turn) → IsMade next answers begin from lead old new line after turn → Runs old.part → Runs new.part
-    made_runs turn (inl own) runs = own_runs new own.0 own.1 runs
-    made_runs turn (inr anew) runs = let led = anew.1 in turn_runs next answers begin led.between new led.leads.input led.leads.sent led.leads.turn
+    made_runs : (turn : declared.Turn) (sent : ℕ) → IsMade next answers begin from lead old new line after turn sent → Runs old.part → Runs new.part
+    made_runs turn sent (inl own) runs = own_runs new (turned_so turn sent) own runs
+    made_runs turn sent (inr anew) runs = let led = anew.1 in turn_runs next answers begin led.between new led.leads.input led.leads.sent led.leads.turn
 
     refused_runs : (fault : Fault) → is_refusal fault ≡ true → IsUnmade next answers begin from lead old new line after fault → Runs old.part → Runs new.part
     refused_runs fault refusal (inl lost) runs = fetch_runs (Some lost.packet) from (Node old.number) old new lost.fetch runs
@@ -50,15 +50,15 @@ module _ {S P : Type 0} (next : S → Action → S) (answers : S → Action → 
         let stays = stop_stays next answers begin (IsLeadAnew between.part) between new fault refusal anew.stops in
         same_runs between new stays (own_runs between anew.turned anew.first runs)
 
-    one_runs : (passes : Bool) (made : Option declared.Turn) → IsMadeOrSkipped next answers begin from lead old new line after passes made → Runs old.part → Runs new.part
-    one_runs passes (Some turn) made runs = made_runs turn made.1 runs
-    one_runs passes None (inl skipped) runs = same_runs old new skipped.1 runs
-    one_runs passes None (inr refused) runs = refused_runs refused.1 refused.2 refused.3 runs
+    one_runs : (heard : ℕ → Type 0) (passes : Bool) (made : Option declared.Turn) → IsMadeOrSkipped next answers begin from lead old new line after heard passes made → Runs old.part → Runs new.part
+    one_runs heard passes (Some turn) made runs = made_runs turn made.1 made.2 runs
+    one_runs heard passes None (inl skipped) runs = same_runs old new skipped.1 runs
+    one_runs heard passes None (inr refused) runs = refused_runs refused.1 refused.2 refused.3 runs
 
-  pub turns_run : (lets : ℕ → ℕ → Bool) (nodes : ℕ) (first : NodeAt P) (n : ℕ) (now : NodeAt P) → AreTurns next answers begin lets nodes first n now
+  pub turns_run : (lets : ℕ → ℕ → Bool) (heard : ℕ → ℕ → ℕ → Type 0) (nodes : ℕ) (first : NodeAt P) (n : ℕ) (now : NodeAt P) → AreTurns next answers begin lets heard nodes first n now
       → Runs first.seat.part → Runs now.seat.part
-  turns_run lets nodes first zero now are runs = subst (λ (at : NodeAt P). Runs at.seat.part) (sym are) runs
-  turns_run lets nodes first (suc n) now are runs =
+  turns_run lets heard nodes first zero now are runs = subst (λ (at : NodeAt P). Runs at.seat.part) (sym are) runs
+  turns_run lets heard nodes first (suc n) now are runs =
       let before = are.0 in
-      one_runs (sender_at nodes (suc n)) (is_to_lead before.seat.number (suc n)) before.seat now.seat before.line now.line (lets before.seat.number (suc n)) are.2.made are.2.turns
-      (turns_run lets nodes first n before are.1 runs)
+      one_runs (sender_at nodes (suc n)) (is_to_lead before.seat.number (suc n)) before.seat now.seat before.line now.line (heard before.seat.number (suc n)) (lets before.seat.number (suc n)) are.2.made are.2.turns
+      (turns_run lets heard nodes first n before are.1 runs)

@@ -1,21 +1,23 @@
 -- A report goes from a node to the audit.
-use Rattle.std.proofs.Common.{◌≡◌, ◌⊎◌, ◌≤◌, ◌<◌, ◌+◌, ◌-◌, nat_lt, Bool, true, false, if◌then◌else◌, ℕ, zero, suc, List, [], ◌∷◌, ◌++◌, take, inl, inr, refl, sym, ap, subst, ◌∙◌, length, arith}
+use Rattle.std.proofs.Common.{◌≡◌, ◌≢◌, ◌⊎◌, ◌≤◌, ◌<◌, ◌+◌, ◌-◌, min, nat_lt, Bool, true, false, if◌then◌else◌, ℕ, zero, suc, List, [], ◌∷◌, ◌++◌, take, inl, inr, refl, sym, ap, subst, ◌∙◌, length, arith}
 use Rattle.std.proofs.lemmas.Grind.{common_steps}
-use Rattle.std.specs.List.{AllZip}
 use Rattle.rp_base.specs.declared.action.Action.{Action}
 use Rattle.rp_base.specs.Records.{applied_of}
 use Rattle.rp_base.specs.Sets.{Has}
 use Rattle.rp_base.proofs.Members.{has_right}
+use Rattle.rp_codec.specs.Message.{Message, IsPacket}
+use Rattle.rp_codec.specs.Text.{text_of}
+use Rattle.rp_codec.specs.declared.packet.Party.TheVariants.{Node}
 use Rattle.rp_model.specs.Effect.{report_of}
 use Rattle.rp_model.specs.World.{with_part}
 use Rattle.rp_replica.specs.declared.sent.Sent.{Sent}
-use Rattle.rp_boxes.specs.Audits.{Audited, IsAdded, known_of, with_reported}
+use Rattle.rp_boxes.specs.Audits.{Audited, IsAdded, known_of, report, with_reported}
 use Rattle.rp_boxes.specs.declared.audit.Added.{Added}
-use Rattle.rp_boxes.specs.Parts.{Part, node_of}
+use Rattle.rp_boxes.specs.Parts.{Part}
 use Rattle.rp_boxes.specs.Seats.{Chair, HasApplied, IsReport, IsSentText}
 use Rattle.rp_boxes.proofs.Auditing.{each_with}
 use Rattle.rp_threads.proofs.Steps.{same_part, same_seat, same_on}
-use Rattle.rp_live.specs.Seats.{HasOnlyReported, HasReportedFrom, IsAsked, IsRead, KnowsMore, Runs}
+use Rattle.rp_live.specs.Seats.{AreReports, HasOnlyReported, IsRead, KnowsMore, KnowsSameBut, Reports, Runs}
 
 -- ---- the node reports
 
@@ -27,12 +29,6 @@ module _ {P : Type 0} (first : ℕ) (old new : Chair P) (sent : Sent) (r : IsRep
   report_sent =
       let packet = report_of old.number first (applied_of r.node.records) in
       (packet, subst (λ (c : Chair P). Has packet c.part.sent) (sym r.after) (has_right packet old.part.sent (packet ∷ []) (inl refl)), r.text)
-
-  pub reported_from : HasReportedFrom new first
-  reported_from =
-      let packet = report_of old.number first (applied_of r.node.records) in
-      subst (λ (c : Chair P). Has (report_of c.number first (applied_of (node_of c.part.role).records)) c.part.sent) (sym r.after)
-      (has_right packet old.part.sent (packet ∷ []) (inl refl))
 
   pub only_reported : HasOnlyReported old new
   only_reported = record { same = same_part old new _ r.after; role = ap (λ (c : Chair P). c.part.role) r.after ∙ sym r.was }
@@ -67,21 +63,38 @@ longer old new false is = omega arith
 more_with : (known : List (List Action)) (node : ℕ) (list : List Action) → length (known_of known node) ≤ length list → KnowsMore known (with_part known node list)
 more_with known node list more = each_with (λ k now. length (known_of known k) ≤ length now) known node list (more_same known) more
 
--- what all is known, or was reported, once more is known
-pub read_asked : {P : Type 0} (seat : Chair P) (count : ℕ) (known : List Action) → IsRead seat count known → IsAsked seat count known
-read_asked seat count known (inl all) = inl all
-read_asked seat count known (inr told) = inr (told.0, told.2)
+-- ---- reports, one after the other
 
-asked_more : {P : Type 0} (old new : List (List Action)) → KnowsMore old new → (seat : Chair P) (count : ℕ) → IsAsked seat count (known_of old seat.number) → IsAsked seat count (known_of new seat.number)
-asked_more old new more seat count (inl all) = let now = more seat.number in inl (omega (arith, all, now))
-asked_more old new more seat count (inr told) = inr told
+module _ {P : Type 0} where
+  -- one report more, asked for in the right way, after which more is known
+  pub one_more_report : (start first_position known more : ℕ) (first between now : Chair P) → ((n : ℕ) × AreReports start first n known between) → first_position ≡ known + 1
+      → Reports first_position between now → known < more → (n : ℕ) × AreReports start first n more now
+  one_more_report start at known more first between now so_far is reports less =
+      (suc so_far.0, (known, between, so_far.1, subst (λ (k : ℕ). Reports k between now) is reports, less))
 
-pub all_asked : {P : Type 0} (old new : List (List Action)) → KnowsMore old new → (seats : List (Chair P)) (counts : List ℕ)
-    → AllZip (λ seat count. IsAsked seat count (known_of old seat.number)) seats counts → AllZip (λ seat count. IsAsked seat count (known_of new seat.number)) seats counts
-all_asked old new more [] [] all = tt
-all_asked old new more [] (count ∷ counts) all = absurd all
-all_asked old new more (seat ∷ seats) [] all = absurd all
-all_asked old new more (seat ∷ seats) (count ∷ counts) all = (asked_more old new more seat count all.0, all_asked old new more seats counts all.1)
+  -- all is known
+  pub all_read : (start known applied : ℕ) (first now : Chair P) → ((n : ℕ) × AreReports start first n known now) → HasApplied now.part applied → min applied 65535 ≤ known
+      → IsRead start first now known
+  all_read start known applied first now so_far has all = record { applied = applied; has = has; reports = so_far.0; read = inl (so_far.1, all) }
+
+  -- a report made nothing more known
+  pub no_more_read : (start first_position known now_known applied : ℕ) (first between now : Chair P) → ((n : ℕ) × AreReports start first n known between) → first_position ≡ known + 1
+      → Reports first_position between now → HasApplied now.part applied → known ≤ now_known → now_known ≤ known → IsRead start first now now_known
+  no_more_read start at known now_known applied first between now so_far is reports has some few =
+      let same : known ≡ now_known = omega (arith, some, few) in
+      subst (IsRead start first now) same
+      (record { applied = applied; has = has; reports = so_far.0; read = inr (between, so_far.1, subst (λ (k : ℕ). Reports k between now) is reports) })
+
+-- ---- of other nodes the same is known
+
+pub same_known : (number : ℕ) (known : List (List Action)) → KnowsSameBut number known known
+same_known number known = λ node other. refl
+
+pub same_known_on : (number : ℕ) (a b c : List (List Action)) → KnowsSameBut number a b → KnowsSameBut number b c → KnowsSameBut number a c
+same_known_on number a b c ab bc = λ node other. bc node other ∙ ab node other
+
+same_with : (known : List (List Action)) (node : ℕ) (list : List Action) → KnowsSameBut node known (with_part known node list)
+same_with known node list = each_with (λ k now. k ≢ node → now ≡ known_of known k) known node list (λ k other. refl) (λ other. absurd (other refl))
 
 -- ---- the audit adds a report
 
@@ -107,3 +120,24 @@ added_more {P} old bytes new outcome a =
           (more_with old.known a.node (with_reported list a.first a.actions) (longer list reported (nat_lt (length list) (length reported)) refl))
       | inr gap ↦ subst (KnowsMore old.known) (sym (ap (λ (x : Audited P). x.known) (a.joined.gap gap).0)) (more_same old.known)
     ]
+
+-- no packet's text begins another's
+abbrev OneText : Type 0
+OneText = (p q : Message) (x y : List ℕ) → IsPacket p → IsPacket q → text_of p ++ x ≡ text_of q ++ y → (p ≡ q) × (x ≡ y)
+
+-- what the node of this number sent, and the audit got and added, changes nothing of other nodes
+pub added_others : {P : Type 0} → OneText → (number : ℕ) (old : Audited P) (bytes : List ℕ) (new : Audited P) (outcome : Added) (packet : Message) → IsPacket packet
+    → bytes ≡ text_of packet → packet.from ≡ Node number → IsAdded old bytes new outcome → KnowsSameBut number old.known new.known
+added_others {P} one number old bytes new outcome packet right text from a =
+    let told = report a.node a.first a.applied a.actions in
+    let same : packet ≡ told = (one packet told [] [] right a.right (ap (λ (t : List ℕ). t ++ []) (sym text ∙ a.text))).0 in
+    let party : Node number ≡ Node a.node = sym from ∙ ap (λ (m : Message). m.from) same in
+    let node : a.node ≡ number = cc in
+    let list = known_of old.known a.node in
+    subst (λ (k : ℕ). KnowsSameBut k old.known new.known) node
+    (elim (le_or_above a.first (length list + 1)) [
+      | inl within ↦
+          subst (KnowsSameBut a.node old.known) (sym (ap (λ (x : Audited P). x.known) (a.joined.joined within).0))
+          (same_with old.known a.node (with_reported list a.first a.actions))
+      | inr gap ↦ subst (KnowsSameBut a.node old.known) (sym (ap (λ (x : Audited P). x.known) (a.joined.gap gap).0)) (same_known a.node old.known)
+    ])

@@ -1,7 +1,7 @@
 -- What is so of two lists, place by place.
-use Rattle.std.proofs.Common.{◌≡◌, zero, suc, List, [], ◌∷◌, ◌++◌, length, map, sym, ap, subst, ◌∙◌, arith, append_assoc, append-nil}
+use Rattle.std.proofs.Common.{◌≡◌, ℕ, zero, suc, slice_get, List, [], ◌∷◌, ◌++◌, length, map, sym, ap, subst, ◌∙◌, arith, append_assoc, append-nil}
 use Rattle.std.specs.List.{AllZip}
-use Rattle.std.specs.Prelude.{All, flat_map}
+use Rattle.std.specs.Prelude.{All, IfSome, flat_map}
 use Rattle.rp_threads.proofs.Places.{one_more}
 
 -- all but the first
@@ -23,6 +23,16 @@ zip_all Q R T so [] (y ∷ ys) all zip = absurd zip
 zip_all Q R T so (x ∷ xs) [] all zip = absurd zip
 zip_all Q R T so (x ∷ xs) (y ∷ ys) all zip =
     all_one T y ys (so x y (all 0 x (omega arith)) zip.0) (zip_all Q R T so xs ys (all_rest Q x xs all) zip.1)
+
+-- what is so of the first list, place by place, is carried to the second
+pub zip_places : {A B : Type 0} (Q : ℕ → A → Type 0) (R : A → B → Type 0) (T : ℕ → B → Type 0) → ((k : ℕ) (x : A) (y : B) → Q k x → R x y → T k y)
+    → (xs : List A) (ys : List B) → ((k : ℕ) → IfSome (slice_get xs k) (Q k)) → AllZip R xs ys → (k : ℕ) → IfSome (slice_get ys k) (T k)
+zip_places Q R T so [] [] all zip zero = tt
+zip_places Q R T so [] [] all zip (suc k) = tt
+zip_places Q R T so [] (y ∷ ys) all zip k = absurd zip
+zip_places Q R T so (x ∷ xs) [] all zip k = absurd zip
+zip_places Q R T so (x ∷ xs) (y ∷ ys) all zip zero = so 0 x y (all zero) zip.0
+zip_places Q R T so (x ∷ xs) (y ∷ ys) all zip (suc k) = zip_places (λ j. Q (suc j)) R (λ j. T (suc j)) (λ j. so (suc j)) xs ys (λ j. all (suc j)) zip.1 k
 
 -- each of the first list is of one kind, and what is so of both is so by that kind
 pub zip_kinds : {A B L C : Type 0} (f : A → B) (g : A → L) (h : B → L) (R : B → L → C → Type 0) (xs : List A) (ys : List C)

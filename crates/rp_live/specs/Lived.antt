@@ -21,8 +21,9 @@ use Rattle.rp_live.specs.Calls.{CountsCalls}
 use Rattle.rp_live.specs.Events.{call_by}
 use Rattle.rp_live.specs.Lines.{party_line}
 use Rattle.rp_live.specs.Noted.{AreNoted}
-use Rattle.rp_live.specs.Pace.{paced}
-use Rattle.rp_live.specs.Seats.{HasOnlyReported, IsAsked}
+use Rattle.rp_live.specs.Pace.{paced, heard, heard_task}
+use Rattle.rp_live.specs.Figures.{figures_of}
+use Rattle.rp_live.specs.Seats.{HasOnlyReported, IsRead}
 use Rattle.rp_live.specs.declared.run.Lived.{Lived}
 
 -- the replies that a task has at its end
@@ -46,23 +47,24 @@ module _ {S P : Type 0} (next : S → Action → S) (answers : S → Action → 
     pub noted : List (Chair P)
     pub notes : AreNoted next answers begin events (length events) first_nodes noted
     pub node_loops : AllZip (λ seat end.
-        IsLooped next answers begin paced config.nodes turns seat (party_line seed (Node seat.number)) end) noted nodes
+        IsLooped next answers begin paced heard config.nodes turns seat (party_line seed (Node seat.number)) end) noted nodes
     pub task_loops : AllZip (λ seat end.
-        IsTaskLooped next answers begin config.nodes turns (filter_map (call_by seat.number) events) seat (party_line seed (Task seat.number)) end) first_tasks tasks
+        IsTaskLooped next answers begin heard_task config.nodes turns (filter_map (call_by seat.number) events) seat (party_line seed (Task seat.number)) end) first_tasks tasks
 
-  -- What was told of the nodes and tasks of these ends: the nodes reported to the audit; then all looked at the table as
-  -- one. So many actions each node has applied, and these are the replies of all tasks. The nodes agree where of each all
-  -- is known that it has applied.
+  -- What was told of the nodes and tasks of these ends: the audit, which knew nothing of a node at first, read its log by
+  -- reports that the node sent to it; then all looked at the table as one. So many actions each node has applied, and these
+  -- are the replies of all tasks. The nodes agree where of each all is known that it has applied.
   pub record IsTold {D : Type 0} (audit : Chair P) (nodes : List (NodeEnd S D P)) (tasks : List (TaskEnd S P)) (lived : Lived) : Type 0 where
     pub last : List (Chair P)
     pub reported : AllZip (λ end seat. HasOnlyReported end.seat seat) nodes last
     pub applied : AllZip (λ seat count. HasApplied seat.part count) last lived.applied.items
     pub known : Audited P
     pub same : IsSameSeat audit known.seat
-    pub asked : AllZip (λ seat count. IsAsked seat count (known_of known.known seat.number)) last lived.applied.items
+    pub read : AllZip (λ end seat. IsRead 0 end.seat seat (length (known_of known.known seat.number))) nodes last
     pub together : AreTogether next answers begin known last (map (λ end. end.seat) tasks)
     pub replies : lived.replies.items ≡ flat_map replies_at tasks
     pub agree : (lived.agree ≡ true) ↔ KnowsAll known.known lived.applied.items
+    pub figures : lived.figures ≡ figures_of nodes tasks
 
   -- A whole run. In the one order the counted calls of each task are the calls among the events, in order, that it made.
   pub record IsLived (config : Config) (program : P) (events : List Event) (seed turns : ℕ) (lived : Lived) : Type 0 where

@@ -1,16 +1,14 @@
 -- The seats of a run (this project's own).
-use Rattle.std.specs.Prelude.{◌≡◌, ◌⊎◌, ◌≤◌, ◌<◌, ℕ, min, None, IfSome, IsSome, List, length}
+use Rattle.std.specs.Prelude.{◌≡◌, ◌≢◌, ◌⊎◌, ◌≤◌, ◌<◌, ◌+◌, ℕ, zero, suc, min, None, IfSome, IsSome, List, [], length, slice_get}
 use Rattle.rp_base.specs.Action.{IsIndex, IsCount}
-use Rattle.rp_base.specs.Records.{applied_of}
-use Rattle.rp_base.specs.Sets.{Has}
 use Rattle.rp_base.specs.declared.action.Action.{Action}
 use Rattle.rp_boxes.specs.Audits.{known_of}
-use Rattle.rp_boxes.specs.Parts.{Part, OfNode, node_of}
-use Rattle.rp_boxes.specs.Seats.{Chair}
-use Rattle.rp_model.specs.Effect.{report_of}
+use Rattle.rp_boxes.specs.Parts.{Part, OfNode}
+use Rattle.rp_boxes.specs.Seats.{Chair, HasApplied, IsReport}
 use Rattle.rp_model.specs.Parts.{NodePart}
 use Rattle.rp_replica.specs.declared.input.Input.{Input}
 use Rattle.rp_replica.specs.declared.input.Input.TheVariants.{Receive, Lead, Interrupt, Tick, Report}
+use Rattle.rp_replica.specs.declared.sent.Sent.{Sent}
 use Rattle.rp_threads.specs.Loops.{IsSameSeat}
 use Rattle.rp_threads.specs.Rounds.{IsNodeFault}
 use Rattle.rp_threads.specs.declared.loops.NodeEnd.{NodeEnd}
@@ -43,18 +41,40 @@ pub record HasOnlyReported {P : Type 0} (old new : Chair P) : Type 0 where
   pub same : IsSameSeat old new
   pub role : new.part.role ≡ old.part.role
 
--- the node's report of what it has applied, from a position on, is among what its seat sent
-abbrev pub HasReportedFrom : {P : Type 0} → Chair P → ℕ → Type 0
-HasReportedFrom seat first = Has (report_of seat.number first (applied_of (node_of seat.part.role).records)) seat.part.sent
+-- ---- how the log of a node is read
+
+-- the node makes one report, of what it has applied from a position on
+abbrev pub Reports : {P : Type 0} → ℕ → Chair P → Chair P → Type 0
+Reports first old new = (sent : Sent) × IsReport first old new sent
+
+-- a node of which `start` actions were known made so many reports, and now more are known: each report was from the
+-- position after those that were known before it, and after it more were known
+abbrev pub AreReports : {P : Type 0} → ℕ → Chair P → ℕ → ℕ → Chair P → Type 0
+AreReports start first zero known now = (known ≡ start) × (now ≡ first)
+AreReports {P = P} start first (suc n) known now =
+    (before : ℕ) × (between : Chair P) × AreReports start first n before between × Reports (before + 1) between now × (before < known)
+
+-- The log of a node of which `start` actions were known was read by such reports, until all that it has applied was
+-- known (or 65,535 actions of that), or until one report more, asked for in the same way, made nothing more known.
+pub record IsRead {P : Type 0} (start : ℕ) (first now : Chair P) (known : ℕ) : Type 0 where
+  pub applied : ℕ
+  pub has : HasApplied now.part applied
+  pub reports : ℕ
+  pub read : (AreReports start first reports known now × (min applied 65535 ≤ known))
+      ⊎ ((between : Chair P) × AreReports start first reports known between × Reports (known + 1) between now)
 
 -- of each node as many actions are known as before, or more
 abbrev pub KnowsMore : List (List Action) → List (List Action) → Type 0
 KnowsMore old new = (node : ℕ) → length (known_of old node) ≤ length (known_of new node)
 
--- of a node that has applied so many actions all are known, or it has reported
-abbrev pub IsAsked : {P : Type 0} → Chair P → ℕ → List Action → Type 0
-IsAsked seat count known = (min count 65535 ≤ length known) ⊎ ((first : ℕ) × HasReportedFrom seat first)
+-- of all other nodes the same is known
+abbrev pub KnowsSameBut : ℕ → List (List Action) → List (List Action) → Type 0
+KnowsSameBut number old new = (node : ℕ) → node ≢ number → known_of new node ≡ known_of old node
 
--- of a node that has applied so many actions all are known, or it has reported from a position above those on
-abbrev pub IsRead : {P : Type 0} → Chair P → ℕ → List Action → Type 0
-IsRead seat count known = (min count 65535 ≤ length known) ⊎ ((first : ℕ) × (length known < first) × HasReportedFrom seat first)
+-- of nodes of higher numbers nothing is known
+abbrev pub KnowsNothingAbove : ℕ → List (List Action) → Type 0
+KnowsNothingAbove number known = (node : ℕ) → number < node → known_of known node ≡ []
+
+-- the ends are those of the nodes after this number, in order
+abbrev pub AreNumbered : {M D P : Type 0} → ℕ → List (NodeEnd M D P) → Type 0
+AreNumbered number ends = (place : ℕ) → IfSome (slice_get ends place) (λ end. end.seat.number ≡ number + place + 1)

@@ -93,16 +93,20 @@ impl Pace {
 }
 
 impl Gate for Pace {
-    ghost use Rattle.rp_live.specs.Pace.{paced};
+    ghost use Rattle.rp_live.specs.Pace.{paced, heard, heard_task};
 
     ghost lets = { paced };
+
+    ghost heard = { heard };
+
+    ghost heard_task = { heard_task };
 
     fn before(&self, node: NodeId, turn: u64) -> bool {
         self.keep(usize::from(node.get()) - 1, turn);
         turn % (8 + u64::from(node.get())) != 0
     }
 
-    fn after(&self, _node: NodeId, _turn: u64, _sent: u32) {}
+    fn after(&self, _node: NodeId, _turn: u64, _sent: usize) {}
 
     fn before_task(&self, task: TaskId, turn: u64) {
         self.keep(NODES + usize::from(task.get()) - 1, turn);

@@ -6,12 +6,12 @@ ghost use Rattle.rp_boxes.specs.Audits.{known_of};
 ghost use Rattle.rp_boxes.specs.Seats.{HasApplied, IsReport, IsSentText};
 ghost use Rattle.rp_threads.specs.Loops.{IsSameSeat};
 ghost use Rattle.rp_live.specs.Lived.{KnowsAll};
-ghost use Rattle.rp_live.specs.Seats.{HasOnlyReported, HasReportedFrom, IsAsked, IsEndOfRun, IsRead, KnowsMore, Runs, StillRuns};
+ghost use Rattle.rp_live.specs.Seats.{AreNumbered, HasOnlyReported, IsEndOfRun, IsRead, KnowsMore, KnowsNothingAbove, KnowsSameBut, Reports, Runs, StillRuns};
 
 use crate::ends::node_ended;
 use rp_base::{Fault, NodeId, Position};
 use rp_boxes::{Audit, NodeSeat};
-use rp_codec::Party;
+use rp_codec::{Party, one_text};
 use rp_machine::Machine;
 use rp_replica::Sent;
 use rp_store::InfallibleDevice;
@@ -50,8 +50,7 @@ fn send_report<M: Machine, D: InfallibleDevice>(
     first: Position,
 ) -> Result<(), Fault>
     requires runs { Runs seat.old.part }
-    ensures only_reported { OnOk result (HasOnlyReported seat.old seat.new) }
-    ensures reported { OnOk result (HasReportedFrom seat.new first) }
+    ensures reported { OnOk result (Reports first seat.old seat.new) }
     ensures only { IsOkUnless result Fault.OutOfMemory }
 {
     let report = report_from(seat, alloc, first)?;
@@ -69,11 +68,13 @@ fn report_once<M: Machine, D: InfallibleDevice>(
 ) -> Result<(), Fault>
     requires runs { Runs seat.old.part }
     ensures same { OnOk result (IsSameSeat audit.old.seat audit.new.seat) }
-    ensures only_reported { OnOk result (HasOnlyReported seat.old seat.new) }
-    ensures reported { OnOk result (HasReportedFrom seat.new first) }
+    ensures reported { OnOk result (Reports first seat.old seat.new) }
     ensures more { OnOk result (KnowsMore audit.old.known audit.new.known) }
+    ensures others { OnOk result (KnowsSameBut seat.old.number
+        audit.old.known audit.new.known) }
     ensures only { IsOkUnless result Fault.OutOfMemory }
 {
+    one_text();
     send_report(seat, alloc, first)?;
     if let Some(packet) = audit.fetch(Party::Node(seat.number())) {
         audit.add(alloc, packet.as_slice())?;
@@ -99,10 +100,11 @@ fn read_log<M: Machine, D: InfallibleDevice>(
     requires { Runs seat.old.part }
     ensures same { OnOk result (IsSameSeat audit.old.seat audit.new.seat) }
     ensures reported { OnOk result (HasOnlyReported seat.old seat.new) }
-    ensures more { OnOk result (KnowsMore audit.old.known audit.new.known) }
+    ensures others { OnOk result (KnowsSameBut seat.old.number
+        audit.old.known audit.new.known) }
     ensures applied { IfOk result (λ count. HasApplied seat.new.part count) }
-    ensures read { IfOk result (λ count. IsRead seat.new count
-        (known_of audit.new.known seat.new.number)) }
+    ensures read { OnOk result (IsRead (length (known_of audit.old.known seat.old.number))
+        seat.old seat.new (length (known_of audit.new.known seat.old.number))) }
     ensures only { IsOkUnless result Fault.OutOfMemory }
 {
     let node = seat.number();
@@ -132,10 +134,12 @@ fn read_end<M: Machine, D: InfallibleDevice>(
     requires still { StillRuns end }
     ensures same { OnOk result (IsSameSeat audit.old.seat audit.new.seat) }
     ensures reported { IfOk result (λ read. HasOnlyReported end.seat read.0) }
-    ensures more { OnOk result (KnowsMore audit.old.known audit.new.known) }
+    ensures others { OnOk result (KnowsSameBut end.seat.number
+        audit.old.known audit.new.known) }
     ensures applied { IfOk result (λ read. HasApplied read.0.part read.1) }
-    ensures read { IfOk result (λ read. IsRead read.0 read.1
-        (known_of audit.new.known read.0.number)) }
+    ensures read { IfOk result (λ read. IsRead
+        (length (known_of audit.old.known end.seat.number)) end.seat read.0
+        (length (known_of audit.new.known end.seat.number))) }
     ensures only { IsOkUnless result Fault.OutOfMemory }
 {
     let mut seat = node_ended(end)?;
@@ -143,7 +147,8 @@ fn read_end<M: Machine, D: InfallibleDevice>(
     Ok((seat, applied))
 }
 
-/// The nodes report one after the other. Their seats, and how many actions each has applied.
+/// The nodes, of which nothing is known and which are those of the numbers from 1 on, report one after
+/// the other. Their seats, and how many actions each has applied.
 pub(crate) fn read_logs<M: Machine, D: InfallibleDevice>(
     audit: &mut Audit<M>,
     nodes: Vec<NodeEnd<M, D>>,
@@ -151,13 +156,15 @@ pub(crate) fn read_logs<M: Machine, D: InfallibleDevice>(
 ) -> Result<(Vec<NodeSeat<M, D>>, Vec<u32>), Fault>
     requires ended { All IsEndOfRun nodes.items }
     requires still { All StillRuns nodes.items }
+    requires numbers { AreNumbered 0 nodes.items }
+    requires unread { KnowsNothingAbove 0 audit.old.known }
     ensures same { OnOk result (IsSameSeat audit.old.seat audit.new.seat) }
     ensures reported { IfOk result (λ read. AllZip (λ end seat. HasOnlyReported end.seat seat)
         nodes.items read.0.items) }
     ensures applied { IfOk result (λ read. AllZip (λ seat count. HasApplied seat.part count)
         read.0.items read.1.items) }
-    ensures asked { IfOk result (λ read. AllZip (λ seat count. IsAsked seat count
-        (known_of audit.new.known seat.number)) read.0.items read.1.items) }
+    ensures read { IfOk result (λ read. AllZip (λ end seat. IsRead 0 end.seat seat
+        (length (known_of audit.new.known seat.number))) nodes.items read.0.items) }
     ensures only { IsOkUnless result Fault.OutOfMemory }
 {
     let mut seats = Vec::new(alloc);

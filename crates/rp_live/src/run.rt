@@ -4,7 +4,7 @@ ghost use Rattle.std.specs.Prelude.{◌≡◌, ◌≤◌, All, length, IfOk, IfE
 ghost use Rattle.rp_base.specs.Config.{IsRightConfig};
 ghost use Rattle.rp_live.specs.Events.{IsLive};
 ghost use Rattle.rp_live.specs.Lived.{IsLived, IsTold};
-ghost use Rattle.rp_live.specs.Seats.{IsEndOfRun, StillRuns};
+ghost use Rattle.rp_live.specs.Seats.{AreNumbered, IsEndOfRun, StillRuns};
 ghost use Rattle.rp_live.specs.Faults.{IsLiveFault};
 
 use crate::figures::Figures;
@@ -47,6 +47,7 @@ fn audited<M: Machine, D: InfallibleDevice>(
     requires ended { All IsEndOfRun nodes.items }
     requires still { All StillRuns nodes.items }
     requires nodes { All (λ end. end.seat.table ≡ seat.table) nodes.items }
+    requires numbers { AreNumbered 0 nodes.items }
     requires tasks { All (λ end. end.seat.table ≡ seat.table) tasks.items }
     ensures told { IfOk result (IsTold M.next M.answers M.begin seat nodes.items tasks.items) }
     ensures only { IsOkUnless result Fault.OutOfMemory }

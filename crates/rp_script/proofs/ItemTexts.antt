@@ -1,14 +1,20 @@
 -- The texts of items.
-use Rattle.std.proofs.Common.{◌≡◌, ℕ, Option, Some, None, List, [], ◌∷◌, ◌++◌, refl, sym, ap, ◌∙◌, append_assoc, append-nil}
+use Rattle.std.proofs.Common.{◌≡◌, ℕ, suc, ◌+◌, Bool, true, false, Option, Some, None, List, [], ◌∷◌, ◌++◌, length, refl, sym, ap, ◌∙◌, append_assoc, append-nil}
 use Rattle.std.specs.Prelude.{flat_map}
 use Rattle.rp_base.specs.declared.reply.Answer.{Answer}
+use Rattle.rp_codec.specs.Message.{Message}
 use Rattle.rp_machine.specs.Replay.{one_to}
+use Rattle.rp_model.specs.declared.effect.Dropped.{Dropped}
+use Rattle.rp_model.specs.declared.effect.Dropped.TheVariants.{No, Full, Foreign}
 use Rattle.rp_model.specs.declared.event.Event.{Event}
 use Rattle.rp_model.specs.declared.event.Event.TheVariants.{Submit, Again, Node, Cut, Stop, Restart}
 use Rattle.rp_model.specs.Parts.{NodePart}
 use Rattle.rp_model.specs.World.{World, Happening, part_at}
-use Rattle.rp_script.specs.Items.{Item, Other, item_text, items_text}
-use Rattle.rp_script.specs.Output.{RunSetting, called_by, taken_items, taken_text, changed_text, effect_text, opened_text, dropped_text, node_of_event, part_items, part_text, nodes_items, nodes_text}
+use Rattle.rp_script.specs.FaultLine.{with_line_feed}
+use Rattle.rp_script.specs.Items.{Item, Note, Noted, item_text, items_text, note_line, notes_text}
+use Rattle.rp_script.specs.Output.{RunSetting, called_by, changed_notes, changed_text, dropped_notes, dropped_text, effect_text, full_notes, full_text, happening_items, node_of_event, nodes_items, nodes_text, opened_notes, opened_text, part_items, part_text, restarted_note, restarted_text, taken_items, taken_text, trace_notes, trace_text, traced_notes, traced_text}
+use Rattle.rp_script.specs.Printed.{full_line_of, opened_line_of, running_line_of}
+use Rattle.rp_script.specs.Trace.{message_line_of}
 
 pub items_text-append : (xs ys : List Item) → items_text (xs ++ ys) ≡ items_text xs ++ items_text ys
 items_text-append [] ys = refl
@@ -32,17 +38,68 @@ taken_prints : (names : List (List ℕ)) (taken : Option Answer) → items_text 
 taken_prints names None = refl
 taken_prints names (Some answer) = append-nil (taken_text names (Some answer))
 
+-- ---- notes
+
+notes_text-append : (xs ys : List Note) → notes_text (xs ++ ys) ≡ notes_text xs ++ notes_text ys
+notes_text-append [] ys = refl
+notes_text-append (x ∷ xs) ys =
+    ap (λ (l : List ℕ). with_line_feed (note_line x) ++ l) (notes_text-append xs ys) ∙ sym (append_assoc (with_line_feed (note_line x)) (notes_text xs) (notes_text ys))
+
+trace_prints : (names : List (List ℕ)) (number : ℕ) (packets : List Message) → notes_text (trace_notes names number packets) ≡ trace_text names number packets
+trace_prints names number [] = refl
+trace_prints names number (m ∷ rest) = ap (λ (l : List ℕ). with_line_feed (message_line_of names number m) ++ l) (trace_prints names (suc number) rest)
+
+traced_prints : (traced : Bool) (names : List (List ℕ)) (number : ℕ) (packets : List Message) → notes_text (traced_notes traced names number packets) ≡ traced_text traced names number packets
+traced_prints true names number packets = trace_prints names number packets
+traced_prints false names number packets = refl
+
+restarted_prints : (node : ℕ) (opened : Option (ℕ × ℕ)) → notes_text (restarted_note node opened ∷ []) ≡ restarted_text node opened
+restarted_prints node None = append-nil (with_line_feed (running_line_of node))
+restarted_prints node (Some found) = append-nil (with_line_feed (opened_line_of node found.0 found.1))
+
+opened_prints : (event : Event) (opened : Option (ℕ × ℕ)) → notes_text (opened_notes event opened) ≡ opened_text event opened
+opened_prints (Submit task node object operation arg) opened = refl
+opened_prints (Again task node) opened = refl
+opened_prints (Node step) opened = refl
+opened_prints (Cut step kept) opened = refl
+opened_prints (Stop node) opened = refl
+opened_prints (Restart node) opened = restarted_prints node opened
+
+full_prints : (place : Option ℕ) → notes_text (full_notes place) ≡ full_text place
+full_prints None = refl
+full_prints (Some node) = append-nil (with_line_feed (full_line_of node))
+
+dropped_prints : (place : Option ℕ) (dropped : Dropped) → notes_text (dropped_notes place dropped) ≡ dropped_text place dropped
+dropped_prints place No = refl
+dropped_prints place Full = full_prints place
+dropped_prints place Foreign = refl
+
+changed_prints : (sent : List Message) (event : Event) (opened : Option (ℕ × ℕ)) (dropped : Dropped) → notes_text (changed_notes sent event opened dropped) ≡ changed_text sent event opened dropped
+changed_prints sent event opened dropped =
+    let place = node_of_event sent event in
+    notes_text-append (opened_notes event opened) (dropped_notes place dropped) ∙ ap (λ (l : List ℕ). l ++ notes_text (dropped_notes place dropped)) (opened_prints event opened)
+    ∙ ap (λ (l : List ℕ). opened_text event opened ++ l) (dropped_prints place dropped)
+
 -- the packets, then how a restart went and what was dropped, and then the reply
-pub happening_prints : {S : Type 0} (s : RunSetting S) (before : World) (event : Event) (happening : Happening) (packets : List ℕ)
-    → items_text (called_by event ++ Other (packets ++ changed_text happening.world.sent event happening.opened happening.dropped) ∷ taken_items s.names happening.taken)
-    ≡ packets ++ effect_text s.names happening.world.sent event happening.opened happening.dropped happening.taken
-happening_prints s before event happening packets =
+pub happening_prints : {S : Type 0} (s : RunSetting S) (before : World) (event : Event) (happening : Happening)
+    → items_text (happening_items s before event happening)
+    ≡ traced_text s.traced s.names (length before.sent + 1) happening.sends ++ effect_text s.names happening.world.sent event happening.opened happening.dropped happening.taken
+happening_prints s before event happening =
+    let number = length before.sent + 1 in
+    let packets = traced_text s.traced s.names number happening.sends in
+    let sent = happening.world.sent in
     let opened = opened_text event happening.opened in
-    let dropped = dropped_text (node_of_event happening.world.sent event) happening.dropped in
-    call_prints_nothing event (Other (packets ++ (opened ++ dropped)) ∷ taken_items s.names happening.taken)
-    ∙ ap (λ (l : List ℕ). (packets ++ (opened ++ dropped)) ++ l) (taken_prints s.names happening.taken)
-    ∙ append_assoc packets (opened ++ dropped) (taken_text s.names happening.taken)
-    ∙ ap (λ (l : List ℕ). packets ++ l) (append_assoc opened dropped (taken_text s.names happening.taken))
+    let dropped = dropped_text (node_of_event sent event) happening.dropped in
+    let traced = traced_notes s.traced s.names number happening.sends in
+    let changed = changed_notes sent event happening.opened happening.dropped in
+    let taken = taken_text s.names happening.taken in
+    call_prints_nothing event (Noted (traced ++ changed) ∷ taken_items s.names happening.taken)
+    ∙ ap (λ (l : List ℕ). notes_text (traced ++ changed) ++ l) (taken_prints s.names happening.taken)
+    ∙ ap (λ (l : List ℕ). l ++ taken)
+    (notes_text-append traced changed ∙ ap (λ (l : List ℕ). l ++ notes_text changed) (traced_prints s.traced s.names number happening.sends)
+    ∙ ap (λ (l : List ℕ). packets ++ l) (changed_prints sent event happening.opened happening.dropped))
+    ∙ append_assoc packets (opened ++ dropped) taken
+    ∙ ap (λ (l : List ℕ). packets ++ l) (append_assoc opened dropped taken)
 
 -- ---- nodes
 

@@ -31,10 +31,8 @@ use Rattle.rp_agreement.specs.Order.{Begins}
 use Rattle.rp_agreement.specs.Told.{Asks}
 use Rattle.rp_agreement.proofs.PartPlaces.{part_below, put_there, put_beside}
 use Rattle.rp_script.specs.Agreeing.{call_for}
-use Rattle.rp_script.specs.Items.{Item, Called, Replied, Shown, Other, Asked, asked_in, asked_by}
-use Rattle.rp_script.specs.Output.{RunSetting, Play, Said, nothing_said, line_said, and_then, called_by, taken_items, traced_text, changed_text, state_item, part_items, nodes_items, least_unsettled, effect_of, effect_said, event_said, drain_from, command_said, script_said, opening_play, run_said, from_to}
-use Rattle.rp_script.specs.Printed.{refused_line_of, limit_line_of}
-use Rattle.rp_script.specs.FaultLine.{with_line_feed}
+use Rattle.rp_script.specs.Items.{Item, Called, Replied, Shown, Noted, Note, Refused, DrainLimit, Asked, asked_in, asked_by}
+use Rattle.rp_script.specs.Output.{RunSetting, Play, Said, nothing_said, note_said, and_then, called_by, taken_items, traced_notes, changed_notes, state_item, part_items, nodes_items, least_unsettled, effect_of, effect_said, event_said, drain_from, command_said, script_said, opening_play, run_said, from_to}
 use Rattle.rp_script.specs.Trace.{task_name}
 use Rattle.rp_script.proofs.Acting.{made_by, calls_as, IsForNone, IsFor, event_is_for, StepsOn, task_steps_on}
 use Rattle.rp_script.proofs.Refusing.{part_there}
@@ -102,22 +100,22 @@ module _ {S : Type 0} (s : RunSetting S) where
   IsText (Called task asked) = ⊥
   IsText (Replied name answer) = ⊥
   IsText (Shown node applied image) = ⊥
-  IsText (Other text) = Unit {0}
+  IsText (Noted notes) = Unit {0}
 
   pub no_more : (items : List Item) (w : World) → IsRecounted items w → IsRecounted (items ++ []) w
   no_more items w old = subst (λ (l : List Item). IsRecounted l w) (sym (append-nil items)) old
 
-  pub text_more : (items : List Item) (w : World) (text : List ℕ) → IsRecounted items w → IsRecounted (items ++ Other text ∷ []) w
-  text_more items w text old = record {
-    shown = λ node applied image h. elim (has_split (Shown node applied image) items (Other text ∷ []) h) [
+  pub notes_more : (items : List Item) (w : World) (notes : List Note) → IsRecounted items w → IsRecounted (items ++ Noted notes ∷ []) w
+  notes_more items w notes old = record {
+    shown = λ node applied image h. elim (has_split (Shown node applied image) items (Noted notes ∷ []) h) [
       | inl before ↦ old.shown node applied image before
       | inr last ↦ elim last [ inl same ↦ absurd (cc) | inr none ↦ absurd none ]
     ];
-    replied = λ name answer h. elim (has_split (Replied name answer) items (Other text ∷ []) h) [
+    replied = λ name answer h. elim (has_split (Replied name answer) items (Noted notes ∷ []) h) [
       | inl before ↦ old.replied name answer before
       | inr last ↦ elim last [ inl same ↦ absurd (cc) | inr none ↦ absurd none ]
     ];
-    called = λ t. subst (WereMade w t) (sym (filter_map-append (asked_in t) items (Other text ∷ []) ∙ append-nil (asked_by t items))) (old.called t);
+    called = λ t. subst (WereMade w t) (sym (filter_map-append (asked_in t) items (Noted notes ∷ []) ∙ append-nil (asked_by t items))) (old.called t);
   }
 
   -- ---- nodes that are shown
@@ -226,19 +224,19 @@ module _ {S : Type 0} (s : RunSetting S) where
         | inr none ↦ absurd none
       ]
 
-  taken_calls_none : (t : ℕ) (text : List ℕ) (taken : Option Answer) → asked_by t (Other text ∷ taken_items s.names taken) ≡ []
-  taken_calls_none t text None = refl
-  taken_calls_none t text (Some answer) = refl
+  taken_calls_none : (t : ℕ) (notes : List Note) (taken : Option Answer) → asked_by t (Noted notes ∷ taken_items s.names taken) ≡ []
+  taken_calls_none t notes None = refl
+  taken_calls_none t notes (Some answer) = refl
 
   -- what an event adds: the calls of one task, text, and a reply that was taken
-  event_more : (items : List Item) (w w' : World) (u : ℕ) (made : List Asked) (text : List ℕ) (taken : Option Answer)
+  event_more : (items : List Item) (w w' : World) (u : ℕ) (made : List Asked) (notes : List Note) (taken : Option Answer)
       → ((node applied : ℕ) (image : List ℕ) → WasShown w node applied image → WasShown w' node applied image)
       → ((name : List ℕ) (answer : Answer) → WasTaken w name answer → WasTaken w' name answer)
       → ((answer : Answer) → taken ≡ Some answer → WasTaken w' (task_name s.names answer.task) answer)
       → ((t : ℕ) → WereMade w t (asked_by t items) → WereMade w' t (asked_by t items ++ asked_by t (calls_as u made)))
-      → IsRecounted items w → IsRecounted (items ++ (calls_as u made ++ Other text ∷ taken_items s.names taken)) w'
-  event_more items w w' u made text taken shown replied takes calls old =
-      let last = Other text ∷ taken_items s.names taken in
+      → IsRecounted items w → IsRecounted (items ++ (calls_as u made ++ Noted notes ∷ taken_items s.names taken)) w'
+  event_more items w w' u made notes taken shown replied takes calls old =
+      let last = Noted notes ∷ taken_items s.names taken in
       let more = calls_as u made ++ last in
       record {
         shown = λ node applied image h. elim (has_split (Shown node applied image) items more h) [
@@ -261,7 +259,7 @@ module _ {S : Type 0} (s : RunSetting S) where
         called = λ t. subst (WereMade w' t)
             (sym (filter_map-append (asked_in t) items more
             ∙ ap (λ (l : List Asked). asked_by t items ++ l)
-            (filter_map-append (asked_in t) (calls_as u made) last ∙ ap (λ (l : List Asked). asked_by t (calls_as u made) ++ l) (taken_calls_none t text taken) ∙ append-nil (asked_by t (calls_as u made)))))
+            (filter_map-append (asked_in t) (calls_as u made) last ∙ ap (λ (l : List Asked). asked_by t (calls_as u made) ++ l) (taken_calls_none t notes taken) ∙ append-nil (asked_by t (calls_as u made)))))
             (calls t (old.called t));
       }
 
@@ -289,11 +287,11 @@ module _ {S : Type 0} (s : RunSetting S) where
 
   -- ---- an event of no task
 
-  none_more : (items : List Item) (w : World) (event : Event) (happening : Happening) (text : List ℕ) → Grows w happening → IsForNone w event happening → IsRecounted items w
-      → IsRecounted (items ++ (called_by event ++ Other text ∷ taken_items s.names happening.taken)) happening.world
-  none_more items w event happening text grows is old =
-      subst (λ (l : List Item). IsRecounted (items ++ (l ++ Other text ∷ taken_items s.names happening.taken)) happening.world) (sym is.called)
-      (event_more items w happening.world 0 [] text happening.taken
+  none_more : (items : List Item) (w : World) (event : Event) (happening : Happening) (notes : List Note) → Grows w happening → IsForNone w event happening → IsRecounted items w
+      → IsRecounted (items ++ (called_by event ++ Noted notes ∷ taken_items s.names happening.taken)) happening.world
+  none_more items w event happening notes grows is old =
+      subst (λ (l : List Item). IsRecounted (items ++ (l ++ Noted notes ∷ taken_items s.names happening.taken)) happening.world) (sym is.called)
+      (event_more items w happening.world 0 [] notes happening.taken
       (still_shown w happening grows)
       (λ name answer was. record { under = was.under; part = was.part; there = ap (λ (l : List TaskPart). part_at l answer.task) is.tasks ∙ was.there; taken = was.taken })
       (λ answer e. absurd (taken_some answer (sym is.taken ∙ e)))
@@ -398,21 +396,21 @@ module _ {S : Type 0} (s : RunSetting S) where
               }))
         ]
 
-    task_more : (items : List Item) (text : List ℕ) → IsRecounted items w → IsRecounted (items ++ (calls_as t (made_by input) ++ Other text ∷ taken_items s.names done.taken)) after
-    task_more items text old =
-        event_more items w after t (made_by input) text done.taken
+    task_more : (items : List Item) (notes : List Note) → IsRecounted items w → IsRecounted (items ++ (calls_as t (made_by input) ++ Noted notes ∷ taken_items s.names done.taken)) after
+    task_more items notes old =
+        event_more items w after t (made_by input) notes done.taken
         (λ node applied image was. record { part = was.part; there = was.there; before = was.before; begins = was.begins; count = was.count; image_is = was.image_is })
         still_taken now_taken (λ k made. now_made k items made) old
 
-  event_adds : (items : List Item) (w : World) (event : Event) (happening : Happening) (text : List ℕ) → event_effect s.setting w (event_of event) ≡ Ok happening → IsRecounted items w
-      → IsRecounted (items ++ (called_by event ++ Other text ∷ taken_items s.names happening.taken)) happening.world
-  event_adds items w event happening text is old =
+  event_adds : (items : List Item) (w : World) (event : Event) (happening : Happening) (notes : List Note) → event_effect s.setting w (event_of event) ≡ Ok happening → IsRecounted items w
+      → IsRecounted (items ++ (called_by event ++ Noted notes ∷ taken_items s.names happening.taken)) happening.world
+  event_adds items w event happening notes is old =
       elim (subst (λ (r : Result Happening Fault). IsFor s.setting.config w event r) is (event_is_for s.setting w event)) [
-        | inl none ↦ none_more items w event happening text (subst (λ (r : Result Happening Fault). GrowsIf w r) is (event_grows s.setting w (event_of event))) none old
+        | inl none ↦ none_more items w event happening notes (subst (λ (r : Result Happening Fault). GrowsIf w r) is (event_grows s.setting w (event_of event))) none old
         | inr task ↦
-            subst (λ (h : Happening). IsRecounted (items ++ (called_by event ++ Other text ∷ taken_items s.names h.taken)) h.world) (sym task.is)
-            (subst (λ (l : List Item). IsRecounted (items ++ (l ++ Other text ∷ taken_items s.names task.done.taken)) (task_done w task.t task.done).world) (sym task.called)
-            (task_more w task.t task.part task.input task.done task.there (task_steps_on s.setting.config task.t task.part task.input task.done task.came) items text old))
+            subst (λ (h : Happening). IsRecounted (items ++ (called_by event ++ Noted notes ∷ taken_items s.names h.taken)) h.world) (sym task.is)
+            (subst (λ (l : List Item). IsRecounted (items ++ (l ++ Noted notes ∷ taken_items s.names task.done.taken)) (task_done w task.t task.done).world) (sym task.called)
+            (task_more w task.t task.part task.input task.done task.there (task_steps_on s.setting.config task.t task.part task.input task.done task.came) items notes old))
       ]
 
   -- ---- a run
@@ -424,8 +422,8 @@ module _ {S : Type 0} (s : RunSetting S) where
   recounts_nothing : (play : Play) → Recounts play (nothing_said play)
   recounts_nothing play items old = no_more items play.world old
 
-  recounts_line : (play : Play) (line : List ℕ) → Recounts play (line_said play line)
-  recounts_line play line items old = text_more items play.world (with_line_feed line) old
+  recounts_note : (play : Play) (note : Note) → Recounts play (note_said play note)
+  recounts_note play note items old = notes_more items play.world (note ∷ []) old
 
   recounts_both : (play : Play) (here : Said) (further : Play → Said) → Recounts play here → Recounts here.play (further here.play) → Recounts play (and_then here further)
   recounts_both play here further first second items old =
@@ -435,8 +433,8 @@ module _ {S : Type 0} (s : RunSetting S) where
   recounts_effect : (line : ℕ) (play : Play) (event : Event) (answer : Result Happening Fault) → effect_of s play.world event ≡ answer → Recounts play (effect_said s line play event answer)
   recounts_effect line play event (Ok happening) is items old =
       event_adds items play.world event happening
-      (traced_text s.traced s.names (length play.world.sent + 1) happening.sends ++ changed_text happening.world.sent event happening.opened happening.dropped) is old
-  recounts_effect line play event (Err refusal) is items old = recounts_line play (refused_line_of line refusal) items old
+      (traced_notes s.traced s.names (length play.world.sent + 1) happening.sends ++ changed_notes happening.world.sent event happening.opened happening.dropped) is old
+  recounts_effect line play event (Err refusal) is items old = recounts_note play (Refused line refusal) items old
 
   recounts_event : (line : ℕ) (play : Play) (event : Event) → Recounts play (event_said s line play event)
   unfolding event_said
@@ -445,7 +443,7 @@ module _ {S : Type 0} (s : RunSetting S) where
   recounts_drain : (line : ℕ) (play : Play) (message : Option ℕ) (most : ℕ) → Recounts play (drain_from s line play message most)
   unfolding drain_from
   recounts_drain line play None most = recounts_nothing play
-  recounts_drain line play (Some message) zero = recounts_line play (limit_line_of line)
+  recounts_drain line play (Some message) zero = recounts_note play (DrainLimit line)
   recounts_drain line play (Some message) (suc most) =
       recounts_both play (event_said s line play (NodeStep (Deliver message))) (λ after. drain_from s line after (least_unsettled after) most)
       (recounts_event line play (NodeStep (Deliver message)))
@@ -459,8 +457,8 @@ module _ {S : Type 0} (s : RunSetting S) where
   recounts_command most line play (Take event) = recounts_event line play event
   recounts_command most line play (Lose first last) =
       let there : Said = record { items = []; play = record { world = play.world; settled = from_to first last ++ play.settled } } in
-      recounts_choice play (nat_le first (length play.world.sent) && nat_le last (length play.world.sent)) there (line_said play (refused_line_of line NoSuchMessage))
-      (λ items old. no_more items play.world old) (recounts_line play (refused_line_of line NoSuchMessage))
+      recounts_choice play (nat_le first (length play.world.sent) && nat_le last (length play.world.sent)) there (note_said play (Refused line NoSuchMessage))
+      (λ items old. no_more items play.world old) (recounts_note play (Refused line NoSuchMessage))
   recounts_command most line play Drain = recounts_drain line play (least_unsettled play) most
   recounts_command most line play Show = λ items old. nodes_more items play.world s.setting.config.nodes old
 

@@ -1,5 +1,5 @@
 -- What a run has come to so far, and what is left of it.
-use Rattle.std.proofs.Common.{inl, inr, ◌≡◌, ℕ, suc, ◌+◌, ◌-◌, ◌<◌, ◌≤◌, Bool, true, false, cond, ◌&&◌, ◌||◌, Option, Some, None, Result, Ok, Err, List, [], ◌∷◌, ◌++◌, drop, length, arith, refl, sym, ap, subst, ◌∙◌, append_assoc, IsErr}
+use Rattle.std.proofs.Common.{inl, inr, ◌≡◌, ℕ, suc, ◌+◌, ◌-◌, ◌<◌, ◌≤◌, Bool, true, false, cond, ◌&&◌, ◌||◌, Option, Some, None, Result, Ok, Err, List, [], ◌∷◌, ◌++◌, drop, length, arith, refl, sym, ap, subst, ◌∙◌, append_assoc, append-nil, IsErr}
 use Rattle.std.specs.Prelude.{◌⊎◌, nat_eq, nat_le}
 use Rattle.std.specs.Io.KnownBytes.{Appends}
 use Rattle.std.proofs.KnownBytes.{Appends-nil, Appends-trans}
@@ -19,9 +19,9 @@ use Rattle.rp_model.specs.Events.{event_of}
 use Rattle.rp_model.specs.Growing.{Grows}
 use Rattle.rp_model.specs.World.{World, Happening, event_effect}
 use Rattle.rp_model.specs.Answers.{IsDone, IsRefused}
-use Rattle.rp_script.specs.Output.{RunSetting, Play, Said, text_of, nothing_said, line_said, and_then, is_among, from_to, least_unsettled, settled_by, lost, traced_text, effect_text, effect_of, effect_said, event_said, drain_from, drained, command_said, script_said, nodes_text}
-use Rattle.rp_script.specs.Items.{Item, Other, items_text}
-use Rattle.rp_script.specs.Printed.{refused_line_of, limit_line_of}
+use Rattle.rp_script.specs.Output.{RunSetting, Play, Said, text_of, nothing_said, note_said, and_then, is_among, from_to, least_unsettled, settled_by, lost, traced_text, effect_text, effect_of, effect_said, event_said, drain_from, drained, command_said, script_said, nodes_text}
+use Rattle.rp_script.specs.Items.{Item, Note, Noted, Refused, DrainLimit, items_text, note_line}
+use Rattle.rp_script.specs.Printed.{refused_line_of}
 use Rattle.rp_script.specs.Runs.{Follows, Says}
 use Rattle.rp_script.specs.Settled.{is_settled}
 use Rattle.rp_script.specs.FaultLine.{with_line_feed}
@@ -43,10 +43,11 @@ pub says_failed : (world : World) (settled : Settled) (old new : Option (List �
 says_failed world settled old new said (Ok done) failed begun = absurd (cc)
 says_failed world settled old new said (Err fault) failed begun = begun
 
--- a line that was written
-pub line_written : (play : Play) (old new : Option (List ℕ)) (line : List ℕ) (answer : Result Unit Fault)
-    → Writes old new (with_line_feed line) answer → Writes old new (text_of (line_said play line)) answer
-line_written play old new line answer told = subst (λ (t : List ℕ). Writes old new t answer) (sym (item_text-one (Other (with_line_feed line)))) told
+-- a note that was written
+pub note_written : (play : Play) (old new : Option (List ℕ)) (note : Note) (answer : Result Unit Fault)
+    → Writes old new (with_line_feed (note_line note)) answer → Writes old new (text_of (note_said play note)) answer
+note_written play old new note answer told =
+    subst (λ (t : List ℕ). Writes old new t answer) (sym (item_text-one (Noted (note ∷ [])) ∙ append-nil (with_line_feed (note_line note)))) told
 
 -- ---- so far, and what is left
 
@@ -161,7 +162,7 @@ module _ {S : Type 0} (s : RunSetting S) (line : ℕ) (play : Play) (event : Eve
       let happening = done.happening in
       let said : Said = effect_said s line play event (Ok happening) in
       let is : event_said s line play event ≡ said = at_play ∙ ap (λ (r : Result Happening Fault). effect_said s line play event r) done.came in
-      let prints = λ (w : World). happening_prints s w event happening (traced_text s.traced s.names (length w.sent + 1) happening.sends) in
+      let prints = λ (w : World). happening_prints s w event happening in
       let grown : later.sent ≡ world.sent ++ happening.sends = ap (λ (w : World). w.sent) done.world ∙ grows.sent in
       let text : traced_text s.traced s.names effect.first (drop (effect.first - 1) later.sent) ++ effect_text s.names later.sent event effect.opened effect.dropped effect.taken ≡ text_of said =
       told_same s.traced s.names event world.sent later.sent happening.sends effect.first effect.opened happening.opened effect.dropped happening.dropped effect.taken happening.taken
@@ -184,11 +185,11 @@ module _ {S : Type 0} (s : RunSetting S) (line : ℕ) (play : Play) (event : Eve
       → IsRefused s.setting world (event_of event) left fault → Writes old new (with_line_feed (refused_line_of line fault)) answer
       → Says left settled old new (event_said s line play event) answer
   was_refused left fault old new answer refused told =
-      let said : Said = line_said play (refused_line_of line fault) in
+      let said : Said = note_said play (Refused line fault) in
       let is : event_said s line play event ≡ said = at_play ∙ ap (λ (r : Result Happening Fault). effect_said s line play event r) refused.refusal in
       subst (λ (x : Said). Says left settled old new x answer) (sym is)
       (says_by left settled old new said answer (record { world_is = refused.unchanged ∙ follows.world_is; settled_are = follows.settled_are })
-      (line_written play old new (refused_line_of line fault) answer told))
+      (note_written play old new (Refused line fault) answer told))
 
 -- ---- messages that are lost
 
@@ -207,7 +208,7 @@ module _ (line first last : ℕ) (play : Play) (world : World) (settled : Settle
   was_lost after old answer low high settles =
       let here : Said = record { items = []; play = record { world = play.world; settled = from_to first last ++ play.settled } } in
       let is : lost line play first last ≡ here =
-      lost_by (nat_le first (length play.world.sent)) (nat_le last (length play.world.sent)) here (line_said play (refused_line_of line NoSuchMessage))
+      lost_by (nat_le first (length play.world.sent)) (nat_le last (length play.world.sent)) here (note_said play (Refused line NoSuchMessage))
       (le-leb first (length play.world.sent) (omega (arith, low, sent_is))) (le-leb last (length play.world.sent) (omega (arith, high, sent_is))) in
       subst (λ (x : Said). Says world after old old x (Ok tt)) (sym is) (
         record {
@@ -220,7 +221,7 @@ module _ (line first last : ℕ) (play : Play) (world : World) (settled : Settle
       )
 
   none_lost : (one other : Bool) (there : Said) → one ≡ nat_le first (length play.world.sent) → other ≡ nat_le last (length play.world.sent)
-      → (length play.world.sent < first) ⊎ (length play.world.sent < last) → cond (one && other) there (line_said play (refused_line_of line NoSuchMessage)) ≡ line_said play (refused_line_of line NoSuchMessage)
+      → (length play.world.sent < first) ⊎ (length play.world.sent < last) → cond (one && other) there (note_said play (Refused line NoSuchMessage)) ≡ note_said play (Refused line NoSuchMessage)
   none_lost true true there first_is last_is (inl above) = absurd (grind (arith, nat_tests, first_is, above))
   none_lost true true there first_is last_is (inr above) = absurd (grind (arith, nat_tests, last_is, above))
   none_lost true false there first_is last_is above = refl
@@ -230,10 +231,10 @@ module _ (line first last : ℕ) (play : Play) (world : World) (settled : Settle
       → Writes old new (with_line_feed (refused_line_of line NoSuchMessage)) answer → Says world settled old new (lost line play first last) answer
   was_not_lost old new answer above told =
       let at_play : (length play.world.sent < first) ⊎ (length play.world.sent < last) = subst (λ (n : ℕ). (n < first) ⊎ (n < last)) sent_is above in
-      let said : Said = line_said play (refused_line_of line NoSuchMessage) in
+      let said : Said = note_said play (Refused line NoSuchMessage) in
       let there : Said = record { items = []; play = record { world = play.world; settled = from_to first last ++ play.settled } } in
       subst (λ (x : Said). Says world settled old new x answer) (sym (none_lost (nat_le first (length play.world.sent)) (nat_le last (length play.world.sent)) there refl refl at_play))
-      (says_by world settled old new said answer follows (line_written play old new (refused_line_of line NoSuchMessage) answer told))
+      (says_by world settled old new said answer follows (note_written play old new (Refused line NoSuchMessage) answer told))
 
 -- ---- the definitions, one step on
 
@@ -251,7 +252,7 @@ module _ {S : Type 0} (s : RunSetting S) (line : ℕ) (play : Play) where
   unfolding drain_from
   drain_ends most = refl
 
-  drain_stops : (message : ℕ) → drain_from s line play (Some message) 0 ≡ line_said play (limit_line_of line)
+  drain_stops : (message : ℕ) → drain_from s line play (Some message) 0 ≡ note_said play (DrainLimit line)
   unfolding drain_from
   drain_stops message = refl
 
@@ -266,7 +267,7 @@ module _ {S : Type 0} (s : RunSetting S) (line : ℕ) (play : Play) where
 
   -- one is left, and no more may be delivered
   pub drained_full : (most done message : ℕ) → most ≤ done → least_unsettled play ≡ Some message
-      → drained s line (most - done) play ≡ line_said play (limit_line_of line)
+      → drained s line (most - done) play ≡ note_said play (DrainLimit line)
   drained_full most done message full left =
       let spent : most - done ≡ 0 = omega arith in
       ap (λ (o : Option ℕ). drain_from s line play o (most - done)) left

@@ -92,7 +92,7 @@ module _ {S : Type 0} (s : RunSetting S) (node : ℕ) where
 
   stopped_state : (fault : Fault) (records : List Rec) (running : Option Running) → IsToldOfRunning (Err fault) Counts records running
       → state_text s node records running ≡ with_line_feed (stopped_line_of node)
-  stopped_state fault records None told = refl
+  stopped_state fault records None told = append-nil (with_line_feed (stopped_line_of node))
   stopped_state fault records (Some running) told = absurd told
 
   -- a node that is there and tells no number is stopped

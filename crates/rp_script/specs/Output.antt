@@ -27,10 +27,10 @@ use Rattle.rp_model.specs.Parts.{NodePart, Running}
 use Rattle.rp_model.specs.Effect.{Setting}
 use Rattle.rp_model.specs.Events.{event_of}
 use Rattle.rp_model.specs.World.{World, Happening, opening_world, event_effect, part_at}
-use Rattle.rp_script.specs.Items.{Item, Called, Replied, Shown, Other, item_text, items_text}
-use Rattle.rp_script.specs.Printed.{refused_line_of, opened_line_of, running_line_of, full_line_of, stopped_line_of, limit_line_of}
+use Rattle.rp_script.specs.Items.{Item, Called, Replied, Shown, Noted, Note, Sent, Opened, AlreadyRunning, PendingFull, Stopped, Refused, DrainLimit, item_text, items_text}
+use Rattle.rp_script.specs.Printed.{opened_line_of, running_line_of, full_line_of, stopped_line_of}
 use Rattle.rp_script.specs.FaultLine.{with_line_feed}
-use Rattle.rp_script.specs.Trace.{task_name, message_line_of}
+use Rattle.rp_script.specs.Trace.{task_name, message_line_of, party_text_of}
 use Rattle.rp_deck.specs.declared.deck.Command.{Command}
 use Rattle.rp_deck.specs.declared.deck.Command.TheVariants.{Take, Lose, Drain, Show}
 use Rattle.rp_deck.specs.declared.deck.Deck.{Deck}
@@ -64,9 +64,9 @@ text_of said = items_text said.items
 abbrev pub nothing_said : Play → Said
 nothing_said play = record { items = []; play = play }
 
--- a line is printed, and the play stays
-abbrev pub line_said : Play → List ℕ → Said
-line_said play line = record { items = Other (with_line_feed line) ∷ []; play = play }
+-- there is one note, and the play stays
+abbrev pub note_said : Play → Note → Said
+note_said play note = record { items = Noted (note ∷ []) ∷ []; play = play }
 
 -- one thing, and then what comes of the play after it
 abbrev pub and_then : Said → (Play → Said) → Said
@@ -112,7 +112,7 @@ abbrev pub lost : ℕ → Play → ℕ → ℕ → Said
 lost line play first last =
     if nat_le first (length play.world.sent) && nat_le last (length play.world.sent)
     then record { items = []; play = record { world = play.world; settled = from_to first last ++ play.settled } }
-    else line_said play (refused_line_of line NoSuchMessage)
+    else note_said play (Refused line NoSuchMessage)
 
 -- ---- what is told of an event that happened
 
@@ -129,10 +129,31 @@ trace_text names number (m ∷ rest) = with_line_feed (message_line_of names num
 abbrev pub traced_text : Bool → List (List ℕ) → ℕ → List Message → List ℕ
 traced_text traced names number packets = if traced then trace_text names number packets else []
 
+-- the notes of these
+abbrev pub trace_notes : List (List ℕ) → ℕ → List Message → List Note
+trace_notes names number [] = []
+trace_notes names number (m ∷ rest) =
+    Sent number (party_text_of names m.from) (party_text_of names m.to) m.body ∷ trace_notes names (suc number) rest
+
+abbrev pub traced_notes : Bool → List (List ℕ) → ℕ → List Message → List Note
+traced_notes traced names number packets = if traced then trace_notes names number packets else []
+
 -- of a restart: what the node found, or that it runs
 abbrev pub restarted_text : ℕ → Option (ℕ × ℕ) → List ℕ
 restarted_text node None = with_line_feed (running_line_of node)
 restarted_text node (Some found) = with_line_feed (opened_line_of node found.0 found.1)
+
+abbrev pub restarted_note : ℕ → Option (ℕ × ℕ) → Note
+restarted_note node None = AlreadyRunning node
+restarted_note node (Some found) = Opened node found.0 found.1
+
+abbrev pub opened_notes : Event → Option (ℕ × ℕ) → List Note
+opened_notes (Submit task node object operation arg) opened = []
+opened_notes (Again task node) opened = []
+opened_notes (Node step) opened = []
+opened_notes (Cut step kept) opened = []
+opened_notes (Stop node) opened = []
+opened_notes (Restart node) opened = restarted_note node opened ∷ []
 
 abbrev pub opened_text : Event → Option (ℕ × ℕ) → List ℕ
 opened_text (Submit task node object operation arg) opened = []
@@ -179,6 +200,15 @@ dropped_text place No = []
 dropped_text place Full = full_text place
 dropped_text place Foreign = []
 
+abbrev pub full_notes : Option ℕ → List Note
+full_notes None = []
+full_notes (Some node) = PendingFull node ∷ []
+
+abbrev pub dropped_notes : Option ℕ → Dropped → List Note
+dropped_notes place No = []
+dropped_notes place Full = full_notes place
+dropped_notes place Foreign = []
+
 -- the call that an event makes
 abbrev pub called_by : Event → List Item
 called_by (Submit task node object operation arg) =
@@ -206,6 +236,9 @@ taken_text names (Some answer) = item_text (reply_item names answer)
 abbrev pub changed_text : List Message → Event → Option (ℕ × ℕ) → Dropped → List ℕ
 changed_text sent event opened dropped = opened_text event opened ++ dropped_text (node_of_event sent event) dropped
 
+abbrev pub changed_notes : List Message → Event → Option (ℕ × ℕ) → Dropped → List Note
+changed_notes sent event opened dropped = opened_notes event opened ++ dropped_notes (node_of_event sent event) dropped
+
 -- the same, and then the line of a reply that was taken
 abbrev pub effect_text : List (List ℕ) → List Message → Event → Option (ℕ × ℕ) → Dropped → Option Answer → List ℕ
 effect_text names sent event opened dropped taken =
@@ -218,19 +251,19 @@ module _ {S : Type 0} (s : RunSetting S) where
   abbrev pub effect_of : World → Event → Result Happening Fault
   effect_of world event = event_effect s.setting world (event_of event)
 
-  -- Where something happens in a world: the call that is made, what is printed, packets first if they are
+  -- Where something happens in a world: the call that is made, what is noted, packets first if they are
   -- told, and the reply that is taken.
   abbrev pub happening_items : World → Event → Happening → List Item
   happening_items before event happening =
-      called_by event ++ Other (traced_text s.traced s.names (length before.sent + 1) happening.sends
-      ++ changed_text happening.world.sent event happening.opened happening.dropped) ∷ taken_items s.names happening.taken
+      called_by event ++ Noted (traced_notes s.traced s.names (length before.sent + 1) happening.sends
+      ++ changed_notes happening.world.sent event happening.opened happening.dropped) ∷ taken_items s.names happening.taken
 
   -- What happened is told, and settles its messages. What was refused prints why, and leaves the play as it
   -- is.
   abbrev pub effect_said : ℕ → Play → Event → Result Happening Fault → Said
   effect_said line play event (Ok happening) =
       record { items = happening_items play.world event happening; play = record { world = happening.world; settled = settled_by event ++ play.settled } }
-  effect_said line play event (Err refusal) = line_said play (refused_line_of line refusal)
+  effect_said line play event (Err refusal) = note_said play (Refused line refusal)
 
   -- an event of the line of this number
   unfoldable pub event_said : ℕ → Play → Event → Said
@@ -240,7 +273,7 @@ module _ {S : Type 0} (s : RunSetting S) where
   -- delivered.
   unfoldable pub drain_from : ℕ → Play → Option ℕ → ℕ → Said
   drain_from line play None most = nothing_said play
-  drain_from line play (Some message) zero = line_said play (limit_line_of line)
+  drain_from line play (Some message) zero = note_said play (DrainLimit line)
   drain_from line play (Some message) (suc most) =
       and_then (event_said line play (Node (Deliver message))) (λ after. drain_from line after (least_unsettled after) most)
 
@@ -250,7 +283,7 @@ module _ {S : Type 0} (s : RunSetting S) where
 
   -- what is shown of a node with these records, stopped or running
   abbrev pub state_item : ℕ → List Rec → Option Running → Item
-  state_item node records None = Other (with_line_feed (stopped_line_of node))
+  state_item node records None = Noted (Stopped node ∷ [])
   state_item node records (Some running) =
       Shown node (min (length (applied_of records)) (2 ^ 16 - 1))
       (s.image (replay_state s.setting.next s.setting.answers s.setting.begin (applied_of records)))

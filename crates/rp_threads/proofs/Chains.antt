@@ -37,32 +37,33 @@ none_turned first = record {
   idle = λ none. omega (arith, none);
 }
 
-module _ {S P : Type 0} (next : S → Action → S) (answers : S → Action → List Answer) (begin : P → S) (lets : ℕ → ℕ → Bool) (nodes : ℕ) where
-  one_turned : (first before now : NodeAt P) (n : ℕ) → HasTurned first n before → IsNextTurn next answers begin lets nodes (suc n) before now → HasTurned first (suc n) now
+module _ {S P : Type 0} (next : S → Action → S) (answers : S → Action → List Answer) (begin : P → S) (lets : ℕ → ℕ → Bool) (heard : ℕ → ℕ → ℕ → Type 0) (nodes : ℕ) where
+  one_turned : (first before now : NodeAt P) (n : ℕ) → HasTurned first n before → IsNextTurn next answers begin lets heard nodes (suc n) before now → HasTurned first (suc n) now
   one_turned first before now n has t =
       let from = sender_at nodes (suc n) in
       let number = before.seat.number in
       let lead = is_to_lead number (suc n) in
       let passes = lets number (suc n) in
+      let hears = heard number (suc n) in
       let more : now.seat.part.events ≡ before.seat.part.events + events_of t.made =
-      turned_events next answers begin from lead before.seat now.seat before.line now.line passes t.made t.turns in
+      turned_events next answers begin from lead before.seat now.seat before.line now.line hears passes t.made t.turns in
       let count : now.counts.received + now.counts.led ≡ before.counts.received + before.counts.led + events_of t.made =
       ap (λ (c : Counts). c.received + c.led) t.counts ∙ counted_events t.made before.counts in
       let total : total_of now.counts ≡ total_of before.counts + 1 = ap total_of t.counts ∙ counted_total t.made before.counts in
       let off : t.made ≡ Some Idle → suc n % (8 + number) ≢ 0 =
-      λ idle. led_off (suc n) number number refl (turned_idle next answers begin from lead before.seat now.seat before.line now.line passes t.made t.turns idle) in
+      λ idle. led_off (suc n) number number refl (turned_idle next answers begin from lead before.seat now.seat before.line now.line hears passes t.made t.turns idle) in
       let were = has.events in
       let totals = has.total in
       record {
-        same = same_on first.seat before.seat now.seat has.same (turned_same next answers begin from lead before.seat now.seat before.line now.line passes t.made t.turns);
-        sound = sound_on first.seat before.seat now.seat has.sound (turned_sound next answers begin from lead before.seat now.seat before.line now.line passes t.made t.turns);
+        same = same_on first.seat before.seat now.seat has.same (turned_same next answers begin from lead before.seat now.seat before.line now.line hears passes t.made t.turns);
+        sound = sound_on first.seat before.seat now.seat has.sound (turned_sound next answers begin from lead before.seat now.seat before.line now.line hears passes t.made t.turns);
         total = omega (arith, total, totals);
         events = omega (arith, were, more, count);
         idle = λ none. subst (λ (c : Counts). c.idle ≤ turns_off (8 + first.seat.number) (suc n)) (sym t.counts)
             (counted_idle t.made before.counts number first.seat.number n (suc n) refl has.same.number off (has.idle none));
       }
 
-  all_turned : (first : NodeAt P) (n : ℕ) (now : NodeAt P) → AreTurns next answers begin lets nodes first n now → HasTurned first n now
+  all_turned : (first : NodeAt P) (n : ℕ) (now : NodeAt P) → AreTurns next answers begin lets heard nodes first n now → HasTurned first n now
   all_turned first zero now are = subst (λ (at : NodeAt P). HasTurned first 0 at) (sym are) (none_turned first)
   all_turned first (suc n) now are = one_turned first are.0 now n (all_turned first n are.0 are.1) are.2
 
@@ -85,9 +86,9 @@ module _ {S P : Type 0} (next : S → Action → S) (answers : S → Action → 
 
   module _ {M D : Type 0} (turns : ℕ) (seat : Chair P) (line : Line) (lost : ℕ) where
     abbrev IsEnd : NodeEnd M D P → Type 0
-    IsEnd end = IsLooped next answers begin lets nodes turns seat line end
+    IsEnd end = IsLooped next answers begin lets heard nodes turns seat line end
 
-    pub looped : (now : NodeAt P) → AreTurns next answers begin lets nodes (before_turns seat line) turns now → IsEnd (end_of now.counts now.seat lost None)
+    pub looped : (now : NodeAt P) → AreTurns next answers begin lets heard nodes (before_turns seat line) turns now → IsEnd (end_of now.counts now.seat lost None)
     looped now are =
         let has = all_turned (before_turns seat line) turns now are in
         let total = has.total in
@@ -102,7 +103,7 @@ module _ {S P : Type 0} (next : S → Action → S) (answers : S → Action → 
           fault = tt;
         }
 
-    pub ended : (done : ℕ) (before : NodeAt P) (last : Chair P) (after : Line) (fault : Fault) → AreTurns next answers begin lets nodes (before_turns seat line) done before → done < turns
+    pub ended : (done : ℕ) (before : NodeAt P) (last : Chair P) (after : Line) (fault : Fault) → AreTurns next answers begin lets heard nodes (before_turns seat line) done before → done < turns
         → is_refusal fault ≡ false → lets before.seat.number (suc done) ≡ true
         → IsUnmade next answers begin (sender_at nodes (suc done)) (is_to_lead before.seat.number (suc done)) before.seat last before.line after fault
         → IsEnd (end_of before.counts last lost (Some fault))

@@ -11,7 +11,7 @@ use Rattle.rp_tasks.specs.Line.{Line}
 use Rattle.rp_boxes.specs.Parts.{Part}
 use Rattle.rp_boxes.specs.Seats.{Chair, HasApplied, IsRunning}
 use Rattle.rp_threads.specs.Loops.{is_refusal, is_idle, events_of, IsSameSeat}
-use Rattle.rp_threads.specs.Rounds.{HasPending, IsToLeadAt, IsLeadAnew, IsLedAnew, IsStoppedAnew, IsMade, IsUnmade, IsMadeOrSkipped}
+use Rattle.rp_threads.specs.Rounds.{HasPending, IsToLeadAt, IsLeadAnew, IsLedAnew, IsStoppedAnew, IsMade, IsUnmade, IsMadeOrSkipped, turned_so}
 use Rattle.rp_threads.specs.Turns.{IsEventBy, IsStopBy, IsNodeTurn}
 use Rattle.rp_threads.specs.declared.turns.Turn.{Turn}
 use Rattle.rp_threads.specs.declared.turns.Turn.TheVariants.{Received, Led, Idle}
@@ -21,9 +21,9 @@ use Rattle.rp_threads.proofs.Steps.{same_part, same_seat, same_on, stop_same, st
 module _ {S P : Type 0} (next : S → Action → S) (answers : S → Action → List Answer) (begin : P → S) (from : Party) (lead : Bool) (old new : Chair P) (line after : Line) where
   -- ---- it stays the same seat
 
-  pub made_same : (turn : Turn) → IsMade next answers begin from lead old new line after turn → IsSameSeat old new
-  made_same turn (inl own) = turn_same next answers begin from lead old new line after own.0 own.1
-  made_same turn (inr anew) =
+  pub made_same : (turn : Turn) (sent : ℕ) → IsMade next answers begin from lead old new line after turn sent → IsSameSeat old new
+  made_same turn sent (inl own) = turn_same next answers begin from lead old new line after (turned_so turn sent) own
+  made_same turn sent (inr anew) =
       let led = anew.1 in
       same_on old led.between new (turn_same next answers begin from lead old led.between line after led.turned led.first) (same_part led.between new _ led.leads.turn.after)
 
@@ -34,10 +34,10 @@ module _ {S P : Type 0} (next : S → Action → S) (answers : S → Action → 
       same_on old anew.between new (turn_same next answers begin from lead old anew.between line after anew.turned anew.first)
       (stop_same next answers begin (IsLeadAnew anew.between.part) anew.between new fault anew.stops)
 
-  pub turned_same : (passes : Bool) (made : Option Turn) → IsMadeOrSkipped next answers begin from lead old new line after passes made → IsSameSeat old new
-  turned_same passes (Some turn) made = made_same turn made.1
-  turned_same passes None (inl stays) = same_seat old new stays.1
-  turned_same passes None (inr refused) = unmade_same refused.1 refused.3
+  pub turned_same : (heard : ℕ → Type 0) (passes : Bool) (made : Option Turn) → IsMadeOrSkipped next answers begin from lead old new line after heard passes made → IsSameSeat old new
+  turned_same heard passes (Some turn) made = made_same turn made.1 made.2
+  turned_same heard passes None (inl stays) = same_seat old new stays.1
+  turned_same heard passes None (inr refused) = unmade_same refused.1 refused.3
 
   -- ---- one event more, or none
 
@@ -48,10 +48,9 @@ module _ {S P : Type 0} (next : S → Action → S) (answers : S → Action → 
       turn_events next answers begin from lead old between line after turned t ∙ ap (λ (u : Turn). old.part.events + events_of (Some u)) idle in
       omega (arith, e)
 
-  made_events : (turn : Turn) → IsMade next answers begin from lead old new line after turn → new.part.events ≡ old.part.events + events_of (Some turn)
-  made_events turn (inl own) =
-      turn_events next answers begin from lead old new line after own.0 own.1 ∙ ap (λ (u : Turn). old.part.events + events_of (Some u)) own.2
-  made_events turn (inr anew) =
+  made_events : (turn : Turn) (sent : ℕ) → IsMade next answers begin from lead old new line after turn sent → new.part.events ≡ old.part.events + events_of (Some turn)
+  made_events turn sent (inl own) = turn_events next answers begin from lead old new line after (turned_so turn sent) own
+  made_events turn sent (inr anew) =
       let led = anew.1 in
       let first = idle_events led.between led.turned led.first led.idle in
       let more : new.part.events ≡ led.between.part.events + 1 = ap (λ (c : Chair P). c.part.events) led.leads.turn.after in
@@ -65,21 +64,21 @@ module _ {S P : Type 0} (next : S → Action → S) (answers : S → Action → 
       ap (λ (c : Chair P). c.part.events) (stop_stays next answers begin (IsLeadAnew anew.between.part) anew.between new fault refuses anew.stops)
       ∙ idle_events anew.between anew.turned anew.first anew.idle
 
-  pub turned_events : (passes : Bool) (made : Option Turn) → IsMadeOrSkipped next answers begin from lead old new line after passes made
+  pub turned_events : (heard : ℕ → Type 0) (passes : Bool) (made : Option Turn) → IsMadeOrSkipped next answers begin from lead old new line after heard passes made
       → new.part.events ≡ old.part.events + events_of made
-  turned_events passes (Some turn) made = made_events turn made.1
-  turned_events passes None (inl stays) = let e : new.part.events ≡ old.part.events = ap (λ (c : Chair P). c.part.events) stays.1 in omega (arith, e)
-  turned_events passes None (inr refused) = let e = unmade_events refused.1 refused.2 refused.3 in omega (arith, e)
+  turned_events heard passes (Some turn) made = made_events turn made.1 made.2
+  turned_events heard passes None (inl stays) = let e : new.part.events ≡ old.part.events = ap (λ (c : Chair P). c.part.events) stays.1 in omega (arith, e)
+  turned_events heard passes None (inr refused) = let e = unmade_events refused.1 refused.2 refused.3 in omega (arith, e)
 
   -- ---- an idle turn was not to lead
 
-  made_idle : (turn : Turn) → IsMade next answers begin from lead old new line after turn → turn ≡ Idle → lead ≡ false
-  made_idle turn (inl own) idle = turn_idle next answers begin from lead old new line after own.0 own.1 (own.2 ∙ idle)
-  made_idle turn (inr anew) idle = let clash : Led ≡ Idle = sym anew.0 ∙ idle in absurd (cc)
+  made_idle : (turn : Turn) (sent : ℕ) → IsMade next answers begin from lead old new line after turn sent → turn ≡ Idle → lead ≡ false
+  made_idle turn sent (inl own) idle = turn_idle next answers begin from lead old new line after (turned_so turn sent) own idle
+  made_idle turn sent (inr anew) idle = let clash : Led ≡ Idle = sym anew.0 ∙ idle in absurd (cc)
 
-  pub turned_idle : (passes : Bool) (made : Option Turn) → IsMadeOrSkipped next answers begin from lead old new line after passes made → made ≡ Some Idle → lead ≡ false
-  turned_idle passes (Some turn) made is = made_idle turn made.1 (cc)
-  turned_idle passes None skipped is = absurd (cc)
+  pub turned_idle : (heard : ℕ → Type 0) (passes : Bool) (made : Option Turn) → IsMadeOrSkipped next answers begin from lead old new line after heard passes made → made ≡ Some Idle → lead ≡ false
+  turned_idle heard passes (Some turn) made is = made_idle turn made.1 made.2 (cc)
+  turned_idle heard passes None skipped is = absurd (cc)
 
 -- ---- a node leads anew
 
@@ -109,8 +108,8 @@ module _ {S P : Type 0} (next : S → Action → S) (answers : S → Action → 
     (first : IsNodeTurn next answers begin from lead old between line after turned) (idle : turned.turn ≡ Idle) where
   pub led_anew : (result : Result Turned Fault)
       → IfOk result (λ made. (made.turn ≡ Led) × IsEventBy next answers begin (IsLeadAnew between.part) between new made.sent)
-      → IfOk result (λ made. IsMade next answers begin from lead old new line after made.turn)
-  led_anew (Ok made) ok = inr (ok.0, record { between = between; turned = turned; first = first; idle = idle; sent = made.sent; leads = ok.1 })
+      → IfOk result (λ made. IsMade next answers begin from lead old new line after made.turn made.sent)
+  led_anew (Ok made) ok = inr (ok.0, record { between = between; turned = turned; first = first; idle = idle; leads = ok.1 })
   led_anew (Err fault) ok = tt
 
   pub not_led_anew : (result : Result Turned Fault)

@@ -19,7 +19,7 @@ use Rattle.rp_boxes.specs.Parts.{Part, Role, OfNode}
 use Rattle.rp_boxes.specs.Seats.{Chair, IsReason, IsStopped, IsTurn, IsNoTurn, setting_at}
 use Rattle.rp_threads.specs.Lines.{given_on}
 use Rattle.rp_threads.specs.Loops.{is_refusal}
-use Rattle.rp_threads.specs.Rounds.{IsLeadAnew, IsMade, IsUnmade, IsMadeOrSkipped}
+use Rattle.rp_threads.specs.Rounds.{IsLeadAnew, IsMade, IsUnmade, IsMadeOrSkipped, turned_so}
 use Rattle.rp_threads.specs.Turns.{MayFetch, IsBrought, IsReceipt, IsLead, IsEventBy, IsStopBy, Works, Fails, IsNodeTurn}
 use Rattle.rp_threads.specs.declared.turns.Turn as declared
 use Rattle.rp_threads.specs.declared.turns.Turned.{Turned}
@@ -173,9 +173,9 @@ module _ {S P : Type 0} (next : S → Action → S) (answers : S → Action → 
     turn_sound between turned t =
         sound_on old t.between between (brought_sound t.between t.full t.brought) (works_sound (given_on t.full) lead t.between between turned.sent t.works)
 
-    made_sound : (turn : declared.Turn) → IsMade next answers begin from lead old new line after turn → IsSound old new
-    made_sound turn (inl own) = turn_sound new own.0 own.1
-    made_sound turn (inr anew) =
+    made_sound : (turn : declared.Turn) (sent : ℕ) → IsMade next answers begin from lead old new line after turn sent → IsSound old new
+    made_sound turn sent (inl own) = turn_sound new (turned_so turn sent) own
+    made_sound turn sent (inr anew) =
         let led = anew.1 in
         sound_on old led.between new (turn_sound led.between led.turned led.first) (event_sound led.between new led.leads.input led.leads.sent led.leads.turn)
 
@@ -188,7 +188,7 @@ module _ {S P : Type 0} (next : S → Action → S) (answers : S → Action → 
         left_on old anew.between new fault (turn_sound anew.between anew.turned anew.first) (stop_left (IsLeadAnew anew.between.part) anew.between new fault anew.stops)
 
     -- a turn that is made or skipped
-    pub turned_sound : (passes : Bool) (made : Option declared.Turn) → IsMadeOrSkipped next answers begin from lead old new line after passes made → IsSound old new
-    turned_sound passes (Some turn) made = made_sound turn made.1
-    turned_sound passes None (inl skipped) = sound_same old new skipped.1
-    turned_sound passes None (inr refused) = sound_left old new refused.1 (refusal_stays refused.1 refused.2) (unmade_left refused.1 refused.3)
+    pub turned_sound : (heard : ℕ → Type 0) (passes : Bool) (made : Option declared.Turn) → IsMadeOrSkipped next answers begin from lead old new line after heard passes made → IsSound old new
+    turned_sound heard passes (Some turn) made = made_sound turn made.1 made.2
+    turned_sound heard passes None (inl skipped) = sound_same old new skipped.1
+    turned_sound heard passes None (inr refused) = sound_left old new refused.1 (refusal_stays refused.1 refused.2) (unmade_left refused.1 refused.3)

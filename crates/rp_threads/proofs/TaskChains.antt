@@ -41,9 +41,9 @@ past_first calls zero none some = absurd (no_first calls some none)
 past_first calls (suc n) none some = omega arith
 
 -- a task that has calls and waits for none has made one, once it asked
-with_some : (calls : List TaskCall) (call : Option TaskCall) (made : ℕ) → slice_get calls made ≡ call → 0 < length calls → 0 < (with_call call made).made
-with_some calls None made none some = past_first calls made none some
-with_some calls (Some call) made at some = omega arith
+with_some : (calls : List TaskCall) (call : Option TaskCall) (so_far : Calls) → slice_get calls so_far.made ≡ call → 0 < length calls → 0 < (with_call call so_far).made
+with_some calls None so_far none some = past_first calls so_far.made none some
+with_some calls (Some call) so_far at some = omega arith
 
 less_of : (m n : ℕ) → nat_lt m n ≡ true → m < n
 less_of m n is = grind (arith, common_steps)
@@ -61,15 +61,15 @@ module _ {S P : Type 0} (next : S → Action → S) (answers : S → Action → 
   fetch_made (Some text) from to old new so_far f =
       (same_part old new _ f.after, fetched_made calls old new f.packet so_far.made so_far.waits f.after)
 
-  heard_on : (given : Option (List ℕ)) (old new : Chair P) (answered : Bool) (so_far : Calls) → Hears given old new answered → IsMadeOn old new so_far (heard_by answered so_far)
-  heard_on None old new answered so_far h =
-      subst (λ (b : Bool). IsMadeOn old new so_far (heard_by b so_far)) (sym h.1)
+  heard_on : (given : Option (List ℕ)) (old new : Chair P) (answered : Bool) (turn : ℕ) (so_far : Calls) → Hears given old new answered → IsMadeOn old new so_far (heard_by answered turn so_far)
+  heard_on None old new answered turn so_far h =
+      subst (λ (b : Bool). IsMadeOn old new so_far (heard_by b turn so_far)) (sym h.1)
       (same_seat old new h.0, λ made. subst (λ (c : Chair P). HasMade calls c so_far.made so_far.waits) (sym h.0) made)
-  heard_on (Some text) old new answered so_far h =
-      subst (λ (b : Bool). IsMadeOn old new so_far (heard_by b so_far)) (sym h.2)
+  heard_on (Some text) old new answered turn so_far h =
+      subst (λ (b : Bool). IsMadeOn old new so_far (heard_by b turn so_far)) (sym h.2)
       (same_part old new _ h.1.after, λ made. heard_if (is_some h.0) (heard_made calls old new text h.0 so_far.made so_far.waits h.1 made))
     where
-      heard_if : (b : Bool) → HasMade calls new so_far.made (if b then false else so_far.waits) → HasMade calls new (heard_by b so_far).made (heard_by b so_far).waits
+      heard_if : (b : Bool) → HasMade calls new so_far.made (if b then false else so_far.waits) → HasMade calls new (heard_by b turn so_far).made (heard_by b turn so_far).waits
       heard_if true made = made
       heard_if false made = made
 
@@ -81,37 +81,37 @@ module _ {S P : Type 0} (next : S → Action → S) (answers : S → Action → 
         → IsMadeOn old.seat new old.so_far so_far
     hears_on turn old new line so_far h =
         subst (λ (c : Calls). IsMadeOn old.seat new old.so_far c) (sym h.counts)
-        (made_then old.seat h.between new old.so_far old.so_far (heard_by h.answered old.so_far)
+        (made_then old.seat h.between new old.so_far old.so_far (heard_by h.answered turn old.so_far)
         (fetch_made h.brought.fetched (Node (node_at nodes turn)) (Task old.seat.number) old.seat h.between old.so_far h.brought.fetch)
-        (heard_on (given_on h.full) h.between new h.answered old.so_far h.hears))
+        (heard_on (given_on h.full) h.between new h.answered turn old.so_far h.hears))
 
     -- ---- what is asked
 
-    submit_on : (call : Option TaskCall) (old new : Chair P) (made : ℕ) → slice_get calls made ≡ call → Asks next answers begin (submitted call) old new
-        → IsMadeOn old new (record { made = made; waits = false }) (with_call call made)
-    submit_on None old new made at a = (same_seat old new a, λ h. subst (λ (c : Chair P). HasMade calls c made false) (sym a) h)
-    submit_on (Some call) old new made at a = (same_part old new _ a.turn.after, λ h. call_made calls old new call made a.sent a.turn at h)
+    submit_on : (call : Option TaskCall) (old new : Chair P) (so_far : Calls) → slice_get calls so_far.made ≡ call → Asks next answers begin (submitted call) old new
+        → IsMadeOn old new (record so_far { waits = false }) (with_call call so_far)
+    submit_on None old new so_far at a = (same_seat old new a, λ h. subst (λ (c : Chair P). HasMade calls c so_far.made false) (sym a) h)
+    submit_on (Some call) old new so_far at a = (same_part old new _ a.turn.after, λ h. call_made calls old new call so_far.made a.sent a.turn at h)
 
-    again_on : (due : Bool) (node : ℕ) (old new : Chair P) (made : ℕ) → Asks next answers begin (if due then Some (Again node) else None) old new
-        → IsMadeOn old new (record { made = made; waits = true }) (record { made = made; waits = true })
-    again_on true node old new made a = (same_part old new _ a.turn.after, λ h. again_made calls old new node made true a.sent a.turn h)
-    again_on false node old new made a = (same_seat old new a, λ h. subst (λ (c : Chair P). HasMade calls c made true) (sym a) h)
+    again_on : (due : Bool) (node : ℕ) (old new : Chair P) (so_far : Calls) → Asks next answers begin (if due then Some (Again node) else None) old new
+        → IsMadeOn old new (record so_far { waits = true }) (record so_far { waits = true })
+    again_on true node old new so_far a = (same_part old new _ a.turn.after, λ h. again_made calls old new node so_far.made true a.sent a.turn h)
+    again_on false node old new so_far a = (same_seat old new a, λ h. subst (λ (c : Chair P). HasMade calls c so_far.made true) (sym a) h)
 
-    asked_on : (waits : Bool) (turn : ℕ) (old new : Chair P) (made : ℕ) → Asks next answers begin (asked_by waits nodes calls made turn) old new
-        → IsMadeOn old new (record { made = made; waits = waits }) (made_by waits calls made)
-    asked_on true turn old new made a = again_on (nat_eq (turn % 16) 0) (node_at nodes (turn / 16)) old new made a
-    asked_on false turn old new made a = submit_on (slice_get calls made) old new made refl a
+    asked_on : (waits : Bool) (turn : ℕ) (old new : Chair P) (so_far : Calls) → Asks next answers begin (asked_by waits nodes calls so_far.made turn) old new
+        → IsMadeOn old new (record so_far { waits = waits }) (made_by waits calls so_far)
+    asked_on true turn old new so_far a = again_on (nat_eq (turn % 16) 0) (node_at nodes (turn / 16)) old new so_far a
+    asked_on false turn old new so_far a = submit_on (slice_get calls so_far.made) old new so_far refl a
 
     turn_on : (turn : ℕ) (old new : TaskAt P) → IsTaskTurnOf next answers begin nodes calls turn old new → IsMadeOn old.seat new.seat old.so_far new.so_far
     turn_on turn old new t =
         subst (λ (c : Calls). IsMadeOn old.seat new.seat old.so_far c) (sym t.counts)
         (made_then old.seat t.heard new.seat old.so_far t.so_far (asked_for calls t.so_far)
-        (hears_on turn old t.heard new.line t.so_far t.hears) (asked_on t.so_far.waits turn t.heard new.seat t.so_far.made t.asks))
+        (hears_on turn old t.heard new.line t.so_far t.hears) (asked_on t.so_far.waits turn t.heard new.seat t.so_far t.asks))
 
-    turns_on : (first : TaskAt P) (n : ℕ) (now : TaskAt P) → AreTaskTurns next answers begin nodes calls first n now → IsMadeOn first.seat now.seat first.so_far now.so_far
-    turns_on first zero now are = subst (λ (at : TaskAt P). IsMadeOn first.seat at.seat first.so_far at.so_far) (sym are) (same_seat first.seat first.seat refl, λ h. h)
-    turns_on first (suc n) now are =
-        made_then first.seat are.0.seat now.seat first.so_far are.0.so_far now.so_far (turns_on first n are.0 are.1) (turn_on (suc n) are.0 now are.2)
+    turns_on : (gate_heard : ℕ → ℕ → Type 0) (first : TaskAt P) (n : ℕ) (now : TaskAt P) → AreTaskTurns next answers begin gate_heard nodes calls first n now → IsMadeOn first.seat now.seat first.so_far now.so_far
+    turns_on gate_heard first zero now are = subst (λ (at : TaskAt P). IsMadeOn first.seat at.seat first.so_far at.so_far) (sym are) (same_seat first.seat first.seat refl, λ h. h)
+    turns_on gate_heard first (suc n) now are =
+        made_then first.seat are.0.seat now.seat first.so_far are.0.so_far now.so_far (turns_on gate_heard first n are.0 are.1) (turn_on (suc n) are.0 now are.2)
 
     -- ---- what is refused
 
@@ -224,47 +224,48 @@ module _ {S P : Type 0} (next : S → Action → S) (answers : S → Action → 
 
     -- ---- the first call is made in the first turn
 
-    some_made : (waits : Bool) (made : ℕ) (seat : Chair P) → HasMade calls seat made waits → 0 < length calls → 0 < (made_by waits calls made).made
-    some_made true made seat h some = let e = h.waiting.2 in omega (arith, e)
-    some_made false made seat h some = with_some calls (slice_get calls made) made refl some
+    some_made : (waits : Bool) (so_far : Calls) (seat : Chair P) → HasMade calls seat so_far.made waits → 0 < length calls → 0 < (made_by waits calls so_far).made
+    some_made true so_far seat h some = let e = h.waiting.2 in omega (arith, e)
+    some_made false so_far seat h some = with_some calls (slice_get calls so_far.made) so_far refl some
 
-    first_made : (first : TaskAt P) (n : ℕ) (now : TaskAt P) → HasMade calls first.seat first.so_far.made first.so_far.waits → AreTaskTurns next answers begin nodes calls first n now
+    first_made : (gate_heard : ℕ → ℕ → Type 0) (first : TaskAt P) (n : ℕ) (now : TaskAt P) → HasMade calls first.seat first.so_far.made first.so_far.waits
+        → AreTaskTurns next answers begin gate_heard nodes calls first n now
         → 0 < length calls → 0 < n → 0 < now.so_far.made
-    first_made first zero now h are some more = absurd (omega (arith, more))
-    first_made first (suc n) now h are some more =
+    first_made gate_heard first zero now h are some more = absurd (omega (arith, more))
+    first_made gate_heard first (suc n) now h are some more =
         let t = are.2 in
-        let made = (hears_on (suc n) are.0 t.heard now.line t.so_far t.hears).1 ((turns_on first n are.0 are.1).1 h) in
-        subst (λ (c : Calls). 0 < c.made) (sym t.counts) (some_made t.so_far.waits t.so_far.made t.heard made some)
+        let made = (hears_on (suc n) are.0 t.heard now.line t.so_far t.hears).1 ((turns_on gate_heard first n are.0 are.1).1 h) in
+        subst (λ (c : Calls). 0 < c.made) (sym t.counts) (some_made t.so_far.waits t.so_far t.heard made some)
 
     -- ---- ends of loops
 
-    module _ {M : Type 0} (turns : ℕ) (seat : Chair P) (line : Line) (fresh : seat.part ≡ fresh_part (OfTask fresh_task)) (last_reply lost : ℕ) where
+    module _ {M : Type 0} (gate_heard : ℕ → ℕ → Type 0) (turns : ℕ) (seat : Chair P) (line : Line) (fresh : seat.part ≡ fresh_part (OfTask fresh_task)) (lost : ℕ) where
       abbrev IsEnd : TaskEnd M P → Type 0
-      IsEnd end = IsTaskLooped next answers begin nodes turns calls seat line end
+      IsEnd end = IsTaskLooped next answers begin gate_heard nodes turns calls seat line end
 
-      pub task_looped : (now : TaskAt P) → AreTaskTurns next answers begin nodes calls (before_calls seat line) turns now → IsEnd (task_end_of now.seat now.so_far.made last_reply lost None)
+      pub task_looped : (now : TaskAt P) → AreTaskTurns next answers begin gate_heard nodes calls (before_calls seat line) turns now → IsEnd (task_end_of now.seat now.so_far lost None)
       task_looped now are =
-          let on = turns_on (before_calls seat line) turns now are in
+          let on = turns_on gate_heard (before_calls seat line) turns now are in
           let none = none_made calls seat fresh in
           record {
             same = on.0;
             turned = λ ended. (now.line, now.so_far.waits, are);
             made = (now.so_far.waits, on.1 none);
-            first = λ ended some more. first_made (before_calls seat line) turns now none are some more;
+            first = λ ended some more. first_made gate_heard (before_calls seat line) turns now none are some more;
             fault = tt;
           }
 
-      pub task_ended : (done : ℕ) (before last : TaskAt P) (fault : Fault) → 1 ≤ nodes → AreTaskTurns next answers begin nodes calls (before_calls seat line) done before → done < turns
-          → IsUnmadeTurn nodes calls (suc done) before last fault → IsEnd (task_end_of last.seat last.so_far.made last_reply lost (Some fault))
-      task_ended done before last fault some are within unmade =
-          let on = turns_on (before_calls seat line) done before are in
+      pub task_ended : (done : ℕ) (before last : TaskAt P) (fault : Fault) → 1 ≤ nodes → AreTaskTurns next answers begin gate_heard nodes calls (before_calls seat line) done before → done < turns
+          → gate_heard before.seat.number (suc done) → IsUnmadeTurn nodes calls (suc done) before last fault → IsEnd (task_end_of last.seat last.so_far lost (Some fault))
+      task_ended done before last fault some are within heard unmade =
+          let on = turns_on gate_heard (before_calls seat line) done before are in
           let left = unmade_on (suc done) seat before last fault some on.0 (on.1 (none_made calls seat fresh)) unmade in
           record {
             same = left.0;
             turned = λ none. absurd (some_fault fault none);
             made = (last.so_far.waits, left.1);
             first = λ none. absurd (some_fault fault none);
-            fault = (last.line, last.so_far.waits, record { cause = left.2; done = done; within = within; before = before; made = are; unmade = unmade });
+            fault = (last.line, last.so_far.waits, record { cause = left.2; done = done; within = within; before = before; made = are; heard = heard; unmade = unmade });
           }
         where
           some_fault : (f : Fault) → Some f ≡ None → ⊥
@@ -285,7 +286,7 @@ module _ {S P : Type 0} (next : S → Action → S) (answers : S → Action → 
   }))
 
   module _ (heard : Chair P) (so_far : Calls) (answered : Bool) (hears : Hears (given_on full) between heard answered) (gives : new.line ≡ line_after full)
-      (counts : so_far ≡ heard_by answered old.so_far) where
+      (counts : so_far ≡ heard_by answered turn old.so_far) where
     abbrev is_heard : IsHeard nodes calls turn old heard new.line so_far
     is_heard = record { between = between; full = full; brought = brought; answered = answered; hears = hears; gives = gives; counts = counts }
 

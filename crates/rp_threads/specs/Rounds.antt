@@ -35,15 +35,18 @@ pub record IsToLeadAt (part : Part) (position : ℕ) : Type 0 where
 abbrev pub IsLeadAnew : Part → Input → Type 0
 IsLeadAnew part input = (position : ℕ) × IsToLeadAt part position × (input ≡ Lead (Some position))
 
+-- a turn of this kind, in which so many packets were sent
+abbrev pub turned_so : Turn → ℕ → Turned
+turned_so turn sent = record { turn = turn; sent = sent }
+
 module _ {S P : Type 0} (next : S → Action → S) (answers : S → Action → List Answer) (begin : P → S) where
   module _ (from : Party) (lead : Bool) (old new : Chair P) (line after : Line) where
-    -- The turn of the node was idle, and it led anew.
-    pub record IsLedAnew : Type 0 where
+    -- The turn of the node was idle, and it led anew: so many packets were sent.
+    pub record IsLedAnew (sent : ℕ) : Type 0 where
       pub between : Chair P
       pub turned : Turned
       pub first : IsNodeTurn next answers begin from lead old between line after turned
       pub idle : turned.turn ≡ Idle
-      pub sent : ℕ
       pub leads : IsEventBy next answers begin (IsLeadAnew between.part) between new sent
 
     -- The turn of the node was idle, and the step by which it was to lead anew was cut, or was none.
@@ -54,21 +57,22 @@ module _ {S P : Type 0} (next : S → Action → S) (answers : S → Action → 
       pub idle : turned.turn ≡ Idle
       pub stops : IsStopBy next answers begin (IsLeadAnew between.part) between new fault
 
-    -- the turn that was made: the node's own, or one in which it led anew
-    abbrev pub IsMade : Turn → Type 0
-    IsMade turn = ((turned : Turned) × IsNodeTurn next answers begin from lead old new line after turned × (turned.turn ≡ turn))
-        ⊎ ((turn ≡ Led) × IsLedAnew)
+    -- the turn that was made, in which so many packets were sent: the node's own, or one in which it led anew
+    abbrev pub IsMade : Turn → ℕ → Type 0
+    IsMade turn sent = IsNodeTurn next answers begin from lead old new line after (turned_so turn sent)
+        ⊎ ((turn ≡ Led) × IsLedAnew sent)
 
     -- a fault, by which no turn was made
     abbrev pub IsUnmade : Fault → Type 0
     IsUnmade fault = IsLost from (Node old.number) old new line after fault
         ⊎ (IsStoppedTurn next answers begin from lead old new line after fault ⊎ IsStoppedAnew fault)
 
-    -- a turn that was made, or skipped: by the gate, or since the node was refused to lead
-    abbrev pub IsMadeOrSkipped : Bool → Option Turn → Type 0
-    IsMadeOrSkipped passes (Some turn) = (passes ≡ true) × IsMade turn
-    IsMadeOrSkipped passes None = ((passes ≡ false) × (new ≡ old) × (after ≡ line))
-        ⊎ ((passes ≡ true) × (fault : Fault) × (is_refusal fault ≡ true) × IsUnmade fault)
+    -- a turn that was made, or skipped: by the gate, or since the node was refused to lead. Unless the gate skips it, that
+    -- hears how many packets were sent in it
+    abbrev pub IsMadeOrSkipped : (ℕ → Type 0) → Bool → Option Turn → Type 0
+    IsMadeOrSkipped heard passes (Some turn) = (passes ≡ true) × (sent : ℕ) × IsMade turn sent × heard sent
+    IsMadeOrSkipped heard passes None = ((passes ≡ false) × (new ≡ old) × (after ≡ line))
+        ⊎ ((passes ≡ true) × (fault : Fault) × (is_refusal fault ≡ true) × IsUnmade fault × heard 0)
 
 -- where a node's loop is: its seat, its line, and how many turns of each kind it made
 pub record NodeAt (P : Type 0) : Type 0 where
@@ -92,11 +96,12 @@ IsNodeFault first last Device = first.failures < last.failures
 IsNodeFault first last Failed = IsStopped first.part
 IsNodeFault first last _ = ⊥
 
-module _ {S P : Type 0} (next : S → Action → S) (answers : S → Action → List Answer) (begin : P → S) (lets : ℕ → ℕ → Bool) (nodes : ℕ) where
-  -- the turn of this number, of a node among so many: the gate is asked about it, and the box of its sender is emptied
+module _ {S P : Type 0} (next : S → Action → S) (answers : S → Action → List Answer) (begin : P → S) (lets : ℕ → ℕ → Bool) (heard : ℕ → ℕ → ℕ → Type 0) (nodes : ℕ) where
+  -- the turn of this number, of a node among so many: the gate is asked about it and hears of it, and the box of its sender
+  -- is emptied
   abbrev pub IsTurnOf : ℕ → Chair P → Chair P → Line → Line → Option Turn → Type 0
   IsTurnOf turn old new line after made =
-      IsMadeOrSkipped next answers begin (sender_at nodes turn) (is_to_lead old.number turn) old new line after (lets old.number turn) made
+      IsMadeOrSkipped next answers begin (sender_at nodes turn) (is_to_lead old.number turn) old new line after (heard old.number turn) (lets old.number turn) made
 
   -- One turn more, which is counted.
   pub record IsNextTurn (turn : ℕ) (old new : NodeAt P) : Type 0 where

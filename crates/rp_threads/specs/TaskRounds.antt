@@ -30,9 +30,9 @@ abbrev pub Hears : {P : Type 0} → Option (List ℕ) → Chair P → Chair P �
 Hears None old new answered = (new ≡ old) × (answered ≡ false)
 Hears (Some text) old new answered = (taken : Option Answer) × IsReplyTurn old text new taken × (answered ≡ is_some taken)
 
--- once a call has its reply, the task waits for none
-abbrev pub heard_by : Bool → Calls → Calls
-heard_by answered so_far = if answered then record so_far { waits = false } else so_far
+-- once a call has its reply, in this turn, the task waits for none
+abbrev pub heard_by : Bool → ℕ → Calls → Calls
+heard_by answered turn so_far = if answered then record so_far { waits = false; last_reply = turn } else so_far
 
 -- ---- what is asked
 
@@ -68,16 +68,16 @@ IsRefused (Some input) old new fault = IsNoTaskTurn old input new fault
 
 -- how many calls are made then, and whether the task waits: a task that waits goes on to wait, and else waits for its
 -- next call, if there is one
-abbrev pub with_call : Option TaskCall → ℕ → Calls
-with_call None made = record { made = made; waits = false }
-with_call (Some call) made = record { made = made + 1; waits = true }
+abbrev pub with_call : Option TaskCall → Calls → Calls
+with_call None so_far = record so_far { waits = false }
+with_call (Some call) so_far = record so_far { made = so_far.made + 1; waits = true }
 
-abbrev pub made_by : Bool → List TaskCall → ℕ → Calls
-made_by true calls made = record { made = made; waits = true }
-made_by false calls made = with_call (slice_get calls made) made
+abbrev pub made_by : Bool → List TaskCall → Calls → Calls
+made_by true calls so_far = record so_far { waits = true }
+made_by false calls so_far = with_call (slice_get calls so_far.made) so_far
 
 abbrev pub asked_for : List TaskCall → Calls → Calls
-asked_for calls so_far = made_by so_far.waits calls so_far.made
+asked_for calls so_far = made_by so_far.waits calls so_far
 
 -- ---- turns
 
@@ -102,7 +102,7 @@ module _ {P : Type 0} (nodes : ℕ) (calls : List TaskCall) where
     pub answered : Bool
     pub hears : Hears (given_on full) between new answered
     pub gives : line ≡ line_after full
-    pub counts : so_far ≡ heard_by answered old.so_far
+    pub counts : so_far ≡ heard_by answered turn old.so_far
 
   -- The turn was not made: what the line gave on is lost, since memory ran out.
   pub record IsUnheard (turn : ℕ) (old new : TaskAt P) (fault : Fault) : Type 0 where
@@ -133,16 +133,19 @@ module _ {S P : Type 0} (next : S → Action → S) (answers : S → Action → 
     pub asks : Asks next answers begin (asked_in nodes calls turn so_far) heard new.seat
     pub counts : new.so_far ≡ asked_for calls so_far
 
-  -- the turns 1 to n, one after the other
+module _ {S P : Type 0} (next : S → Action → S) (answers : S → Action → List Answer) (begin : P → S) (gate_heard : ℕ → ℕ → Type 0) (nodes : ℕ) (calls : List TaskCall) where
+  -- the turns 1 to n, one after the other; the gate hears of each
   abbrev pub AreTaskTurns : TaskAt P → ℕ → TaskAt P → Type 0
   AreTaskTurns first zero now = now ≡ first
-  AreTaskTurns first (suc n) now = (before : TaskAt P) × AreTaskTurns first n before × IsTaskTurnOf (suc n) before now
+  AreTaskTurns first (suc n) now =
+      (before : TaskAt P) × AreTaskTurns first n before × IsTaskTurnOf next answers begin nodes calls (suc n) before now × gate_heard before.seat.number (suc n)
 
-  -- After some turns the next one, of at most so many, was not made.
+  -- After some turns the next one, of at most so many, was not made. The gate heard of it too.
   pub record IsTaskEndedBy (first : TaskAt P) (turns : ℕ) (last : TaskAt P) (fault : Fault) : Type 0 where
     pub cause : IsTaskFault nodes calls first.seat last.so_far.made fault
     pub done : ℕ
     pub within : done < turns
     pub before : TaskAt P
     pub made : AreTaskTurns first done before
+    pub heard : gate_heard before.seat.number (suc done)
     pub unmade : IsUnmadeTurn nodes calls (suc done) before last fault

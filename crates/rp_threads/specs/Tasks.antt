@@ -57,4 +57,4 @@ pub record TaskAt (P : Type 0) : Type 0 where
 
 -- before its first turn
 abbrev pub before_calls : {P : Type 0} → Chair P → Line → TaskAt P
-before_calls seat line = record { seat = seat; line = line; so_far = record { made = 0; waits = false } }
+before_calls seat line = record { seat = seat; line = line; so_far = record { made = 0; waits = false; last_reply = 0 } }

@@ -12,15 +12,24 @@ pub trait Gate {
     /// Whether the node of a number makes the turn of a number.
     ghost lets: { ℕ → ℕ → Bool };
 
+    /// What holds once the gate heard that the node of a number made the turn of a number and sent so
+    /// many packets in it.
+    ghost heard: { ℕ → ℕ → ℕ → Type 0 };
+
+    /// What holds once the gate heard that the task of a number makes the turn of a number.
+    ghost heard_task: { ℕ → ℕ → Type 0 };
+
     /// Whether the node is to make this turn; else the turn is skipped.
     fn before(&self, node: NodeId, turn: u64) -> bool
         ensures { result ≡ lets node turn };
 
     /// The node made this turn, in which it sent so many packets; none where the turn was refused.
-    fn after(&self, node: NodeId, turn: u64, sent: u32);
+    fn after(&self, node: NodeId, turn: u64, sent: usize)
+        ensures { heard node turn sent };
 
     /// The task makes this turn once the gate returns.
-    fn before_task(&self, task: TaskId, turn: u64);
+    fn before_task(&self, task: TaskId, turn: u64)
+        ensures { heard_task task turn };
 }
 
 /// Lets each node make each of its turns, and holds nobody up.
@@ -32,11 +41,15 @@ impl Gate for Open {
 
     ghost lets = { λ node turn. true };
 
+    ghost heard = { λ node turn sent. Unit {0} };
+
+    ghost heard_task = { λ task turn. Unit {0} };
+
     fn before(&self, _node: NodeId, _turn: u64) -> bool {
         true
     }
 
-    fn after(&self, _node: NodeId, _turn: u64, _sent: u32) {}
+    fn after(&self, _node: NodeId, _turn: u64, _sent: usize) {}
 
     fn before_task(&self, _task: TaskId, _turn: u64) {}
 }

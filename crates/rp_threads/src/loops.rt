@@ -139,7 +139,7 @@ impl<M: Machine, D: Device> Worker<M, D> {
         requires held { HoldsTextsOf self.old.seat.part.got self.old.line }
         ensures held { HoldsTextsOf self.new.seat.part.got self.new.line }
         ensures ok { IfOk result (λ turned. IsMade M.next M.answers M.begin from lead
-            self.old.seat self.new.seat self.old.line self.new.line turned.turn) }
+            self.old.seat self.new.seat self.old.line self.new.line turned.turn turned.sent) }
         ensures err { IfErr result (λ fault. IsUnmade M.next M.answers M.begin from lead
             self.old.seat self.new.seat self.old.line self.new.line fault) }
     {
@@ -180,7 +180,7 @@ impl<M: Machine, D: Device> Worker<M, D> {
         requires nodes { nodes ≤ 7 }
         requires held { HoldsTextsOf self.old.seat.part.got self.old.line }
         ensures held { HoldsTextsOf self.new.seat.part.got self.new.line }
-        ensures ok { IfOk result (IsTurnOf M.next M.answers M.begin G.lets nodes turn
+        ensures ok { IfOk result (IsTurnOf M.next M.answers M.begin G.lets G.heard nodes turn
             self.old.seat self.new.seat self.old.line self.new.line) }
         ensures err { IfErr result (λ fault. (is_refusal fault ≡ false)
             × (G.lets self.old.seat.number turn ≡ true)
@@ -195,7 +195,7 @@ impl<M: Machine, D: Device> Worker<M, D> {
         let lead = turn % (8 + u64::from(node.get())) == 0;
         match self.work(alloc, sender(nodes, turn), lead) {
             Ok(turned) => {
-                gate.after(node, turn, u32::try_from(turned.sent).unwrap_or(u32::MAX));
+                gate.after(node, turn, turned.sent);
                 Ok(Some(turned.turn))
             }
             Err(fault) if refuses_to_lead(fault) => {
@@ -223,7 +223,7 @@ pub fn node_loop<M: Machine, D: Device, G: Gate>(
 ) -> NodeEnd<M, D>
     requires nodes { nodes ≤ 7 }
     requires line { line.held ≡ [] }
-    ensures { IsLooped M.next M.answers M.begin G.lets nodes turns seat line result }
+    ensures { IsLooped M.next M.answers M.begin G.lets G.heard nodes turns seat line result }
 {
     let mut worker = Worker {
         seat,

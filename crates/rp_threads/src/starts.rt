@@ -47,26 +47,27 @@ pub(crate) struct NodeOwes<M: Machine, D: Device, G: Gate> {
 impl<M: Machine, D: Device, G: Gate> Promise<NodeEnd<M, D>> for NodeOwes<M, D, G> {
     ghost use Rattle.rp_threads.specs.Threads.{IsLooped};
 
-    ghost kept_by = { λ owes end. IsLooped M.next M.answers M.begin G.lets
+    ghost kept_by = { λ owes end. IsLooped M.next M.answers M.begin G.lets G.heard
         owes.nodes owes.turns owes.seat.value owes.line.value end };
 }
 
 /// The thread of a task owes what `task_loop` promises of its seat, calls and line, of so many nodes
 /// and so many turns.
 #[derive(Drop)]
-pub(crate) struct TaskOwes<M: Machine> {
+pub(crate) struct TaskOwes<M: Machine, G: Gate> {
     pub(crate) seat: Snapshot<TaskSeat<M>>,
     pub(crate) calls: Snapshot<Vec<TaskCall>>,
     pub(crate) line: Snapshot<FaultLine>,
+    pub(crate) gate: PhantomData<G>,
     pub(crate) nodes: u8,
     pub(crate) turns: u64,
 }
 
-impl<M: Machine> Promise<TaskEnd<M>> for TaskOwes<M> {
+impl<M: Machine, G: Gate> Promise<TaskEnd<M>> for TaskOwes<M, G> {
     ghost use Rattle.rp_threads.specs.Threads.{IsTaskLooped};
 
-    ghost kept_by = { λ owes end. IsTaskLooped M.next M.answers M.begin owes.nodes owes.turns
-        owes.calls.value.items owes.seat.value owes.line.value end };
+    ghost kept_by = { λ owes end. IsTaskLooped M.next M.answers M.begin G.heard_task
+        owes.nodes owes.turns owes.calls.value.items owes.seat.value owes.line.value end };
 }
 
 /// Starts a node's loop in a thread. Refused where no thread can be made; the seat is dropped then.
@@ -99,7 +100,7 @@ where
         owes,
         move || -> NodeEnd<M, D>
             requires { (nodes ≤ 7) × (line.held ≡ []) }
-            ensures { IsLooped M.next M.answers M.begin G.lets nodes turns seat line result }
+            ensures { IsLooped M.next M.answers M.begin G.lets G.heard nodes turns seat line result }
         { node_loop(seat, line, alloc, nodes, gate, turns) },
     )?;
     Ok(handle)
@@ -113,7 +114,7 @@ pub(crate) fn start_task<'s, E, M: Machine + Send + 's, G: Gate + Sync>(
     nodes: u8,
     gate: &'s G,
     turns: u64,
-) -> Result<PromisedHandle<TaskEnd<M>, TaskOwes<M>>, AllocError>
+) -> Result<PromisedHandle<TaskEnd<M>, TaskOwes<M, G>>, AllocError>
 where
     M::Program: Send,
     requires nodes { (1 ≤ nodes) × (nodes ≤ 7) }
@@ -130,6 +131,7 @@ where
         seat: Snapshot::of(&seat),
         calls: Snapshot::of(&calls),
         line: Snapshot::of(&line),
+        gate: PhantomData::<G>,
         nodes,
         turns,
     };
@@ -139,7 +141,8 @@ where
             requires nodes { (1 ≤ nodes) × (nodes ≤ 7) }
             requires line { line.held ≡ [] }
             requires fresh { seat.part ≡ fresh_part (OfTask fresh_task) }
-            ensures { IsTaskLooped M.next M.answers M.begin nodes turns calls.items seat line result }
+            ensures { IsTaskLooped M.next M.answers M.begin G.heard_task nodes turns calls.items
+                seat line result }
         { task_loop(seat, calls.as_slice(), line, alloc, nodes, gate, turns) },
     )?;
     Ok(handle)

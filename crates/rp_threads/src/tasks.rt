@@ -48,28 +48,24 @@ pub struct TaskEnd<M: Machine> {
     pub fault: Option<Fault>,
 }
 
-/// How many calls a task made, and whether it waits for the last.
+/// How many calls a task made, whether it waits for the last, and in which turn the last reply came.
 #[derive(Clone, Copy)]
 struct Calls {
     made: usize,
     waits: bool,
+    /// 0 where no reply came.
+    last_reply: u64,
 }
 
 impl Calls {
-    /// Once a call has its reply, the task waits for none.
-    fn hear(&mut self, answered: bool)
-        ensures { self.new ≡ heard_by answered self.old }
+    /// Once a call has its reply, in this turn, the task waits for none.
+    fn hear(&mut self, answered: bool, turn: u64)
+        ensures { self.new ≡ heard_by answered turn self.old }
     {
         if answered {
             self.waits = false;
+            self.last_reply = turn;
         }
-    }
-}
-
-/// A reply that came in this turn is the last one so far.
-fn note_reply(last: &mut u64, answered: bool, turn: u64) {
-    if answered {
-        *last = turn;
     }
 }
 
@@ -79,7 +75,6 @@ struct Caller<M: Machine> {
     seat: TaskSeat<M>,
     line: FaultLine,
     so_far: Calls,
-    last_reply: u64,
 }
 
 /// The line takes the packet in the box from a node, if there is one.
@@ -221,14 +216,13 @@ fn ask<M: Machine>(
 impl<M: Machine> Caller<M> {
     /// The end of a loop.
     fn ended(self, fault: Option<Fault>) -> TaskEnd<M>
-        ensures { (last lost : ℕ) × (result
-            ≡ task_end_of self.seat self.so_far.made last lost fault) }
+        ensures { (lost : ℕ) × (result ≡ task_end_of self.seat self.so_far lost fault) }
     {
         let lost = self.seat.lost().saturating_add(self.line.lost());
         TaskEnd {
             seat: self.seat,
             made: self.so_far.made,
-            last_reply: self.last_reply,
+            last_reply: self.so_far.last_reply,
             lost,
             fault,
         }
@@ -254,8 +248,7 @@ impl<M: Machine> Caller<M> {
             node_in_turn(nodes, turn),
         )?;
         let answered = hear(&mut self.seat, &mut self.line, alloc)?;
-        self.so_far.hear(answered);
-        note_reply(&mut self.last_reply, answered, turn);
+        self.so_far.hear(answered, turn);
         ask(&mut self.seat, alloc, nodes, calls, &mut self.so_far, turn)
     }
 }
@@ -278,7 +271,8 @@ pub fn task_loop<M: Machine, G: Gate>(
     requires nodes { (1 ≤ nodes) × (nodes ≤ 7) }
     requires line { line.held ≡ [] }
     requires fresh { seat.part ≡ fresh_part (OfTask fresh_task) }
-    ensures { IsTaskLooped M.next M.answers M.begin nodes turns calls.now seat line result }
+    ensures { IsTaskLooped M.next M.answers M.begin G.heard_task nodes turns calls.now
+        seat line result }
 {
     let mut caller = Caller {
         seat,
@@ -286,8 +280,8 @@ pub fn task_loop<M: Machine, G: Gate>(
         so_far: Calls {
             made: 0,
             waits: false,
+            last_reply: 0,
         },
-        last_reply: 0,
     };
     for done in 0..turns {
         gate.before_task(caller.seat.number(), done + 1);

@@ -50,7 +50,7 @@ fn start_tasks<'s, E, M: Machine + Send + 's, G: Gate + Sync>(
     nodes: u8,
     gate: &'s G,
     turns: u64,
-) -> Result<Vec<PromisedHandle<TaskEnd<M>, TaskOwes<M>>>, AllocError>
+) -> Result<Vec<PromisedHandle<TaskEnd<M>, TaskOwes<M, G>>>, AllocError>
 where
     M::Program: Send,
     requires nodes { (1 ≤ nodes) × (nodes ≤ 7) }
@@ -74,7 +74,7 @@ fn join_nodes<R: Threads, M: Machine, D: Device, G: Gate>(
     handles: Vec<PromisedHandle<NodeEnd<M, D>, NodeOwes<M, D, G>>>,
 ) -> Result<Vec<NodeEnd<M, D>>, AllocError>
     ensures { IfOk result (λ ends. AllZip (λ handle end.
-        IsLooped M.next M.answers M.begin G.lets handle.promise.nodes handle.promise.turns
+        IsLooped M.next M.answers M.begin G.lets G.heard handle.promise.nodes handle.promise.turns
         handle.promise.seat.value handle.promise.line.value end) handles.items ends.items) }
 {
     let ends = thread::join_promised(rt, handles)?;
@@ -82,13 +82,14 @@ fn join_nodes<R: Threads, M: Machine, D: Device, G: Gate>(
 }
 
 /// Joins the threads of tasks.
-fn join_tasks<R: Threads, M: Machine>(
+fn join_tasks<R: Threads, M: Machine, G: Gate>(
     rt: &R,
-    handles: Vec<PromisedHandle<TaskEnd<M>, TaskOwes<M>>>,
+    handles: Vec<PromisedHandle<TaskEnd<M>, TaskOwes<M, G>>>,
 ) -> Result<Vec<TaskEnd<M>>, AllocError>
-    ensures { IfOk result (λ ends. AllZip (λ handle end. IsTaskLooped M.next M.answers M.begin
-        handle.promise.nodes handle.promise.turns handle.promise.calls.value.items
-        handle.promise.seat.value handle.promise.line.value end) handles.items ends.items) }
+    ensures { IfOk result (λ ends. AllZip (λ handle end.
+        IsTaskLooped M.next M.answers M.begin G.heard_task handle.promise.nodes
+        handle.promise.turns handle.promise.calls.value.items handle.promise.seat.value
+        handle.promise.line.value end) handles.items ends.items) }
 {
     let ends = thread::join_promised(rt, handles)?;
     Ok(ends)
@@ -111,17 +112,17 @@ where
     requires task_lines { All (λ start. start.line.held ≡ []) tasks.items }
     requires fresh { All (λ start. start.seat.part ≡ fresh_part (OfTask fresh_task)) tasks.items }
     ensures nodes { IfOk result (λ ends. AllZip (λ start end.
-        IsLooped M.next M.answers M.begin G.lets (length nodes.items) turns
+        IsLooped M.next M.answers M.begin G.lets G.heard (length nodes.items) turns
         start.seat start.line end) nodes.items ends.0.items) }
     ensures tasks { IfOk result (λ ends. AllZip (λ start end.
-        IsTaskLooped M.next M.answers M.begin (length nodes.items) turns start.calls.items
-        start.seat start.line end) tasks.items ends.1.items) }
+        IsTaskLooped M.next M.answers M.begin G.heard_task (length nodes.items) turns
+        start.calls.items start.seat start.line end) tasks.items ends.1.items) }
 {
     let count = nodes.len() as u8;
     let nodes = start_nodes(scope, alloc, nodes, count, gate, turns)?;
     let tasks = start_tasks(scope, alloc, tasks, count, gate, turns)?;
     let nodes = join_nodes::<R, M, D, G>(rt, nodes)?;
-    let tasks = join_tasks(rt, tasks)?;
+    let tasks = join_tasks::<R, M, G>(rt, tasks)?;
     Ok((nodes, tasks))
 }
 
@@ -145,11 +146,11 @@ where
     requires task_lines { All (λ start. start.line.held ≡ []) tasks.items }
     requires fresh { All (λ start. start.seat.part ≡ fresh_part (OfTask fresh_task)) tasks.items }
     ensures nodes { IfOk result (λ ends. AllZip (λ start end.
-        IsLooped M.next M.answers M.begin G.lets (length nodes.items) turns
+        IsLooped M.next M.answers M.begin G.lets G.heard (length nodes.items) turns
         start.seat start.line end) nodes.items ends.0.items) }
     ensures tasks { IfOk result (λ ends. AllZip (λ start end.
-        IsTaskLooped M.next M.answers M.begin (length nodes.items) turns start.calls.items
-        start.seat start.line end) tasks.items ends.1.items) }
+        IsTaskLooped M.next M.answers M.begin G.heard_task (length nodes.items) turns
+        start.calls.items start.seat start.line end) tasks.items ends.1.items) }
 {
     thread::scope(
         thread::scope_env(),
@@ -161,11 +162,11 @@ where
             requires fresh { All (λ start.
                 start.seat.part ≡ fresh_part (OfTask fresh_task)) tasks.items }
             ensures nodes { IfOk result (λ ends. AllZip (λ start end.
-                IsLooped M.next M.answers M.begin G.lets (length nodes.items) turns
+                IsLooped M.next M.answers M.begin G.lets G.heard (length nodes.items) turns
                 start.seat start.line end) nodes.items ends.0.items) }
             ensures tasks { IfOk result (λ ends. AllZip (λ start end.
-                IsTaskLooped M.next M.answers M.begin (length nodes.items) turns start.calls.items
-                start.seat start.line end) tasks.items ends.1.items) }
+                IsTaskLooped M.next M.answers M.begin G.heard_task (length nodes.items) turns
+                start.calls.items start.seat start.line end) tasks.items ends.1.items) }
         { run_within(scope, rt, alloc, nodes, tasks, gate, turns) },
     )
 }

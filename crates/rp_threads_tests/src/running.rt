@@ -63,6 +63,10 @@ impl Gate for InStep {
 
     ghost lets = { λ node turn. true };
 
+    ghost heard = { λ node turn sent. Unit {0} };
+
+    ghost heard_task = { λ task turn. Unit {0} };
+
     fn before(&self, node: NodeId, _turn: u64) -> bool {
         if node.get() != 1 {
             self.look_for(&self.led);
@@ -72,7 +76,7 @@ impl Gate for InStep {
         true
     }
 
-    fn after(&self, node: NodeId, _turn: u64, sent: u32) {
+    fn after(&self, node: NodeId, _turn: u64, sent: usize) {
         if sent == 0 {
             return;
         }

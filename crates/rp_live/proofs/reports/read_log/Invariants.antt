@@ -1,9 +1,9 @@
 -- The node has only reported, and this is what the audit knows of it.
-use Rattle.std.proofs.Common.{◌≡◌, ◌-◌, length}
+use Rattle.std.proofs.Common.{◌≡◌, ◌-◌, ℕ, length}
 use Rattle.rp_boxes.specs.Audits.{known_of}
 use Rattle.rp_boxes.specs.Seats.{HasApplied}
 use Rattle.rp_threads.specs.Loops.{IsSameSeat}
-use Rattle.rp_live.specs.Seats.{HasOnlyReported, KnowsMore}
+use Rattle.rp_live.specs.Seats.{AreReports, HasOnlyReported, KnowsMore, KnowsSameBut}
 use Rattle.rp_live.proofs.reports.read_log.Given as goal
 
 abbrev pub invariant-loop-known : goal.invariant-loop-known
@@ -12,7 +12,9 @@ invariant-loop-known g l = record {
   reported : HasOnlyReported l.fn.seat l.seat;
   more : KnowsMore l.fn.audit.known l.audit.known;
   applied : HasApplied l.seat.part l.applied;
-  known : l.known ≡ length (known_of l.audit.known l.seat.number);
+  known : l.known ≡ length (known_of l.audit.known l.fn.seat.number);
+  others : KnowsSameBut l.fn.seat.number l.fn.audit.known l.audit.known;
+  reports : (n : ℕ) × AreReports (length (known_of l.fn.audit.known l.fn.seat.number)) l.fn.seat n l.known l.seat;
 }
 
 abbrev pub decreases-loop-known : goal.decreases-loop-known

@@ -1,26 +1,29 @@
 -- One node more has reported.
-use Rattle.std.proofs.Common.{All, arith, refl, sym, subst}
+use Rattle.std.proofs.Common.{◌≡◌, ℕ, All, length, arith, refl, sym, ap, subst}
 use Rattle.rp_boxes.specs.Audits.{known_of}
 use Rattle.rp_boxes.specs.Seats.{HasApplied}
 use Rattle.rp_world.proofs.Fresh.{rest_of}
 use Rattle.rp_threads.proofs.Places.{none_left, none_zipped, one_more_zipped, all_zipped}
 use Rattle.rp_threads.proofs.Steps.{same_on, same_seat}
-use Rattle.rp_live.specs.Seats.{HasOnlyReported, IsAsked, IsEndOfRun, StillRuns}
-use Rattle.rp_live.proofs.Reporting.{all_asked, read_asked}
+use Rattle.rp_live.specs.Seats.{AreNumbered, HasOnlyReported, IsEndOfRun, IsRead, KnowsNothingAbove, StillRuns}
+use Rattle.rp_live.proofs.Reading.{IsReadBelow, left_numbered, next_number, one_longer, one_read, read_still, so_far_weaker, still_unread, zip_read}
 use Rattle.rp_live.proofs.Zips.{grown_zip, none_zip}
 use Rattle.rp_live.proofs.reports.read_logs.Goals as goal
 
 pub loop-end-init : goal.loop-end-init
 loop-end-init g c =
     let same = c.into_iter-end-iterator.ensures.into_iter_gives.0 in
+    let none : length c.new-seats.result.items ≡ 0 = ap length c.new-seats.ensures.items in
     record {
       same = same_seat c.args.audit.now.seat c.args.audit.now.seat refl;
       left = subst (All IsEndOfRun) (sym same) c.requires.ended;
       still = subst (All StillRuns) (sym same) c.requires.still;
       reported = none_zipped (λ end seat. HasOnlyReported end.seat seat) c.args.nodes.items c.into_iter-end-iterator.result.rest.items c.new-seats.result.items same c.new-seats.ensures.items;
       applied = none_zip (λ seat count. HasApplied seat.part count) c.new-seats.result.items c.new-applied.result.items c.new-seats.ensures.items c.new-applied.ensures.items;
-      asked = none_zip (λ seat count. IsAsked seat count (known_of c.args.audit.now.known seat.number)) c.new-seats.result.items c.new-applied.result.items
-          c.new-seats.ensures.items c.new-applied.ensures.items;
+      numbers = subst (λ (n : ℕ). AreNumbered n c.into_iter-end-iterator.result.rest.items) (sym none) (subst (λ ends. AreNumbered 0 ends) (sym same) c.requires.numbers);
+      unread = subst (λ (n : ℕ). KnowsNothingAbove n c.args.audit.now.known) (sym none) c.requires.unread;
+      read = none_zipped (λ end seat. IsReadBelow (length c.new-seats.result.items) c.args.audit.now.known end.seat seat) c.args.nodes.items c.into_iter-end-iterator.result.rest.items
+          c.new-seats.result.items same c.new-seats.ensures.items;
     }
 
 pub read_end-requires-clause-ended : goal.read_end-requires-clause-ended
@@ -36,6 +39,12 @@ loop-end-preserved g c =
     let left = c.next.new.self.rest.items in
     let steps = c.in-Some.ensures.steps.0 in
     let told = c.in_ok-seat.ensures in
+    let old = c.loop-end.audit.known in
+    let new = c.read_end.new.audit.known in
+    let number = length c.loop-end.seats.items in
+    let more = length c.push.new.self.items in
+    let longer = one_longer c.loop-end.seats.items c.push.new.self.items c.in_ok-seat.seat c.in_ok-push.ensures.items in
+    let at = next_number number rest left c.in-Some.end steps was.numbers in
     record {
       same = same_on c.args.audit.now.seat c.loop-end.audit.seat c.read_end.new.audit.seat was.same told.same;
       left = rest_of IsEndOfRun rest c.in-Some.end left steps was.left;
@@ -44,10 +53,12 @@ loop-end-preserved g c =
           was.reported steps c.in_ok-push.ensures.items told.reported;
       applied = grown_zip (λ seat count. HasApplied seat.part count) c.loop-end.seats.items c.push.new.self.items c.loop-end.applied.items c.push-in-loop-end.new.self.items
           c.in_ok-seat.seat c.in_ok-seat.count c.in_ok-push.ensures.items c.in_ok-push-2.ensures.items was.applied told.applied;
-      asked = grown_zip (λ seat count. IsAsked seat count (known_of c.read_end.new.audit.known seat.number)) c.loop-end.seats.items c.push.new.self.items c.loop-end.applied.items
-          c.push-in-loop-end.new.self.items c.in_ok-seat.seat c.in_ok-seat.count c.in_ok-push.ensures.items c.in_ok-push-2.ensures.items
-          (all_asked c.loop-end.audit.known c.read_end.new.audit.known told.more c.loop-end.seats.items c.loop-end.applied.items was.asked)
-          (read_asked c.in_ok-seat.seat c.in_ok-seat.count (known_of c.read_end.new.audit.known c.in_ok-seat.seat.number) told.read);
+      numbers = left_numbered number more rest left c.in-Some.end steps longer was.numbers;
+      unread = still_unread number more c.in-Some.end.seat.number old new longer at told.others was.unread;
+      read = one_more_zipped (λ end seat. IsReadBelow more new end.seat seat) c.args.nodes.items rest left c.loop-end.seats.items c.push.new.self.items c.in-Some.end c.in_ok-seat.seat
+          (so_far_weaker (λ end seat. IsReadBelow number old end.seat seat) (λ end seat. IsReadBelow more new end.seat seat)
+          (λ end seat. read_still number more c.in-Some.end.seat.number old new longer at told.others end.seat seat) c.args.nodes.items rest c.loop-end.seats.items was.read)
+          steps c.in_ok-push.ensures.items (one_read number more old new c.in-Some.end.seat c.in_ok-seat.seat longer at told.reported.same.number was.unread told.read);
     }
 
 pub returns-clause-reported : goal.returns-clause-reported
@@ -55,3 +66,12 @@ returns-clause-reported g c =
     let rest = c.loop-end.end-iterator.rest in
     all_zipped (λ end seat. HasOnlyReported end.seat seat) c.args.nodes.items rest.items c.loop-end.seats.items c.loop-end.invariant.reported
     (none_left rest.items rest.len rest.ok.0 c.in-None.ensures.steps.0)
+
+pub returns-clause-read : goal.returns-clause-read
+returns-clause-read g c =
+    let rest = c.loop-end.end-iterator.rest in
+    let known = c.loop-end.audit.known in
+    zip_read (λ end seat. IsReadBelow (length c.loop-end.seats.items) known end.seat seat) (λ end seat. IsRead 0 end.seat seat (length (known_of known seat.number)))
+    (λ end seat r. r.read) c.args.nodes.items c.loop-end.seats.items
+    (all_zipped (λ end seat. IsReadBelow (length c.loop-end.seats.items) known end.seat seat) c.args.nodes.items rest.items c.loop-end.seats.items c.loop-end.invariant.read
+    (none_left rest.items rest.len rest.ok.0 c.in-None.ensures.steps.0))

@@ -1,11 +1,11 @@
 -- The nodes so far have reported.
-use Rattle.std.proofs.Common.{All}
+use Rattle.std.proofs.Common.{All, length}
 use Rattle.std.specs.List.{AllZip}
-use Rattle.rp_boxes.specs.Audits.{known_of}
 use Rattle.rp_boxes.specs.Seats.{HasApplied}
 use Rattle.rp_threads.specs.Loops.{IsSameSeat}
 use Rattle.rp_threads.proofs.Places.{AreZippedSoFar}
-use Rattle.rp_live.specs.Seats.{HasOnlyReported, IsAsked, IsEndOfRun, StillRuns}
+use Rattle.rp_live.specs.Seats.{AreNumbered, HasOnlyReported, IsEndOfRun, KnowsNothingAbove, StillRuns}
+use Rattle.rp_live.proofs.Reading.{IsReadBelow}
 use Rattle.rp_live.proofs.reports.read_logs.Given as goal
 
 abbrev pub invariant-loop-end : goal.invariant-loop-end
@@ -15,5 +15,7 @@ invariant-loop-end g l = record {
   still : All StillRuns l.end-iterator.rest.items;
   reported : AreZippedSoFar (λ end seat. HasOnlyReported end.seat seat) l.fn.nodes.items l.end-iterator.rest.items l.seats.items;
   applied : AllZip (λ seat count. HasApplied seat.part count) l.seats.items l.applied.items;
-  asked : AllZip (λ seat count. IsAsked seat count (known_of l.audit.known seat.number)) l.seats.items l.applied.items;
+  numbers : AreNumbered (length l.seats.items) l.end-iterator.rest.items;
+  unread : KnowsNothingAbove (length l.seats.items) l.audit.known;
+  read : AreZippedSoFar (λ end seat. IsReadBelow (length l.seats.items) l.audit.known end.seat seat) l.fn.nodes.items l.end-iterator.rest.items l.seats.items;
 }

@@ -1,12 +1,12 @@
 -- What the audit fetches is a report, and it stays at its seat.
-use Rattle.std.proofs.Common.{List, sym, subst}
+use Rattle.std.proofs.Common.{List, sym, subst, ◌∙◌}
 use Rattle.rp_boxes.specs.Seats.{Chair}
 use Rattle.rp_threads.specs.Loops.{IsSameSeat}
 use Rattle.rp_threads.proofs.Steps.{same_part}
 use Rattle.rp_boxes.specs.Audits.{IsGotReport}
 use Rattle.rp_base.specs.declared.action.Action.{Action}
-use Rattle.rp_live.specs.Seats.{KnowsMore}
-use Rattle.rp_live.proofs.Reporting.{added_more, added_seat}
+use Rattle.rp_live.specs.Seats.{KnowsMore, KnowsSameBut}
+use Rattle.rp_live.proofs.Reporting.{added_more, added_others, added_seat}
 use Rattle.rp_live.proofs.reports.report_once.Goals as goal
 
 pub add-requires : goal.add-requires
@@ -23,3 +23,11 @@ pub returns-in_ok-add-clause-more : goal.returns-in_ok-add-clause-more
 returns-in_ok-add-clause-more g c =
     subst (λ (known : List (List Action)). KnowsMore known c.add.new.self.known) c.fetch.ensures.known
     (added_more c.fetch.new.self c.as_slice.result.now c.add.new.self c.in_ok-add.field-0 c.in_ok-add.ensures.ok)
+
+pub returns-in_ok-add-clause-others : goal.returns-in_ok-add-clause-others
+returns-in_ok-add-clause-others g c =
+    let fetched = c.in-Some.ensures.some in
+    let text = c.as_slice.ensures.value ∙ fetched.text in
+    subst (λ (known : List (List Action)). KnowsSameBut c.args.seat.now.number known c.add.new.self.known) c.fetch.ensures.known
+    (added_others c.one_text.ensures c.args.seat.now.number c.fetch.new.self c.as_slice.result.now c.add.new.self c.in_ok-add.field-0 fetched.packet fetched.right text fetched.sender
+    c.in_ok-add.ensures.ok)

@@ -40,10 +40,11 @@ returns-clause-told g c =
       last = c.in_ok-nodes.nodes.items;
       reported = told.reported;
       applied = told.applied;
-      asked = told.asked;
+      read = told.read;
       known = audit;
       same = subst (λ (s : Chair g.row.M-Program.Denot). IsSameSeat s audit.seat) (ap (λ (a : Audited g.row.M-Program.Denot). a.seat) c.new-audit.ensures) told.same;
       together = subst (AreTogether m.next m.answers m.begin audit c.in_ok-nodes.nodes.items) c.in_ok-tasks.ensures.seats c.look_together.ensures;
       replies = c.in_ok-tasks.ensures.replies;
+      figures = c.of-figures.ensures;
       agree = subst (λ (l : List ℕ). (c.knows_all-agree.result ≡ true) ↔ KnowsAll audit.known l) c.as_slice-3.ensures.value c.knows_all-agree.ensures;
     }

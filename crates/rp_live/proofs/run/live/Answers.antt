@@ -6,8 +6,8 @@ use Rattle.rp_boxes.specs.Parts.{OfTask, fresh_part}
 use Rattle.rp_boxes.specs.Seats.{Chair}
 use Rattle.rp_threads.specs.Threads.{IsLooped}
 use Rattle.rp_live.specs.Events.{IsLive}
-use Rattle.rp_live.specs.Pace.{paced}
-use Rattle.rp_live.proofs.Living.{lived, node_loops_by, nodes_ended, nodes_still, nodes_here, task_loops_by, tasks_here}
+use Rattle.rp_live.specs.Pace.{paced, heard}
+use Rattle.rp_live.proofs.Living.{lived, node_loops_by, nodes_ended, nodes_still, nodes_here, nodes_numbered, task_loops_by, tasks_here}
 use Rattle.rp_live.proofs.Seating.{all_mapped, mapped_length, nodes_run, tasks_fresh, zip_length}
 use Rattle.rp_live.proofs.run.live.Goals as goal
 
@@ -42,7 +42,7 @@ audited-requires-clause-few g c =
     let m = g.M.Machine in
     let starts = c.in_ok-nodes-2.nodes.items in
     let ready = mapped_length (λ s. s.seat) starts c.note_all.new.seats.items c.in_ok-nodes-2.ensures.seats in
-    let ran = zip_length (λ s e. IsLooped m.next m.answers m.begin paced (length starts) c.args.turns s.seat s.line e) starts c.in_ok-nodes-3.nodes.items c.in_ok-nodes-3.ensures.nodes in
+    let ran = zip_length (λ s e. IsLooped m.next m.answers m.begin paced heard (length starts) c.args.turns s.seat s.line e) starts c.in_ok-nodes-3.nodes.items c.in_ok-nodes-3.ensures.nodes in
     omega (arith, ran, ready, c.note_all.ensures.size, c.in_ok-nodes.ensures.seats.1.size, c.requires.config.nodes.1)
 
 pub audited-requires-clause-ended : goal.audited-requires-clause-ended
@@ -103,6 +103,26 @@ audited-requires-clause-nodes g c =
     c.in_ok-note_all.ensures.run nodes tasks (λ s. s.seat) (λ s. s.calls.items) (λ s. s.line) c.in_ok-tasks.tasks.items (length starts) c.in_ok-tasks.ensures.seats c.in_ok-tasks.ensures.calls
     c.in_ok-tasks.ensures.lines count c.in_ok-nodes-3.ensures.tasks in
     nodes_here m.next m.answers m.begin a.config a.program.now a.events.now a.seed a.turns all.nodes.items all.tasks.items all.audit seats.0 seats.1 noted c.in_ok-note_all.ensures.ok
+    c.in_ok-note_all.ensures.run nodes tasks node_loops task_loops
+
+pub audited-requires-clause-numbers : goal.audited-requires-clause-numbers
+audited-requires-clause-numbers g c =
+    let m = g.M.Machine in
+    let a = c.args in
+    let all = c.in_ok-nodes.field-0 in
+    let seats = c.in_ok-nodes.ensures.seats in
+    let noted = c.note_all.new.seats.items in
+    let starts = c.in_ok-nodes-2.nodes.items in
+    let ready = mapped_length (λ s. s.seat) starts noted c.in_ok-nodes-2.ensures.seats in
+    let count : length starts ≡ a.config.nodes = omega (arith, ready, c.note_all.ensures.size, seats.1.size) in
+    let nodes = c.in_ok-nodes-3.nodes.items in
+    let tasks = c.in_ok-nodes-3.tasks.items in
+    let node_loops = node_loops_by m.next m.answers m.begin a.config a.program.now a.events.now a.seed a.turns all.nodes.items all.tasks.items all.audit seats.0 seats.1 noted c.in_ok-note_all.ensures.ok
+    c.in_ok-note_all.ensures.run nodes tasks (λ s. s.seat) (λ s. s.line) starts (length starts) c.in_ok-nodes-2.ensures.seats c.in_ok-nodes-2.ensures.lines count c.in_ok-nodes-3.ensures.nodes in
+    let task_loops = task_loops_by m.next m.answers m.begin a.config a.program.now a.events.now a.seed a.turns all.nodes.items all.tasks.items all.audit seats.0 seats.1 noted c.in_ok-note_all.ensures.ok
+    c.in_ok-note_all.ensures.run nodes tasks (λ s. s.seat) (λ s. s.calls.items) (λ s. s.line) c.in_ok-tasks.tasks.items (length starts) c.in_ok-tasks.ensures.seats c.in_ok-tasks.ensures.calls
+    c.in_ok-tasks.ensures.lines count c.in_ok-nodes-3.ensures.tasks in
+    nodes_numbered m.next m.answers m.begin a.config a.program.now a.events.now a.seed a.turns all.nodes.items all.tasks.items all.audit seats.0 seats.1 noted c.in_ok-note_all.ensures.ok
     c.in_ok-note_all.ensures.run nodes tasks node_loops task_loops
 
 pub audited-requires-clause-tasks : goal.audited-requires-clause-tasks

@@ -16,6 +16,7 @@ pub loop-done-preserved : goal.loop-done-preserved
 loop-done-preserved g c =
     let m = g.M.Machine in
     let lets = g.G.Gate.lets in
+    let heard = g.G.Gate.heard in
     let was = c.loop-done.invariant in
     let done = c.loop-done.done in
     let made = c.in-Ok.made in
@@ -23,10 +24,10 @@ loop-done-preserved g c =
     let before : NodeAt g.row.M-Program.Denot = record { seat = c.loop-done.worker.seat; line = c.loop-done.worker.line; counts = counts } in
     let now : NodeAt g.row.M-Program.Denot = record { seat = c.turn.new.self.seat; line = c.turn.new.self.line; counts = c.count.new.self } in
     let one = add-one done in
-    let turns = subst (λ (n : ℕ). IsTurnOf m.next m.answers m.begin lets c.args.nodes n before.seat now.seat before.line now.line made) one c.in-Ok.ensures.ok in
+    let turns = subst (λ (n : ℕ). IsTurnOf m.next m.answers m.begin lets heard c.args.nodes n before.seat now.seat before.line now.line made) one c.in-Ok.ensures.ok in
     record {
       held = c.turn.ensures.held;
-      turns = subst (λ (n : ℕ). AreTurns m.next m.answers m.begin lets c.args.nodes (before_turns c.args.seat c.args.line) n now) (sym one)
+      turns = subst (λ (n : ℕ). AreTurns m.next m.answers m.begin lets heard c.args.nodes (before_turns c.args.seat c.args.line) n now) (sym one)
           (before, was.turns, record { made = made; turns = turns; counts = c.count.ensures });
       few = ap total_of c.count.ensures ∙ counted_total made counts ∙ ap (λ (n : ℕ). n + 1) was.few;
     }
@@ -35,6 +36,7 @@ pub returns-in-Err : goal.returns-in-Err
 returns-in-Err g c =
     let m = g.M.Machine in
     let lets = g.G.Gate.lets in
+    let heard = g.G.Gate.heard in
     let done = c.loop-done.done in
     let before : NodeAt g.row.M-Program.Denot = record { seat = c.loop-done.worker.seat; line = c.loop-done.worker.line; counts = c.loop-done.counts } in
     let now = c.turn.new.self in
@@ -42,8 +44,8 @@ returns-in-Err g c =
     let one = add-one done in
     let passes = subst (λ (n : ℕ). lets before.seat.number n ≡ true) one err.1 in
     let unmade = subst (λ (n : ℕ). IsUnmade m.next m.answers m.begin (sender_at c.args.nodes n) (is_to_lead before.seat.number n) before.seat now.seat before.line now.line c.in-Err.fault) one err.2 in
-    subst (IsLooped m.next m.answers m.begin lets c.args.nodes c.args.turns c.args.seat c.args.line) (sym c.ended.ensures.1)
-    (ended m.next m.answers m.begin lets c.args.nodes c.args.turns c.args.seat c.args.line c.ended.ensures.0 done before now.seat now.line c.in-Err.fault c.loop-done.invariant.turns
+    subst (IsLooped m.next m.answers m.begin lets heard c.args.nodes c.args.turns c.args.seat c.args.line) (sym c.ended.ensures.1)
+    (ended m.next m.answers m.begin lets heard c.args.nodes c.args.turns c.args.seat c.args.line c.ended.ensures.0 done before now.seat now.line c.in-Err.fault c.loop-done.invariant.turns
     (omega (arith, c.loop-done-test.true)) err.0 passes unmade)
 
 pub returns : goal.returns
@@ -52,6 +54,6 @@ returns g c =
     let worker = c.loop-done.worker in
     let now : NodeAt g.row.M-Program.Denot = record { seat = worker.seat; line = worker.line; counts = c.loop-done.counts } in
     let all : c.loop-done.done ≡ c.args.turns = omega (arith, c.loop-done-test.false, c.loop-done.auto.done-end) in
-    let turns = subst (λ (n : ℕ). AreTurns m.next m.answers m.begin g.G.Gate.lets c.args.nodes (before_turns c.args.seat c.args.line) n now) all c.loop-done.invariant.turns in
-    subst (IsLooped m.next m.answers m.begin g.G.Gate.lets c.args.nodes c.args.turns c.args.seat c.args.line) (sym c.ended-2.ensures.1)
-    (looped m.next m.answers m.begin g.G.Gate.lets c.args.nodes c.args.turns c.args.seat c.args.line c.ended-2.ensures.0 now turns)
+    let turns = subst (λ (n : ℕ). AreTurns m.next m.answers m.begin g.G.Gate.lets g.G.Gate.heard c.args.nodes (before_turns c.args.seat c.args.line) n now) all c.loop-done.invariant.turns in
+    subst (IsLooped m.next m.answers m.begin g.G.Gate.lets g.G.Gate.heard c.args.nodes c.args.turns c.args.seat c.args.line) (sym c.ended-2.ensures.1)
+    (looped m.next m.answers m.begin g.G.Gate.lets g.G.Gate.heard c.args.nodes c.args.turns c.args.seat c.args.line c.ended-2.ensures.0 now turns)

@@ -8,7 +8,7 @@ use Rattle.rp_threads.proofs.loops.node_loop.Given as goal
 abbrev pub invariant-loop-done : goal.invariant-loop-done
 invariant-loop-done g l = record {
   held : HoldsTextsOf l.worker.seat.part.got l.worker.line;
-  turns : AreTurns g.M.Machine.next g.M.Machine.answers g.M.Machine.begin g.G.Gate.lets l.nodes (before_turns l.fn.seat l.fn.line) l.done
+  turns : AreTurns g.M.Machine.next g.M.Machine.answers g.M.Machine.begin g.G.Gate.lets g.G.Gate.heard l.nodes (before_turns l.fn.seat l.fn.line) l.done
       (record { seat = l.worker.seat; line = l.worker.line; counts = l.counts });
   few : total_of l.counts ≡ l.done;
 }

@@ -12,8 +12,8 @@ use Rattle.rp_threads.specs.declared.tasks.Calls.{Calls}
 use Rattle.rp_threads.specs.declared.tasks.TaskCall.{TaskCall}
 use Rattle.rp_threads.proofs.tasks.ask.Goals as goal
 
-abbrev at : ℕ → Bool → Calls
-at made waits = record { made = made; waits = waits }
+abbrev at : Calls → ℕ → Bool → Calls
+at so_far made waits = record so_far { made = made; waits = waits }
 
 pub returns-in_err-make-clause-err : goal.returns-in_err-make-clause-err
 returns-in_err-make-clause-err g c =
@@ -60,8 +60,9 @@ returns-in_ok-make-clause-made g c =
     let made = a.so_far.now.made in
     let found = c.in-Some.ensures.lookup in
     let here = slice_get_read a.calls.now (length a.calls.now) made c.in-Some.call.now refl found.3.0 found.1 in
-    let counts = subst (λ (o : Option TaskCall). at (made + 1) true ≡ with_call o made) (sym here) refl in
-    subst (λ (b : Bool). at (made + 1) true ≡ made_by b a.calls.now made) (sym c.if-so_far.false) counts
+    let so_far = a.so_far.now in
+    let counts = subst (λ (o : Option TaskCall). at so_far (made + 1) true ≡ with_call o so_far) (sym here) refl in
+    subst (λ (b : Bool). at so_far (made + 1) true ≡ made_by b a.calls.now so_far) (sym c.if-so_far.false) counts
 
 pub returns-in_default-clause-ok : goal.returns-in_default-clause-ok
 returns-in_default-clause-ok g c =
@@ -77,5 +78,6 @@ returns-in_default-clause-made g c =
     let a = c.args in
     let made = a.so_far.now.made in
     let none = slice_get_past a.calls.now made c.in_default.ensures.lookup.3 in
-    let stays = subst (λ (o : Option TaskCall). at made false ≡ with_call o made) (sym none) refl in
-    subst (λ (b : Bool). at made b ≡ made_by b a.calls.now made) (sym c.if-so_far.false) stays
+    let so_far = a.so_far.now in
+    let stays = subst (λ (o : Option TaskCall). at so_far made false ≡ with_call o so_far) (sym none) refl in
+    subst (λ (b : Bool). at so_far made b ≡ made_by b a.calls.now so_far) (sym c.if-so_far.false) stays

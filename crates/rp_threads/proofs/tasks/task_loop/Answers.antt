@@ -13,6 +13,7 @@ loop-done-init g c = record { held = empty_holds c.args.seat.part.got c.args.lin
 pub loop-done-preserved : goal.loop-done-preserved
 loop-done-preserved g c =
     let m = g.M.Machine in
+    let heard = g.G.Gate.heard_task in
     let a = c.args in
     let done = c.loop-done.done in
     let caller = c.loop-done.caller in
@@ -22,13 +23,15 @@ loop-done-preserved g c =
     let one = add-one done in
     record {
       held = c.turn.ensures.held;
-      turns = subst (λ (n : ℕ). AreTaskTurns m.next m.answers m.begin a.nodes a.calls.now (before_calls a.seat a.line) n now) (sym one)
-          (before, c.loop-done.invariant.turns, subst (λ (n : ℕ). IsTaskTurnOf m.next m.answers m.begin a.nodes a.calls.now n before now) one c.in_default.ensures.ok);
+      turns = subst (λ (n : ℕ). AreTaskTurns m.next m.answers m.begin heard a.nodes a.calls.now (before_calls a.seat a.line) n now) (sym one)
+          (before, c.loop-done.invariant.turns, subst (λ (n : ℕ). IsTaskTurnOf m.next m.answers m.begin a.nodes a.calls.now n before now) one c.in_default.ensures.ok,
+            subst (heard before.seat.number) one (subst (λ (k : ℕ). heard k (done + 1)) c.number.ensures c.before_task.ensures));
     }
 
 pub returns-in-Err : goal.returns-in-Err
 returns-in-Err g c =
     let m = g.M.Machine in
+    let heard = g.G.Gate.heard_task in
     let a = c.args in
     let done = c.loop-done.done in
     let caller = c.loop-done.caller in
@@ -36,17 +39,18 @@ returns-in-Err g c =
     let before : TaskAt g.row.M-Program.Denot = record { seat = caller.seat; line = caller.line; so_far = caller.so_far } in
     let last : TaskAt g.row.M-Program.Denot = record { seat = after.seat; line = after.line; so_far = after.so_far } in
     let unmade = subst (λ (n : ℕ). IsUnmadeTurn a.nodes a.calls.now n before last c.in-Err.fault) (add-one done) c.in-Err.ensures.err in
-    subst (IsTaskLooped m.next m.answers m.begin a.nodes a.turns a.calls.now a.seat a.line) (sym c.ended.ensures.2)
-    (task_ended m.next m.answers m.begin a.calls.now a.nodes a.turns a.seat a.line c.requires.fresh c.ended.ensures.0 c.ended.ensures.1 done before last c.in-Err.fault c.requires.nodes.0 c.loop-done.invariant.turns
-    (omega (arith, c.loop-done-test.true)) unmade)
+    subst (IsTaskLooped m.next m.answers m.begin heard a.nodes a.turns a.calls.now a.seat a.line) (sym c.ended.ensures.1)
+    (task_ended m.next m.answers m.begin a.calls.now a.nodes heard a.turns a.seat a.line c.requires.fresh c.ended.ensures.0 done before last c.in-Err.fault c.requires.nodes.0 c.loop-done.invariant.turns
+    (omega (arith, c.loop-done-test.true)) (subst (heard before.seat.number) (add-one done) (subst (λ (k : ℕ). heard k (done + 1)) c.number.ensures c.before_task.ensures)) unmade)
 
 pub returns : goal.returns
 returns g c =
     let m = g.M.Machine in
+    let heard = g.G.Gate.heard_task in
     let a = c.args in
     let caller = c.loop-done.caller in
     let now : TaskAt g.row.M-Program.Denot = record { seat = caller.seat; line = caller.line; so_far = caller.so_far } in
     let all : c.loop-done.done ≡ a.turns = omega (arith, c.loop-done-test.false, c.loop-done.auto.done-end) in
-    let turns = subst (λ (n : ℕ). AreTaskTurns m.next m.answers m.begin a.nodes a.calls.now (before_calls a.seat a.line) n now) all c.loop-done.invariant.turns in
-    subst (IsTaskLooped m.next m.answers m.begin a.nodes a.turns a.calls.now a.seat a.line) (sym c.ended-2.ensures.2)
-    (task_looped m.next m.answers m.begin a.calls.now a.nodes a.turns a.seat a.line c.requires.fresh c.ended-2.ensures.0 c.ended-2.ensures.1 now turns)
+    let turns = subst (λ (n : ℕ). AreTaskTurns m.next m.answers m.begin heard a.nodes a.calls.now (before_calls a.seat a.line) n now) all c.loop-done.invariant.turns in
+    subst (IsTaskLooped m.next m.answers m.begin heard a.nodes a.turns a.calls.now a.seat a.line) (sym c.ended-2.ensures.1)
+    (task_looped m.next m.answers m.begin a.calls.now a.nodes heard a.turns a.seat a.line c.requires.fresh c.ended-2.ensures.0 now turns)

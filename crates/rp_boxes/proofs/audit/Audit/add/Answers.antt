@@ -49,6 +49,7 @@ returns-clause-ok g c =
       first = c.in-Report.first;
       applied = c.in-Report.applied;
       actions = c.as_slice.result.now;
+      right = subst IsPacket (sym told) right;
       text = got.5 ∙ ap text_of (sym told);
       joined = c.in_ok-join.ensures.ok;
     }

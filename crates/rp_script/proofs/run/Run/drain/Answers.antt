@@ -2,11 +2,11 @@
 use Rattle.std.proofs.Common.{◌≡◌, ℕ, ◌+◌, ◌-◌, ◌<◌, ◌≤◌, length, arith, refl, subst, ◌∙◌}
 use Rattle.rp_model.specs.declared.event.Event.TheVariants.{Node as NodeStep}
 use Rattle.rp_model.specs.declared.event.Step.TheVariants.{Deliver}
-use Rattle.rp_script.specs.Output.{Play, line_said, event_said, drained}
-use Rattle.rp_script.specs.Printed.{limit_line_of}
+use Rattle.rp_script.specs.Output.{Play, note_said, event_said, drained}
+use Rattle.rp_script.specs.Items.{DrainLimit}
 use Rattle.rp_script.specs.Runs.{run_setting}
 use Rattle.rp_script.proofs.LeastUnsettled.{none_is_left, least_is_left}
-use Rattle.rp_script.proofs.Saying.{Underway, sets_out, goes_on, fails, ends_by, ends, says_by, line_written, says_failed, drained_none, drained_full, drained_more}
+use Rattle.rp_script.proofs.Saying.{Underway, sets_out, goes_on, fails, ends_by, ends, says_by, note_written, says_failed, drained_none, drained_full, drained_more}
 use Rattle.rp_script.proofs.Stepping.{same_setting, same_trans}
 use Rattle.rp_script.proofs.run.Run.drain.Goals as goal
 
@@ -126,8 +126,8 @@ returns-clause-said g c =
     ends_by run.cluster.world run.cluster.world run.settled run.settled
     (g.W.Write.contents c.args.writer.now) (g.W.Write.contents c.loop-delivered.writer) (g.W.Write.contents c.print.new.writer)
     (drained s c.args.line most play) (λ (p : Play). drained s c.args.line (most - delivered) p) so_far
-    (line_said now (limit_line_of c.args.line)) c.print.result
+    (note_said now (DrainLimit c.args.line)) c.print.result
     (drained_full s c.args.line now most delivered least.result c.loop-delivered-test.false
     (least_is_left run.cluster.world run.settled now so_far.follows least.result least.ensures.least least.ensures.from_one within least.ensures.unsettled))
-    (says_by run.cluster.world run.settled _ _ (line_said now (limit_line_of c.args.line)) c.print.result so_far.follows
-    (line_written now _ _ (limit_line_of c.args.line) c.print.result c.print.ensures.printed))
+    (says_by run.cluster.world run.settled _ _ (note_said now (DrainLimit c.args.line)) c.print.result so_far.follows
+    (note_written now _ _ (DrainLimit c.args.line) c.print.result c.print.ensures.printed))

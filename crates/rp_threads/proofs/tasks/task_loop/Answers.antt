@@ -23,9 +23,12 @@ loop-done-preserved g c =
     let one = add-one done in
     record {
       held = c.turn.ensures.held;
-      turns = subst (λ (n : ℕ). AreTaskTurns m.next m.answers m.begin heard a.nodes a.calls.now (before_calls a.seat a.line) n now) (sym one)
-          (before, c.loop-done.invariant.turns, subst (λ (n : ℕ). IsTaskTurnOf m.next m.answers m.begin a.nodes a.calls.now n before now) one c.in_default.ensures.ok,
-            subst (heard before.seat.number) one (subst (λ (k : ℕ). heard k (done + 1)) c.number.ensures c.before_task.ensures));
+      turns = subst (λ (n : ℕ). AreTaskTurns m.next m.answers m.begin heard a.nodes a.calls.now (before_calls a.seat a.line) n now) (sym one) (
+        before,
+        c.loop-done.invariant.turns,
+        subst (λ (n : ℕ). IsTaskTurnOf m.next m.answers m.begin a.nodes a.calls.now n before now) one c.in_default.ensures.ok,
+        subst (heard before.seat.number) one (subst (λ (k : ℕ). heard k (done + 1)) c.number.ensures c.before_task.ensures),
+      );
     }
 
 pub returns-in-Err : goal.returns-in-Err

@@ -1,2 +1,6 @@
-pub mod Noting
-pub mod Pages
+mod Splitting
+mod Raising
+mod Noting
+mod Pages
+mod Keeping
+mod Covering

@@ -1,18 +1,19 @@
--- One more record: what the slots are then.
-use Rattle.std.proofs.Common.{◌≡◌, ℕ, ◌+◌, ◌≢◌, max, Bool, cond, Option, Some, None, List, [], ◌∷◌, ◌++◌, refl, sym, ap, subst, ◌∙◌, inl, inr, arith}
+-- One more record: what the steps and the pages are then.
+use Rattle.std.proofs.Common.{◌≡◌, ℕ, suc, ◌+◌, ◌≢◌, max, Bool, true, false, cond, Option, Some, None, List, [], ◌∷◌, ◌++◌, nat_eq, refl, sym, ap, ◌∙◌, inl, inr, arith}
 use Rattle.std.specs.Prelude.{option_to_list}
 use Rattle.std.specs.List.{cons_option}
-use Rattle.std.proofs.lemmas.Bool.{cases_eq, ne_eqb}
+use Rattle.std.proofs.lemmas.Bool.{cases_eq, cases_lt, ne_eqb, eq-eqb}
+use Rattle.std.proofs.lemmas.Bool.Decides.{leb_tells}
 use Rattle.rp_base.specs.declared.record.Vote.{Vote}
 use Rattle.rp_base.specs.declared.record.Rec.{Rec}
-use Rattle.rp_base.specs.declared.record.Rec.TheVariants.{Started, Promised, Voted, Learned}
-use Rattle.rp_base.specs.Ballot.{number_of}
-use Rattle.rp_base.specs.Sets.{Has}
+use Rattle.rp_base.specs.declared.record.Rec.TheVariants.{Started, Promised, Voted, Learned, PromisedRange}
+use Rattle.rp_base.specs.declared.placed.PlacedVote.{PlacedVote}
 use Rattle.rp_base.specs.Records.{bound_in, bound_at, highest, vote_in, last_vote_at}
 use Rattle.rp_base.proofs.MoreRecords.{bound_push, last_push}
-use Rattle.rp_acceptor.specs.Noted.{places_in}
-use Rattle.rp_acceptor.specs.declared.slot.Slot.{Slot}
-use Rattle.rp_acceptor.specs.Slots.{AreSlots}
+use Rattle.rp_acceptor.specs.Noted.{placed_in}
+use Rattle.rp_acceptor.specs.Steps.{Level, held_at, is_between}
+use Rattle.rp_acceptor.proofs.Raising.{between, below_all, above_all}
+use Rattle.rp_acceptor.specs.Slots.{ballot_of_vote, stretch_in, promise_at, AreBounds, AreVotes}
 
 bound_more : (records : List Rec) (rec : Rec) (i : ℕ) → bound_at (records ++ rec ∷ []) i ≡ max (bound_at records i) (bound_in i rec)
 bound_more records rec i = let h = bound_push records rec i in omega (arith, h)
@@ -24,64 +25,96 @@ one_item (Some v) = refl
 last_more : (records : List Rec) (rec : Rec) (i : ℕ) → last_vote_at (records ++ rec ∷ []) i ≡ highest (option_to_list (last_vote_at records i) ++ option_to_list (vote_in i rec))
 last_more records rec i = last_push records rec i ∙ ap (λ (l : List Vote). highest (option_to_list (last_vote_at records i) ++ l)) (one_item (vote_in i rec))
 
--- a record has no bound where it doesn't count, and no vote
-bound_elsewhere : (rec : Rec) (i : ℕ) → ¬ Has i (places_in rec) → bound_in i rec ≡ 0
-bound_elsewhere (Started ballot) i other = refl
-bound_elsewhere (Promised position ballot) i other = ap (λ (t : Bool). cond t ballot 0) (ne_eqb position i (λ e. other (inl (sym e))))
-bound_elsewhere (Voted position ballot action) i other = ap (λ (t : Bool). cond t ballot 0) (ne_eqb position i (λ e. other (inl (sym e))))
-bound_elsewhere (Learned position action) i other = refl
+-- ---- the bound
 
-vote_elsewhere : (rec : Rec) (i : ℕ) → ¬ Has i (places_in rec) → vote_in i rec ≡ None
-vote_elsewhere (Started ballot) i other = refl
-vote_elsewhere (Promised position ballot) i other = refl
-vote_elsewhere (Voted position ballot action) i other =
-    let vote : Vote = record { ballot = ballot; action = action } in
-    ap (λ (t : Bool). cond t (Some vote) None) (ne_eqb position i (λ e. other (inl (sym e))))
-vote_elsewhere (Learned position action) i other = refl
+-- between a position and the next one is the position alone
+between_one : (position i : ℕ) → is_between position (position + 1) i ≡ nat_eq position i
+between_one position i =
+    elim (cases_eq position i) [
+      | inl same ↦ between position (position + 1) i (omega (arith, same)) (omega (arith, same)) ∙ sym (eq-eqb position i same)
+      | inr other ↦ elim (cases_lt i position) [
+        | inl below ↦ below_all position (position + 1) i below ∙ sym (ne_eqb position i other)
+        | inr above ↦ above_all position (position + 1) i (omega (arith, above, other)) ∙ sym (ne_eqb position i other)
+      ]
+    ]
 
--- so there it changes nothing
-bound_stays : (records : List Rec) (rec : Rec) (i : ℕ) → ¬ Has i (places_in rec) → bound_at (records ++ rec ∷ []) i ≡ bound_at records i
-bound_stays records rec i other = omega (arith, bound_more records rec i, bound_elsewhere rec i other)
+no_less : (n : ℕ) → n ≡ max n 0
+no_less n = omega arith
 
-highest_again : (o : Option Vote) → highest (option_to_list o ++ []) ≡ o
+one_vote : (t : Bool) (b : ℕ) (vote : Vote) → vote.ballot ≡ b → cond t b 0 ≡ max 0 (ballot_of_vote (cond t (Some vote) None))
+one_vote true b vote is = omega (arith, is)
+one_vote false b vote is = refl
+
+-- a record's bound is that of its promise, or that of its vote
+bound_of : (i : ℕ) (rec : Rec) → bound_in i rec ≡ max (promise_at i (stretch_in rec)) (ballot_of_vote (vote_in i rec))
+bound_of i (Started ballot) = refl
+bound_of i (Promised position ballot) = ap (λ (t : Bool). cond t ballot 0) (sym (between_one position i)) ∙ no_less (cond (is_between position (position + 1) i) ballot 0)
+bound_of i (Voted position ballot action) = one_vote (nat_eq position i) ballot (record { ballot = ballot; action = action }) refl
+bound_of i (Learned position action) = refl
+bound_of i (PromisedRange range ballot) = no_less (bound_in i (PromisedRange range ballot))
+
+-- the higher of two votes has the greater ballot
+higher_ballot : (first second : Option Vote) → ballot_of_vote (highest (option_to_list first ++ option_to_list second)) ≡ max (ballot_of_vote first) (ballot_of_vote second)
+higher_ballot None None = refl
+higher_ballot None (Some w) = omega arith
+higher_ballot (Some v) None = omega arith
+higher_ballot (Some v) (Some w) =
+    elim (leb_tells (suc v.ballot) w.ballot) [ inl lt ↦ rw lt.0 (omega (arith, lt.1)) | inr ge ↦ rw ge.0 (omega (arith, ge.1)) ]
+
+-- the steps with the promise noted, if the record is one
+pub bounds_noted : (before after : List Level) (records : List Rec) (rec : Rec) → ((i : ℕ) → held_at after i ≡ max (held_at before i) (promise_at i (stretch_in rec)))
+    → AreBounds before records → AreBounds after (records ++ rec ∷ [])
+bounds_noted before after records rec raised are = λ i.
+    let last : ballot_of_vote (last_vote_at (records ++ rec ∷ []) i) ≡ max (ballot_of_vote (last_vote_at records i)) (ballot_of_vote (vote_in i rec)) =
+    ap ballot_of_vote (last_more records rec i) ∙ higher_ballot (last_vote_at records i) (vote_in i rec) in
+    omega (arith, raised i, last, are i, bound_more records rec i, bound_of i rec)
+
+-- ---- the votes
+
+-- a vote placed elsewhere is none here
+placed_here : ℕ → Option PlacedVote → Option Vote
+placed_here i None = None
+placed_here i (Some placed) = cond (nat_eq placed.position i) (Some placed.vote) None
+
+vote_placed : (i : ℕ) (rec : Rec) → vote_in i rec ≡ placed_here i (placed_in rec)
+unfolding placed_here
+vote_placed i (Started ballot) = refl
+vote_placed i (Promised position ballot) = refl
+vote_placed i (Voted position ballot action) = refl
+vote_placed i (Learned position action) = refl
+vote_placed i (PromisedRange range ballot) = refl
+
+pub highest_again : (o : Option Vote) → highest (option_to_list o ++ []) ≡ o
 highest_again None = refl
 highest_again (Some v) = refl
 
-last_stays : (records : List Rec) (rec : Rec) (i : ℕ) → ¬ Has i (places_in rec) → last_vote_at (records ++ rec ∷ []) i ≡ last_vote_at records i
-last_stays records rec i other =
-    last_more records rec i
-    ∙ ap (λ (o : Option Vote). highest (option_to_list (last_vote_at records i) ++ option_to_list o)) (vote_elsewhere rec i other)
-    ∙ highest_again (last_vote_at records i)
+-- a record that is no vote leaves the votes right
+pub votes_stay : (vote : ℕ → Option Vote) (records : List Rec) (rec : Rec) → placed_in rec ≡ None → AreVotes vote records → AreVotes vote (records ++ rec ∷ [])
+unfolding placed_here
+votes_stay vote records rec none are = λ index.
+    let nothing : vote_in (index + 1) rec ≡ None = vote_placed (index + 1) rec ∙ ap (placed_here (index + 1)) none in
+    are index
+    ∙ sym (last_more records rec (index + 1)
+    ∙ ap (λ (o : Option Vote). highest (option_to_list (last_vote_at records (index + 1)) ++ option_to_list o)) nothing
+    ∙ highest_again (last_vote_at records (index + 1)))
 
--- a record that counts nowhere leaves the slots right
-pub slots_stay : (slot : ℕ → Slot) (records : List Rec) (rec : Rec) → places_in rec ≡ [] → AreSlots slot records → AreSlots slot (records ++ rec ∷ [])
-slots_stay slot records rec nowhere are =
-    let none : (i : ℕ) → ¬ Has i (places_in rec) = λ i h. subst (λ (l : List ℕ). Has i l) nowhere h in
-    record {
-      bounds = λ index. are.bounds index ∙ sym (bound_stays records rec (index + 1) (none (index + 1)));
-      votes = λ index. are.votes index ∙ sym (last_stays records rec (index + 1) (none (index + 1)));
-    }
-
--- the slots with the record noted in its place
-pub slots_noted : (before after : ℕ → Slot) (records : List Rec) (rec : Rec) (k : ℕ) → places_in rec ≡ (k + 1) ∷ []
-    → ((index : ℕ) → index ≢ k → after index ≡ before index)
-    → number_of (after k).bound ≡ max (number_of (before k).bound) (bound_in (k + 1) rec)
-    → (after k).last ≡ highest (option_to_list (before k).last ++ option_to_list (vote_in (k + 1) rec))
-    → AreSlots before records → AreSlots after (records ++ rec ∷ [])
-slots_noted before after records rec k place other bound last are =
-    let none : (index : ℕ) → index ≢ k → ¬ Has (index + 1) (places_in rec) = λ index ne h.
-    elim (subst (λ (l : List ℕ). Has (index + 1) l) place h) [ inl e ↦ ne (omega (arith, e)) | inr never ↦ never ] in
-    record {
-      bounds = λ index. elim (cases_eq index k) [
-        | inl e ↦
-            let was = are.bounds k in
-            let more = bound_more records rec (k + 1) in
-            subst (λ (n : ℕ). number_of (after n).bound ≡ bound_at (records ++ rec ∷ []) (n + 1)) (sym e) (omega (arith, bound, was, more))
-        | inr n ↦ ap (λ (s : Slot). number_of s.bound) (other index n) ∙ are.bounds index ∙ sym (bound_stays records rec (index + 1) (none index n))
-      ];
-      votes = λ index. elim (cases_eq index k) [
-        | inl e ↦ subst (λ (n : ℕ). (after n).last ≡ last_vote_at (records ++ rec ∷ []) (n + 1)) (sym e)
-            (last ∙ ap (λ (o : Option Vote). highest (option_to_list o ++ option_to_list (vote_in (k + 1) rec))) (are.votes k) ∙ sym (last_more records rec (k + 1)))
-        | inr n ↦ ap (λ (s : Slot). s.last) (other index n) ∙ are.votes index ∙ sym (last_stays records rec (index + 1) (none index n))
-      ];
-    }
+-- the votes with the one that the record is noted in its place
+pub votes_noted : (before after : ℕ → Option Vote) (records : List Rec) (rec : Rec) (placed : PlacedVote) (k : ℕ) → placed_in rec ≡ Some placed → k + 1 ≡ placed.position
+    → ((index : ℕ) → index ≢ k → after index ≡ before index) → after k ≡ highest (option_to_list (before k) ++ placed.vote ∷ [])
+    → AreVotes before records → AreVotes after (records ++ rec ∷ [])
+unfolding placed_here
+votes_noted before after records rec placed k place at other here are = λ index.
+    let is : vote_in (index + 1) rec ≡ cond (nat_eq placed.position (index + 1)) (Some placed.vote) None = vote_placed (index + 1) rec ∙ ap (placed_here (index + 1)) place in
+    elim (cases_eq index k) [
+      | inl e ↦
+          let same : vote_in (index + 1) rec ≡ Some placed.vote = is ∙ ap (λ (t : Bool). cond t (Some placed.vote) None) (eq-eqb placed.position (index + 1) (omega (arith, at, e))) in
+          ap after e ∙ here
+          ∙ ap (λ (o : Option Vote). highest (option_to_list o ++ placed.vote ∷ [])) (ap before (sym e) ∙ are index)
+          ∙ sym (last_more records rec (index + 1) ∙ ap (λ (o : Option Vote). highest (option_to_list (last_vote_at records (index + 1)) ++ option_to_list o)) same)
+      | inr n ↦
+          let none : vote_in (index + 1) rec ≡ None = is ∙ ap (λ (t : Bool). cond t (Some placed.vote) None) (ne_eqb placed.position (index + 1) (λ e. n (omega (arith, at, e)))) in
+          other index n ∙ are index
+          ∙ sym (last_more records rec (index + 1)
+          ∙ ap (λ (o : Option Vote). highest (option_to_list (last_vote_at records (index + 1)) ++ option_to_list o)) none
+          ∙ highest_again (last_vote_at records (index + 1)))
+    ]

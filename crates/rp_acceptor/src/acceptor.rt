@@ -1,26 +1,35 @@
 //! The acceptor's questions and notes.
 
-ghost use Rattle.std.specs.Prelude.{◌≡◌, ◌≤◌, ◌<◌, [], ◌∷◌, ◌++◌, flat_map, IfOk, IfSome, IfNone, OnOk, OnErr, IsOkUnless};
+ghost use Rattle.std.specs.Prelude.{◌≡◌, ◌≤◌, ◌<◌, [], ◌∷◌, ◌++◌, max, flat_map, IfOk, IfSome, IfNone, OnOk, OnErr, IsOkUnless};
 ghost use Rattle.rp_base.specs.Ballot.{number_of};
 ghost use Rattle.rp_base.specs.Records.{bound_at, last_vote_at};
+ghost use Rattle.rp_base.specs.Ranges.{positions_of};
 ghost use Rattle.rp_base.specs.Sets.{Has};
-ghost use Rattle.rp_acceptor.specs.Noted.{nothing_noted, places_in, HasRoom, reserves, notes, restored};
+ghost use Rattle.rp_acceptor.specs.Noted.{nothing_noted, places_in, HasRoom, reserves, reserves_vote, reserves_range, reserves_for, notes, restored};
+ghost use Rattle.rp_acceptor.specs.Slots.{ballot_of_vote};
 ghost use Rattle.rp_base.specs.Voting.{prepare_answer, vote_answer, accept_answer};
 
-use crate::page::{Page, make, note, slot_at};
-use crate::slot::{Slot, index_of, place_of};
-use rp_base::{AcceptAnswer, Action, Ballot, Fault, History, Position, PrepareAnswer, Rec, Vote};
+use crate::page::{Page, make, note, vote_at};
+use crate::slot::{Slot, index_of};
+use crate::steps::{Steps, raise_promised, split_ends};
+use rp_base::{
+    AcceptAnswer, Action, Ballot, Fault, History, Position, PositionRange, PrepareAnswer, Rec, Vote,
+};
 use std::alloc::Global;
 use std::marker::Model;
 
 /// An acceptor: what the records that it noted say at each position. Questions change nothing and
 /// notes take effect, so that a record can be written between the two (Lamport, "Paxos Made
-/// Simple", section 2.5).
+/// Simple", section 2.5). The bound at a position is the greater of the promised ballot, which a
+/// step holds for all positions up to the next one, and the last vote's.
 #[derive(Drop)]
 pub struct Acceptor {
     alloc: Global,
+    steps: Steps,
     pages: Vec<Page>,
     reserved: History<Position>,
+    votes: History<Position>,
+    ranges: History<PositionRange>,
     records: History<Rec>,
 }
 
@@ -31,9 +40,19 @@ impl Model for Acceptor {
 
     ghost use Rattle.rp_acceptor.specs.Slots.{AreKept};
 
-    ghost view = { λ a. record { records = a.records; reserved = a.reserved } };
+    ghost view = { λ a. record {
+      records = a.records;
+      reserved = a.reserved;
+      votes = a.votes;
+      ranges = a.ranges;
+    } };
 
-    ghost invariant = { λ a. AreKept a.pages.items a.reserved a.records };
+    ghost invariant = { λ a. AreKept a.steps a.pages.items (record {
+      records = a.records;
+      reserved = a.reserved;
+      votes = a.votes;
+      ranges = a.ranges;
+    }) };
 }
 
 impl Acceptor {
@@ -43,8 +62,11 @@ impl Acceptor {
     {
         Acceptor {
             alloc,
+            steps: Steps::new(alloc),
             pages: Vec::new(alloc),
             reserved: History::new(),
+            votes: History::new(),
+            ranges: History::new(),
             records: History::new(),
         }
     }
@@ -66,20 +88,27 @@ impl Acceptor {
 
     /// Makes room for the record and notes it.
     fn reserve_and_note(&mut self, rec: &Rec) -> Result<(), Fault>
-        ensures records { OnOk result (self.new.records ≡ self.old.records ++ rec.now ∷ []) }
-        ensures reserved { OnOk result (self.new.reserved
-            ≡ self.old.reserved ++ places_in rec.now) }
+        ensures ok { OnOk result (self.new ≡ notes (reserves_for self.old rec.now) rec.now) }
         ensures full { OnErr result (¬ (places_in rec.now ≡ [])) }
         ensures only { IsOkUnless result Fault.OutOfMemory }
     {
-        match place_of(rec) {
-            Some(position) => {
-                self.reserve(position)?;
-                self.note(rec);
-            }
-            None => self.note(rec),
-        }
+        self.reserve_for(rec)?;
+        self.note(rec);
         Ok(())
+    }
+
+    /// Makes room for the record.
+    fn reserve_for(&mut self, rec: &Rec) -> Result<(), Fault>
+        ensures ok { OnOk result (self.new ≡ reserves_for self.old rec.now) }
+        ensures full { OnErr result (¬ (places_in rec.now ≡ [])) }
+        ensures only { IsOkUnless result Fault.OutOfMemory }
+    {
+        match *rec {
+            Rec::Promised(position, _) => self.reserve(position),
+            Rec::Voted(position, _, _) => self.reserve_vote(position),
+            Rec::PromisedRange(range, _) => self.reserve_range(range),
+            Rec::Started(_) | Rec::Learned(_, _) => Ok(()),
+        }
     }
 
     /// Makes room, so that records at this position can be noted, however many. `OutOfMemory` comes
@@ -92,27 +121,62 @@ impl Acceptor {
         ensures only { IsOkUnless result Fault.OutOfMemory }
     {
         make(&mut self.pages, self.alloc, index_of(position))?;
+        let first = usize::from(position.get());
+        split_ends(&mut self.steps, first, first + 1)?;
         self.reserved.push(position);
+        self.votes.push(position);
         Ok(())
     }
 
-    /// Notes a record that is written. There is room for its position, if it is a promise or a
-    /// vote; a record of another kind changes no answer.
+    /// Makes room, so that votes at this position can be noted, however many; it takes none for
+    /// promises. `OutOfMemory` comes only where there was no room yet, and then nothing has
+    /// changed.
+    #[inline(always)]
+    pub fn reserve_vote(&mut self, position: Position) -> Result<(), Fault>
+        ensures ok { OnOk result (self.new ≡ reserves_vote self.old position) }
+        ensures err { OnErr result (self.new ≡ self.old) }
+        ensures full { OnErr result (¬ Has position self.old.votes) }
+        ensures only { IsOkUnless result Fault.OutOfMemory }
+    {
+        make(&mut self.pages, self.alloc, index_of(position))?;
+        self.votes.push(position);
+        Ok(())
+    }
+
+    /// Makes room, so that promises for this range can be noted, however many: two steps at most.
+    /// `OutOfMemory` comes only where there was no room yet, and then nothing has changed.
+    pub fn reserve_range(&mut self, range: PositionRange) -> Result<(), Fault>
+        ensures ok { OnOk result (self.new ≡ reserves_range self.old range) }
+        ensures err { OnErr result (self.new ≡ self.old) }
+        ensures full { OnErr result (¬ Has range self.old.ranges) }
+        ensures some { OnErr result (¬ (positions_of range ≡ [])) }
+        ensures only { IsOkUnless result Fault.OutOfMemory }
+    {
+        let first = usize::from(range.first().get());
+        split_ends(&mut self.steps, first, range.end() as usize)?;
+        self.ranges.push(range);
+        Ok(())
+    }
+
+    /// Notes a record that is written. There is room where it counts, if it is a promise or a vote;
+    /// a record of another kind changes no answer. It takes no memory.
     #[inline(always)]
     pub fn note(&mut self, rec: &Rec)
         requires room { HasRoom self.old rec.now }
         ensures noted { self.new ≡ notes self.old rec.now }
     {
+        raise_promised(&mut self.steps, rec);
         note(&mut self.pages, rec);
         remember(&mut self.records, rec);
     }
 
     /// What is kept for a position.
-    fn slot(&self, position: Position) -> Slot
+    pub(crate) fn slot(&self, position: Position) -> Slot
         ensures bound { number_of result.bound ≡ bound_at self.now.records position }
         ensures last { result.last ≡ last_vote_at self.now.records position }
     {
-        slot_at(&self.pages, index_of(position))
+        let last = vote_at(&self.pages, index_of(position));
+        slot_of(self.steps.ballot(usize::from(position.get())), last)
     }
 
     /// What is answered to a `Prepare` of the ballot at the position (section 2.2, phase 1b). The
@@ -146,7 +210,7 @@ impl Acceptor {
 }
 
 /// The bound, where the ballot lies below it.
-fn refusing(bound: Option<Ballot>, ballot: Ballot) -> Option<Ballot>
+pub(crate) fn refusing(bound: Option<Ballot>, ballot: Ballot) -> Option<Ballot>
     ensures below { IfSome result (λ found. (found ≡ number_of bound) × (ballot < found)) }
     ensures not_below { IfNone result (number_of bound ≤ ballot) }
 {
@@ -174,6 +238,23 @@ fn vote(position: Position, ballot: Ballot, action: Action, last: Option<Vote>) 
     }
 }
 
+/// What is kept where this ballot is promised and this is the last vote.
+fn slot_of(promised: Option<Ballot>, last: Option<Vote>) -> Slot
+    ensures bound { number_of result.bound ≡ max (number_of promised) (ballot_of_vote last) }
+    ensures last { result.last ≡ last }
+{
+    match last {
+        Some(vote) => Slot {
+            bound: Ballot::greater(promised, Some(vote.ballot)),
+            last: Some(vote),
+        },
+        None => Slot {
+            bound: promised,
+            last: None,
+        },
+    }
+}
+
 /// Adds a record behind the others.
 fn remember(records: &mut History<Rec>, rec: &Rec)
     ensures { records.new ≡ records.old ++ rec.now ∷ [] }
@@ -184,5 +265,6 @@ fn remember(records: &mut History<Rec>, rec: &Rec)
         Rec::Promised(position, ballot) => records.push(Rec::Promised(position, ballot)),
         Rec::Voted(position, ballot, action) => records.push(Rec::Voted(position, ballot, action)),
         Rec::Learned(position, action) => records.push(Rec::Learned(position, action)),
+        Rec::PromisedRange(range, ballot) => records.push(Rec::PromisedRange(range, ballot)),
     }
 }

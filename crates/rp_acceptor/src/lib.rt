@@ -9,7 +9,9 @@
 
 mod acceptor;
 mod page;
+mod range;
 mod slot;
+mod steps;
 
 pub use acceptor::Acceptor;
 pub use rp_base::{AcceptAnswer, PrepareAnswer};

@@ -1,89 +1,89 @@
-//! The slots of an acceptor in pages, each made when a position of it is first reserved.
+//! The last votes of an acceptor in pages, each made when a position of it is first reserved.
 
-ghost use Rattle.std.specs.Prelude.{Some, option_to_list, ◌≡◌, ◌+◌, ◌<◌, ◌≤◌, ◌∷◌, [], ℕ, length, slice_set, nat_eq, ◌/◌, OnOk, OnErr, IfOk, List, ◌++◌};
+ghost use Rattle.std.specs.Prelude.{Option, option_to_list, ◌≡◌, ◌+◌, ◌<◌, ◌≤◌, ◌∷◌, [], ℕ, length, slice_set, nat_eq, ◌/◌, OnOk, OnErr, IfOk, List, None, ◌++◌};
 ghost use Rattle.rp_base.specs.Sets.{Has};
+ghost use Rattle.rp_base.specs.Records.{highest};
 ghost use Rattle.rp_base.specs.declared.record.Rec.{Rec};
-ghost use Rattle.rp_acceptor.specs.Noted.{places_in};
-ghost use Rattle.rp_acceptor.specs.declared.slot.Slot.{Slot};
-ghost use Rattle.rp_acceptor.specs.Slots.{IsWithRecord, empty_slot, slot_in, page_at, slot_at, HasSlot, HasMore, IsWhole, AreSlots};
+ghost use Rattle.rp_acceptor.specs.Noted.{voted_in};
+ghost use Rattle.rp_acceptor.specs.Slots.{vote_in_page, page_at, vote_of, HasSlot, HasMore, IsWhole, AreVotes};
 
-use crate::slot::{Slot, empty, index_of, note_in_slot, place_of};
-use rp_base::{Position, Rec};
+use crate::slot::{index_of, placed_in};
+use rp_base::{Rec, Vote};
 use std::alloc::{AllocError, Global};
 use std::marker::Model;
 
 /// How many positions a page has.
 const PAGE: usize = 64;
 
-/// The slots of 64 positions in a row, or none where no position of them was reserved.
+/// The last votes at 64 positions in a row, or nothing where no position of them was reserved.
 #[derive(Drop)]
 pub struct Page {
-    slots: Vec<Slot>,
+    votes: Vec<Option<Vote>>,
 }
 
 impl Model for Page {
-    ghost use Rattle.std.specs.Prelude.{List};
-    ghost use Rattle.rp_acceptor.specs.declared.slot.Slot.{Slot};
+    ghost use Rattle.std.specs.Prelude.{List, Option};
+    ghost use Rattle.rp_base.specs.declared.record.Vote.{Vote};
 
-    ghost Value = { List Slot };
+    ghost Value = { List (Option Vote) };
 
-    ghost view = { λ p. p.slots.items };
+    ghost view = { λ p. p.votes.items };
 }
 
 impl Page {
-    /// A page without slots, which takes no memory.
+    /// A page without places, which takes no memory.
     fn absent(alloc: Global) -> Page
         ensures { result ≡ [] }
     {
         Page {
-            slots: Vec::new(alloc),
+            votes: Vec::new(alloc),
         }
     }
 
-    /// A page of empty slots.
+    /// A page without a vote.
     fn new(alloc: Global) -> Result<Page, AllocError>
         ensures len { IfOk result (λ page. length page ≡ 64) }
-        ensures empty { IfOk result (λ page. (offset : ℕ) → slot_in page offset ≡ empty_slot) }
+        ensures empty { IfOk result (λ page. (offset : ℕ) → vote_in_page page offset ≡ None) }
     {
-        let mut slots = Vec::new(alloc);
-        slots.resize(PAGE, empty())?;
-        Ok(Page { slots })
+        let mut votes = Vec::new(alloc);
+        votes.resize(PAGE, None)?;
+        Ok(Page { votes })
     }
 
     fn is_absent(&self) -> bool
         ensures { result ≡ nat_eq (length self.now) 0 }
     {
-        self.slots.is_empty()
+        self.votes.is_empty()
     }
 
-    fn slot(&self, offset: usize) -> Slot
-        ensures { result ≡ slot_in self.now offset }
+    fn vote(&self, offset: usize) -> Option<Vote>
+        ensures { result ≡ vote_in_page self.now offset }
     {
-        match self.slots.get(offset) {
-            Some(slot) => *slot,
-            None => empty(),
+        match self.votes.get(offset) {
+            Some(vote) => *vote,
+            None => None,
         }
     }
 
-    /// Notes a record in the slot at an offset, that of the position at which it counts.
+    /// Notes a vote at an offset: the last vote there is the higher one.
     #[inline(always)]
-    fn note_at(&mut self, offset: usize, position: Position, rec: &Rec)
+    fn note_at(&mut self, offset: usize, vote: Vote)
         requires within { offset < length self.old }
-        requires place { option_to_list (Some position) ≡ places_in rec.now }
-        ensures { (slot : Slot) × IsWithRecord (slot_in self.old offset) position rec.now slot
-            × (self.new ≡ slice_set self.old offset slot) }
+        ensures { self.new ≡ slice_set self.old offset
+            (highest (option_to_list (vote_in_page self.old offset) ++ vote ∷ [])) }
     {
-        note_in_slot(&mut self.slots[offset], position, rec);
+        let last = self.votes[offset];
+        self.votes[offset] = Vote::higher(last, Some(vote));
     }
 }
 
-/// The slot at an index. An empty one stands for each that is absent.
-pub fn slot_at(pages: &[Page], index: usize) -> Slot
-    ensures { result ≡ slot_at pages.now index }
+/// The vote at an index, none in a page that is absent.
+pub fn vote_at(pages: &[Page], index: usize) -> Option<Vote>
+    ensures { result ≡ vote_of pages.now index }
 {
     match pages.get(index / PAGE) {
-        Some(page) => page.slot(index % PAGE),
-        None => empty(),
+        Some(page) => page.vote(index % PAGE),
+        None => None,
     }
 }
 
@@ -99,7 +99,7 @@ fn grow(pages: &mut Vec<Page>, alloc: Global, number: usize) -> Result<(), Alloc
     Ok(())
 }
 
-/// Makes the page of an index, unless it is there. Refused for memory, each slot stays.
+/// Makes the page of an index, unless it is there. Refused for memory, each place stays.
 pub fn make(pages: &mut Vec<Page>, alloc: Global, index: usize) -> Result<(), AllocError>
     requires { (n : ℕ) → IsWhole (page_at pages.old.items n) }
     ensures more { HasMore pages.old.items pages.new.items }
@@ -114,17 +114,17 @@ pub fn make(pages: &mut Vec<Page>, alloc: Global, index: usize) -> Result<(), Al
     Ok(())
 }
 
-/// Notes a record in the slot of its position, if it counts at one. The slot is there.
+/// Notes the vote that a record is, if it is one. The place of its position is there.
 pub fn note(pages: &mut Vec<Page>, rec: &Rec)
-    requires { (index : ℕ) → Has (index + 1) (places_in rec.now) → HasSlot pages.old.items index }
+    requires { (index : ℕ) → Has (index + 1) (voted_in rec.now) → HasSlot pages.old.items index }
     ensures len { (n : ℕ) → length (page_at pages.new.items n)
         ≡ length (page_at pages.old.items n) }
-    ensures right { (records : List Rec) → AreSlots (slot_at pages.old.items) records
-        → AreSlots (slot_at pages.new.items) (records ++ rec.now ∷ []) }
+    ensures right { (records : List Rec) → AreVotes (vote_of pages.old.items) records
+        → AreVotes (vote_of pages.new.items) (records ++ rec.now ∷ []) }
 {
-    let Some(position) = place_of(rec) else {
+    let Some(placed) = placed_in(rec) else {
         return;
     };
-    let index = index_of(position);
-    pages[index / PAGE].note_at(index % PAGE, position, rec);
+    let index = index_of(placed.position);
+    pages[index / PAGE].note_at(index % PAGE, placed.vote);
 }

@@ -1,10 +1,11 @@
-//! What an acceptor keeps for a position.
+//! What the records say of a position, and what a record adds.
 
-ghost use Rattle.std.specs.Prelude.{◌≡◌, ◌+◌, Some, option_to_list};
-ghost use Rattle.rp_acceptor.specs.Noted.{places_in};
-ghost use Rattle.rp_acceptor.specs.Slots.{empty_slot, IsWithRecord};
+ghost use Rattle.std.specs.Prelude.{◌≡◌, ◌+◌, ◌<◌, IfSome};
+ghost use Rattle.rp_acceptor.specs.Noted.{placed_in};
+ghost use Rattle.rp_acceptor.specs.Slots.{stretch_in};
 
-use rp_base::{Ballot, Position, Rec, Vote};
+use rp_base::{Ballot, PlacedVote, Position, Rec, Vote};
+use std::marker::Model;
 
 /// The bound at a position and the last vote there.
 #[derive(Clone, Copy)]
@@ -13,54 +14,67 @@ pub struct Slot {
     pub last: Option<Vote>,
 }
 
-/// Nothing is promised or voted for.
-pub fn empty() -> Slot
-    ensures { result ≡ empty_slot }
-{
-    Slot {
-        bound: None,
-        last: None,
-    }
+/// A promise: its ballot, from a position on and below another.
+#[derive(Clone, Copy)]
+pub struct Stretch {
+    pub first: usize,
+    pub end: usize,
+    pub ballot: Ballot,
 }
 
-/// The position at which a record counts for an acceptor: that of a promise or a vote.
-pub fn place_of(rec: &Rec) -> Option<Position>
-    ensures { option_to_list result ≡ places_in rec.now }
+impl Model for Stretch {
+    ghost use Rattle.rp_acceptor.specs.Slots as slots;
+
+    ghost Value = { slots.Stretch };
+
+    ghost view = { λ s. record { first = s.first; end = s.end; ballot = s.ballot } };
+
+    ghost inverse = { λ s. record { first = s.first; end = s.end; ballot = s.ballot } };
+}
+
+/// The promise that a record is, if it is one.
+pub fn stretch_in(rec: &Rec) -> Option<Stretch>
+    ensures stretch { result ≡ stretch_in rec.now }
+    ensures rises { IfSome result (λ stretch. stretch.first < stretch.end) }
 {
     match rec {
-        Rec::Promised(position, _) | Rec::Voted(position, _, _) => Some(*position),
-        Rec::Started(_) | Rec::Learned(_, _) => None,
+        Rec::Promised(position, ballot) => {
+            let first = usize::from(position.get());
+            Some(Stretch {
+                first,
+                end: first + 1,
+                ballot: *ballot,
+            })
+        }
+        Rec::PromisedRange(range, ballot) => Some(Stretch {
+            first: usize::from(range.first().get()),
+            end: range.end() as usize,
+            ballot: *ballot,
+        }),
+        Rec::Started(_) | Rec::Voted(_, _, _) | Rec::Learned(_, _) => None,
     }
 }
 
-/// The index of a position's slot.
+/// The vote that a record is, with its position, if it is one.
+pub fn placed_in(rec: &Rec) -> Option<PlacedVote>
+    ensures { result ≡ placed_in rec.now }
+{
+    match rec {
+        Rec::Voted(position, ballot, action) => Some(PlacedVote {
+            position: *position,
+            vote: Vote {
+                ballot: *ballot,
+                action: *action,
+            },
+        }),
+        Rec::Started(_) | Rec::Promised(_, _) | Rec::Learned(_, _) | Rec::PromisedRange(_, _) =>
+            None,
+    }
+}
+
+/// The index of a position's place.
 pub fn index_of(position: Position) -> usize
     ensures { result + 1 ≡ position }
 {
     usize::from(position.get()) - 1
-}
-
-/// Notes a record in the slot of the position at which it counts.
-#[inline(always)]
-pub fn note_in_slot(slot: &mut Slot, position: Position, rec: &Rec)
-    requires { option_to_list (Some position) ≡ places_in rec.now }
-    ensures { IsWithRecord slot.old position rec.now slot.new }
-{
-    match rec {
-        Rec::Promised(_, ballot) => slot.bound = Ballot::greater(slot.bound, Some(*ballot)),
-        Rec::Voted(_, ballot, action) => {
-            slot.bound = Ballot::greater(slot.bound, Some(*ballot));
-            let stays = match &slot.last {
-                Some(last) => last.ballot >= *ballot,
-                None => false,
-            };
-            if !stays {
-                slot.last = Some(Vote {
-                    ballot: *ballot,
-                    action: *action,
-                });
-            }
-        }
-        Rec::Started(_) | Rec::Learned(_, _) => {}
-    }
 }

@@ -22,8 +22,8 @@ use Rattle.rp_base.specs.Ballot.{round_of, next_ballot, greatest_with}
 use Rattle.rp_base.specs.Sets.{Has, with_member}
 use Rattle.rp_base.specs.Records.{applied_of, learned_at}
 use Rattle.rp_base.specs.Promises.{Promise, same_heard, makes_majority, offer_of}
-use Rattle.rp_base.specs.Proposals.{Proposal, proposal_at, without_proposal, is_in, takes_promise, with_promise, with_proposal, is_promised, after_promise}
-use Rattle.rp_base.specs.Voting.{prepare_answer, accept_answer}
+use Rattle.rp_base.specs.Proposals.{Proposal, proposal_at, without_proposal, is_in, takes_promise, with_promise, with_proposal, is_promised, after_promise, is_prepared, as_offered, once_promised, is_given_up}
+use Rattle.rp_base.specs.Voting.{prepare_answer, range_answer, accept_answer}
 use Rattle.rp_base.proofs.Members.{has_split, has_right, has_passing, mapped_has}
 use Rattle.rp_codec.specs.Message.{Message}
 use Rattle.rp_codec.specs.declared.packet.Party.TheVariants.{Node}
@@ -31,16 +31,19 @@ use Rattle.rp_codec.specs.declared.packet.Body.{Body}
 use Rattle.rp_codec.specs.declared.packet.Body.TheVariants as bodies
 use Rattle.rp_machine.specs.Replay.{is_for, kept_of, one_to}
 use Rattle.rp_machine.specs.Asked.{last_number, last_occurrence, answer_to, kept_reply}
+use Rattle.rp_base.specs.declared.voting.RangeAnswer.{RangeAnswer}
+use Rattle.rp_base.specs.declared.voting.RangeAnswer.TheVariants as range_prepares
+use Rattle.rp_base.specs.Ranges.{Range, positions_of, range_of}
 use Rattle.rp_model.specs.Parts.{Running}
 use Rattle.rp_model.specs.Parts.{Turn}
 use Rattle.rp_model.specs.Parts.{with_record}
 use Rattle.rp_model.specs.Says.{says, says_to_all, says_to_others, says_to_task, sends, notes, drops_foreign, drops_full}
-use Rattle.rp_model.specs.Acceptor.{tells_promise, tells_vote}
-use Rattle.rp_model.specs.Pending.{most_pending, adds_pending, on_numbered, on_call, is_answered_by, replies_to, is_same_call}
-use Rattle.rp_model.specs.Leader.{chosen_position, is_beyond, is_out_of_reach, starts_above, begins, on_lead, counts_promise, on_promise_to}
+use Rattle.rp_model.specs.Acceptor.{tells_promise, tells_range, tells_vote}
+use Rattle.rp_model.specs.Pending.{most_pending, adds_pending, on_numbered, on_call, is_answered_by, replies_to, is_same_call, own_action}
+use Rattle.rp_model.specs.Leader.{chosen_position, is_beyond, is_out_of_reach, starts_above, begins, on_lead, counts_promise, on_promise_to, begins_if, offers, leads_at, unlearned_in, begins_range, on_lead_range}
 use Rattle.rp_model.specs.Learner.{missing_position, asks_for, tells_learned, learns, on_vote, on_decision}
 use Rattle.rp_model.specs.Receiving.{is_for_node, party_number, on_body}
-use Rattle.rp_model.specs.Effect.{Setting, NodeInput, Receive, Lead, Interrupt, Tick, Report, report_of, running_effect}
+use Rattle.rp_model.specs.Effect.{Setting, NodeInput, Receive, Lead, LeadRange, Interrupt, Tick, Report, report_of, running_effect}
 use Rattle.rp_agreement.specs.Answered.{SaysAnswer, answers_of}
 use Rattle.rp_agreement.proofs.Lists.{some_same, found_has}
 
@@ -110,6 +113,11 @@ module _ {S : Type 0} (s : Setting S) where
   prepare_answers me records running from i b (prepares.Promise last rec) = one_answer _ (says me (bodies.Promise i b last) from) tt
   prepare_answers me records running from i b (prepares.Nack bound) = one_answer _ (says me (bodies.Nack i b bound) from) tt
   prepare_answers me records running from i b prepares.Silent = silent records running
+
+  range_answers : (me : ℕ) (records : List Rec) (running : Running) (from : ℕ) (range : Range) (b : ℕ) (answer : RangeAnswer) → TurnAnswers records (tells_range me running from range b answer)
+  range_answers me records running from range b (range_prepares.Promise votes rec) = one_answer _ (says me (bodies.PromiseRange range b votes) from) tt
+  range_answers me records running from range b (range_prepares.Nack i bound) = one_answer _ (says me (bodies.Nack i b bound) from) tt
+  range_answers me records running from range b range_prepares.Silent = silent records running
 
   accept_answers : (me : ℕ) (records : List Rec) (running : Running) (from i b : ℕ) (v : Action) (answer : AcceptAnswer) → TurnAnswers records (tells_vote me running from i b v answer)
   accept_answers me records running from i b v (accepts.Vote rec) = one_answer _ (says me (bodies.Accepted i b v) from) tt
@@ -200,10 +208,12 @@ module _ {S : Type 0} (s : Setting S) where
   body_answers nodes me records running from (bodies.Decided i v) = decision_answers me records running from i v (learned_at records i)
   body_answers nodes me records running from (bodies.Ask i) = ask_answers me records running from i (learned_at records i)
   body_answers nodes me records running from (bodies.Nack i b bound) =
-      let known = record running { proposals = without_proposal running.proposals i; refused = greatest_with running.refused bound } in
+      let known = record running { proposals = filter (λ p. not (is_given_up nodes i b p)) running.proposals; refused = greatest_with running.refused bound } in
       choice records (is_in b (proposal_at running.proposals i)) (notes known) (notes running) (silent records known) (silent records running)
   body_answers nodes me records running from (bodies.Reply number reply) = silent records running
   body_answers nodes me records running from (bodies.Report first applied told) = silent records running
+  body_answers nodes me records running from (bodies.PrepareRange range b) = range_answers me records running from range b (range_answer records range b)
+  body_answers nodes me records running from (bodies.PromiseRange range b votes) = silent records (record running { proposals = map (once_promised nodes from range b votes) running.proposals })
 
   -- ---- an input
 
@@ -215,22 +225,46 @@ module _ {S : Type 0} (s : Setting S) where
   choice_if records true one other left right = left
   choice_if records false one other left right = right
 
+  begin_answers : (me : ℕ) (records : List Rec) (running : Running) (i : ℕ) → TurnAnswersIf records (begins_if s.next s.answers s.begin s.config.nodes me records running i)
+  begin_answers me records running i =
+      let b = next_ballot me (starts_above records running) in
+      choice_if records (nat_le (2 ^ 32) (round_of b)) (Err BallotsSpent) (Ok (begins s.next s.answers s.begin s.config.nodes me records running i b)) tt
+      (says_all (answers_of s (applied_of (records ++ Started b ∷ []))) me (bodies.Prepare i b) (one_to s.config.nodes) (λ k. tt))
+
+  leads_answers : (me : ℕ) (records : List Rec) (running : Running) (i : ℕ) (at : Option Proposal) → TurnAnswersIf records (leads_at s.next s.answers s.begin s.config.nodes me records running i at)
+  leads_answers me records running i None = begin_answers me records running i
+  leads_answers me records running i (Some p) =
+      let others = without_proposal running.proposals p.position in
+      let after = as_offered (own_action (kept_of s.next s.answers s.begin (applied_of records)) others running.pending) p in
+      let accept = bodies.Accept p.position p.ballot (offer_of after.own p.promises) in
+      choice_if records (is_prepared s.config.nodes p) (Ok (offers s.next s.answers s.begin s.config.nodes me records running p)) (begins_if s.next s.answers s.begin s.config.nodes me records running i)
+      (says_all (answers_of s (applied_of records)) me accept (one_to s.config.nodes) (λ k. tt)) (begin_answers me records running i)
+
   lead_answers : (me : ℕ) (records : List Rec) (running : Running) (at : Option ℕ) → TurnAnswersIf records (on_lead s.next s.answers s.begin s.config me records running at)
   lead_answers me records running at =
-      let i = chosen_position records running at in
-      let b = next_ballot me (starts_above records running) in
-      let begun : Result Turn Fault = Ok (begins s.next s.answers s.begin s.config.nodes me records running i b) in
-      let last : Result Turn Fault = if nat_le (2 ^ 32) (round_of b) then Err BallotsSpent else begun in
+      let i = chosen_position s.config.nodes records running at in
+      let last : Result Turn Fault = leads_at s.next s.answers s.begin s.config.nodes me records running i (proposal_at running.proposals i) in
       let middle : Result Turn Fault = if is_out_of_reach s.config.max_positions records i then Err LogFull else last in
       choice_if records (is_some (learned_at records i)) (Ok (notes running)) middle (silent records running)
-      (choice_if records (is_out_of_reach s.config.max_positions records i) (Err LogFull) last tt
+      (choice_if records (is_out_of_reach s.config.max_positions records i) (Err LogFull) last tt (leads_answers me records running i (proposal_at running.proposals i)))
+
+  lead_range_answers : (me : ℕ) (records : List Rec) (running : Running) (range : Result Range Fault) → TurnAnswersIf records (on_lead_range s.config me records running range)
+  lead_range_answers me records running (Err fault) = tt
+  lead_range_answers me records running (Ok range) =
+      let b = next_ballot me (starts_above records running) in
+      let begun : Result Turn Fault = Ok (begins_range s.config.nodes me records running range b) in
+      let last : Result Turn Fault = if nat_le (2 ^ 32) (round_of b) then Err BallotsSpent else begun in
+      let middle : Result Turn Fault = if nat_eq (length (unlearned_in records range)) 0 then Ok (notes running) else last in
+      choice_if records (list_any (is_out_of_reach s.config.max_positions records) (positions_of range)) (Err LogFull) middle tt
+      (choice_if records (nat_eq (length (unlearned_in records range)) 0) (Ok (notes running)) last (silent records running)
       (choice_if records (nat_le (2 ^ 32) (round_of b)) (Err BallotsSpent) begun tt
-      (says_all (answers_of s (applied_of (records ++ Started b ∷ []))) me (bodies.Prepare i b) (one_to s.config.nodes) (λ k. tt))))
+      (says_all (answers_of s (applied_of (records ++ Started b ∷ []))) me (bodies.PrepareRange range b) (one_to s.config.nodes) (λ k. tt))))
 
   pub input_answers : (me : ℕ) (records : List Rec) (running : Running) (input : NodeInput) → TurnAnswersIf records (running_effect s me records running input)
   input_answers me records running (Receive message) =
       choice records (is_for_node s.config me message) (on_body s.next s.answers s.begin s.config.nodes me records running (party_number message.from) message.body) (drops_foreign running) (body_answers s.config.nodes me records running (party_number message.from) message.body) (λ m h. absurd h)
   input_answers me records running (Lead at) = lead_answers me records running at
+  input_answers me records running (LeadRange first count) = lead_range_answers me records running (range_of first count)
   input_answers me records running (Interrupt source occurrence) =
       choice records (nat_lt (last_occurrence source (kept_of s.next s.answers s.begin (applied_of records))) occurrence)
       (adds_pending running (actions.Interrupt source occurrence)) (notes running) (adds_answers records running (actions.Interrupt source occurrence)) (silent records running)

@@ -36,6 +36,8 @@ answer_more given more inside (Node k) (bodies.Reply number reply) so = absurd s
 answer_more given more inside (Task t) (bodies.Reply number reply) so = inside (record { task = t; number = number; reply = reply }) so
 answer_more given more inside Audit (bodies.Reply number reply) so = absurd so
 answer_more given more inside to (bodies.Report first applied told) so = so
+answer_more given more inside to (bodies.PrepareRange range b) so = so
+answer_more given more inside to (bodies.PromiseRange range b votes) so = so
 
 pub still_answered : (given more : List Answer) → ((answer : Answer) → Has answer given → Has answer more) → (t : ℕ) (part : TaskPart) → IsAnswered given t part → IsAnswered more t part
 still_answered given more inside t part old = record { numbered = old.numbered; waits = old.waits; replied = λ answer h. inside answer (old.replied answer h) }

@@ -19,7 +19,7 @@ use Rattle.rp_codec.specs.Message.{Message}
 use Rattle.rp_codec.specs.declared.packet.Party.{Party}
 use Rattle.rp_codec.specs.declared.packet.Party.TheVariants.{Node, Task, Audit}
 use Rattle.rp_codec.specs.declared.packet.Body.{Body}
-use Rattle.rp_codec.specs.declared.packet.Body.TheVariants.{Call, Prepare, Promise, Accept, Accepted, Decided, Ask, Nack, Reply, Report}
+use Rattle.rp_codec.specs.declared.packet.Body.TheVariants.{Call, Prepare, Promise, Accept, Accepted, Decided, Ask, Nack, Reply, Report, PrepareRange, PromiseRange}
 use Rattle.rp_machine.specs.Replay.{one_to}
 use Rattle.rp_model.specs.Facts.{HasVoted, IsDecided, IsOrder}
 use Rattle.rp_agreement.specs.Computed.{vote_by, vote_between, votes_told, decided_at, decided_run, order_of}
@@ -45,6 +45,8 @@ vote_is a (Ask position) h e = absurd (cc)
 vote_is a (Nack position ballot bound) h e = absurd (cc)
 vote_is a (Reply number reply) h e = absurd (cc)
 vote_is a (Report first applied actions) h e = absurd (cc)
+vote_is a (PrepareRange range ballot) h e = absurd (cc)
+vote_is a (PromiseRange range ballot votes) h e = absurd (cc)
 
 between_is : (sent : List Message) (from to : Party) (body : Body) (h : HeardVote) → Has (record { from = from; to = to; body = body }) sent → vote_between from to body ≡ Some h
     → HasVoted sent h.0 h.1 h.2.ballot h.2.action

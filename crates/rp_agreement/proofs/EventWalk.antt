@@ -13,7 +13,7 @@ use Rattle.rp_model.specs.Effect as nodes
 use Rattle.rp_model.specs.Effect.{Setting, Done, NodeInput, node_effect, cut_effect, stop_effect, restart_part, untorn_part}
 use Rattle.rp_model.specs.Tasks as tasks
 use Rattle.rp_model.specs.Tasks.{TaskInput, task_effect}
-use Rattle.rp_model.specs.Events.{Step, Deliver, Lead, Interrupt, Tick, Report, IsStep, Event, Submit, Again, Makes, Cut, Stop, Restart, IsEvent}
+use Rattle.rp_model.specs.Events.{Step, Deliver, Lead, LeadRange, Interrupt, Tick, Report, IsStep, Event, Submit, Again, Makes, Cut, Stop, Restart, IsEvent}
 use Rattle.rp_model.specs.World.{World, Happening, part_at, node_done, task_done, node_done_if, task_done_if, task_takes, task_is_told, node_takes, node_hears, node_is_told, arrives, delivers, step_effect, node_is_cut, hearing_is_cut, arrival_is_cut, delivery_is_cut, cut_step, stops, restarts, event_effect}
 use Rattle.rp_model.specs.Answers.{untorn, IsLeft, FailsBy, Steps, Happen}
 use Rattle.rp_agreement.specs.Inputs.{IsInput, IsTaskInput}
@@ -89,6 +89,7 @@ module _ {S : Type 0} (s : Setting S) (P : World → Type 0) (kept_by : IsKeptBy
   step_keeps : (w : World) (step : Step) → P w → IsStep step → MeetsAfter P (step_effect s w step)
   step_keeps w (Deliver number) meets is = delivery_keeps w number (part_at w.sent number) meets refl
   step_keeps w (Lead me choice) meets is = takes_keep w me (nodes.Lead choice) (part_at w.nodes me) meets is.1 refl
+  step_keeps w (LeadRange me first count) meets is = takes_keep w me (nodes.LeadRange first count) (part_at w.nodes me) meets is.1 refl
   step_keeps w (Interrupt me source occurrence) meets is = takes_keep w me (nodes.Interrupt source occurrence) (part_at w.nodes me) meets (is.1, is.2) refl
   step_keeps w (Tick me now) meets is = takes_keep w me (nodes.Tick now) (part_at w.nodes me) meets is.1 refl
   step_keeps w (Report me first) meets is = takes_keep w me (nodes.Report first) (part_at w.nodes me) meets is.1 refl
@@ -118,6 +119,7 @@ module _ {S : Type 0} (s : Setting S) (P : World → Type 0) (kept_by : IsKeptBy
   cut_step_keeps : (w : World) (step : Step) (kept : ℕ) → P w → IsStep step → MeetsAfter P (cut_step s w step kept)
   cut_step_keeps w (Deliver number) kept meets is = delivery_cut_keeps w number (part_at w.sent number) kept meets refl
   cut_step_keeps w (Lead me choice) kept meets is = cuts_keep w me (nodes.Lead choice) kept (part_at w.nodes me) meets is.1 refl
+  cut_step_keeps w (LeadRange me first count) kept meets is = cuts_keep w me (nodes.LeadRange first count) kept (part_at w.nodes me) meets is.1 refl
   cut_step_keeps w (Interrupt me source occurrence) kept meets is = cuts_keep w me (nodes.Interrupt source occurrence) kept (part_at w.nodes me) meets (is.1, is.2) refl
   cut_step_keeps w (Tick me now) kept meets is = cuts_keep w me (nodes.Tick now) kept (part_at w.nodes me) meets is.1 refl
   cut_step_keeps w (Report me first) kept meets is = cuts_keep w me (nodes.Report first) kept (part_at w.nodes me) meets is.1 refl

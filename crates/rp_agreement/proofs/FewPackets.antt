@@ -22,7 +22,7 @@ use Rattle.rp_model.specs.Effect as nodes
 use Rattle.rp_model.specs.Effect.{Setting, Done, NodeInput, running_effect, turned_if, effect_while, node_effect, stops_while, stop_effect, cut_if, cut_effect, restart_while, restart_part}
 use Rattle.rp_model.specs.Tasks as tasks
 use Rattle.rp_model.specs.Tasks.{TaskInput, next_call, may_call, calls_if, asks_again, takes, takes_reply, task_hears, task_effect}
-use Rattle.rp_model.specs.Events.{Step, Deliver, Lead, Interrupt, Tick, Report, Event, Submit, Again, Makes, Cut, Stop, Restart}
+use Rattle.rp_model.specs.Events.{Step, Deliver, Lead, LeadRange, Interrupt, Tick, Report, Event, Submit, Again, Makes, Cut, Stop, Restart}
 use Rattle.rp_model.specs.World.{World, Happening, part_at, node_done_if, task_done_if, task_takes, task_is_told, node_takes, node_hears, node_is_told, arrives, delivers, step_effect, node_is_cut, hearing_is_cut, arrival_is_cut, delivery_is_cut, cut_step, stops, restarts, event_effect}
 use Rattle.rp_agreement.specs.Answered.{answers_of}
 use Rattle.rp_agreement.specs.Worlds.{node_in, IsSoundWorld}
@@ -66,6 +66,8 @@ one_heard t part (bodies.Ask i) = omega arith
 one_heard t part (bodies.Nack i b bound) = omega arith
 one_heard t part (bodies.Reply number reply) = one_either (takes part number) _ _ (omega arith) (omega arith)
 one_heard t part (bodies.Report first applied told) = omega arith
+one_heard t part (bodies.PrepareRange range b) = omega arith
+one_heard t part (bodies.PromiseRange range b votes) = omega arith
 
 one_taken : (config : Config) (t : ℕ) (part : TaskPart) (input : TaskInput) → IsOneIf (task_effect config t part input)
 one_taken config t part (tasks.Submit node object operation arg) = one_called t node part (may_call config node part (next_call t part object operation arg) part.outstanding)
@@ -155,6 +157,7 @@ module _ {S : Type 0} (s : Setting S) where
   step_few : (w : World) (step : Step) → IsFewAfterIf (step_effect s w step)
   step_few w (Deliver number) = delivery_few w (part_at w.sent number)
   step_few w (Lead me choice) = takes_few w me (nodes.Lead choice) (part_at w.nodes me) refl
+  step_few w (LeadRange me first count) = takes_few w me (nodes.LeadRange first count) (part_at w.nodes me) refl
   step_few w (Interrupt me source occurrence) = takes_few w me (nodes.Interrupt source occurrence) (part_at w.nodes me) refl
   step_few w (Tick me now) = takes_few w me (nodes.Tick now) (part_at w.nodes me) refl
   step_few w (Report me first) = takes_few w me (nodes.Report first) (part_at w.nodes me) refl
@@ -181,6 +184,7 @@ module _ {S : Type 0} (s : Setting S) where
   cut_step_few : (w : World) (step : Step) (kept : ℕ) → IsFewAfterIf (cut_step s w step kept)
   cut_step_few w (Deliver number) kept = delivery_cut_few w (part_at w.sent number) kept
   cut_step_few w (Lead me choice) kept = cuts_few w me (nodes.Lead choice) kept (part_at w.nodes me) refl
+  cut_step_few w (LeadRange me first count) kept = cuts_few w me (nodes.LeadRange first count) kept (part_at w.nodes me) refl
   cut_step_few w (Interrupt me source occurrence) kept = cuts_few w me (nodes.Interrupt source occurrence) kept (part_at w.nodes me) refl
   cut_step_few w (Tick me now) kept = cuts_few w me (nodes.Tick now) kept (part_at w.nodes me) refl
   cut_step_few w (Report me first) kept = cuts_few w me (nodes.Report first) kept (part_at w.nodes me) refl

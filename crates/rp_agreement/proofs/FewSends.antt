@@ -14,14 +14,17 @@ use Rattle.rp_base.specs.declared.record.Rec.{Rec}
 use Rattle.rp_base.specs.declared.record.Rec.TheVariants.{Learned}
 use Rattle.rp_base.specs.declared.voting.PrepareAnswer.{PrepareAnswer}
 use Rattle.rp_base.specs.declared.voting.PrepareAnswer.TheVariants as prepares
+use Rattle.rp_base.specs.declared.voting.RangeAnswer.{RangeAnswer}
+use Rattle.rp_base.specs.declared.voting.RangeAnswer.TheVariants as range_prepares
+use Rattle.rp_base.specs.Ranges.{Range, positions_of, range_of}
 use Rattle.rp_base.specs.declared.voting.AcceptAnswer.{AcceptAnswer}
 use Rattle.rp_base.specs.declared.voting.AcceptAnswer.TheVariants as accepts
 use Rattle.rp_base.specs.Ballot.{next_ballot, round_of}
 use Rattle.rp_base.specs.Promises.{Promise, offer_of, same_heard, makes_majority}
-use Rattle.rp_base.specs.Proposals.{Proposal, proposal_at, is_in, takes_promise, with_promise, is_promised}
+use Rattle.rp_base.specs.Proposals.{Proposal, proposal_at, is_in, takes_promise, with_promise, is_promised, without_proposal, is_prepared, as_offered}
 use Rattle.rp_base.specs.Records.{learned_at, applied_of}
 use Rattle.rp_base.specs.Sets.{with_member}
-use Rattle.rp_base.specs.Voting.{prepare_answer, accept_answer}
+use Rattle.rp_base.specs.Voting.{prepare_answer, range_answer, accept_answer}
 use Rattle.rp_codec.specs.Message.{Message}
 use Rattle.rp_codec.specs.declared.packet.Body.{Body}
 use Rattle.rp_codec.specs.declared.packet.Body.TheVariants as bodies
@@ -31,12 +34,12 @@ use Rattle.rp_model.specs.Parts.{Running}
 use Rattle.rp_model.specs.Parts.{Turn}
 use Rattle.rp_model.specs.Parts.{with_record}
 use Rattle.rp_model.specs.Says.{says, says_to_all, says_to_others, says_to_task}
-use Rattle.rp_model.specs.Acceptor.{tells_promise, tells_vote}
-use Rattle.rp_model.specs.Leader.{chosen_position, is_beyond, is_out_of_reach, starts_above, on_promise_to}
+use Rattle.rp_model.specs.Acceptor.{tells_promise, tells_range, tells_vote}
+use Rattle.rp_model.specs.Leader.{chosen_position, is_beyond, is_out_of_reach, starts_above, on_promise_to, begins_if, offers, leads_at, unlearned_in, on_lead_range}
 use Rattle.rp_model.specs.Learner.{missing_position, asks_for, tells_learned, learns, on_vote, on_decision}
-use Rattle.rp_model.specs.Pending.{adds_pending, most_pending, is_answered_by, replies_to, on_numbered, on_call, is_same_call}
+use Rattle.rp_model.specs.Pending.{adds_pending, most_pending, is_answered_by, replies_to, on_numbered, on_call, is_same_call, own_action}
 use Rattle.rp_model.specs.Receiving.{is_for_node, party_number, on_body}
-use Rattle.rp_model.specs.Effect.{Setting, NodeInput, Receive, Lead, Interrupt, Tick, Report, running_effect}
+use Rattle.rp_model.specs.Effect.{Setting, NodeInput, Receive, Lead, LeadRange, Interrupt, Tick, Report, running_effect}
 
 -- ---- lengths
 
@@ -94,6 +97,11 @@ module _ {S : Type 0} (next : S → Action → S) (answers : S → Action → Li
   few_promise me running from i b (prepares.Promise last rec) = omega arith
   few_promise me running from i b (prepares.Nack bound) = omega arith
   few_promise me running from i b prepares.Silent = omega arith
+
+  few_range : (me : ℕ) (running : Running) (from : ℕ) (range : Range) (b : ℕ) (answer : RangeAnswer) → IsFew (tells_range me running from range b answer)
+  few_range me running from range b (range_prepares.Promise votes rec) = omega arith
+  few_range me running from range b (range_prepares.Nack i bound) = omega arith
+  few_range me running from range b range_prepares.Silent = omega arith
 
   few_vote : (me : ℕ) (running : Running) (from i b : ℕ) (v : Action) (answer : AcceptAnswer) → IsFew (tells_vote me running from i b v answer)
   few_vote me running from i b v (accepts.Vote rec) = omega arith
@@ -165,6 +173,8 @@ module _ {S : Type 0} (next : S → Action → S) (answers : S → Action → Li
   few_body me running from (bodies.Nack i b bound) = few_either (is_in b (proposal_at running.proposals i)) _ _ (omega arith) (omega arith)
   few_body me running from (bodies.Reply number reply) = omega arith
   few_body me running from (bodies.Report first applied told) = omega arith
+  few_body me running from (bodies.PrepareRange range b) = few_range me running from range b (range_answer records range b)
+  few_body me running from (bodies.PromiseRange range b votes) = omega arith
 
 -- what a turn sends, if it is not refused
 abbrev pub IsFewIf : {S : Type 0} → Setting S → List Rec → Result Turn Fault → Type 0
@@ -175,18 +185,44 @@ few_if : {S : Type 0} (s : Setting S) (records : List Rec) (test : Bool) (one ot
 few_if s records true one other left right = left
 few_if s records false one other left right = right
 
+few_begin : {S : Type 0} (s : Setting S) (me : ℕ) (records : List Rec) (running : Running) (i : ℕ)
+    → IsFewIf s records (begins_if s.next s.answers s.begin s.config.nodes me records running i)
+few_begin s me records running i =
+    let b = next_ballot me (starts_above records running) in
+    let told : length (says_to_all s.config.nodes me (bodies.Prepare i b)) ≤ s.config.nodes = all_few s.config.nodes me (bodies.Prepare i b) in
+    few_if s records (nat_le (2 ^ 32) (round_of b)) _ _ tt (omega (arith, told))
+
+few_lead : {S : Type 0} (s : Setting S) (me : ℕ) (records : List Rec) (running : Running) (i : ℕ) (at : Option Proposal)
+    → IsFewIf s records (leads_at s.next s.answers s.begin s.config.nodes me records running i at)
+few_lead s me records running i None = few_begin s me records running i
+few_lead s me records running i (Some p) =
+    let turn = offers s.next s.answers s.begin s.config.nodes me records running p in
+    let others = without_proposal running.proposals p.position in
+    let after = as_offered (own_action (kept_of s.next s.answers s.begin (applied_of records)) others running.pending) p in
+    let accept = bodies.Accept p.position p.ballot (offer_of after.own p.promises) in
+    let told : length (says_to_all s.config.nodes me accept) ≤ s.config.nodes = all_few s.config.nodes me accept in
+    few_if s records (is_prepared s.config.nodes p) _ _ (omega (arith, told)) (few_begin s me records running i)
+
+few_lead_range : {S : Type 0} (s : Setting S) (me : ℕ) (records : List Rec) (running : Running) (range : Result Range Fault)
+    → IsFewIf s records (on_lead_range s.config me records running range)
+few_lead_range s me records running (Err fault) = tt
+few_lead_range s me records running (Ok range) =
+    let b = next_ballot me (starts_above records running) in
+    let told : length (says_to_all s.config.nodes me (bodies.PrepareRange range b)) ≤ s.config.nodes = all_few s.config.nodes me (bodies.PrepareRange range b) in
+    few_if s records (list_any (is_out_of_reach s.config.max_positions records) (positions_of range)) _ _ tt
+    (few_if s records (nat_eq (length (unlearned_in records range)) 0) _ _ (omega arith)
+    (few_if s records (nat_le (2 ^ 32) (round_of b)) _ _ tt (omega (arith, told))))
+
 pub turn_few : {S : Type 0} (s : Setting S) (me : ℕ) (records : List Rec) (running : Running) (input : NodeInput) → IsFewIf s records (running_effect s me records running input)
 turn_few s me records running (Receive message) =
     few_either s.next s.answers s.begin s.config.nodes records (is_for_node s.config me message) _ _
     (few_body s.next s.answers s.begin s.config.nodes records me running (party_number message.from) message.body) (omega arith)
 turn_few s me records running (Lead choice) =
     let most = s.config.max_positions in
-    let i = chosen_position records running choice in
-    let b = next_ballot me (starts_above records running) in
-    let told : length (says_to_all s.config.nodes me (bodies.Prepare i b)) ≤ s.config.nodes = all_few s.config.nodes me (bodies.Prepare i b) in
+    let i = chosen_position s.config.nodes records running choice in
     few_if s records (is_some (learned_at records i)) _ _ (omega arith)
-    (few_if s records (is_out_of_reach most records i) _ _ tt
-    (few_if s records (nat_le (2 ^ 32) (round_of b)) _ _ tt (omega (arith, told))))
+    (few_if s records (is_out_of_reach most records i) _ _ tt (few_lead s me records running i (proposal_at running.proposals i)))
+turn_few s me records running (LeadRange first count) = few_lead_range s me records running (range_of first count)
 turn_few s me records running (Interrupt source occurrence) =
     few_either s.next s.answers s.begin s.config.nodes records (nat_lt (last_occurrence source (kept_of s.next s.answers s.begin (applied_of records))) occurrence) _ _
     (few_pending s.next s.answers s.begin s.config.nodes records running (actions.Interrupt source occurrence)) (omega arith)

@@ -1,5 +1,5 @@
 -- What a node's turn writes is at a position of the log, or at none.
-use Rattle.std.proofs.Common.{◌≡◌, ℕ, Bool, true, false, if◌then◌else◌, Result, Ok, Err, Option, Some, None, List, refl, sym, subst}
+use Rattle.std.proofs.Common.{◌≡◌, ℕ, Bool, true, false, if◌then◌else◌, Result, Ok, Err, Option, Some, None, List, refl, sym, subst, suc}
 use Rattle.std.specs.Prelude.{nat_lt, nat_le, nat_eq, not, is_some, ◌&&◌, ◌^◌}
 use Rattle.std.proofs.lemmas.Bool.{and_parts, ltb-false, le-leb}
 use Rattle.rp_base.specs.declared.action.Action.{Action}
@@ -10,16 +10,16 @@ use Rattle.rp_base.specs.declared.config.Config.{Config}
 use Rattle.rp_base.specs.declared.fault.Fault.{Fault}
 use Rattle.rp_base.specs.declared.record.Vote.{Vote}
 use Rattle.rp_base.specs.declared.record.Rec.{Rec}
-use Rattle.rp_base.specs.declared.record.Rec.TheVariants.{Promised, Voted}
+use Rattle.rp_base.specs.declared.record.Rec.TheVariants.{Promised, PromisedRange, Voted}
 use Rattle.rp_base.specs.declared.voting.PrepareAnswer.TheVariants as prepares
 use Rattle.rp_base.specs.declared.voting.AcceptAnswer.TheVariants as accepts
 use Rattle.rp_base.specs.Action.{same_action}
 use Rattle.rp_base.specs.Ballot.{owner_of, next_ballot, round_of}
 use Rattle.rp_base.specs.Promises.{Promise, same_heard, makes_majority}
-use Rattle.rp_base.specs.Proposals.{Proposal, proposal_at, is_in, takes_promise, with_promise, is_promised}
+use Rattle.rp_base.specs.Proposals.{Proposal, proposal_at, is_in, takes_promise, with_promise, is_promised, is_prepared}
 use Rattle.rp_base.specs.Records.{bound_at, last_vote_at, learned_at, applied_of}
 use Rattle.rp_base.specs.Sets.{with_member}
-use Rattle.rp_base.specs.Voting.{vote_answer}
+use Rattle.rp_base.specs.Voting.{is_above_bounds, refusing_position, range_refusal, vote_answer}
 use Rattle.std.specs.List.{list_any}
 use Rattle.std.specs.Prelude.{length}
 use Rattle.rp_codec.specs.Message.{Message}
@@ -27,16 +27,21 @@ use Rattle.rp_codec.specs.declared.packet.Body.{Body}
 use Rattle.rp_codec.specs.declared.packet.Body.TheVariants as bodies
 use Rattle.rp_machine.specs.Asked.{last_number, last_occurrence, kept_reply}
 use Rattle.rp_machine.specs.Replay.{kept_of, replay_answers}
+use Rattle.rp_base.specs.declared.voting.RangeAnswer.{RangeAnswer}
+use Rattle.rp_base.specs.declared.voting.RangeAnswer.TheVariants as range_prepares
+use Rattle.rp_base.specs.Ranges.{Range, end_of, positions_of, range_of}
+use Rattle.rp_base.specs.declared.placed.PlacedVote.{PlacedVote}
+use Rattle.rp_base.specs.PlacedVotes.{last_votes}
 use Rattle.rp_model.specs.Parts.{Running}
 use Rattle.rp_model.specs.Parts.{Turn}
 use Rattle.rp_model.specs.Parts.{is_in_log}
-use Rattle.rp_model.specs.Acceptor.{tells_promise, tells_vote}
-use Rattle.rp_model.specs.Leader.{chosen_position, is_beyond, is_out_of_reach, starts_above, on_promise_to}
+use Rattle.rp_model.specs.Acceptor.{tells_promise, tells_range, tells_vote}
+use Rattle.rp_model.specs.Leader.{chosen_position, is_beyond, is_out_of_reach, starts_above, on_promise_to, begins_if, leads_at, unlearned_in, on_lead_range}
 use Rattle.rp_model.specs.Says.{drops_foreign}
 use Rattle.rp_model.specs.Learner.{tells_learned, on_vote, on_decision}
 use Rattle.rp_model.specs.Pending.{adds_pending, most_pending, on_numbered, on_call, is_same_call}
-use Rattle.rp_model.specs.Receiving.{is_node, is_no_node_above, party_number, is_allowed, is_for_node, on_body, receives}
-use Rattle.rp_model.specs.Effect.{Setting, NodeInput, Receive, Lead, Interrupt, Tick, Report, running_effect}
+use Rattle.rp_model.specs.Receiving.{is_node, is_no_node_above, party_number, is_allowed, is_for_node, on_body, receives, is_range_within}
+use Rattle.rp_model.specs.Effect.{Setting, NodeInput, Receive, Lead, LeadRange, Interrupt, Tick, Report, running_effect}
 
 -- the record that is written, if one is, is at a position of the log, or at none
 abbrev pub WritesInLog : ℕ → Option Rec → Type 0
@@ -57,6 +62,16 @@ promise_in_log : (most me : ℕ) (running : Running) (from i b bound : ℕ) (las
 promise_in_log most me running from i b bound last true below e = e
 promise_in_log most me running from i b bound last false true e = tt
 promise_in_log most me running from i b bound last false false e = tt
+
+refused_in_log : (most me : ℕ) (running : Running) (from : ℕ) (range : Range) (b : ℕ) (records : List Rec) (at : Option ℕ) → TurnInLog most (tells_range me running from range b (range_refusal records at))
+refused_in_log most me running from range b records None = tt
+refused_in_log most me running from range b records (Some i) = tt
+
+range_in_log : (most me : ℕ) (running : Running) (from : ℕ) (range : Range) (b : ℕ) (rest : RangeAnswer) (above : Bool) (votes : List PlacedVote) → nat_le range.first most ≡ true
+    → TurnInLog most (tells_range me running from range b rest)
+    → TurnInLog most (tells_range me running from range b (if above then range_prepares.Promise votes (PromisedRange range b) else rest))
+range_in_log most me running from range b rest true votes e refused = e
+range_in_log most me running from range b rest false votes e refused = refused
 
 again_in_log : (most me : ℕ) (running : Running) (from i b : ℕ) (v : Action) (same alike : Bool) → nat_le i most ≡ true
     → TurnInLog most (tells_vote me running from i b v (if same then (if alike then accepts.Again else accepts.Silent) else accepts.Vote (Voted i b v)))
@@ -137,6 +152,10 @@ module _ {S : Type 0} (next : S → Action → S) (answers : S → Action → Li
   body_in_log most nodes me records running from (bodies.Nack i b bound) e = either_in_log most (is_in b (proposal_at running.proposals i)) _ _ tt tt
   body_in_log most nodes me records running from (bodies.Reply number reply) e = tt
   body_in_log most nodes me records running from (bodies.Report first applied actions) e = tt
+  body_in_log most nodes me records running from (bodies.PrepareRange range b) e =
+      range_in_log most me running from range b (range_refusal records (refusing_position records range b)) (is_above_bounds records range b) (last_votes records range)
+      (and_parts (nat_le range.first most) (nat_le (end_of range) (suc most)) (and_parts (is_range_within most range) (nat_eq (owner_of b) from) e).0).0 (refused_in_log most me running from range b records (refusing_position records range b))
+  body_in_log most nodes me records running from (bodies.PromiseRange range b votes) e = tt
 
   -- a packet for this node is of a position of the log
   received_in_log : (config : Config) (me : ℕ) (records : List Rec) (running : Running) (message : Message) (test : Bool) → is_for_node config me message ≡ test
@@ -159,16 +178,33 @@ either_if : (most : ℕ) (test : Bool) (one other : Result Turn Fault) → InLog
 either_if most true one other left right = left
 either_if most false one other left right = right
 
+begin_in_log : {S : Type 0} (s : Setting S) (me : ℕ) (records : List Rec) (running : Running) (i : ℕ)
+    → InLogIf s.config.max_positions (begins_if s.next s.answers s.begin s.config.nodes me records running i)
+begin_in_log s me records running i = either_if s.config.max_positions (nat_le (2 ^ 32) (round_of (next_ballot me (starts_above records running)))) _ _ tt refl
+
+lead_in_log : {S : Type 0} (s : Setting S) (me : ℕ) (records : List Rec) (running : Running) (i : ℕ) (at : Option Proposal)
+    → InLogIf s.config.max_positions (leads_at s.next s.answers s.begin s.config.nodes me records running i at)
+lead_in_log s me records running i None = begin_in_log s me records running i
+lead_in_log s me records running i (Some p) = either_if s.config.max_positions (is_prepared s.config.nodes p) _ _ tt (begin_in_log s me records running i)
+
+lead_range_in_log : {S : Type 0} (s : Setting S) (me : ℕ) (records : List Rec) (running : Running) (range : Result Range Fault)
+    → InLogIf s.config.max_positions (on_lead_range s.config me records running range)
+lead_range_in_log s me records running (Err fault) = tt
+lead_range_in_log s me records running (Ok range) =
+    either_if s.config.max_positions (list_any (is_out_of_reach s.config.max_positions records) (positions_of range)) _ _ tt
+    (either_if s.config.max_positions (nat_eq (length (unlearned_in records range)) 0) _ _ tt
+    (either_if s.config.max_positions (nat_le (2 ^ 32) (round_of (next_ballot me (starts_above records running)))) _ _ tt refl))
+
 pub turn_in_log : {S : Type 0} (s : Setting S) (me : ℕ) (records : List Rec) (running : Running) (input : NodeInput)
     → InLogIf s.config.max_positions (running_effect s me records running input)
 turn_in_log s me records running (Receive message) =
     received_in_log s.next s.answers s.begin s.config me records running message (is_for_node s.config me message) refl
 turn_in_log s me records running (Lead choice) =
     let most = s.config.max_positions in
-    let i = chosen_position records running choice in
+    let i = chosen_position s.config.nodes records running choice in
     either_if most (is_some (learned_at records i)) _ _ tt
-    (either_if most (is_out_of_reach most records i) _ _ tt
-    (either_if most (nat_le (2 ^ 32) (round_of (next_ballot me (starts_above records running)))) _ _ tt refl))
+    (either_if most (is_out_of_reach most records i) _ _ tt (lead_in_log s me records running i (proposal_at running.proposals i)))
+turn_in_log s me records running (LeadRange first count) = lead_range_in_log s me records running (range_of first count)
 turn_in_log s me records running (Interrupt source occurrence) =
     either_in_log s.config.max_positions (nat_lt (last_occurrence source (kept_of s.next s.answers s.begin (applied_of records))) occurrence) _ _
     (pending_in_log s.config.max_positions running (actions.Interrupt source occurrence)) tt

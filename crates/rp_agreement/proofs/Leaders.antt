@@ -1,6 +1,7 @@
 -- A node's steps as a leader are sound.
 use Rattle.std.proofs.Common.{◌≡◌, ℕ, ◌+◌, ◌-◌, ◌/◌, ◌<◌, ◌≤◌, max, Bool, true, false, if◌then◌else◌, Result, Ok, Err, Option, Some, None, List, [], ◌∷◌, ◌++◌, map, inl, inr, refl, sym, ap, subst, ◌∙◌, arith}
-use Rattle.std.specs.Prelude.{nat_eq, nat_le, is_some, ◌^◌, IfSome, find, unwrap_or}
+use Rattle.std.specs.Prelude.{nat_eq, nat_le, is_some, ◌^◌, ◌&&◌, not, IfSome, find, filter, length, unwrap_or}
+use Rattle.std.specs.List.{list_any}
 use Rattle.std.proofs.lemmas.Bool.{cases_Bool, cond-true, cond-false, eqb-true, and_parts, false≢true}
 use Rattle.std.proofs.Math.Nat.{mul-add-mod_self_left, mod-eq_of_lt}
 use Rattle.rp_base.specs.declared.action.Action.{Action}
@@ -14,11 +15,14 @@ use Rattle.rp_base.specs.declared.record.Vote.{Vote}
 use Rattle.rp_base.specs.declared.record.Rec.{Rec}
 use Rattle.rp_base.specs.declared.record.Rec.TheVariants.{Started}
 use Rattle.rp_base.specs.Ballot.{owner_of, next_ballot, round_of, greatest_with}
-use Rattle.rp_base.specs.Sets.{Has}
+use Rattle.rp_base.specs.Sets.{Has, IsSet}
+use Rattle.rp_base.specs.declared.placed.PlacedVote.{PlacedVote}
+use Rattle.rp_base.specs.PlacedVotes.{placed_at}
+use Rattle.rp_base.specs.Ranges.{Range, is_covered, positions_of as positions_in}
 use Rattle.rp_base.specs.Records.{started_of, learned_at, applied_of}
-use Rattle.rp_base.specs.Promises.{Promise, same_promise, offer_of}
-use Rattle.rp_base.specs.Proposals.{Proposal, new_proposal, proposal_at, with_proposal, without_proposal, is_in, is_preparing, takes_promise, with_promise, is_promised}
-use Rattle.rp_base.proofs.Members.{has_right, mapped_has}
+use Rattle.rp_base.specs.Promises.{Promise, same_promise, highest_vote, offer_of}
+use Rattle.rp_base.specs.Proposals.{Proposal, new_proposal, proposal_at, with_proposal, without_proposal, is_in, is_preparing, takes_promise, with_promise, is_promised, is_prepared, takes_range_promise, range_proposal, with_range, once_promised, own_unless, is_given_up}
+use Rattle.rp_base.proofs.Members.{has_right, has_passing, mapped_has}
 use Rattle.rp_codec.specs.Message.{Message}
 use Rattle.rp_codec.specs.declared.packet.Body.TheVariants as bodies
 use Rattle.rp_machine.specs.Replay.{kept_of, one_to}
@@ -27,14 +31,14 @@ use Rattle.rp_model.specs.Parts.{NodePart}
 use Rattle.rp_model.specs.Parts.{Turn}
 use Rattle.rp_model.specs.Says.{says, says_to_all, sends, notes}
 use Rattle.rp_model.specs.Pending.{is_free_item, own_action}
-use Rattle.rp_model.specs.Leader.{chosen_position, is_out_of_reach, starts_above, begins, on_lead, counts_promise, on_promise_to, on_promise, on_nack}
+use Rattle.rp_model.specs.Leader.{chosen_position, is_out_of_reach, starts_above, begins, begins_if, offers, leads_at, on_lead, unlearned_in, begins_range, leads_range, on_lead_range, on_promise_range, counts_promise, on_promise_to, on_promise, on_nack}
 use Rattle.rp_model.specs.Facts.{HasPromised, IsOffered}
 use Rattle.rp_agreement.specs.Told.{IsAsked}
 use Rattle.rp_agreement.specs.Sound.{IsSo, IsProposal, IsRunning, IsSound}
 use Rattle.rp_agreement.proofs.Lists.{some_same, found_has}
 use Rattle.rp_agreement.proofs.RecordGrowth.{started_below}
 use Rattle.rp_agreement.proofs.Turns.{IsSoundTurn, said_plain, plain, quiet, either, runs_written}
-use Rattle.rp_agreement.proofs.Proposing.{member_or_new, proposal_or_new, with_apart, without_apart, stays_there}
+use Rattle.rp_agreement.proofs.Proposing.{positions_of, member_or_new, proposal_or_new, with_apart, passing_apart}
 use Rattle.rp_agreement.proofs.Offering.{noop_asked, offer_is_asked, founds}
 
 -- a node that puts a proposal in its place knows what it knew
@@ -165,7 +169,7 @@ promise_to nodes x node sent running from i b last (Some p) sound runs told is =
     let both = and_parts _ _ takes in
     let ballot : p.ballot ≡ b = eqb-true p.ballot b both.0 in
     let here = subst (λ (c : ℕ). HasPromised sent from p.position c last) (sym ballot) (subst (λ (j : ℕ). HasPromised sent from j b last) (sym place) told) in
-    counts_sound nodes x node sent running p from last sound runs (runs.proposals p found.0) (waits_by p.phase both.1) here)
+    counts_sound nodes x node sent running p from last sound runs (runs.proposals p found.0) (waits_by p.phase (and_parts _ _ both.1).0) here)
     (λ _. quiet nodes x (node x).records sent running runs)
 
 pub promise_sound : (nodes x : ℕ) (node : ℕ → NodePart) (sent : List Message) (running : Running) (from i b : ℕ) (last : Option Vote)
@@ -176,23 +180,68 @@ promise_sound nodes x node sent running from i b last sound runs told =
 
 -- ---- Nack
 
--- a node that gives up a proposal knows what it knew
-pub runs_without : (sent : List Message) (records : List Rec) (running : Running) (i : ℕ) (refused : Option ℕ) → IsRunning sent records running
-    → IsRunning sent records (record running { proposals = without_proposal running.proposals i; refused = refused })
-runs_without sent records running i refused runs = record {
-  proposals = λ p h. runs.proposals p (stays_there p i running.proposals h);
-  apart = without_apart i running.proposals runs.apart;
+-- a node that gives up proposals knows what it knew
+pub runs_passing : (sent : List Message) (records : List Rec) (running : Running) (test : Proposal → Bool) (refused : Option ℕ) → IsRunning sent records running
+    → IsRunning sent records (record running { proposals = filter test running.proposals; refused = refused })
+runs_passing sent records running test refused runs = record {
+  proposals = λ p h. runs.proposals p (has_passing test p running.proposals h).0;
+  apart = passing_apart test running.proposals runs.apart;
   pending = runs.pending;
   heard = runs.heard;
 }
 
+pub runs_without : (sent : List Message) (records : List Rec) (running : Running) (i : ℕ) (refused : Option ℕ) → IsRunning sent records running
+    → IsRunning sent records (record running { proposals = without_proposal running.proposals i; refused = refused })
+runs_without sent records running i refused runs = runs_passing sent records running (λ p. not (nat_eq p.position i)) refused runs
+
 pub nack_sound : (nodes x : ℕ) (records : List Rec) (sent : List Message) (running : Running) (i b bound : ℕ) → IsRunning sent records running
-    → IsSoundTurn nodes x records sent (on_nack running i b bound)
+    → IsSoundTurn nodes x records sent (on_nack nodes running i b bound)
 nack_sound nodes x records sent running i b bound runs =
     either nodes x records sent (is_in b (proposal_at running.proposals i))
-    (notes (record running { proposals = without_proposal running.proposals i; refused = greatest_with running.refused bound })) (notes running)
-    (λ _. quiet nodes x records sent _ (runs_without sent records running i (greatest_with running.refused bound) runs))
+    (notes (record running { proposals = filter (λ p. not (is_given_up nodes i b p)) running.proposals; refused = greatest_with running.refused bound })) (notes running)
+    (λ _. quiet nodes x records sent _ (runs_passing sent records running (λ p. not (is_given_up nodes i b p)) (greatest_with running.refused bound) runs))
     (λ _. quiet nodes x records sent running runs)
+
+-- ---- PromiseRange
+
+-- a proposal once a promise for a range is noted is where it was
+pub promised_there : (nodes from : ℕ) (range : Range) (b : ℕ) (votes : List PlacedVote) (p : Proposal) → (once_promised nodes from range b votes p).position ≡ p.position
+promised_there nodes from range b votes p =
+    elim (is_covered range p.position && takes_range_promise nodes b p)
+    as (λ t. (let q : Proposal = if t then with_promise p (from, placed_at votes p.position) else p in q).position ≡ p.position) [ true ↦ refl | false ↦ refl ]
+
+positions_stay : (f : Proposal → Proposal) → ((p : Proposal) → (f p).position ≡ p.position) → (proposals : List Proposal) → positions_of (map f proposals) ≡ positions_of proposals
+positions_stay f there [] = refl
+positions_stay f there (p ∷ rest) = ap (λ (n : ℕ). n ∷ positions_of (map f rest)) (there p) ∙ ap (λ (l : List ℕ). p.position ∷ l) (positions_stay f there rest)
+
+once_noted_is : (nodes : ℕ) (sent : List Message) (records : List Rec) (from : ℕ) (range : Range) (b : ℕ) (votes : List PlacedVote) (p : Proposal)
+    → ((i : ℕ) → is_covered range i ≡ true → HasPromised sent from i b (placed_at votes i)) → IsProposal sent records p
+    → IsProposal sent records (once_promised nodes from range b votes p)
+once_noted_is nodes sent records from range b votes p told is =
+    let after = with_promise p (from, placed_at votes p.position) in
+    elim (cases_Bool (is_covered range p.position && takes_range_promise nodes b p)) [
+      | inl takes ↦
+          let both = and_parts (is_covered range p.position) (takes_range_promise nodes b p) takes in
+          let ballot : p.ballot ≡ b = eqb-true p.ballot b (and_parts _ _ both.1).0 in
+          subst (IsProposal sent records) (sym (cond-true (is_covered range p.position && takes_range_promise nodes b p) after p takes))
+          (more_promised sent records p from (placed_at votes p.position) is
+          (subst (λ (c : ℕ). HasPromised sent from p.position c (placed_at votes p.position)) (sym ballot) (told p.position both.0)))
+      | inr passes ↦ subst (IsProposal sent records) (sym (cond-false (is_covered range p.position && takes_range_promise nodes b p) after p passes)) is
+    ]
+
+pub promise_range_sound : (nodes x : ℕ) (node : ℕ → NodePart) (sent : List Message) (running : Running) (from : ℕ) (range : Range) (b : ℕ) (votes : List PlacedVote)
+    → IsRunning sent (node x).records running → ((i : ℕ) → is_covered range i ≡ true → HasPromised sent from i b (placed_at votes i))
+    → IsSoundTurn nodes x (node x).records sent (on_promise_range nodes running from range b votes)
+promise_range_sound nodes x node sent running from range b votes runs told =
+    let f = once_promised nodes from range b votes in
+    quiet nodes x (node x).records sent (record running { proposals = map f running.proposals }) (record {
+      proposals = λ q h.
+          let hit = mapped_has f q running.proposals h in
+          subst (IsProposal sent (node x).records) (sym hit.2) (once_noted_is nodes sent (node x).records from range b votes hit.0 told (runs.proposals hit.0 hit.1));
+      apart = subst (λ (l : List ℕ). IsSet l) (sym (positions_stay f (promised_there nodes from range b votes) running.proposals)) runs.apart;
+      pending = runs.pending;
+      heard = runs.heard;
+    })
 
 -- ---- Lead
 
@@ -247,6 +296,10 @@ started_new sent records i b own unoffered asked = record {
   unoffered = λ _. unoffered;
 }
 
+unless_asked : (sent : List Message) (own : Action) (vote : Option Vote) → IsAsked sent own → IfSome (own_unless own vote) (IsAsked sent)
+unless_asked sent own None asked = asked
+unless_asked sent own (Some vote) asked = tt
+
 module _ {S : Type 0} (next : S → Action → S) (answers : S → Action → List Answer) (begin : S) where
   begins_sound : (nodes x : ℕ) (node : ℕ → NodePart) (sent : List Message) (running : Running) (i b : ℕ)
       → IsSound nodes node sent → IsRunning sent (node x).records running → owner_of b ≡ x → started_of (node x).records < b
@@ -261,17 +314,97 @@ module _ {S : Type 0} (next : S → Action → S) (answers : S → Action → Li
       (runs_with sent (records ++ Started b ∷ []) running (new_proposal i b (Some action)) (runs_written sent records (Some (Started b)) running runs)
       (started_new sent records i b action unoffered (own_is_asked sent kept (without_proposal running.proposals i) running.pending runs.pending)))
 
+  begin_sound : (nodes x : ℕ) (node : ℕ → NodePart) (sent : List Message) (running : Running) (i : ℕ)
+      → IsSound nodes node sent → IsRunning sent (node x).records running → x < 8
+      → IsSoundIf nodes x (node x).records sent (begins_if next answers begin nodes x (node x).records running i)
+  begin_sound nodes x node sent running i sound runs small =
+      let records = (node x).records in
+      let floor = starts_above records running in
+      let b = next_ballot x floor in
+      let more : floor < b = next_above x floor small in
+      let above : started_of records < b = omega (arith, more) in
+      either_if nodes x records sent (nat_le (2 ^ 32) (round_of b)) _ _ tt (begins_sound nodes x node sent running i b sound runs (next_owned x floor small) above)
+
+  -- an offer at a prepared position: the offer of a proposal that has this own action
+  prepared_sound : (nodes x : ℕ) (node : ℕ → NodePart) (sent : List Message) (running : Running) (p : Proposal)
+      → IsSound nodes node sent → IsRunning sent (node x).records running → IsProposal sent (node x).records p → is_prepared nodes p ≡ true
+      → IsSoundTurn nodes x (node x).records sent (offers next answers begin nodes x (node x).records running p)
+  prepared_sound nodes x node sent running p sound runs is prepared =
+      let others = without_proposal running.proposals p.position in
+      let own = own_action (kept_of next answers begin (applied_of (node x).records)) others running.pending in
+      let both = and_parts (is_preparing p.phase) (is_promised nodes p) prepared in
+      let asked = own_is_asked sent (kept_of next answers begin (applied_of (node x).records)) others running.pending runs.pending in
+      offers_sound nodes x node sent running (record p { own = own_unless own (highest_vote p.promises) }) sound runs
+      (record {
+        started = is.started;
+        promised = is.promised;
+        asked = unless_asked sent own (highest_vote p.promises) asked;
+        unoffered = is.unoffered;
+      }) (waits_by p.phase both.0) both.1
+
+  leads_sound : (nodes x : ℕ) (node : ℕ → NodePart) (sent : List Message) (running : Running) (i : ℕ) (at : Option Proposal)
+      → IsSound nodes node sent → IsRunning sent (node x).records running → x < 8 → proposal_at running.proposals i ≡ at
+      → IsSoundIf nodes x (node x).records sent (leads_at next answers begin nodes x (node x).records running i at)
+  leads_sound nodes x node sent running i None sound runs small is = begin_sound nodes x node sent running i sound runs small
+  leads_sound nodes x node sent running i (Some p) sound runs small is =
+      let found = found_has (λ (q : Proposal). nat_eq q.position i) p running.proposals is in
+      let turn = offers next answers begin nodes x (node x).records running p in
+      let rest = begins_if next answers begin nodes x (node x).records running i in
+      elim (cases_Bool (is_prepared nodes p)) [
+        | inl prepared ↦ subst (IsSoundIf nodes x (node x).records sent) (sym (cond-true (is_prepared nodes p) (Ok turn) rest prepared))
+            (prepared_sound nodes x node sent running p sound runs (runs.proposals p found.0) prepared)
+        | inr other ↦ subst (IsSoundIf nodes x (node x).records sent) (sym (cond-false (is_prepared nodes p) (Ok turn) rest other))
+            (begin_sound nodes x node sent running i sound runs small)
+      ]
+
   pub lead_sound : (config : Config) (x : ℕ) (node : ℕ → NodePart) (sent : List Message) (running : Running) (choice : Option ℕ)
       → IsSound config.nodes node sent → IsRunning sent (node x).records running → x < 8
       → IsSoundIf config.nodes x (node x).records sent (on_lead next answers begin config x (node x).records running choice)
   lead_sound config x node sent running choice sound runs small =
       let records = (node x).records in
-      let i = chosen_position records running choice in
-      let floor = starts_above records running in
-      let b = next_ballot x floor in
-      let more : floor < b = next_above x floor small in
-      let above : started_of records < b = omega (arith, more) in
-      let told = begins_sound config.nodes x node sent running i b sound runs (next_owned x floor small) above in
+      let i = chosen_position config.nodes records running choice in
       either_if config.nodes x records sent (is_some (learned_at records i)) _ _ (quiet config.nodes x records sent running runs)
       (either_if config.nodes x records sent (is_out_of_reach config.max_positions records i) _ _ tt
-      (either_if config.nodes x records sent (nat_le (2 ^ 32) (round_of b)) _ _ tt told))
+      (leads_sound config.nodes x node sent running i (proposal_at running.proposals i) sound runs small refl))
+
+-- ---- LeadRange
+
+started_range : (sent : List Message) (records : List Rec) (i b : ℕ) → Has (Started b) records → ((v : Action) → ¬ IsOffered sent i b v) → IsProposal sent records (range_proposal b i)
+started_range sent records i b started unoffered = record {
+  started = started;
+  promised = λ a last h. absurd h;
+  asked = tt;
+  unoffered = λ _. unoffered;
+}
+
+runs_ranged : (sent : List Message) (records : List Rec) (b : ℕ) → Has (Started b) records → ((i : ℕ) (v : Action) → ¬ IsOffered sent i b v) → (positions : List ℕ) (running : Running)
+    → IsRunning sent records running → IsRunning sent records (record running { proposals = with_range running.proposals b positions })
+runs_ranged sent records b started unoffered [] running runs = runs
+runs_ranged sent records b started unoffered (i ∷ rest) running runs =
+    runs_ranged sent records b started unoffered rest (record running { proposals = with_proposal running.proposals (range_proposal b i) })
+    (runs_with sent records running (range_proposal b i) runs (started_range sent records i b started (unoffered i)))
+
+leads_range_sound : (config : Config) (x : ℕ) (node : ℕ → NodePart) (sent : List Message) (running : Running) (range : Range)
+    → IsSound config.nodes node sent → IsRunning sent (node x).records running → x < 8
+    → IsSoundIf config.nodes x (node x).records sent (leads_range config x (node x).records running range)
+leads_range_sound config x node sent running range sound runs small =
+    let records = (node x).records in
+    let floor = starts_above records running in
+    let b = next_ballot x floor in
+    let more : floor < b = next_above x floor small in
+    let above : started_of records < b = omega (arith, more) in
+    let own = next_owned x floor small in
+    let started : Has (Started b) (records ++ Started b ∷ []) = has_right (Started b) records (Started b ∷ []) (inl refl) in
+    either_if config.nodes x records sent (list_any (is_out_of_reach config.max_positions records) (positions_in range)) _ _ tt
+    (either_if config.nodes x records sent (nat_eq (length (unlearned_in records range)) 0) _ _ (quiet config.nodes x records sent running runs)
+    (either_if config.nodes x records sent (nat_le (2 ^ 32) (round_of b)) _ _ tt
+    (plain config.nodes x records sent (begins_range config.nodes x records running range b) (own, above)
+    (said_plain config.nodes x sent (records ++ Started b ∷ []) (bodies.PrepareRange range b) started (λ h. h) (one_to config.nodes))
+    (runs_ranged sent (records ++ Started b ∷ []) b started (λ i v. new_unoffered config.nodes x node sent i b v sound own above) (unlearned_in records range) running
+    (runs_written sent records (Some (Started b)) running runs)))))
+
+pub lead_range_sound : (config : Config) (x : ℕ) (node : ℕ → NodePart) (sent : List Message) (running : Running) (range : Result Range Fault)
+    → IsSound config.nodes node sent → IsRunning sent (node x).records running → x < 8
+    → IsSoundIf config.nodes x (node x).records sent (on_lead_range config x (node x).records running range)
+lead_range_sound config x node sent running (Err fault) sound runs small = tt
+lead_range_sound config x node sent running (Ok range) sound runs small = leads_range_sound config x node sent running range sound runs small

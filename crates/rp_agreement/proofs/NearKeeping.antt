@@ -22,7 +22,7 @@ use Rattle.rp_model.specs.Texts.{written_for}
 use Rattle.rp_model.specs.Leader.{window}
 use Rattle.rp_model.specs.Receiving.{party_number}
 use Rattle.rp_model.specs.Tasks.{TaskInput, Submit, Again, Take, asks, next_call, may_call, calls_if, asks_again, takes, takes_reply, task_hears, task_effect}
-use Rattle.rp_model.specs.Effect.{Setting, Done, goes_on_as, NodeInput, Receive, Lead, Interrupt, Tick, Report, running_effect, turned_if, effect_while, node_effect, stop_part, cut_part, stops_while, cut_if, restart_while, untorn_part}
+use Rattle.rp_model.specs.Effect.{Setting, Done, goes_on_as, NodeInput, Receive, Lead, LeadRange, Interrupt, Tick, Report, running_effect, turned_if, effect_while, node_effect, stop_part, cut_part, stops_while, cut_if, restart_while, untorn_part}
 use Rattle.rp_model.specs.Events.{Event}
 use Rattle.rp_model.specs.World.{World, opening_world, part_at, with_part, node_done}
 use Rattle.rp_model.proofs.AppliedGrowing.{applied_more}
@@ -52,6 +52,8 @@ SentNear w from to (bodies.Ask i) = Unit {0}
 SentNear w from to (bodies.Nack i b bound) = Unit {0}
 SentNear w from to (bodies.Reply number reply) = Unit {0}
 SentNear w from to (bodies.Report first applied told) = Unit {0}
+SentNear w from to (bodies.PrepareRange range b) = Unit {0}
+SentNear w from to (bodies.PromiseRange range b votes) = Unit {0}
 
 -- a packet that is neither
 abbrev IsPlain : Body → Type 0
@@ -65,6 +67,8 @@ IsPlain (bodies.Ask i) = Unit {0}
 IsPlain (bodies.Nack i b bound) = Unit {0}
 IsPlain (bodies.Reply number reply) = Unit {0}
 IsPlain (bodies.Report first applied told) = Unit {0}
+IsPlain (bodies.PrepareRange range b) = Unit {0}
+IsPlain (bodies.PromiseRange range b votes) = Unit {0}
 
 pub record IsNearWorld (w : World) : Type 0 where
   pub parts : (me : ℕ) (part : NodePart) (running : Running) → part_at w.nodes me ≡ Some part → part.running ≡ Some running → AreNear part.records running.proposals
@@ -112,6 +116,8 @@ module _ (w : World) (me : ℕ) (part after : NodePart) (here : part_at w.nodes 
   sent_stays from to (bodies.Nack i b bound) is = tt
   sent_stays from to (bodies.Reply number reply) is = tt
   sent_stays from to (bodies.Report first applied told) is = tt
+  sent_stays from to (bodies.PrepareRange range b) is = tt
+  sent_stays from to (bodies.PromiseRange range b votes) is = tt
 
   newly_sent : (from to : Party) (body : Body) → SaysNear me part.records (IsNodeNear w) from to body → SentNear next_world from to body
   newly_sent from to (bodies.Call action) is = tt
@@ -124,6 +130,8 @@ module _ (w : World) (me : ℕ) (part after : NodePart) (here : part_at w.nodes 
   newly_sent from to (bodies.Nack i b bound) is = tt
   newly_sent from to (bodies.Reply number reply) is = tt
   newly_sent from to (bodies.Report first applied told) is = tt
+  newly_sent from to (bodies.PrepareRange range b) is = tt
+  newly_sent from to (bodies.PromiseRange range b votes) is = tt
 
   near_next : IsNearWorld w → ((running : Running) → after.running ≡ Some running → AreNear after.records running.proposals)
       → ((m : Message) → Has m sends → SaysNear me part.records (IsNodeNear w) m.from m.to m.body) → IsNearWorld next_world
@@ -154,6 +162,8 @@ may_vote w from to (bodies.Ask i) is = tt
 may_vote w from to (bodies.Nack i b bound) is = tt
 may_vote w from to (bodies.Reply number reply) is = tt
 may_vote w from to (bodies.Report first applied told) is = tt
+may_vote w from to (bodies.PrepareRange range b) is = tt
+may_vote w from to (bodies.PromiseRange range b votes) is = tt
 
 may_vote_for : (w : World) (input : NodeInput) → IsNearWorld w → IsInput w.sent input → MayVoteFor (IsNodeNear w) input
 may_vote_for w (Receive message) all is = may_vote w message.from message.to message.body (all.sent message is)
@@ -161,6 +171,7 @@ may_vote_for w (Lead choice) all is = tt
 may_vote_for w (Interrupt source occurrence) all is = tt
 may_vote_for w (Tick now) all is = tt
 may_vote_for w (Report first) all is = tt
+may_vote_for w (LeadRange first count) all is = tt
 
 written_more : (records : List Rec) (written : Option Rec) → (more : List Rec) × (with_record records written ≡ records ++ more)
 written_more records None = ([], sym (append-nil records))
@@ -248,6 +259,8 @@ module _ (w : World) (t : ℕ) (after : TaskPart) (sends : List Message) where
   stays from to (bodies.Nack i b bound) is = tt
   stays from to (bodies.Reply number reply) is = tt
   stays from to (bodies.Report first applied told) is = tt
+  stays from to (bodies.PrepareRange range b) is = tt
+  stays from to (bodies.PromiseRange range b votes) is = tt
 
   is_plain : (from to : Party) (body : Body) → IsPlain body → SentNear later from to body
   is_plain from to (bodies.Call action) is = tt
@@ -260,6 +273,8 @@ module _ (w : World) (t : ℕ) (after : TaskPart) (sends : List Message) where
   is_plain from to (bodies.Nack i b bound) is = tt
   is_plain from to (bodies.Reply number reply) is = tt
   is_plain from to (bodies.Report first applied told) is = tt
+  is_plain from to (bodies.PrepareRange range b) is = tt
+  is_plain from to (bodies.PromiseRange range b votes) is = tt
 
   task_sends : IsNearWorld w → ((m : Message) → Has m sends → IsPlain m.body) → IsNearWorld later
   task_sends all plain = record {
@@ -308,6 +323,8 @@ hears t part (bodies.Ask i) = λ m h. absurd h
 hears t part (bodies.Nack i b bound) = λ m h. absurd h
 hears t part (bodies.Reply number reply) = taken t number part reply
 hears t part (bodies.Report first applied told) = λ m h. absurd h
+hears t part (bodies.PrepareRange range b) = λ m h. absurd h
+hears t part (bodies.PromiseRange range b votes) = λ m h. absurd h
 
 plain_either : (b : Bool) (one other : Result (Done TaskPart) Fault) → SendsPlainIf one → SendsPlainIf other → SendsPlainIf (if b then one else other)
 plain_either true one other left right = left

@@ -1,6 +1,6 @@
 -- A node offers near its first unlearned position, and votes for offers alone.
-use Rattle.std.proofs.Common.{◌≡◌, ℕ, ◌+◌, ◌<◌, Bool, true, false, if◌then◌else◌, is_some, nat_lt, nat_le, Option, Some, None, Result, Ok, Err, List, [], ◌∷◌, ◌++◌, map, length, filter, inl, inr, refl, sym, subst}
-use Rattle.std.specs.Prelude.{◌^◌, ◌||◌, nat_eq}
+use Rattle.std.proofs.Common.{◌≡◌, ℕ, ◌+◌, ◌<◌, Bool, true, false, if◌then◌else◌, is_some, nat_lt, nat_le, Option, Some, None, Result, Ok, Err, List, [], ◌∷◌, ◌++◌, map, length, filter, inl, inr, refl, sym, subst, ap, ◌∙◌}
+use Rattle.std.specs.Prelude.{◌^◌, ◌||◌, nat_eq, not}
 use Rattle.std.specs.List.{list_any}
 use Rattle.std.proofs.lemmas.Bool.{both_ways, leb-false}
 use Rattle.rp_base.specs.declared.action.Action.{Action}
@@ -18,10 +18,10 @@ use Rattle.rp_base.specs.declared.voting.AcceptAnswer.{AcceptAnswer}
 use Rattle.rp_base.specs.declared.voting.AcceptAnswer.TheVariants as accepts
 use Rattle.rp_base.specs.Ballot.{next_ballot, round_of}
 use Rattle.rp_base.specs.Promises.{Promise, same_heard, makes_majority, offer_of}
-use Rattle.rp_base.specs.Proposals.{Proposal, proposal_at, without_proposal, with_proposal, is_in, takes_promise, with_promise, is_promised, after_promise}
+use Rattle.rp_base.specs.Proposals.{Proposal, proposal_at, without_proposal, with_proposal, is_in, takes_promise, with_promise, is_promised, after_promise, is_prepared, as_offered, once_promised, with_range, range_proposal, is_given_up}
 use Rattle.rp_base.specs.Records.{learned_at, applied_of, first_unlearned}
 use Rattle.rp_base.specs.Sets.{Has, with_member}
-use Rattle.rp_base.specs.Voting.{prepare_answer, accept_answer}
+use Rattle.rp_base.specs.Voting.{prepare_answer, range_answer, accept_answer}
 use Rattle.rp_base.proofs.Members.{has_split, has_passing, mapped_has}
 use Rattle.rp_codec.specs.Message.{Message}
 use Rattle.rp_codec.specs.declared.packet.Party.{Party}
@@ -30,16 +30,20 @@ use Rattle.rp_codec.specs.declared.packet.Body.{Body}
 use Rattle.rp_codec.specs.declared.packet.Body.TheVariants as bodies
 use Rattle.rp_machine.specs.Asked.{last_number, last_occurrence, kept_reply}
 use Rattle.rp_machine.specs.Replay.{one_to, kept_of, replay_answers}
+use Rattle.rp_base.specs.declared.voting.RangeAnswer.{RangeAnswer}
+use Rattle.rp_base.specs.declared.voting.RangeAnswer.TheVariants as range_prepares
+use Rattle.rp_base.specs.Ranges.{Range, positions_of, range_of}
 use Rattle.rp_model.specs.Parts.{Running, Turn}
 use Rattle.rp_model.specs.Says.{says, says_to_all, says_to_others, says_to_task, sends, notes, writes, drops_full, drops_foreign}
-use Rattle.rp_model.specs.Acceptor.{tells_promise, tells_vote}
-use Rattle.rp_model.specs.Leader.{chosen_position, window, is_beyond, is_out_of_reach, starts_above, counts_promise, on_promise_to, on_nack}
+use Rattle.rp_model.specs.Acceptor.{tells_promise, tells_range, tells_vote}
+use Rattle.rp_model.specs.Leader.{chosen_position, window, is_beyond, is_out_of_reach, starts_above, counts_promise, on_promise_to, on_nack, begins_if, leads_at, unlearned_in, on_lead_range}
 use Rattle.rp_model.specs.Learner.{missing_position, asks_for, tells_learned, learns, on_vote, on_decision}
-use Rattle.rp_model.specs.Pending.{most_pending, adds_pending, on_numbered, on_call, is_answered_by, replies_to, is_same_call}
+use Rattle.rp_model.specs.Pending.{most_pending, adds_pending, on_numbered, on_call, is_answered_by, replies_to, is_same_call, own_action}
 use Rattle.rp_model.specs.Receiving.{is_for_node, party_number, on_body}
-use Rattle.rp_model.specs.Effect.{Setting, NodeInput, Receive, Lead, Interrupt, Tick, Report, report_of, running_effect}
+use Rattle.rp_model.specs.Effect.{Setting, NodeInput, Receive, Lead, LeadRange, Interrupt, Tick, Report, report_of, running_effect}
 use Rattle.rp_agreement.proofs.Lists.{found_has}
 use Rattle.rp_agreement.proofs.RangedParts.{with_or_old}
+use Rattle.rp_agreement.proofs.Leaders.{promised_there}
 
 -- the position is less than 64 above the first that the records do not learn
 abbrev pub IsNear : List Rec → ℕ → Type 0
@@ -60,6 +64,8 @@ SaysNear me records Votes from to (bodies.Ask i) = Unit {0}
 SaysNear me records Votes from to (bodies.Nack i b bound) = Unit {0}
 SaysNear me records Votes from to (bodies.Reply number reply) = Unit {0}
 SaysNear me records Votes from to (bodies.Report first applied told) = Unit {0}
+SaysNear me records Votes from to (bodies.PrepareRange range b) = Unit {0}
+SaysNear me records Votes from to (bodies.PromiseRange range b votes) = Unit {0}
 
 -- who offered may have a vote
 abbrev pub MayVote : (ℕ → ℕ → Type 0) → ℕ → Body → Type 0
@@ -73,6 +79,8 @@ MayVote Votes from (bodies.Ask i) = Unit {0}
 MayVote Votes from (bodies.Nack i b bound) = Unit {0}
 MayVote Votes from (bodies.Reply number reply) = Unit {0}
 MayVote Votes from (bodies.Report first applied told) = Unit {0}
+MayVote Votes from (bodies.PrepareRange range b) = Unit {0}
+MayVote Votes from (bodies.PromiseRange range b votes) = Unit {0}
 
 module _ (me : ℕ) (records : List Rec) (Votes : ℕ → ℕ → Type 0) where
   abbrev pub AllNear : List Message → Type 0
@@ -114,6 +122,9 @@ module _ (me : ℕ) (records : List Rec) (Votes : ℕ → ℕ → Type 0) where
   without_near : (ps : List Proposal) (i : ℕ) → AreNear records ps → AreNear records (without_proposal ps i)
   without_near ps i all p h = all p (has_passing _ p ps h).0
 
+  passing_near : (test : Proposal → Bool) (ps : List Proposal) → AreNear records ps → AreNear records (filter test ps)
+  passing_near test ps all p h = all p (has_passing test p ps h).0
+
   -- ---- calls
 
   adds : (running : Running) (item : Action) → AreNear records running.proposals → IsNearTurn (adds_pending running item)
@@ -137,6 +148,11 @@ module _ (me : ℕ) (records : List Rec) (Votes : ℕ → ℕ → Type 0) where
   promised from i b running (prepares.Promise last rec) near = writing rec running (says me (bodies.Promise i b last) from ∷ []) near (one _ tt)
   promised from i b running (prepares.Nack bound) near = sending running (says me (bodies.Nack i b bound) from ∷ []) near (one _ tt)
   promised from i b running prepares.Silent near = noted running near
+
+  range_told : (from : ℕ) (range : Range) (b : ℕ) (running : Running) (answer : RangeAnswer) → AreNear records running.proposals → IsNearTurn (tells_range me running from range b answer)
+  range_told from range b running (range_prepares.Promise votes rec) near = writing rec running (says me (bodies.PromiseRange range b votes) from ∷ []) near (one _ tt)
+  range_told from range b running (range_prepares.Nack i bound) near = sending running (says me (bodies.Nack i b bound) from ∷ []) near (one _ tt)
+  range_told from range b running range_prepares.Silent near = noted running near
 
   voted : (from i b : ℕ) (v : Action) (running : Running) (answer : AcceptAnswer) → AreNear records running.proposals → Votes from i → IsNearTurn (tells_vote me running from i b v answer)
   voted from i b v running (accepts.Vote rec) near may = writing rec running (says me (bodies.Accepted i b v) from ∷ []) near (one _ (from, refl, may))
@@ -166,9 +182,9 @@ module _ (me : ℕ) (records : List Rec) (Votes : ℕ → ℕ → Type 0) where
       (noted known all))
       (noted running near)
 
-  refused : (running : Running) (i b bound : ℕ) → AreNear records running.proposals → IsNearTurn (on_nack running i b bound)
-  refused running i b bound near =
-      choice (is_in b (proposal_at running.proposals i)) _ (notes running) (record { proposals = without_near running.proposals i near; sent = none }) (noted running near)
+  refused : (nodes : ℕ) (running : Running) (i b bound : ℕ) → AreNear records running.proposals → IsNearTurn (on_nack nodes running i b bound)
+  refused nodes running i b bound near =
+      choice (is_in b (proposal_at running.proposals i)) _ (notes running) (record { proposals = passing_near (λ p. not (is_given_up nodes i b p)) running.proposals near; sent = none }) (noted running near)
 
   -- ---- the learner
 
@@ -211,9 +227,15 @@ module _ (me : ℕ) (records : List Rec) (Votes : ℕ → ℕ → Type 0) where
         choice (is_beyond records i) _ _ (noted running near) (vote_near nodes running from i (record { ballot = b; action = v }) (learned_at records i) near)
     body_near nodes running from (bodies.Decided i v) near may = decision_near running from i v (learned_at records i) near
     body_near nodes running from (bodies.Ask i) near may = told from i running (learned_at records i) near
-    body_near nodes running from (bodies.Nack i b bound) near may = refused running i b bound near
+    body_near nodes running from (bodies.Nack i b bound) near may = refused nodes running i b bound near
     body_near nodes running from (bodies.Reply number reply) near may = noted running near
     body_near nodes running from (bodies.Report first applied actions) near may = noted running near
+    body_near nodes running from (bodies.PrepareRange range b) near may = range_told from range b running (range_answer records range b) near
+    body_near nodes running from (bodies.PromiseRange range b votes) near may =
+        noted (record running { proposals = map (once_promised nodes from range b votes) running.proposals })
+        (λ q h.
+        let hit = mapped_has (once_promised nodes from range b votes) q running.proposals h in
+        subst (λ (p : Proposal). IsNear records p.position) (sym hit.2) (subst (IsNear records) (sym (promised_there nodes from range b votes hit.0)) (near hit.0 hit.1)))
 
 -- ---- any input
 
@@ -238,9 +260,62 @@ in_reach most records i e = leb-false (first_unlearned records + window) i (no_s
 abbrev pub MayVoteFor : (ℕ → ℕ → Type 0) → NodeInput → Type 0
 MayVoteFor Votes (Receive message) = MayVote Votes (party_number message.from) message.body
 MayVoteFor Votes (Lead choice) = Unit {0}
+MayVoteFor Votes (LeadRange first count) = Unit {0}
 MayVoteFor Votes (Interrupt source occurrence) = Unit {0}
 MayVoteFor Votes (Tick now) = Unit {0}
 MayVoteFor Votes (Report first) = Unit {0}
+
+begin_near : {S : Type 0} (s : Setting S) (me : ℕ) (records : List Rec) (Votes : ℕ → ℕ → Type 0) (running : Running) (i : ℕ) → AreNear records running.proposals → IsNear records i
+    → IsNearIf me records Votes (begins_if s.next s.answers s.begin s.config.nodes me records running i)
+begin_near s me records Votes running i near here =
+    let b = next_ballot me (starts_above records running) in
+    either_if me records Votes (nat_le (2 ^ 32) (round_of b)) _ _ (λ _. tt) (λ _. record {
+      proposals = with_near me records Votes running.proposals _ near here;
+      sent = mapped me records Votes (says me (bodies.Prepare i b)) (one_to s.config.nodes) (λ k. tt);
+    })
+
+leads_near : {S : Type 0} (s : Setting S) (me : ℕ) (records : List Rec) (Votes : ℕ → ℕ → Type 0) (running : Running) (i : ℕ) (at : Option Proposal) → AreNear records running.proposals → IsNear records i
+    → proposal_at running.proposals i ≡ at → IsNearIf me records Votes (leads_at s.next s.answers s.begin s.config.nodes me records running i at)
+leads_near s me records Votes running i None near here is = begin_near s me records Votes running i near here
+leads_near s me records Votes running i (Some p) near here is =
+    let place : IsNear records p.position = near p (found_has (λ (q : Proposal). nat_eq q.position i) p running.proposals is).0 in
+    let others = without_proposal running.proposals p.position in
+    let after = as_offered (own_action (kept_of s.next s.answers s.begin (applied_of records)) others running.pending) p in
+    let accept = bodies.Accept p.position p.ballot (offer_of after.own p.promises) in
+    either_if me records Votes (is_prepared s.config.nodes p) _ _ (λ _. record {
+      proposals = with_near me records Votes running.proposals after near place;
+      sent = mapped me records Votes (says me accept) (one_to s.config.nodes) (λ k. (refl, place));
+    }) (λ _. begin_near s me records Votes running i near here)
+
+-- each new proposal of a range is near, where each position is
+ranged_near : (me : ℕ) (records : List Rec) (Votes : ℕ → ℕ → Type 0) (b : ℕ) (positions : List ℕ) (ps : List Proposal) → ((i : ℕ) → Has i positions → IsNear records i) → AreNear records ps
+    → AreNear records (with_range ps b positions)
+ranged_near me records Votes b [] ps each near = near
+ranged_near me records Votes b (i ∷ rest) ps each near =
+    ranged_near me records Votes b rest (with_proposal ps (range_proposal b i)) (λ j h. each j (inr h)) (with_near me records Votes ps (range_proposal b i) near (each i (inl refl)))
+
+-- no position of the list passes the test
+none_any : (test : ℕ → Bool) (xs : List ℕ) → list_any test xs ≡ false → (x : ℕ) → Has x xs → test x ≡ false
+none_any test [] e x h = absurd h
+none_any test (y ∷ ys) e x h = by (test y) refl e (λ none later. none_any test ys none x later)
+  where
+    by : (t : Bool) → test y ≡ t → (t || list_any test ys) ≡ false → (list_any test ys ≡ false → Has x ys → test x ≡ false) → test x ≡ false
+    by true is e more = absurd (both_ways true e refl)
+    by false is e more = elim h [ inl same ↦ ap test same ∙ is | inr later ↦ more e later ]
+
+lead_range_near : {S : Type 0} (s : Setting S) (me : ℕ) (records : List Rec) (Votes : ℕ → ℕ → Type 0) (running : Running) (range : Result Range Fault) → AreNear records running.proposals
+    → IsNearIf me records Votes (on_lead_range s.config me records running range)
+lead_range_near s me records Votes running (Err fault) near = tt
+lead_range_near s me records Votes running (Ok range) near =
+    let most = s.config.max_positions in
+    let b = next_ballot me (starts_above records running) in
+    either_if me records Votes (list_any (is_out_of_reach most records) (positions_of range)) _ _ (λ _. tt) (λ within.
+    either_if me records Votes (nat_eq (length (unlearned_in records range)) 0) _ _ (λ _. noted me records Votes running near) (λ _.
+    either_if me records Votes (nat_le (2 ^ 32) (round_of b)) _ _ (λ _. tt) (λ _. record {
+      proposals = ranged_near me records Votes b (unlearned_in records range) running.proposals
+          (λ i h. in_reach most records i (none_any (is_out_of_reach most records) (positions_of range) within i (has_passing _ i (positions_of range) h).0)) near;
+      sent = mapped me records Votes (says me (bodies.PrepareRange range b)) (one_to s.config.nodes) (λ k. tt);
+    })))
 
 pub turn_near : {S : Type 0} (s : Setting S) (me : ℕ) (records : List Rec) (Votes : ℕ → ℕ → Type 0) (running : Running) (input : NodeInput) → AreNear records running.proposals → MayVoteFor Votes input
     → IsNearIf me records Votes (running_effect s me records running input)
@@ -249,14 +324,10 @@ turn_near s me records Votes running (Receive message) near may =
     (body_near me records Votes s.next s.answers s.begin s.config.nodes running (party_number message.from) message.body near may) (record { proposals = near; sent = none me records Votes })
 turn_near s me records Votes running (Lead wanted) near may =
     let most = s.config.max_positions in
-    let i = chosen_position records running wanted in
-    let b = next_ballot me (starts_above records running) in
+    let i = chosen_position s.config.nodes records running wanted in
     either_if me records Votes (is_some (learned_at records i)) _ _ (λ _. noted me records Votes running near) (λ _.
-    either_if me records Votes (is_out_of_reach most records i) _ _ (λ _. tt) (λ within.
-    either_if me records Votes (nat_le (2 ^ 32) (round_of b)) _ _ (λ _. tt) (λ _. record {
-      proposals = with_near me records Votes running.proposals _ near (in_reach most records i within);
-      sent = mapped me records Votes (says me (bodies.Prepare i b)) (one_to s.config.nodes) (λ k. tt);
-    })))
+    either_if me records Votes (is_out_of_reach most records i) _ _ (λ _. tt) (λ within. leads_near s me records Votes running i (proposal_at running.proposals i) near (in_reach most records i within) refl))
+turn_near s me records Votes running (LeadRange first count) near may = lead_range_near s me records Votes running (range_of first count) near
 turn_near s me records Votes running (Interrupt source occurrence) near may =
     choice me records Votes (nat_lt (last_occurrence source (kept_of s.next s.answers s.begin (applied_of records))) occurrence) _ (notes running)
     (adds me records Votes running (actions.Interrupt source occurrence) near) (noted me records Votes running near)

@@ -7,6 +7,7 @@ use Rattle.rp_base.specs.declared.config.Config.{Config}
 use Rattle.rp_base.specs.declared.fault.Fault.{Fault}
 use Rattle.rp_base.specs.declared.record.Rec.{Rec}
 use Rattle.rp_base.specs.Config.{IsRightConfig}
+use Rattle.rp_base.specs.Ranges.{range_of}
 use Rattle.rp_base.specs.Records.{applied_of}
 use Rattle.rp_codec.specs.Message.{Message, report_len}
 use Rattle.rp_machine.specs.Replay.{kept_of}
@@ -16,14 +17,14 @@ use Rattle.rp_model.specs.Parts.{Turn}
 use Rattle.rp_model.specs.Parts.{fresh_running, with_record}
 use Rattle.rp_model.specs.Says.{sends}
 use Rattle.rp_model.specs.Texts.{written_for}
-use Rattle.rp_model.specs.Effect.{Setting, Done, goes_on_as, NodeInput, Receive, Lead, Interrupt, Tick, Report, report_of, running_effect, turned_if, effect_while, node_effect, stop_part, cut_part, untorn_part, stops_while, stop_effect, cut_if, cut_effect, restart_while, restart_part}
+use Rattle.rp_model.specs.Effect.{Setting, Done, goes_on_as, NodeInput, Receive, Lead, LeadRange, Interrupt, Tick, Report, report_of, running_effect, turned_if, effect_while, node_effect, stop_part, cut_part, untorn_part, stops_while, stop_effect, cut_if, cut_effect, restart_while, restart_part}
 use Rattle.rp_agreement.specs.Sound.{IsMember, IsReported, IsRunning, IsSound}
 use Rattle.rp_agreement.specs.Steps.{MayWrite, IsSoundStep}
 use Rattle.rp_agreement.specs.Inputs.{IsInput, NodeMoves}
 use Rattle.rp_agreement.proofs.Lists.{some_same}
 use Rattle.rp_agreement.proofs.Keeps.{keeps}
 use Rattle.rp_agreement.proofs.Turns.{IsSoundTurn, one_plain, sending}
-use Rattle.rp_agreement.proofs.Leaders.{IsSoundIf, lead_sound}
+use Rattle.rp_agreement.proofs.Leaders.{IsSoundIf, lead_sound, lead_range_sound}
 use Rattle.rp_agreement.proofs.Pendings.{interrupt_sound, tick_sound}
 use Rattle.rp_agreement.proofs.Receives.{receive_sound}
 
@@ -81,6 +82,7 @@ running_sound : {S : Type 0} (s : Setting S) (x : ℕ) (node : ℕ → NodePart)
     → IsSoundIf s.config.nodes x (node x).records sent (running_effect s x (node x).records running input)
 running_sound s x node sent running (Receive message) small sound runs right = receive_sound s.next s.answers s.begin s.config x node sent running message sound runs right
 running_sound s x node sent running (Lead choice) small sound runs right = lead_sound s.next s.answers s.begin s.config x node sent running choice sound runs small
+running_sound s x node sent running (LeadRange first count) small sound runs right = lead_range_sound s.config x node sent running (range_of first count) sound runs small
 running_sound s x node sent running (Interrupt source occurrence) small sound runs right =
     interrupt_sound s.config.nodes x (node x).records sent running (kept_of s.next s.answers s.begin (applied_of (node x).records)) source occurrence runs right.0 right.1
 running_sound s x node sent running (Tick now) small sound runs right = tick_sound s.config.nodes x (node x).records sent running now runs right

@@ -3,11 +3,12 @@ use Rattle.std.proofs.Common.{◌≡◌, ℕ, true, Option, Some, None, List, []
 use Rattle.std.specs.Prelude.{nat_eq, IfSome, unwrap_or}
 use Rattle.std.proofs.lemmas.Bool.{leb-true, and_parts}
 use Rattle.std.proofs.lemmas.Bool.Decides.{Decides-eqb}
+use Rattle.rp_base.specs.PlacedVotes.{placed_at}
 use Rattle.rp_base.specs.declared.action.Action.{Action}
 use Rattle.rp_base.specs.declared.action.Action.TheVariants.{Noop}
 use Rattle.rp_base.specs.declared.record.Vote.{Vote}
 use Rattle.rp_base.specs.declared.record.Rec.{Rec}
-use Rattle.rp_base.specs.declared.record.Rec.TheVariants.{Promised}
+use Rattle.rp_base.specs.declared.record.Rec.TheVariants.{Promised, PromisedRange}
 use Rattle.rp_base.specs.Number.{in_range}
 use Rattle.rp_base.specs.Sets.{Has}
 use Rattle.rp_base.specs.Majority.{majority_of, nodes_among, is_majority}
@@ -20,19 +21,19 @@ use Rattle.rp_codec.specs.declared.packet.Body.TheVariants as bodies
 use Rattle.rp_model.specs.Parts.{NodePart}
 use Rattle.rp_model.specs.Facts.{IsPromise, HasPromised, IsOffered}
 use Rattle.rp_agreement.specs.Told.{IsAsked}
-use Rattle.rp_agreement.specs.Founded.{Reports, IsFounded}
+use Rattle.rp_agreement.specs.Founded.{Reports, IsFounded, HasWritten}
 use Rattle.rp_agreement.specs.Sound.{IsMember, IsSo, SaysSo, IsSound}
 use Rattle.rp_agreement.proofs.Lists.{has_picked, highest_has}
 
 -- ---- what is told is so
 
 promise_so : (nodes : ℕ) (sent : List Message) (records : List Rec) (body : Body) (i b : ℕ) (last : Option Vote) → IsPromise body i b last → IsSo nodes sent records body
-    → Has (Promised i b) records × Reports records i b last
+    → HasWritten records i b × Reports records i b last
 promise_so nodes sent records (bodies.Call action) i b last is so = absurd is
 promise_so nodes sent records (bodies.Prepare position ballot) i b last is so = absurd is
 promise_so nodes sent records (bodies.Promise position ballot vote) i b last is so =
-    let Kept : ℕ → ℕ → Option Vote → Type 0 = λ j c o. Has (Promised j c) records × Reports records j c o in
-    subst (Kept i b) is.2 (subst (λ (c : ℕ). Kept i c vote) is.1 (subst (λ (j : ℕ). Kept j ballot vote) is.0 so))
+    let Kept : ℕ → ℕ → Option Vote → Type 0 = λ j c o. HasWritten records j c × Reports records j c o in
+    subst (Kept i b) is.2 (subst (λ (c : ℕ). Kept i c vote) is.1 (subst (λ (j : ℕ). Kept j ballot vote) is.0 ((Promised position ballot, so.0, (refl, refl)), so.1)))
 promise_so nodes sent records (bodies.Accept position ballot action) i b last is so = absurd is
 promise_so nodes sent records (bodies.Accepted position ballot action) i b last is so = absurd is
 promise_so nodes sent records (bodies.Decided position action) i b last is so = absurd is
@@ -40,10 +41,14 @@ promise_so nodes sent records (bodies.Ask position) i b last is so = absurd is
 promise_so nodes sent records (bodies.Nack position ballot bound) i b last is so = absurd is
 promise_so nodes sent records (bodies.Reply number reply) i b last is so = absurd is
 promise_so nodes sent records (bodies.Report first applied actions) i b last is so = absurd is
+promise_so nodes sent records (bodies.PrepareRange range ballot) i b last is so = absurd is
+promise_so nodes sent records (bodies.PromiseRange range ballot votes) i b last is so =
+    let Kept : ℕ → Option Vote → Type 0 = λ c o. HasWritten records i c × Reports records i c o in
+    subst (Kept b) is.2 (subst (λ (c : ℕ). Kept c (placed_at votes i)) is.1 ((PromisedRange range ballot, so.0, (is.0, refl)), so.1 i is.0))
 
 -- who told a promise is a node that keeps it
 pub promise_kept : (nodes : ℕ) (node : ℕ → NodePart) (sent : List Message) → IsSound nodes node sent → (a i b : ℕ) (last : Option Vote) → HasPromised sent a i b last
-    → IsMember nodes a × Reports (node a).records i b last × Has (Promised i b) (node a).records
+    → IsMember nodes a × Reports (node a).records i b last × HasWritten (node a).records i b
 promise_kept nodes node sent sound a i b last told =
     let so = subst (λ (party : Party). SaysSo nodes node sent party told.0.body) told.2 (sound.says told.0 told.1) in
     let kept = promise_so nodes sent (node a).records told.0.body i b last told.3 so.1 in

@@ -81,7 +81,7 @@ position_passing test i (r ∷ rest) h =
       | inr miss ↦ inr (position_passing test i rest (subst (λ (ps : List Proposal). Has i (positions_of ps)) (cond-false (test r) (r ∷ filter test rest) (filter test rest) miss) h))
     ]
 
-passing_apart : (test : Proposal → Bool) (proposals : List Proposal) → IsSet (positions_of proposals) → IsSet (positions_of (filter test proposals))
+pub passing_apart : (test : Proposal → Bool) (proposals : List Proposal) → IsSet (positions_of proposals) → IsSet (positions_of (filter test proposals))
 passing_apart test [] apart = tt
 passing_apart test (r ∷ rest) apart =
     elim (cases_Bool (test r)) [

@@ -134,6 +134,8 @@ heard_nodes t part (bodies.Ask i) m h = absurd h
 heard_nodes t part (bodies.Nack i b bound) m h = absurd h
 heard_nodes t part (bodies.Reply number reply) m h = reply_nodes t part number reply m h
 heard_nodes t part (bodies.Report first applied told) m h = absurd h
+heard_nodes t part (bodies.PrepareRange range b) m h = absurd h
+heard_nodes t part (bodies.PromiseRange range b votes) m h = absurd h
 
 pub input_nodes : (config : Config) (sent : List Message) (t : ℕ) (part : TaskPart) (input : TaskInput) → IsTaskInput sent t input → AreForNodesIf (task_effect config t part input)
 input_nodes config sent t part (tasks.Submit node object operation arg) is =
@@ -162,6 +164,8 @@ called_packet t k (bodies.Ask i) is theirs = absurd is
 called_packet t k (bodies.Nack i b bound) is theirs = absurd is
 called_packet t k (bodies.Reply number reply) is theirs = absurd is
 called_packet t k (bodies.Report first applied told) is theirs = absurd is
+called_packet t k (bodies.PrepareRange range b) is theirs = absurd is
+called_packet t k (bodies.PromiseRange range b votes) is theirs = absurd is
 
 by_parties : (t k : ℕ) (from to : Party) (body : Body) → from ≡ Task t → to ≡ Node k → IsCall t body → IsNode k → IsPacket (record { from = from; to = to; body = body })
 by_parties t k from to body sender receiver is theirs =

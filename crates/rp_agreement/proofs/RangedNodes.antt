@@ -1,8 +1,8 @@
 -- What any input comes to at a node is in range.
 use Rattle.std.proofs.Common.{◌≡◌, ℕ, zero, suc, ◌+◌, ◌-◌, ◌<◌, ◌≤◌, min, Bool, true, false, if◌then◌else◌, Result, Ok, Err, Option, Some, None, List, [], ◌∷◌, ◌++◌, length, take, drop, inl, inr, refl, sym, subst, arith}
-use Rattle.std.specs.Prelude.{nat_lt, nat_le, is_some, IfSome, find, unwrap_or, ◌^◌, ◌||◌}
+use Rattle.std.specs.Prelude.{nat_lt, nat_le, is_some, IfSome, find, unwrap_or, ◌^◌, ◌||◌, not, nat_eq}
 use Rattle.std.specs.List.{AllByRecursion, list_any}
-use Rattle.std.proofs.lemmas.Bool.{or_cases, ltb-true, ltb-false, le-leb, both_ways}
+use Rattle.std.proofs.lemmas.Bool.{or_cases, and_parts, leb-true, ltb-true, ltb-false, le-leb, both_ways}
 use Rattle.std.proofs.lemmas.List.{length-take, length-drop}
 use Rattle.std.proofs.lemmas.List.Elements.{All-from_recursion}
 use Rattle.rp_base.specs.declared.action.Action.{Action}
@@ -12,17 +12,19 @@ use Rattle.rp_base.specs.declared.fault.Fault.{Fault}
 use Rattle.rp_base.specs.declared.config.Config.{Config}
 use Rattle.rp_base.specs.declared.record.Vote.{Vote}
 use Rattle.rp_base.specs.declared.record.Rec.{Rec}
-use Rattle.rp_base.specs.declared.record.Rec.TheVariants.{Started, Promised, Voted, Learned}
+use Rattle.rp_base.specs.declared.record.Rec.TheVariants.{Started, Promised, Voted, Learned, PromisedRange}
 use Rattle.rp_base.specs.Action.{IsRight}
 use Rattle.rp_base.specs.Ballot.{IsBallot, round_of, next_ballot}
 use Rattle.rp_base.specs.Config.{IsRightConfig}
-use Rattle.rp_base.specs.Number.{IsNode, IsPosition}
-use Rattle.rp_base.specs.Promises.{same_heard, makes_majority}
-use Rattle.rp_base.specs.Proposals.{Proposal, new_proposal, without_proposal}
+use Rattle.rp_base.specs.Number.{IsNode, IsPosition, in_range}
+use Rattle.rp_base.specs.Promises.{same_heard, makes_majority, highest_vote, offer_of}
+use Rattle.rp_base.specs.Proposals.{Proposal, new_proposal, without_proposal, proposal_at, with_proposal, is_prepared, as_offered, own_unless, range_proposal, with_range}
 use Rattle.rp_base.specs.Records.{learned_at, learned_run, unless_missing, applied_of, first_unlearned}
 use Rattle.rp_base.specs.Right.{IsRightVote}
 use Rattle.rp_base.specs.Sets.{Has, with_member}
 use Rattle.rp_base.proofs.Members.{has_passing}
+use Rattle.rp_base.specs.Ranges.{Range, IsRange, positions_of, range_of}
+use Rattle.rp_base.specs.declared.fault.Fault.TheVariants.{BadConfig, LogFull}
 use Rattle.rp_codec.specs.Message.{Message, IsPacket, IsBody, MaySay, IsVoteBelow, report_len}
 use Rattle.rp_codec.specs.Record.{IsRecord}
 use Rattle.rp_codec.specs.declared.packet.Party.{Party}
@@ -36,10 +38,10 @@ use Rattle.rp_model.specs.Parts.{Turn}
 use Rattle.rp_model.specs.Parts.{is_in_log}
 use Rattle.rp_model.specs.Says.{says_to_all, says_to_others, notes, drops_foreign}
 use Rattle.rp_model.specs.Pending.{is_free_item, own_action}
-use Rattle.rp_model.specs.Leader.{is_free_position, free_from, chosen_position, is_beyond, is_out_of_reach, starts_above, begins, on_lead}
+use Rattle.rp_model.specs.Leader.{is_free_position, free_from, chosen_position, is_beyond, is_out_of_reach, starts_above, begins, on_lead, begins_if, offers, leads_at, unlearned_in, on_lead_range}
 use Rattle.rp_model.specs.Learner.{learns_above, missing_position, asks_for, learns, on_vote, on_decision}
 use Rattle.rp_model.specs.Receiving.{is_for_node, party_number, on_body, receives}
-use Rattle.rp_model.specs.Effect.{Setting, NodeInput, Receive, Lead, Interrupt, Tick, Report, report_of, running_effect}
+use Rattle.rp_model.specs.Effect.{Setting, NodeInput, Receive, Lead, LeadRange, Interrupt, Tick, Report, report_of, running_effect}
 use Rattle.rp_agreement.specs.Answered.{answers_of}
 use Rattle.rp_agreement.specs.Inputs.{IsInput}
 use Rattle.rp_agreement.specs.Ranges.{IsRangedProposal, IsRangedRunning}
@@ -48,8 +50,8 @@ use Rattle.rp_agreement.proofs.Lists.{found_has}
 use Rattle.rp_agreement.proofs.Leaders.{next_owned}
 use Rattle.rp_agreement.proofs.LogKeeping.{applied_in_log}
 use Rattle.rp_agreement.proofs.TaskEffects.{leb_not}
-use Rattle.rp_agreement.proofs.RangedParts.{AreRecords, learned_ranged, with_ranged, without_ranged, written_ranged}
-use Rattle.rp_agreement.proofs.RangedTurns.{ArePackets, AreReplies, IsRangedTurn, no_packets, one_packet, both_packets, noted, sending, writing, foreign, choice, said, said_to_all, said_to_others, prepare_ranged, accept_ranged, promise_counted, nack_ranged, adds_ranged, call_ranged, replies_ranged, told_ranged}
+use Rattle.rp_agreement.proofs.RangedParts.{AreRecords, learned_ranged, with_ranged, without_ranged, written_ranged, AreProposals, offer_ranged}
+use Rattle.rp_agreement.proofs.RangedTurns.{ArePackets, AreReplies, IsRangedTurn, no_packets, one_packet, both_packets, noted, sending, writing, foreign, choice, said, said_to_all, said_to_others, prepare_ranged, accept_ranged, promise_counted, nack_ranged, adds_ranged, call_ranged, replies_ranged, told_ranged, range_position, prepare_range_ranged, promise_range_counted}
 
 -- ---- what is applied
 
@@ -78,6 +80,7 @@ in_widest_log (Started ballot) is = refl
 in_widest_log (Promised position ballot) is = le-leb position (2 ^ 16 - 1) (omega (arith, is.ranges.0.1))
 in_widest_log (Voted position ballot action) is = le-leb position (2 ^ 16 - 1) (omega (arith, is.ranges.0.1))
 in_widest_log (Learned position action) is = le-leb position (2 ^ 16 - 1) (omega (arith, is.ranges.1))
+in_widest_log (PromisedRange range ballot) is = le-leb range.first (2 ^ 16 - 1) (omega (arith, is.ranges.0.first.1))
 
 applied_few : (records : List Rec) → AreRecords records → length (applied_of records) ≤ 2 ^ 16 - 1
 applied_few records all = applied_in_log records (2 ^ 16 - 1) (λ rec h. in_widest_log rec (all rec h))
@@ -125,19 +128,19 @@ next_ranged me floor mine small = record {
   owner = subst IsNode (sym (next_owned me floor (omega (arith, mine.1)))) mine;
 }
 
-free_above : (records : List Rec) (proposals : List Proposal) (most i : ℕ) → i ≤ free_from records proposals most i
-free_above records proposals zero i = omega arith
-free_above records proposals (suc most) i =
-    let more : suc i ≤ free_from records proposals most (suc i) = free_above records proposals most (suc i) in
-    free_either (is_free_position records proposals i) (omega (arith, more))
+free_above : (nodes : ℕ) (records : List Rec) (proposals : List Proposal) (most i : ℕ) → i ≤ free_from nodes records proposals most i
+free_above nodes records proposals zero i = omega arith
+free_above nodes records proposals (suc most) i =
+    let more : suc i ≤ free_from nodes records proposals most (suc i) = free_above nodes records proposals most (suc i) in
+    free_either (is_free_position nodes records proposals i) (omega (arith, more))
   where
     free_either : (b : Bool) {j : ℕ} → i ≤ j → i ≤ (if b then i else j)
     free_either true low = omega arith
     free_either false low = low
 
-chosen_low : (records : List Rec) (running : Running) (choice : Option ℕ) → IfSome choice IsPosition → 1 ≤ chosen_position records running choice
-chosen_low records running None is = free_above records running.proposals (length records + length running.proposals) 1
-chosen_low records running (Some i) is = is.0
+chosen_low : (nodes : ℕ) (records : List Rec) (running : Running) (choice : Option ℕ) → IfSome choice IsPosition → 1 ≤ chosen_position nodes records running choice
+chosen_low nodes records running None is = free_above nodes records running.proposals (length records + length running.proposals) 1
+chosen_low nodes records running (Some i) is = is.0
 
 -- a position that is within reach is one of the log
 within_reach : (most : ℕ) (records : List Rec) (i : ℕ) → is_out_of_reach most records i ≡ false → i ≤ most
@@ -167,6 +170,10 @@ either_if : (test : Bool) (one other : Result Turn Fault) → (test ≡ true →
 either_if true one other left right = left refl
 either_if false one other left right = right refl
 
+unless_right : (own : Action) (vote : Option Vote) → IsRight own → IfSome (own_unless own vote) IsRight
+unless_right own None right = right
+unless_right own (Some vote) right = tt
+
 module _ {S : Type 0} (next : S → Action → S) (answers : S → Action → List Answer) (begin : S) where
   begins_ranged : (nodes me : ℕ) (records : List Rec) (running : Running) (i b : ℕ) → nodes ≤ 7 → IsNode me → IsPosition i → IsBallot b → IsRangedRunning running
       → IsRangedTurn (begins next answers begin nodes me records running i b)
@@ -178,18 +185,88 @@ module _ {S : Type 0} (next : S → Action → S) (answers : S → Action → Li
       (record { proposals = with_ranged running.proposals (new_proposal i b (Some own)) runs.proposals new; pending = runs.pending })
       (said_to_all nodes me (bodies.Prepare i b) few mine (place, ballot) (λ k. (tt, tt)))
 
+  begin_ranged : (nodes me : ℕ) (records : List Rec) (running : Running) (i : ℕ) → nodes ≤ 7 → IsNode me → IsPosition i → IsRangedRunning running
+      → IsRangedIf (begins_if next answers begin nodes me records running i)
+  begin_ranged nodes me records running i few mine place runs =
+      let b = next_ballot me (starts_above records running) in
+      either_if (nat_le (2 ^ 32) (round_of b)) _ _ (λ _. tt) (λ left.
+      begins_ranged nodes me records running i b few mine place (next_ranged me (starts_above records running) mine (leb_not (2 ^ 32) (round_of b) left)) runs)
+
+  offers_ranged : (nodes me : ℕ) (records : List Rec) (running : Running) (p : Proposal) → nodes ≤ 7 → IsNode me → IsRangedProposal p → IsRangedRunning running
+      → IsRangedTurn (offers next answers begin nodes me records running p)
+  offers_ranged nodes me records running p few mine is runs =
+      let others = without_proposal running.proposals p.position in
+      let own = own_action (kept_of next answers begin (applied_of records)) others running.pending in
+      let right : IsRight own = own_right (kept_of next answers begin (applied_of records)) others running.pending runs.pending in
+      let after = as_offered own p in
+      let new : IsRangedProposal after = record { position = is.position; ballot = is.ballot; own = unless_right own (highest_vote p.promises) right; reported = is.reported } in
+      let accept = bodies.Accept p.position p.ballot (offer_of after.own p.promises) in
+      sending (record running { proposals = with_proposal running.proposals after }) (says_to_all nodes me accept)
+      (record { proposals = with_ranged running.proposals after runs.proposals new; pending = runs.pending })
+      (said_to_all nodes me accept few mine (is.position, is.ballot) (λ k. ((tt, tt), offer_ranged after new)))
+
+  leads_ranged : (nodes me : ℕ) (records : List Rec) (running : Running) (i : ℕ) (at : Option Proposal) → nodes ≤ 7 → IsNode me → IsPosition i → IsRangedRunning running
+      → proposal_at running.proposals i ≡ at → IsRangedIf (leads_at next answers begin nodes me records running i at)
+  leads_ranged nodes me records running i None few mine place runs is = begin_ranged nodes me records running i few mine place runs
+  leads_ranged nodes me records running i (Some p) few mine place runs is =
+      either_if (is_prepared nodes p) _ _
+      (λ _. offers_ranged nodes me records running p few mine (runs.proposals p (found_has (λ (q : Proposal). nat_eq q.position i) p running.proposals is).0) runs)
+      (λ _. begin_ranged nodes me records running i few mine place runs)
+
   pub lead_ranged : (config : Config) (me : ℕ) (records : List Rec) (running : Running) (choice : Option ℕ) → IsRightConfig config → IsNode me → IfSome choice IsPosition → IsRangedRunning running
       → IsRangedIf (on_lead next answers begin config me records running choice)
   lead_ranged config me records running choice right mine is runs =
-      let i = chosen_position records running choice in
-      let b = next_ballot me (starts_above records running) in
-      let low : 1 ≤ i = chosen_low records running choice is in
+      let i = chosen_position config.nodes records running choice in
+      let low : 1 ≤ i = chosen_low config.nodes records running choice is in
       let most : config.max_positions < 2 ^ 16 = right.positions.1 in
       either_if (is_some (learned_at records i)) _ _ (λ _. noted running runs) (λ _.
       either_if (is_out_of_reach config.max_positions records i) _ _ (λ _. tt) (λ near.
       let within : i ≤ config.max_positions = within_reach config.max_positions records i near in
-      either_if (nat_le (2 ^ 32) (round_of b)) _ _ (λ _. tt) (λ left.
-      begins_ranged config.nodes me records running i b right.nodes.1 mine (low, omega (arith, within, most)) (next_ranged me (starts_above records running) mine (leb_not (2 ^ 32) (round_of b) left)) runs)))
+      leads_ranged config.nodes me records running i (proposal_at running.proposals i) right.nodes.1 mine (low, omega (arith, within, most)) runs refl))
+
+-- ---- a range to lead in
+
+-- a first position and a count that make a range make one within the log's numbers
+range_is : (first count : ℕ) (range : Range) → IsPosition first → range_of first count ≡ Ok range → IsRange range
+range_is first count range place is = by (in_range 1 64 count) (nat_lt (2 ^ 16) (first + count)) refl refl is
+  where
+    made : Range
+    made = record { first = first; count = count }
+
+    by : (right long : Bool) → in_range 1 64 count ≡ right → nat_lt (2 ^ 16) (first + count) ≡ long
+        → (let r : Result Range Fault = if not right then Err BadConfig else if long then Err LogFull else Ok made in r ≡ Ok range) → IsRange range
+    by true true counted full e = absurd (cc)
+    by true false counted fits e =
+        let both = and_parts (nat_le 1 count) (nat_le count 64) counted in
+        let low : 1 ≤ count = leb-true 1 count both.0 in
+        let few : count ≤ 64 = leb-true count 64 both.1 in
+        let last : first + count ≤ 2 ^ 16 = ltb-false (2 ^ 16) (first + count) fits in
+        let is : IsRange made = record { first = place; count = (low, few); last = last } in
+        subst IsRange (cc) is
+    by false long counted fits e = absurd (cc)
+
+begun_ranged : (b : ℕ) (positions : List ℕ) (proposals : List Proposal) → IsBallot b → ((i : ℕ) → Has i positions → IsPosition i) → AreProposals proposals → AreProposals (with_range proposals b positions)
+begun_ranged b [] proposals ballot places all = all
+begun_ranged b (i ∷ rest) proposals ballot places all =
+    let new : IsRangedProposal (range_proposal b i) = record { position = places i (inl refl); ballot = ballot; own = tt; reported = λ a vote h. absurd h } in
+    begun_ranged b rest (with_proposal proposals (range_proposal b i)) ballot (λ j h. places j (inr h)) (with_ranged proposals (range_proposal b i) all new)
+
+lead_range_ranged : (config : Config) (me : ℕ) (records : List Rec) (running : Running) (first count : ℕ) (range : Result Range Fault) → range_of first count ≡ range → IsRightConfig config → IsNode me
+    → IsPosition first → IsRangedRunning running → IsRangedIf (on_lead_range config me records running range)
+lead_range_ranged config me records running first count (Err fault) is right mine place runs = tt
+lead_range_ranged config me records running first count (Ok range) is right mine place runs =
+    let b = next_ballot me (starts_above records running) in
+    let ranges : IsRange range = range_is first count range place is in
+    either_if (list_any (is_out_of_reach config.max_positions records) (positions_of range)) _ _ (λ _. tt) (λ _.
+    either_if (nat_eq (length (unlearned_in records range)) 0) _ _ (λ _. noted running runs) (λ _.
+    either_if (nat_le (2 ^ 32) (round_of b)) _ _ (λ _. tt) (λ left.
+    let ballot = next_ranged me (starts_above records running) mine (leb_not (2 ^ 32) (round_of b) left) in
+    writing (Started b) _ (says_to_all config.nodes me (bodies.PrepareRange range b)) (record { ranges = ballot; right = tt })
+    (record {
+      proposals = begun_ranged b (unlearned_in records range) running.proposals ballot (λ i h. range_position range i ranges (has_passing _ i (positions_of range) h).0) runs.proposals;
+      pending = runs.pending;
+    })
+    (said_to_all config.nodes me (bodies.PrepareRange range b) right.nodes.1 mine (ranges, ballot) (λ k. (tt, tt))))))
 
 -- ---- what is missing below a learned position
 
@@ -207,6 +284,7 @@ above_has i (rec ∷ rest) all e =
     by_record (Promised position ballot) is hit = absurd (both_ways false refl hit)
     by_record (Voted position ballot action) is hit = absurd (both_ways false refl hit)
     by_record (Learned position action) is hit = let below : i < position = ltb-true i position hit in omega (arith, below, is.ranges.1)
+    by_record (PromisedRange range ballot) is hit = absurd (both_ways false refl hit)
 
 missing_if : (records : List Rec) (b : Bool) → (b ≡ true → first_unlearned records < 2 ^ 16) → IfSome (let o : Option ℕ = if b then Some (first_unlearned records) else None in o) IsPosition
 missing_if records true below = (omega arith, below refl)
@@ -272,9 +350,11 @@ module _ {S : Type 0} (s : Setting S) (fits : (actions : List Action) → AllRig
   node_body me a to (bodies.Decided i v) records running right mine theirs ranges may all runs = decision_ranged me a i v records running (learned_at records i) mine theirs ranges may.1 all runs
   node_body me a to (bodies.Ask i) records running right mine theirs ranges may all runs =
       told_ranged me a i running (learned_at records i) mine theirs ranges (learned_right records i (learned_at records i) all refl) runs
-  node_body me a to (bodies.Nack i b bound) records running right mine theirs ranges may all runs = nack_ranged running i b bound runs
+  node_body me a to (bodies.Nack i b bound) records running right mine theirs ranges may all runs = nack_ranged s.config.nodes running i b bound runs
   node_body me a to (bodies.Reply number reply) records running right mine theirs ranges may all runs = noted running runs
   node_body me a to (bodies.Report first applied actions) records running right mine theirs ranges may all runs = noted running runs
+  node_body me a to (bodies.PrepareRange range b) records running right mine theirs ranges may all runs = prepare_range_ranged me a range b records running mine theirs ranges.0 ranges.1 all runs
+  node_body me a to (bodies.PromiseRange range b votes) records running right mine theirs ranges may all runs = promise_range_counted s.config.nodes a range b votes running may.1 runs
 
   task_body : (me t : ℕ) (to : Party) (body : Body) (records : List Rec) (running : Running) → IsNode me → MaySay (Task t) to body
       → AreRecords records → IsRangedRunning running → IsRangedTurn (on_body s.next s.answers s.begin s.config.nodes me records running t body)
@@ -290,6 +370,8 @@ module _ {S : Type 0} (s : Setting S) (fits : (actions : List Action) → AllRig
   task_body me t to (bodies.Nack i b bound) records running mine may all runs = absurd may.0.0
   task_body me t to (bodies.Reply number reply) records running mine may all runs = absurd may.0
   task_body me t to (bodies.Report first applied actions) records running mine may all runs = absurd may.0
+  task_body me t to (bodies.PrepareRange range b) records running mine may all runs = absurd may.0
+  task_body me t to (bodies.PromiseRange range b votes) records running mine may all runs = absurd may.0.0
 
   audit_says : (to : Party) (body : Body) → ¬ MaySay Audit to body
   audit_says to (bodies.Call action) may = may.0
@@ -302,6 +384,8 @@ module _ {S : Type 0} (s : Setting S) (fits : (actions : List Action) → AllRig
   audit_says to (bodies.Nack i b bound) may = may.0.0
   audit_says to (bodies.Reply number reply) may = may.0
   audit_says to (bodies.Report first applied actions) may = may.0
+  audit_says to (bodies.PrepareRange range b) may = may.0
+  audit_says to (bodies.PromiseRange range b votes) may = may.0.0
 
   party_body : (me : ℕ) (from to : Party) (body : Body) (records : List Rec) (running : Running) → IsRightConfig s.config → IsNode me → IsPacket (record { from = from; to = to; body = body })
       → AreRecords records → IsRangedRunning running → IsRangedTurn (on_body s.next s.answers s.begin s.config.nodes me records running (party_number from) body)
@@ -320,6 +404,7 @@ module _ {S : Type 0} (s : Setting S) (fits : (actions : List Action) → AllRig
       → ArePackets sent → IsInput sent input → IsRangedIf (running_effect s me records running input)
   turn_ranged me records running sent (Receive message) right mine all runs packets is = receive_ranged me message records running right mine (packets message is) all runs
   turn_ranged me records running sent (Lead choice) right mine all runs packets is = lead_ranged s.next s.answers s.begin s.config me records running choice right mine is runs
+  turn_ranged me records running sent (LeadRange first count) right mine all runs packets is = lead_range_ranged s.config me records running first count (range_of first count) refl right mine is runs
   turn_ranged me records running sent (Interrupt source occurrence) right mine all runs packets is =
       choice (nat_lt (last_occurrence source (kept_of s.next s.answers s.begin (applied_of records))) occurrence) _ (notes running)
       (adds_ranged running (actions.Interrupt source occurrence) runs is) (noted running runs)

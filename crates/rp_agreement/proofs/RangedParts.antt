@@ -1,13 +1,13 @@
 -- What is in range of a node's records and proposals.
 use Rattle.std.proofs.Common.{◌≡◌, ℕ, ◌<◌, max, Bool, true, false, if◌then◌else◌, Option, Some, None, List, [], ◌∷◌, ◌⊎◌, inl, inr, refl, sym, ap, subst, arith}
-use Rattle.std.specs.Prelude.{nat_eq, IfSome, unwrap_or}
+use Rattle.std.specs.Prelude.{nat_eq, IfSome, unwrap_or, filter}
 use Rattle.std.proofs.lemmas.Bool.{cases_Bool, cond-true, cond-false}
 use Rattle.rp_base.specs.declared.action.Action.{Action}
 use Rattle.rp_base.specs.declared.action.Action.TheVariants.{Noop}
 use Rattle.rp_base.specs.declared.proposal.Phase.TheVariants.{Offering}
 use Rattle.rp_base.specs.declared.record.Vote.{Vote}
 use Rattle.rp_base.specs.declared.record.Rec.{Rec}
-use Rattle.rp_base.specs.declared.record.Rec.TheVariants.{Started, Promised, Voted, Learned}
+use Rattle.rp_base.specs.declared.record.Rec.TheVariants.{Started, Promised, Voted, Learned, PromisedRange}
 use Rattle.rp_base.specs.Action.{IsRight}
 use Rattle.rp_base.specs.Ballot.{IsBallot}
 use Rattle.rp_base.specs.Promises.{Promise, same_promise, action_or, highest_vote, offer_of}
@@ -16,6 +16,7 @@ use Rattle.rp_base.specs.Records.{bound_in, bound_at, learned_at, last_vote_at}
 use Rattle.rp_base.specs.Right.{IsRightVote}
 use Rattle.rp_base.specs.Sets.{Has}
 use Rattle.rp_base.proofs.Members.{has_split, has_passing}
+use Rattle.rp_base.specs.Ranges.{is_covered}
 use Rattle.rp_codec.specs.Record.{IsRecord}
 use Rattle.rp_model.specs.Parts.{with_record}
 use Rattle.rp_agreement.specs.Ranges.{IsRangedProposal}
@@ -49,6 +50,7 @@ bound_one i (Started ballot) is = inl refl
 bound_one i (Promised position ballot) is = bound_if ballot (nat_eq position i) is.ranges.1
 bound_one i (Voted position ballot action) is = bound_if ballot (nat_eq position i) is.ranges.1
 bound_one i (Learned position action) is = inl refl
+bound_one i (PromisedRange range ballot) is = bound_if ballot (is_covered range i) is.ranges.1
 
 max_is : (a b : ℕ) → (max a b ≡ a) ⊎ (max a b ≡ b)
 max_is a b = grind arith
@@ -99,6 +101,9 @@ with_ranged proposals q all one p h = elim (with_or_old p q proposals h) [ inl o
 
 pub without_ranged : (proposals : List Proposal) (i : ℕ) → AreProposals proposals → AreProposals (without_proposal proposals i)
 without_ranged proposals i all p h = all p (has_passing _ p proposals h).0
+
+pub passing_ranged : (proposals : List Proposal) (test : Proposal → Bool) → AreProposals proposals → AreProposals (filter test proposals)
+passing_ranged proposals test all p h = all p (has_passing test p proposals h).0
 
 pub promise_ranged : (p : Proposal) (from : ℕ) (last : Option Vote) → IsRangedProposal p → IfSome last IsRightVote → IsRangedProposal (with_promise p (from, last))
 promise_ranged p from last is right = record {

@@ -1,6 +1,6 @@
 -- What a node's turn writes, knows and sends is in range.
-use Rattle.std.proofs.Common.{◌≡◌, ℕ, zero, suc, ◌<◌, ◌≤◌, Bool, true, false, if◌then◌else◌, Option, Some, None, List, [], ◌∷◌, ◌++◌, map, length, inl, inr, refl, sym, subst, arith}
-use Rattle.std.specs.Prelude.{nat_eq, nat_lt, IfSome, filter}
+use Rattle.std.proofs.Common.{◌≡◌, ℕ, zero, suc, ◌<◌, ◌≤◌, Bool, true, false, if◌then◌else◌, Option, Some, None, List, [], ◌∷◌, ◌++◌, map, length, inl, inr, refl, sym, subst, arith, ◌+◌}
+use Rattle.std.specs.Prelude.{nat_eq, nat_lt, IfSome, filter, filter_map, option_map, find, not, ◌&&◌, All}
 use Rattle.std.specs.List.{list_any}
 use Rattle.std.proofs.lemmas.Bool.{and_parts, or_cases, ltb-true, eqb-true}
 use Rattle.rp_base.specs.declared.action.Action.{Action}
@@ -9,7 +9,7 @@ use Rattle.rp_base.specs.declared.reply.Answer.{Answer}
 use Rattle.rp_base.specs.declared.reply.Reply.{Reply}
 use Rattle.rp_base.specs.declared.record.Vote.{Vote}
 use Rattle.rp_base.specs.declared.record.Rec.{Rec}
-use Rattle.rp_base.specs.declared.record.Rec.TheVariants.{Promised, Voted}
+use Rattle.rp_base.specs.declared.record.Rec.TheVariants.{Promised, Voted, PromisedRange}
 use Rattle.rp_base.specs.declared.voting.PrepareAnswer.{PrepareAnswer}
 use Rattle.rp_base.specs.declared.voting.PrepareAnswer.TheVariants as prepares
 use Rattle.rp_base.specs.declared.voting.AcceptAnswer.{AcceptAnswer}
@@ -18,13 +18,21 @@ use Rattle.rp_base.specs.Action.{IsRight, IsCount, same_action}
 use Rattle.rp_base.specs.Ballot.{IsBallot}
 use Rattle.rp_base.specs.Number.{IsNode, IsTask, IsPosition}
 use Rattle.rp_base.specs.Promises.{Promise, offer_of}
-use Rattle.rp_base.specs.Proposals.{Proposal, proposal_at, with_proposal, is_in, takes_promise, with_promise, is_promised, after_promise}
+use Rattle.rp_base.specs.Proposals.{Proposal, proposal_at, with_proposal, is_in, takes_promise, with_promise, is_promised, after_promise, once_promised, takes_range_promise, is_given_up}
 use Rattle.rp_base.specs.Records.{bound_at, last_vote_at}
-use Rattle.rp_base.specs.Right.{IsReply, IsRightVote}
+use Rattle.rp_base.specs.Right.{IsReply, IsRightVote, IsRightRecord}
 use Rattle.rp_base.specs.Sets.{Has}
-use Rattle.rp_base.specs.Voting.{prepare_answer, vote_answer, accept_answer}
+use Rattle.rp_base.specs.Voting.{prepare_answer, vote_answer, accept_answer, is_above_bounds, refusing_position, range_refusal, range_answer}
 use Rattle.rp_base.proofs.Members.{has_split, has_passing, mapped_has}
 use Rattle.rp_base.proofs.MoreRecords.{last_below}
+use Rattle.rp_base.specs.Ranges.{Range, IsRange, positions_of, is_covered}
+use Rattle.rp_base.specs.PlacedVotes.{placed_at, placed_last, last_votes, AreReported}
+use Rattle.rp_base.specs.declared.placed.PlacedVote.{PlacedVote}
+use Rattle.rp_base.specs.declared.voting.RangeAnswer.{RangeAnswer}
+use Rattle.rp_base.specs.declared.voting.RangeAnswer.TheVariants as range_prepares
+use Rattle.rp_base.proofs.ReportedVotes.{votes_are_reported}
+use Rattle.std.specs.List.{range_with_len, AllByRecursion, cons_option}
+use Rattle.std.proofs.lemmas.List.Elements.{All-from_recursion, recursion_from_All}
 use Rattle.rp_codec.specs.Message.{Message, IsBody, IsPacket, IsVoteBelow, MaySay}
 use Rattle.rp_codec.specs.declared.packet.Party.TheVariants.{Node}
 use Rattle.rp_codec.specs.declared.packet.Body.{Body}
@@ -35,14 +43,14 @@ use Rattle.rp_machine.specs.Asked.{last_number, kept_reply}
 use Rattle.rp_model.specs.Parts.{Running}
 use Rattle.rp_model.specs.Parts.{Turn}
 use Rattle.rp_model.specs.Says.{says, says_to_all, says_to_others, says_to_task, sends, notes, writes, drops_full, drops_foreign}
-use Rattle.rp_model.specs.Acceptor.{tells_promise, tells_vote, on_prepare, on_accept}
-use Rattle.rp_model.specs.Leader.{counts_promise, on_promise_to, on_promise, on_nack}
+use Rattle.rp_model.specs.Acceptor.{tells_promise, tells_vote, on_prepare, on_accept, tells_range, on_prepare_range}
+use Rattle.rp_model.specs.Leader.{counts_promise, on_promise_to, on_promise, on_nack, on_promise_range}
 use Rattle.rp_model.specs.Learner.{tells_learned}
 use Rattle.rp_model.specs.Pending.{most_pending, adds_pending, on_numbered, on_call, is_answered_by, replies_to, is_same_call}
 use Rattle.rp_agreement.specs.Ranges.{IsRangedProposal, IsRangedRunning}
 use Rattle.rp_agreement.proofs.AnswerTurns.{kept_is_given}
 use Rattle.rp_agreement.proofs.Lists.{found_has}
-use Rattle.rp_agreement.proofs.RangedParts.{AreRecords, bound_ballot, last_ranged, with_ranged, without_ranged, promise_ranged, after_ranged, offer_ranged}
+use Rattle.rp_agreement.proofs.RangedParts.{AreRecords, bound_ballot, last_ranged, with_ranged, promise_ranged, after_ranged, offer_ranged, passing_ranged}
 
 -- each packet is one
 abbrev pub ArePackets : List Message → Type 0
@@ -148,6 +156,80 @@ prepare_ranged me from i b records running mine theirs place ballot all runs =
     promise_told me from i b running (prepare_answer records i b) mine theirs place ballot runs
     (promise_allowed records i b (nat_lt (bound_at records i) b) (nat_lt b (bound_at records i)) all refl refl)
 
+-- ---- PrepareRange
+
+-- a position of a range
+in_range_of : (first n i : ℕ) → Has i (range_with_len first n) → (first ≤ i) × (i < first + n)
+in_range_of first zero i h = absurd h
+in_range_of first (suc n) i h =
+    elim h [
+      | inl same ↦ (omega (arith, same), omega (arith, same))
+      | inr later ↦ let is = in_range_of (first + 1) n i later in (omega (arith, is.0), omega (arith, is.1))
+    ]
+
+pub range_position : (range : Range) (i : ℕ) → IsRange range → Has i (positions_of range) → IsPosition i
+range_position range i is h =
+    let within = in_range_of range.first range.count i h in
+    (omega (arith, within.0, is.first.0), omega (arith, within.1, is.last))
+
+-- each vote that is reported is in a ballot
+abbrev IsPlacedBallot : PlacedVote → Type 0
+IsPlacedBallot placed = IsBallot placed.vote.ballot
+
+one_placed : (i : ℕ) (o : Option Vote) (rest : List PlacedVote) → IfSome o (λ vote. IsBallot vote.ballot) → AllByRecursion IsPlacedBallot rest
+    → AllByRecursion IsPlacedBallot (cons_option (option_map (λ vote. let placed : PlacedVote = record { position = i; vote = vote } in placed) o) rest)
+one_placed i None rest one all = all
+one_placed i (Some vote) rest one all = (one, all)
+
+last_ballot : (records : List Rec) (i : ℕ) (last : Option Vote) → last_vote_at records i ≡ last → AreRecords records → IfSome last (λ vote. IsBallot vote.ballot)
+last_ballot records i None is all = tt
+last_ballot records i (Some vote) is all = (last_ranged records i vote all is).0
+
+placed_ballots : (records : List Rec) (xs : List ℕ) → AreRecords records → AllByRecursion IsPlacedBallot (filter_map (placed_last records) xs)
+placed_ballots records [] all = tt
+placed_ballots records (i ∷ rest) all =
+    one_placed i (last_vote_at records i) (filter_map (placed_last records) rest) (last_ballot records i (last_vote_at records i) refl all) (placed_ballots records rest all)
+
+each_right_record : (records : List Rec) → AreRecords records → AllByRecursion IsRightRecord records
+each_right_record [] all = tt
+each_right_record (rec ∷ rest) all = ((all rec (inl refl)).right, each_right_record rest (λ other h. all other (inr h)))
+
+abbrev AllowsRange : Range → ℕ → RangeAnswer → Type 0
+AllowsRange range b (range_prepares.Promise votes rec) = (rec ≡ PromisedRange range b) × All IsPlacedBallot votes × AreReported range b votes
+AllowsRange range b (range_prepares.Nack i bound) = IsPosition i × IsBallot bound × (b < bound)
+AllowsRange range b range_prepares.Silent = Unit {0}
+
+refusal_allowed : (records : List Rec) (range : Range) (b : ℕ) (at : Option ℕ) → IsRange range → AreRecords records → refusing_position records range b ≡ at → AllowsRange range b (range_refusal records at)
+refusal_allowed records range b None ranges all is = tt
+refusal_allowed records range b (Some i) ranges all is =
+    let found = found_has (λ (k : ℕ). nat_lt b (bound_at records k)) i (positions_of range) is in
+    let over : b < bound_at records i = ltb-true b (bound_at records i) found.1 in
+    (range_position range i ranges found.0, bound_ballot records i b all over, over)
+
+range_allowed : (records : List Rec) (range : Range) (b : ℕ) (above : Bool) → IsRange range → AreRecords records → is_above_bounds records range b ≡ above
+    → AllowsRange range b (if above then range_prepares.Promise (last_votes records range) (PromisedRange range b) else range_refusal records (refusing_position records range b))
+range_allowed records range b true ranges all is = (
+  refl,
+  All-from_recursion IsPlacedBallot (last_votes records range) (placed_ballots records (positions_of range) all),
+  votes_are_reported records range b (each_right_record records all) is,
+)
+range_allowed records range b false ranges all is = refusal_allowed records range b (refusing_position records range b) ranges all refl
+
+range_told : (me from : ℕ) (range : Range) (b : ℕ) (running : Running) (answer : RangeAnswer) → IsNode me → IsNode from → IsRange range → IsBallot b → IsRangedRunning running
+    → AllowsRange range b answer → IsRangedTurn (tells_range me running from range b answer)
+range_told me from range b running (range_prepares.Promise votes rec) mine theirs ranges ballot runs allows =
+    writing rec running (says me (bodies.PromiseRange range b votes) from ∷ []) (subst IsRecord (sym allows.0) (record { ranges = (ranges, ballot); right = tt })) runs
+    (one_packet _ (said me from (bodies.PromiseRange range b votes) mine theirs (ranges, ballot, allows.1) ((tt, tt), allows.2)))
+range_told me from range b running (range_prepares.Nack i bound) mine theirs ranges ballot runs allows =
+    sending running (says me (bodies.Nack i b bound) from ∷ []) runs
+    (one_packet _ (said me from (bodies.Nack i b bound) mine theirs (allows.0, ballot, allows.1) ((tt, tt), allows.2)))
+range_told me from range b running range_prepares.Silent mine theirs ranges ballot runs allows = noted running runs
+
+pub prepare_range_ranged : (me from : ℕ) (range : Range) (b : ℕ) (records : List Rec) (running : Running) → IsNode me → IsNode from → IsRange range → IsBallot b → AreRecords records
+    → IsRangedRunning running → IsRangedTurn (on_prepare_range me records running from range b)
+prepare_range_ranged me from range b records running mine theirs ranges ballot all runs =
+    range_told me from range b running (range_answer records range b) mine theirs ranges ballot runs (range_allowed records range b (is_above_bounds records range b) ranges all refl)
+
 -- ---- Accept
 
 abbrev AllowsVote : ℕ → ℕ → Action → AcceptAnswer → Type 0
@@ -217,11 +299,42 @@ pub promise_counted : (nodes me from i b : ℕ) (last : Option Vote) (running : 
     → IsRangedTurn (on_promise nodes me running from i b last)
 promise_counted nodes me from i b last running few mine right runs = promise_to nodes me from b last running i (proposal_at running.proposals i) few mine right runs refl
 
-pub nack_ranged : (running : Running) (i b bound : ℕ) → IsRangedRunning running → IsRangedTurn (on_nack running i b bound)
-nack_ranged running i b bound runs =
+pub nack_ranged : (nodes : ℕ) (running : Running) (i b bound : ℕ) → IsRangedRunning running → IsRangedTurn (on_nack nodes running i b bound)
+nack_ranged nodes running i b bound runs =
     choice (is_in b (proposal_at running.proposals i)) _ (notes running)
-    (noted _ (record { proposals = without_ranged running.proposals i runs.proposals; pending = runs.pending }))
+    (noted _ (record { proposals = passing_ranged running.proposals (λ p. not (is_given_up nodes i b p)) runs.proposals; pending = runs.pending }))
     (noted running runs)
+
+-- ---- PromiseRange
+
+vote_right_at : (votes : List PlacedVote) (i : ℕ) → AllByRecursion (λ placed. IsRightVote placed.vote) votes → IfSome (placed_at votes i) IsRightVote
+vote_right_at [] i all = tt
+vote_right_at (placed ∷ rest) i all = by (nat_eq placed.position i) (vote_right_at rest i all.1)
+  where
+    by : (t : Bool) → IfSome (placed_at rest i) IsRightVote
+        → IfSome (option_map (λ p. p.vote) (if t then Some placed else find (λ p. nat_eq p.position i) rest)) IsRightVote
+    by true later = all.0
+    by false later = later
+
+once_ranged : (nodes from : ℕ) (range : Range) (b : ℕ) (votes : List PlacedVote) (p : Proposal) → AllByRecursion (λ placed. IsRightVote placed.vote) votes → IsRangedProposal p
+    → IsRangedProposal (once_promised nodes from range b votes p)
+once_ranged nodes from range b votes p all is =
+    elim (is_covered range p.position && takes_range_promise nodes b p)
+    as (λ t. IsRangedProposal (let q : Proposal = if t then with_promise p (from, placed_at votes p.position) else p in q)) [
+      | true ↦ promise_ranged p from (placed_at votes p.position) is (vote_right_at votes p.position all)
+      | false ↦ is
+    ]
+
+pub promise_range_counted : (nodes from : ℕ) (range : Range) (b : ℕ) (votes : List PlacedVote) (running : Running) → AreReported range b votes → IsRangedRunning running
+    → IsRangedTurn (on_promise_range nodes running from range b votes)
+promise_range_counted nodes from range b votes running reported runs =
+    let f = once_promised nodes from range b votes in
+    noted (record running { proposals = map f running.proposals }) (record {
+      proposals = λ q h.
+          let hit = mapped_has f q running.proposals h in
+          subst IsRangedProposal (sym hit.2) (once_ranged nodes from range b votes hit.0 (recursion_from_All (λ placed. IsRightVote placed.vote) votes reported.right) (runs.proposals hit.0 hit.1));
+      pending = runs.pending;
+    })
 
 -- ---- calls, interrupts and ticks
 

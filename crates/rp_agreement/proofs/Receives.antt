@@ -17,8 +17,8 @@ use Rattle.rp_model.specs.Says.{drops_foreign}
 use Rattle.rp_model.specs.Receiving.{is_for_node, party_number, on_body, receives}
 use Rattle.rp_agreement.specs.Sound.{SaysSo, IsRunning, IsSound}
 use Rattle.rp_agreement.proofs.Turns.{IsSoundTurn, quiet, foreign, either}
-use Rattle.rp_agreement.proofs.Acceptors.{prepare_sound, accept_sound}
-use Rattle.rp_agreement.proofs.Leaders.{promise_sound, nack_sound}
+use Rattle.rp_agreement.proofs.Acceptors.{prepare_sound, prepare_range_sound, accept_sound}
+use Rattle.rp_agreement.proofs.Leaders.{promise_sound, promise_range_sound, nack_sound}
 use Rattle.rp_agreement.proofs.Learners.{accepted_sound, decided_sound, ask_sound}
 use Rattle.rp_agreement.proofs.Pendings.{told_asked, call_sound}
 
@@ -41,6 +41,10 @@ module _ {S : Type 0} (next : S → Action → S) (answers : S → Action → Li
   node_body nodes x node sent running a k (bodies.Nack i b bound) sound runs so h = nack_sound nodes x (node x).records sent running i b bound runs
   node_body nodes x node sent running a k (bodies.Reply number reply) sound runs so h = quiet nodes x (node x).records sent running runs
   node_body nodes x node sent running a k (bodies.Report first applied actions) sound runs so h = quiet nodes x (node x).records sent running runs
+  node_body nodes x node sent running a k (bodies.PrepareRange range b) sound runs so h = prepare_range_sound nodes x (node x).records sent running a range b runs
+  node_body nodes x node sent running a k (bodies.PromiseRange range b votes) sound runs so h =
+      promise_range_sound nodes x node sent running a range b votes runs
+      (λ i covered. (record { from = Node a; to = Node k; body = bodies.PromiseRange range b votes }, h, refl, (covered, refl, refl)))
 
   -- what a task says to a node: a call of its own
   task_body : (nodes x : ℕ) (node : ℕ → NodePart) (sent : List Message) (running : Running) (t k : ℕ) (body : Body)
@@ -60,6 +64,8 @@ module _ {S : Type 0} (next : S → Action → S) (answers : S → Action → Li
   task_body nodes x node sent running t k (bodies.Nack i b bound) runs so h = absurd so
   task_body nodes x node sent running t k (bodies.Reply number reply) runs so h = absurd so
   task_body nodes x node sent running t k (bodies.Report first applied actions) runs so h = absurd so
+  task_body nodes x node sent running t k (bodies.PrepareRange range b) runs so h = absurd so
+  task_body nodes x node sent running t k (bodies.PromiseRange range b votes) runs so h = absurd so
 
   -- by who says it
   party_body : (nodes x : ℕ) (node : ℕ → NodePart) (sent : List Message) (running : Running) (from : Party) (k : ℕ) (body : Body)

@@ -1,11 +1,12 @@
 -- What a node's records say stays as they grow: votes, bounds, and what a promise reports.
-use Rattle.std.proofs.Common.{◌≡◌, ℕ, ◌<◌, ◌≤◌, max, cond, ◌⊎◌, inl, inr, Option, Some, None, List, [], ◌∷◌, ◌++◌, refl, sym, ap, subst, ◌∙◌, arith}
+use Rattle.std.proofs.Common.{◌≡◌, ℕ, ◌<◌, ◌≤◌, max, true, cond, ◌⊎◌, inl, inr, Option, Some, None, List, [], ◌∷◌, ◌++◌, refl, sym, ap, subst, ◌∙◌, arith}
 use Rattle.std.specs.Prelude.{nat_eq}
+use Rattle.rp_base.specs.Ranges.{Range, is_covered}
 use Rattle.std.proofs.lemmas.Bool.{cases_Bool, cond-true, cond-false, eqb-true, eq-eqb}
 use Rattle.rp_base.specs.declared.action.Action.{Action}
 use Rattle.rp_base.specs.declared.record.Vote.{Vote}
 use Rattle.rp_base.specs.declared.record.Rec.{Rec}
-use Rattle.rp_base.specs.declared.record.Rec.TheVariants.{Started, Promised, Voted, Learned}
+use Rattle.rp_base.specs.declared.record.Rec.TheVariants.{Started, Promised, Voted, Learned, PromisedRange}
 use Rattle.rp_base.specs.Sets.{Has}
 use Rattle.rp_base.specs.Records.{started_in, started_of, bound_at, vote_in, last_vote_at, learned_in, learned_at, or_else}
 use Rattle.rp_base.proofs.MoreRecords.{bound_push, last_below}
@@ -66,6 +67,7 @@ voted_is i (Voted position ballot action) w e =
       | inr elsewhere ↦ let none : None ≡ Some w = sym (cond-false (nat_eq position i) (Some vote) None elsewhere) ∙ e in absurd (cc)
     ]
 voted_is i (Learned position action) w e = absurd (cc)
+voted_is i (PromisedRange range ballot) w e = absurd (cc)
 
 -- the last vote was cast
 pub last_cast : (records : List Rec) (i : ℕ) (w : Vote) → last_vote_at records i ≡ Some w → Has (Voted i w.ballot w.action) records
@@ -91,6 +93,23 @@ promised_bound records i b =
 pub reports : (records : List Rec) (i b : ℕ) → bound_at records i < b → Reports (records ++ Promised i b ∷ []) i b (last_vote_at records i)
 reports records i b above = record {
   bound = promised_bound records i b;
+  cast = λ w e. (has_left _ records _ (last_cast records i w e), last_below records i b w e above);
+  covers = λ c v h below. elim (has_split _ records _ h) [
+    | inl old ↦ last_covers records i c v old
+    | inr new ↦ elim new [ inl same ↦ absurd (cc) | inr none ↦ absurd none ]
+  ];
+}
+
+range_bound : (records : List Rec) (range : Range) (i b : ℕ) → is_covered range i ≡ true → b ≤ bound_at (records ++ PromisedRange range b ∷ []) i
+range_bound records range i b covered =
+    let more : bound_at (records ++ PromisedRange range b ∷ []) i ≡ max (bound_at records i) (bound_at (PromisedRange range b ∷ []) i) = bound_push records (PromisedRange range b) i in
+    let here : cond (is_covered range i) b 0 ≡ b = cond-true (is_covered range i) b 0 covered in
+    omega (arith, more, here)
+
+-- a promise for a range above the bound at a position of it reports the last vote there
+pub range_reports : (records : List Rec) (range : Range) (i b : ℕ) → is_covered range i ≡ true → bound_at records i < b → Reports (records ++ PromisedRange range b ∷ []) i b (last_vote_at records i)
+range_reports records range i b covered above = record {
+  bound = range_bound records range i b covered;
   cast = λ w e. (has_left _ records _ (last_cast records i w e), last_below records i b w e above);
   covers = λ c v h below. elim (has_split _ records _ h) [
     | inl old ↦ last_covers records i c v old
@@ -128,6 +147,7 @@ learned_is i (Learned position action) v e =
           cc
       | inr elsewhere ↦ let none : None ≡ Some v = sym (cond-false (nat_eq position i) (Some action) None elsewhere) ∙ e in absurd (cc)
     ]
+learned_is i (PromisedRange range ballot) v e = absurd (cc)
 
 one_or_other : (a b : Option Action) (v : Action) → or_else a b ≡ Some v → (a ≡ Some v) ⊎ (b ≡ Some v)
 one_or_other None b v e = inr e

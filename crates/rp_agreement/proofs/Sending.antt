@@ -2,10 +2,11 @@
 use Rattle.std.proofs.Common.{◌≡◌, ℕ, ◌+◌, ◌-◌, Option, Some, None, List, [], ◌∷◌, ◌++◌, length, take, drop, sym, ap, subst, ◌∙◌, arith, length-append}
 use Rattle.std.specs.Prelude.{IfSome}
 use Rattle.std.proofs.lemmas.List.{take-append-le}
+use Rattle.rp_base.specs.PlacedVotes.{placed_at}
 use Rattle.rp_base.specs.declared.action.Action.{Action}
 use Rattle.rp_base.specs.declared.record.Vote.{Vote}
 use Rattle.rp_base.specs.declared.record.Rec.{Rec}
-use Rattle.rp_base.specs.declared.record.Rec.TheVariants.{Started, Promised, Voted, Learned}
+use Rattle.rp_base.specs.declared.record.Rec.TheVariants.{Started, Promised, Voted, Learned, PromisedRange}
 use Rattle.rp_base.specs.Sets.{Has}
 use Rattle.rp_base.specs.Records.{applied_of}
 use Rattle.rp_codec.specs.Message.{Message, report_len}
@@ -90,6 +91,8 @@ so_sent nodes sent after in_after records (bodies.Ask i) so = so
 so_sent nodes sent after in_after records (bodies.Nack i b bound) so = so
 so_sent nodes sent after in_after records (bodies.Reply number reply) so = so
 so_sent nodes sent after in_after records (bodies.Report first applied told) so = so
+so_sent nodes sent after in_after records (bodies.PrepareRange range b) so = so
+so_sent nodes sent after in_after records (bodies.PromiseRange range b votes) so = so
 
 -- and as its sender writes
 pub so_written : (nodes x : ℕ) (sent : List Message) (records : List Rec) (written : Option Rec) → MayWrite nodes sent x records written
@@ -104,3 +107,6 @@ so_written nodes x sent records written may (bodies.Ask i) so = so
 so_written nodes x sent records written may (bodies.Nack i b bound) so = so
 so_written nodes x sent records written may (bodies.Reply number reply) so = so
 so_written nodes x sent records written may (bodies.Report first applied told) so = reported_written records written first applied told so
+so_written nodes x sent records written may (bodies.PrepareRange range b) so = record_stays (Started b) records written so
+so_written nodes x sent records written may (bodies.PromiseRange range b votes) so =
+    (record_stays (PromisedRange range b) records written so.0, λ i covered. reports_stay nodes x sent records written i b (placed_at votes i) may (so.1 i covered))

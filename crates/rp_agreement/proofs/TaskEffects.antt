@@ -2,7 +2,7 @@
 use Rattle.std.proofs.Common.{◌≡◌, ℕ, suc, ◌-◌, ◌<◌, Bool, true, false, if◌then◌else◌, Result, Ok, Err, Option, Some, None, List, [], ◌∷◌, length, inl, inr, refl, sym, subst, arith}
 use Rattle.std.specs.Prelude.{ℤ, nat_le, nat_lt, not, ◌||◌, ◌^◌, FitsSigned}
 use Rattle.std.specs.Int.{w64}
-use Rattle.std.proofs.lemmas.Bool.{cases_Bool, cond-true, cond-false, and_parts, leb-true, eqb-true, both_ways}
+use Rattle.std.proofs.lemmas.Bool.{cases_Bool, cond-true, cond-false, and_parts, leb-true, both_ways}
 use Rattle.std.proofs.lemmas.Bool.Decides.{leb_tells}
 use Rattle.rp_base.specs.declared.action.Action.{Action}
 use Rattle.rp_base.specs.declared.action.Action.TheVariants as actions
@@ -176,6 +176,8 @@ hears_done t part (bodies.Ask i) waits = goes_on t part waits
 hears_done t part (bodies.Nack i b bound) waits = goes_on t part waits
 hears_done t part (bodies.Reply number reply) waits = reply_done t part number reply waits
 hears_done t part (bodies.Report first applied told) waits = goes_on t part waits
+hears_done t part (bodies.PrepareRange range b) waits = goes_on t part waits
+hears_done t part (bodies.PromiseRange range b votes) waits = goes_on t part waits
 
 done_if : (t : ℕ) (b : Bool) (fault : Fault) (done : Done TaskPart) → IsTaskDone t done → IsTaskDoneIf t (if b then Err fault else Ok done)
 done_if t true fault done is = tt

@@ -42,6 +42,8 @@ calls_answer given to u (bodies.Ask i) is = tt
 calls_answer given to u (bodies.Nack i b bound) is = tt
 calls_answer given to u (bodies.Reply number reply) is = absurd is
 calls_answer given to u (bodies.Report first applied actions) is = tt
+calls_answer given to u (bodies.PrepareRange range b) is = tt
+calls_answer given to u (bodies.PromiseRange range b votes) is = tt
 
 module _ {S : Type 0} (s : Setting S) where
   -- a reply that was sent to a task is an answer of the order

@@ -102,6 +102,8 @@ hears_answer given t part (bodies.Ask i) old told = old
 hears_answer given t part (bodies.Nack i b bound) old told = old
 hears_answer given t part (bodies.Reply number reply) old told = reply_taken given t part number reply old told
 hears_answer given t part (bodies.Report first applied actions) old told = old
+hears_answer given t part (bodies.PrepareRange range b) old told = old
+hears_answer given t part (bodies.PromiseRange range b votes) old told = old
 
 -- a call that is made is the next one
 abbrev IsNextIf : Action → Result Action Fault → Type 0
@@ -265,6 +267,8 @@ hears_went t part (bodies.Ask i) = stayed t part
 hears_went t part (bodies.Nack i b bound) = stayed t part
 hears_went t part (bodies.Reply number reply) = reply_went t part number reply
 hears_went t part (bodies.Report first applied actions) = stayed t part
+hears_went t part (bodies.PrepareRange range b) = stayed t part
+hears_went t part (bodies.PromiseRange range b votes) = stayed t part
 
 pub task_went : (config : Config) (t : ℕ) (part : TaskPart) (input : TaskInput) → WentOnIf t part (task_effect config t part input)
 task_went config t part (Submit node object operation arg) =

@@ -36,6 +36,8 @@ IsOffer (bodies.Ask i) = ⊥
 IsOffer (bodies.Nack i b bound) = ⊥
 IsOffer (bodies.Reply number reply) = ⊥
 IsOffer (bodies.Report first applied told) = ⊥
+IsOffer (bodies.PrepareRange range b) = ⊥
+IsOffer (bodies.PromiseRange range b votes) = ⊥
 
 -- the packet is the node's, what it says is so, and it offers nothing
 pub record IsPlain (nodes x : ℕ) (sent : List Message) (records : List Rec) (m : Message) : Type 0 where

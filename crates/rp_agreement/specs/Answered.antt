@@ -11,7 +11,7 @@ use Rattle.rp_codec.specs.Message.{Message}
 use Rattle.rp_codec.specs.declared.packet.Party.{Party}
 use Rattle.rp_codec.specs.declared.packet.Party.TheVariants.{Node, Task, Audit}
 use Rattle.rp_codec.specs.declared.packet.Body.{Body}
-use Rattle.rp_codec.specs.declared.packet.Body.TheVariants.{Call, Prepare, Promise, Accept, Accepted, Decided, Ask, Nack, Reply, Report}
+use Rattle.rp_codec.specs.declared.packet.Body.TheVariants.{Call, Prepare, Promise, Accept, Accepted, Decided, Ask, Nack, Reply, Report, PrepareRange, PromiseRange}
 use Rattle.rp_machine.specs.Calls.{CallName, calls_of, call_of}
 use Rattle.rp_machine.specs.Replay.{number_for, one_to, replay_answers}
 use Rattle.rp_model.specs.Effect.{Setting}
@@ -44,6 +44,8 @@ SaysAnswer given to (Ask i) = Unit {0}
 SaysAnswer given to (Nack i b bound) = Unit {0}
 SaysAnswer given to (Reply number reply) = IsAnswerTo given to number reply
 SaysAnswer given to (Report first applied actions) = Unit {0}
+SaysAnswer given to (PrepareRange range b) = Unit {0}
+SaysAnswer given to (PromiseRange range b votes) = Unit {0}
 
 -- the answers that the actions lead to
 abbrev pub answers_of : {S : Type 0} → Setting S → List Action → List Answer

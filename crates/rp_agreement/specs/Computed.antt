@@ -8,7 +8,7 @@ use Rattle.rp_codec.specs.Message.{Message}
 use Rattle.rp_codec.specs.declared.packet.Party.{Party}
 use Rattle.rp_codec.specs.declared.packet.Party.TheVariants.{Node, Task, Audit}
 use Rattle.rp_codec.specs.declared.packet.Body.{Body}
-use Rattle.rp_codec.specs.declared.packet.Body.TheVariants.{Call, Prepare, Promise, Accept, Accepted, Decided, Ask, Nack, Reply, Report}
+use Rattle.rp_codec.specs.declared.packet.Body.TheVariants.{Call, Prepare, Promise, Accept, Accepted, Decided, Ask, Nack, Reply, Report, PrepareRange, PromiseRange}
 
 -- the vote of this node that a body tells, if it tells one
 abbrev pub vote_by : ℕ → Body → Option HeardVote
@@ -22,6 +22,8 @@ vote_by a (Ask position) = None
 vote_by a (Nack position ballot bound) = None
 vote_by a (Reply number reply) = None
 vote_by a (Report first applied actions) = None
+vote_by a (PrepareRange range ballot) = None
+vote_by a (PromiseRange range ballot votes) = None
 
 -- the vote that a packet from node to node tells
 abbrev pub vote_between : Party → Party → Body → Option HeardVote

@@ -1,17 +1,30 @@
 -- What a promise reports, and what founds an offer. Lamport, "Paxos Made Simple", section 2.2: a proposal
 -- of a value is issued only where a majority of acceptors promised, and the value is that of the
 -- highest-numbered proposal that they accepted, if they accepted one (P2c).
-use Rattle.std.specs.Prelude.{◌≡◌, ℕ, ◌<◌, ◌≤◌, Option, Some, List, length}
+use Rattle.std.specs.Prelude.{◌≡◌, ℕ, ◌<◌, ◌≤◌, true, Option, Some, List, length}
 use Rattle.rp_base.specs.Sets.{Has}
+use Rattle.rp_base.specs.Ranges.{is_covered}
 use Rattle.rp_base.specs.Majority.{majority_of, AreNodes}
 use Rattle.rp_base.specs.Promises.{Promise, highest_vote}
 use Rattle.rp_base.specs.Records.{bound_at}
 use Rattle.rp_base.specs.declared.action.Action.{Action}
 use Rattle.rp_base.specs.declared.record.Vote.{Vote}
 use Rattle.rp_base.specs.declared.record.Rec.{Rec}
-use Rattle.rp_base.specs.declared.record.Rec.TheVariants.{Voted}
+use Rattle.rp_base.specs.declared.record.Rec.TheVariants.{Started, Promised, Voted, Learned, PromisedRange}
 use Rattle.rp_codec.specs.Message.{Message}
 use Rattle.rp_model.specs.Facts.{HasPromised}
+
+-- the record promises the ballot at the position; one for a range does at each of its positions
+abbrev pub IsPromiseAt : ℕ → ℕ → Rec → Type 0
+IsPromiseAt i b (Started ballot) = ⊥
+IsPromiseAt i b (Promised position ballot) = (position ≡ i) × (ballot ≡ b)
+IsPromiseAt i b (Voted position ballot action) = ⊥
+IsPromiseAt i b (Learned position action) = ⊥
+IsPromiseAt i b (PromisedRange range ballot) = (is_covered range i ≡ true) × (ballot ≡ b)
+
+-- one of the records promises the ballot at the position
+abbrev pub HasWritten : List Rec → ℕ → ℕ → Type 0
+HasWritten records i b = (rec : Rec) × Has rec records × IsPromiseAt i b rec
 
 -- The records promise the ballot at the position, and this is their last vote there below it: it was
 -- cast, and no vote between it and the ballot was.

@@ -8,7 +8,7 @@ use Rattle.rp_base.specs.declared.action.Action.{Action}
 use Rattle.rp_codec.specs.Message.{Message}
 use Rattle.rp_codec.specs.declared.packet.Party.TheVariants.{Task}
 use Rattle.rp_codec.specs.declared.packet.Body.TheVariants.{Call}
-use Rattle.rp_model.specs.Effect.{Done, NodeInput, Receive, Lead, Interrupt, Tick, Report}
+use Rattle.rp_model.specs.Effect.{Done, NodeInput, Receive, Lead, LeadRange, Interrupt, Tick, Report}
 use Rattle.rp_model.specs.Tasks.{TaskInput, Submit, Again, Take}
 use Rattle.rp_model.specs.Parts.{NodePart}
 use Rattle.rp_model.specs.Parts.{TaskPart}
@@ -19,6 +19,7 @@ use Rattle.rp_agreement.specs.Steps.{SentToo}
 abbrev pub IsInput : List Message → NodeInput → Type 0
 IsInput sent (Receive message) = Has message sent
 IsInput sent (Lead choice) = IfSome choice IsPosition
+IsInput sent (LeadRange first count) = IsPosition first
 IsInput sent (Interrupt source occurrence) = IsIndex source × IsCount occurrence
 IsInput sent (Tick now) = now < 2 ^ 32
 IsInput sent (Report first) = IsPosition first

@@ -1,22 +1,24 @@
 -- The invariant: what every packet says is so, by the records of who sent it; what a node wrote and what
 -- it knows while it runs is founded on packets that were sent. Each fact speaks of a position and a
 -- ballot. Lamport, "Paxos Made Simple", section 2; the list of facts is this project's own.
-use Rattle.std.specs.Prelude.{◌≡◌, ℕ, ◌-◌, ◌≤◌, Option, Some, IfSome, List, length, map, take, drop}
+use Rattle.std.specs.Prelude.{◌≡◌, ℕ, ◌-◌, ◌≤◌, true, Option, Some, IfSome, List, length, map, take, drop}
 use Rattle.rp_base.specs.Action.{IsRight}
 use Rattle.rp_base.specs.Ballot.{owner_of}
 use Rattle.rp_base.specs.Sets.{Has, IsSet}
 use Rattle.rp_base.specs.Proposals.{Proposal}
 use Rattle.rp_base.specs.Records.{applied_of}
+use Rattle.rp_base.specs.Ranges.{is_covered}
+use Rattle.rp_base.specs.PlacedVotes.{placed_at}
 use Rattle.rp_base.specs.declared.action.Action.{Action}
 use Rattle.rp_base.specs.declared.proposal.Phase.TheVariants.{Preparing}
 use Rattle.rp_base.specs.declared.record.Vote.{Vote}
 use Rattle.rp_base.specs.declared.record.Rec.{Rec}
-use Rattle.rp_base.specs.declared.record.Rec.TheVariants.{Started, Promised, Voted, Learned}
+use Rattle.rp_base.specs.declared.record.Rec.TheVariants.{Started, Promised, Voted, Learned, PromisedRange}
 use Rattle.rp_codec.specs.Message.{Message, IsCallBy, report_len}
 use Rattle.rp_codec.specs.declared.packet.Party.{Party}
 use Rattle.rp_codec.specs.declared.packet.Party.TheVariants.{Node, Task, Audit}
 use Rattle.rp_codec.specs.declared.packet.Body.{Body}
-use Rattle.rp_codec.specs.declared.packet.Body.TheVariants.{Call, Prepare, Promise, Accept, Accepted, Decided, Ask, Nack, Reply, Report}
+use Rattle.rp_codec.specs.declared.packet.Body.TheVariants.{Call, Prepare, Promise, Accept, Accepted, Decided, Ask, Nack, Reply, Report, PrepareRange, PromiseRange}
 use Rattle.rp_model.specs.Facts.{HasPromised, HasVoted, IsOffered, IsDecided}
 use Rattle.rp_model.specs.Parts.{Running}
 use Rattle.rp_model.specs.Parts.{NodePart}
@@ -44,6 +46,9 @@ IsSo nodes sent records (Ask i) = Unit {0}
 IsSo nodes sent records (Nack i b bound) = Unit {0}
 IsSo nodes sent records (Reply number reply) = Unit {0}
 IsSo nodes sent records (Report first applied actions) = IsReported (applied_of records) first applied actions
+IsSo nodes sent records (PrepareRange range b) = Has (Started b) records
+IsSo nodes sent records (PromiseRange range b votes) =
+    Has (PromisedRange range b) records × ((i : ℕ) → is_covered range i ≡ true → Reports records i b (placed_at votes i))
 
 -- a task says nothing but calls of its own, which are right
 abbrev pub IsCall : ℕ → Body → Type 0
@@ -57,6 +62,8 @@ IsCall t (Ask i) = ⊥
 IsCall t (Nack i b bound) = ⊥
 IsCall t (Reply number reply) = ⊥
 IsCall t (Report first applied actions) = ⊥
+IsCall t (PrepareRange range b) = ⊥
+IsCall t (PromiseRange range b votes) = ⊥
 
 -- what a packet says is so, by who sent it
 abbrev pub SaysSo : ℕ → (ℕ → NodePart) → List Message → Party → Body → Type 0

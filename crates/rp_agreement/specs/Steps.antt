@@ -8,7 +8,7 @@ use Rattle.rp_base.specs.Records.{started_of, bound_at}
 use Rattle.rp_base.specs.declared.action.Action.{Action}
 use Rattle.rp_base.specs.declared.proposal.Phase.TheVariants.{Preparing}
 use Rattle.rp_base.specs.declared.record.Rec.{Rec}
-use Rattle.rp_base.specs.declared.record.Rec.TheVariants.{Started, Promised, Voted, Learned}
+use Rattle.rp_base.specs.declared.record.Rec.TheVariants.{Started, Promised, Voted, Learned, PromisedRange}
 use Rattle.rp_codec.specs.Message.{Message}
 use Rattle.rp_codec.specs.declared.packet.Party.TheVariants.{Node, Task}
 use Rattle.rp_model.specs.Facts.{IsOffered, IsDecided}
@@ -45,6 +45,7 @@ MayWrite nodes sent x records (Some (Started b)) = (owner_of b ≡ x) × (starte
 MayWrite nodes sent x records (Some (Promised i b)) = Unit {0}
 MayWrite nodes sent x records (Some (Voted i b v)) = IsOffered sent i b v × (bound_at records i ≤ b)
 MayWrite nodes sent x records (Some (Learned i v)) = IsDecided nodes sent i v
+MayWrite nodes sent x records (Some (PromisedRange range b)) = Unit {0}
 
 -- What a node's step owes, by its own records and the packets sent before. (What it sends itself founds
 -- no offer yet, counts in no proposal, and is no vote that it heard.)

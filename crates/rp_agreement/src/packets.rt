@@ -1,15 +1,13 @@
 //! What a node says stands in its records.
 
 ghost use Rattle.std.specs.Prelude.{ℕ, Option, List};
-ghost use Rattle.rp_base.specs.Sets.{Has};
-ghost use Rattle.rp_base.specs.declared.record.Rec.TheVariants.{Promised};
 ghost use Rattle.rp_base.specs.declared.record.Vote.{Vote};
 ghost use Rattle.rp_codec.specs.Message.{Message};
 ghost use Rattle.rp_codec.specs.declared.packet.Body.{Body};
 ghost use Rattle.rp_model.specs.Parts.{NodePart};
 ghost use Rattle.rp_agreement.specs.Told.{Says};
 ghost use Rattle.rp_model.specs.Facts.{HasPromised};
-ghost use Rattle.rp_agreement.specs.Founded.{Reports};
+ghost use Rattle.rp_agreement.specs.Founded.{Reports, HasWritten};
 ghost use Rattle.rp_agreement.specs.Sound.{IsMember, IsSo, IsSound};
 
 /// What a node says is so, by what it has written down by now and by what was sent: a vote or a
@@ -27,7 +25,7 @@ pub fn packets_say_so()
     ensures written { (nodes : ℕ) (node : ℕ → NodePart) (sent : List Message)
         → IsSound nodes node sent
         → (a i b : ℕ) (last : Option Vote)
-        → HasPromised sent a i b last → Has (Promised i b) (node a).records }
+        → HasPromised sent a i b last → HasWritten (node a).records i b }
     ensures members { (nodes : ℕ) (node : ℕ → NodePart) (sent : List Message)
         → IsSound nodes node sent
         → (a : ℕ) (body : Body) → Says sent a body → IsMember nodes a }

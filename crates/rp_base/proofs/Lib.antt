@@ -3,3 +3,4 @@ pub mod Members
 pub mod Sameness
 pub mod Masks
 pub mod MoreRecords
+pub mod ReportedVotes

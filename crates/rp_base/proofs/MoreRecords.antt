@@ -1,5 +1,5 @@
 -- What records say with one record more, and of their last vote.
-use Rattle.std.proofs.Common.{◌≡◌, ℕ, ◌+◌, ◌<◌, ◌≤◌, max, Bool, cond, true, false, Option, Some, None, List, [], ◌∷◌, ◌++◌, refl, sym, ap, subst, ◌∙◌, ◌⊎◌, inl, inr, arith}
+use Rattle.std.proofs.Common.{◌≡◌, ℕ, ◌<◌, ◌≤◌, max, cond, Option, Some, None, List, [], ◌∷◌, ◌++◌, refl, sym, ap, subst, ◌∙◌, ◌⊎◌, inl, inr, arith}
 use Rattle.std.specs.Prelude.{nat_eq, nat_lt, filter_map, option_to_list, unwrap_or}
 use Rattle.std.specs.List.{cons_option, AllByRecursion}
 use Rattle.std.proofs.Math.Nat.{zero-max}
@@ -8,7 +8,7 @@ use Rattle.std.proofs.lemmas.List.Elements.{filter_map-append}
 use Rattle.rp_base.specs.declared.action.Action.{Action}
 use Rattle.rp_base.specs.declared.record.Vote.{Vote}
 use Rattle.rp_base.specs.declared.record.Rec.{Rec}
-use Rattle.rp_base.specs.declared.record.Rec.TheVariants.{Started, Promised, Voted, Learned}
+use Rattle.rp_base.specs.declared.record.Rec.TheVariants.{Started, Promised, Voted, Learned, PromisedRange}
 use Rattle.rp_base.specs.Action.{IsRight}
 use Rattle.rp_base.specs.Right.{IsRightVote, IsRightRecord}
 use Rattle.rp_base.specs.Records.{started_in, started_of, bound_in, bound_at, higher_vote, highest, vote_in, last_vote_at, learned_in, learned_at, or_else}
@@ -96,6 +96,7 @@ below_bound i (Voted position ballot action) v h =
       | inr elsewhere ↦ let none : None ≡ Some v = sym (cond-false (nat_eq position i) (Some vote) None elsewhere) ∙ h in absurd (cc)
     ]
 below_bound i (Learned position action) v h = absurd (cc)
+below_bound i (PromisedRange range ballot) v h = absurd (cc)
 
 right_vote : (i : ℕ) (rec : Rec) (v : Vote) → IsRightRecord rec → vote_in i rec ≡ Some v → IsRightVote v
 right_vote i (Started ballot) v right h = absurd (cc)
@@ -109,6 +110,7 @@ right_vote i (Voted position ballot action) v right h =
       | inr elsewhere ↦ let none : None ≡ Some v = sym (cond-false (nat_eq position i) (Some vote) None elsewhere) ∙ h in absurd (cc)
     ]
 right_vote i (Learned position action) v right h = absurd (cc)
+right_vote i (PromisedRange range ballot) v right h = absurd (cc)
 
 -- what is true of a record's vote is true of all votes of the records
 each_vote : (P : Vote → Type 0) (i : ℕ) (o : Option Vote) (rest : List Vote) → ((v : Vote) → o ≡ Some v → P v) → AllByRecursion P rest → AllByRecursion P (cons_option o rest)

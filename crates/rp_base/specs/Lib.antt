@@ -1,6 +1,7 @@
 pub mod Number
 pub mod Ballot
 pub mod Sets
+pub mod Ranges
 pub mod Masks
 pub mod Majority
 pub mod Action
@@ -9,6 +10,7 @@ pub mod Config
 pub mod Calls
 pub mod Right
 pub mod Records
+pub mod PlacedVotes
 pub mod Voting
 pub mod Promises
 pub mod Proposals

@@ -4,7 +4,8 @@ use Rattle.std.specs.Prelude.{ℕ, zero, suc, max, nat_eq, nat_lt, Option, Some,
 use Rattle.rp_base.specs.declared.action.Action.{Action}
 use Rattle.rp_base.specs.declared.record.Vote.{Vote}
 use Rattle.rp_base.specs.declared.record.Rec.{Rec}
-use Rattle.rp_base.specs.declared.record.Rec.TheVariants.{Started, Promised, Voted, Learned}
+use Rattle.rp_base.specs.declared.record.Rec.TheVariants.{Started, Promised, Voted, Learned, PromisedRange}
+use Rattle.rp_base.specs.Ranges.{is_covered}
 
 -- the ballot in which a record leads, or 0
 abbrev pub started_in : Rec → ℕ
@@ -12,6 +13,7 @@ started_in (Started ballot) = ballot
 started_in (Promised position ballot) = 0
 started_in (Voted position ballot action) = 0
 started_in (Learned position action) = 0
+started_in (PromisedRange range ballot) = 0
 
 -- the greatest ballot in which the records lead, or 0
 abbrev pub started_of : List Rec → ℕ
@@ -24,6 +26,7 @@ bound_in i (Started ballot) = 0
 bound_in i (Promised position ballot) = if nat_eq position i then ballot else 0
 bound_in i (Voted position ballot action) = if nat_eq position i then ballot else 0
 bound_in i (Learned position action) = 0
+bound_in i (PromisedRange range ballot) = if is_covered range i then ballot else 0
 
 -- the bound at a position: the greatest ballot promised or voted in there, or 0
 abbrev pub bound_at : List Rec → ℕ → ℕ
@@ -46,6 +49,7 @@ vote_in i (Started ballot) = None
 vote_in i (Promised position ballot) = None
 vote_in i (Voted position ballot action) = if nat_eq position i then Some (record { ballot = ballot; action = action }) else None
 vote_in i (Learned position action) = None
+vote_in i (PromisedRange range ballot) = None
 
 -- the last vote at a position: the one of the greatest ballot, the first of several
 abbrev pub last_vote_at : List Rec → ℕ → Option Vote
@@ -57,6 +61,7 @@ learned_in i (Started ballot) = None
 learned_in i (Promised position ballot) = None
 learned_in i (Voted position ballot action) = None
 learned_in i (Learned position action) = if nat_eq position i then Some action else None
+learned_in i (PromisedRange range ballot) = None
 
 -- the action, or else the other
 abbrev pub or_else : Option Action → Option Action → Option Action

@@ -6,7 +6,7 @@ use Rattle.rp_base.specs.declared.reply.Reply.{Reply}
 use Rattle.rp_base.specs.declared.reply.Reply.TheVariants.{Value, Truth, ConstraintError, ProgramError, NoSuchOperation}
 use Rattle.rp_base.specs.declared.record.Vote.{Vote}
 use Rattle.rp_base.specs.declared.record.Rec.{Rec}
-use Rattle.rp_base.specs.declared.record.Rec.TheVariants.{Started, Promised, Voted, Learned}
+use Rattle.rp_base.specs.declared.record.Rec.TheVariants.{Started, Promised, Voted, Learned, PromisedRange}
 
 -- the value of the reply has 64 signed bits
 abbrev pub IsReply : Reply → Type 0
@@ -26,3 +26,4 @@ IsRightRecord (Started ballot) = Unit {0}
 IsRightRecord (Promised position ballot) = Unit {0}
 IsRightRecord (Voted position ballot action) = IsRight action
 IsRightRecord (Learned position action) = IsRight action
+IsRightRecord (PromisedRange range ballot) = Unit {0}

@@ -7,8 +7,10 @@
 //! - `action`: what the log holds: calls, interrupts and ticks
 //! - `reply`: what a call is answered
 //! - `answers`: the answers of one action
+//! - `range`: ranges of positions
 //! - `record`: what a node writes down before it says it
 //! - `records`: what the records of a node say, with one more, and of its last vote
+//! - `placed`: votes with their positions
 //! - `proposal`: how far a proposal is
 //! - `voting`: what an acceptor answers
 //! - `senders`: a set of nodes, such as those that sent a promise or a vote
@@ -25,7 +27,9 @@ mod fault;
 mod history;
 mod majorities;
 mod number;
+mod placed;
 mod proposal;
+mod range;
 mod record;
 mod records;
 mod reply;
@@ -40,9 +44,11 @@ pub use fault::{DeckReason, Fault, PacketReason};
 pub use history::History;
 pub use majorities::{majorities_meet, majority};
 pub use number::{NodeId, Position, TaskId};
+pub use placed::{PlacedVote, RangeVotes};
 pub use proposal::Phase;
+pub use range::PositionRange;
 pub use record::{Rec, Vote};
-pub use records::{last_votes_lie_below, one_more_record};
+pub use records::{last_votes_lie_below, one_more_record, range_votes_are_reported};
 pub use reply::{Answer, Reply};
 pub use senders::Senders;
-pub use voting::{AcceptAnswer, PrepareAnswer};
+pub use voting::{AcceptAnswer, PrepareAnswer, RangeAnswer};

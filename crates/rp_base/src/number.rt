@@ -28,6 +28,13 @@ impl Model for NodeId {
 }
 
 impl NodeId {
+    /// The first node.
+    pub fn first() -> Self
+        ensures { result ≡ 1 }
+    {
+        NodeId { number: 1 }
+    }
+
     /// The node of this number, or `None` outside 1 to 7.
     pub fn new(number: u8) -> Option<Self>
         ensures valid { IsSome result ↔ IsNode number }

@@ -6,6 +6,7 @@ ghost use Rattle.rp_base.specs.Records.{highest};
 use crate::action::Action;
 use crate::ballot::Ballot;
 use crate::number::Position;
+use crate::range::PositionRange;
 
 /// A vote for an action in a ballot.
 #[derive(Clone, Copy, Debug, PartialEq, Eq, Hash)]
@@ -41,4 +42,6 @@ pub enum Rec {
     Voted(Position, Ballot, Action),
     /// It learned that the action is decided at the position.
     Learned(Position, Action),
+    /// It promised to take no part at each position of the range in a lower ballot.
+    PromisedRange(PositionRange, Ballot),
 }

@@ -1,10 +1,13 @@
 //! What the records of a node say, with one more, and of its last vote.
 
-ghost use Rattle.std.specs.Prelude.{◌≡◌, ◌<◌, ◌++◌, [], ◌∷◌, ℕ, max, List, Some, option_to_list};
+ghost use Rattle.std.specs.Prelude.{◌≡◌, ◌<◌, ◌++◌, [], ◌∷◌, ℕ, max, true, false, List, Some, None, option_to_list};
 ghost use Rattle.std.specs.List.{AllByRecursion};
 ghost use Rattle.rp_base.specs.declared.record.Rec.{Rec};
 ghost use Rattle.rp_base.specs.declared.record.Vote.{Vote};
 ghost use Rattle.rp_base.specs.Right.{IsRightRecord, IsRightVote};
+ghost use Rattle.rp_base.specs.Ranges.{Range, is_covered};
+ghost use Rattle.rp_base.specs.PlacedVotes.{placed_at, last_votes, AreReported};
+ghost use Rattle.rp_base.specs.Voting.{is_above_bounds};
 ghost use Rattle.rp_base.specs.Records.{started_in, started_of, bound_in, bound_at, highest, vote_in, last_vote_at, learned_in, learned_at, or_else};
 
 /// What one more record does to what the records say.
@@ -29,4 +32,17 @@ pub fn last_votes_lie_below()
     ensures right { (records : List Rec) (i : ℕ) (vote : Vote)
         → AllByRecursion IsRightRecord records
         → last_vote_at records i ≡ Some vote → IsRightVote vote }
+{}
+
+/// The votes that a promise for a range reports: at each of its positions the last vote, if there
+/// is one, and none elsewhere; by rising position, in ballots below the promised one, and right where
+/// the records are (Lamport, "Paxos Made Simple", sections 2.2 and 3).
+pub fn range_votes_are_reported()
+    ensures covered { (records : List Rec) (range : Range) (i : ℕ) → is_covered range i ≡ true
+        → placed_at (last_votes records range) i ≡ last_vote_at records i }
+    ensures elsewhere { (records : List Rec) (range : Range) (i : ℕ) → is_covered range i ≡ false
+        → placed_at (last_votes records range) i ≡ None }
+    ensures reported { (records : List Rec) (range : Range) (b : ℕ)
+        → AllByRecursion IsRightRecord records → is_above_bounds records range b ≡ true
+        → AreReported range b (last_votes records range) }
 {}

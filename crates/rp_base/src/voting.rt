@@ -1,6 +1,8 @@
 //! What an acceptor answers.
 
 use crate::ballot::Ballot;
+use crate::number::Position;
+use crate::placed::RangeVotes;
 use crate::record::{Rec, Vote};
 
 /// The answer to a `Prepare`.
@@ -12,6 +14,20 @@ pub enum PrepareAnswer {
     /// The ballot is below the bound, which is this.
     Nack(Ballot),
     /// The ballot is the bound: nothing is answered.
+    Silent,
+}
+
+/// The answer to a `PrepareRange`.
+#[derive(Debug, Drop)]
+pub enum RangeAnswer {
+    /// The ballot is above the bound at each position of the range: a promise for all of them, which
+    /// reports the last vote of each position that has one. The record is to be written, and then
+    /// noted, before the promise is sent.
+    Promise { votes: RangeVotes, rec: Rec },
+    /// The ballot is below the bound at a position of the range: the least such position, and its
+    /// bound.
+    Nack(Position, Ballot),
+    /// The ballot is below no bound, and is the bound at some position: nothing is answered.
     Silent,
 }
 

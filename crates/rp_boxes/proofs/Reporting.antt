@@ -8,7 +8,7 @@ use Rattle.rp_base.proofs.Members.{has_left, has_right}
 use Rattle.rp_codec.specs.Message.{Message, IsPacket, MaySay}
 use Rattle.rp_codec.specs.Text.{text_of}
 use Rattle.rp_codec.specs.declared.packet.Body.{Body}
-use Rattle.rp_codec.specs.declared.packet.Body.TheVariants.{Call, Prepare, Promise, Accept, Accepted, Decided, Ask, Nack, Reply, Report}
+use Rattle.rp_codec.specs.declared.packet.Body.TheVariants.{Call, Prepare, Promise, Accept, Accepted, Decided, Ask, Nack, Reply, Report, PrepareRange, PromiseRange}
 use Rattle.rp_codec.specs.declared.packet.Party.{Party}
 use Rattle.rp_codec.specs.declared.packet.Party.TheVariants.{Node, Task, Audit}
 use Rattle.rp_boxes.specs.Audits.{IsGotReport, report}
@@ -30,6 +30,8 @@ told_by from (Reply number reply) says = absurd says.1
 told_by (Node n) (Report first applied actions) says = (n, first, applied, actions, refl, refl)
 told_by (Task t) (Report first applied actions) says = absurd says.0
 told_by Audit (Report first applied actions) says = absurd says.0
+told_by from (PrepareRange range ballot) says = absurd says.1
+told_by from (PromiseRange range ballot votes) says = absurd says.0.1
 
 is_report : (m : Message) → IsPacket m → m.to ≡ Audit → (node : ℕ) × (first : ℕ) × (applied : ℕ) × (actions : List Action) × (m ≡ report node first applied actions)
 is_report m right to =

@@ -20,7 +20,7 @@ use Rattle.rp_replica.specs.Held.{Held, with_text}
 use Rattle.rp_replica.specs.Inputs.{IsRightInput, packet_given, given_by, effect_if_given, input_effect}
 use Rattle.rp_replica.specs.Turning.{TurnsIf, FailsAt, Stops, StopsIf, effect_of}
 use Rattle.rp_replica.specs.declared.input.Input.{Input}
-use Rattle.rp_replica.specs.declared.input.Input.TheVariants.{Receive, Lead, Interrupt, Tick, Report}
+use Rattle.rp_replica.specs.declared.input.Input.TheVariants.{Receive, Lead, LeadRange, Interrupt, Tick, Report}
 use Rattle.rp_replica.specs.declared.sent.Sent.{Sent}
 use Rattle.rp_world.specs.Nodes.{Member, member_of, RunsAs}
 use Rattle.rp_world.proofs.Standing.{stands, stands_failed, as_running, as_resting}
@@ -55,6 +55,7 @@ input_given texts k part (Receive bytes) own right ranges got = record {
   is = got.1;
 }
 input_given texts k part (Lead choice) own right ranges got = record { given = nodes.Lead choice; gives = refl; is = ranges }
+input_given texts k part (LeadRange range) own right ranges got = record { given = nodes.LeadRange range.first range.count; gives = refl; is = ranges.first }
 input_given texts k part (Interrupt source occurrence) own right ranges got = record { given = nodes.Interrupt source occurrence; gives = refl; is = right }
 input_given texts k part (Tick now) own right ranges got = record { given = nodes.Tick now; gives = refl; is = ranges }
 input_given texts k part (Report first) own right ranges got = record { given = nodes.Report first; gives = refl; is = ranges }

@@ -109,6 +109,8 @@ tells_effect number part (bodies.Ask position) = refl
 tells_effect number part (bodies.Nack position ballot bound) = refl
 tells_effect number part (bodies.Reply n reply) = refl
 tells_effect number part (bodies.Report first applied actions) = refl
+tells_effect number part (bodies.PrepareRange range ballot) = refl
+tells_effect number part (bodies.PromiseRange range ballot votes) = refl
 
 pub told_comes : (config : Config) (number : ℕ) (part : TaskPart) (m : Message) (told : Option (ℕ × Reply)) → told ≡ reply_told m.body
     → task_effect config number part (tasks.Take m) ≡ Ok (told_effect number part told)

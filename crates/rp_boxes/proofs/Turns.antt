@@ -27,6 +27,7 @@ use Rattle.rp_boxes.proofs.Worlds.{with_value, value_here, value_else, at_each, 
 inputs_sent : (got sent : List Message) → ((m : Message) → Has m got → Has m sent) → (input : NodeInput) → IsInput got input → IsInput sent input
 inputs_sent got sent all (nodes.Receive message) is = all message is
 inputs_sent got sent all (nodes.Lead choice) is = is
+inputs_sent got sent all (nodes.LeadRange first count) is = is
 inputs_sent got sent all (nodes.Interrupt source occurrence) is = is
 inputs_sent got sent all (nodes.Tick now) is = is
 inputs_sent got sent all (nodes.Report first) is = is

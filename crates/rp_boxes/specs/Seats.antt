@@ -1,6 +1,7 @@
 -- What a seat is to a contract, and what its calls come to (this project's own).
 use Rattle.std.specs.Prelude.{◌≡◌, ℕ, ◌<◌, ◌^◌, Option, Some, None, IfSome, IsSome, Result, Ok, Err, List, [], ◌∷◌, length}
 use Rattle.atomic_table.specs.Seated.{TableId}
+use Rattle.rp_base.specs.Ranges.{IsRange}
 use Rattle.rp_base.specs.Number.{IsPosition, IsTask}
 use Rattle.rp_base.specs.Records.{applied_of}
 use Rattle.rp_base.specs.Sets.{Has}
@@ -21,7 +22,7 @@ use Rattle.rp_agreement.specs.Sound.{IsMember}
 use Rattle.rp_replica.specs.Held.{Held}
 use Rattle.rp_replica.specs.Inputs.{given_by}
 use Rattle.rp_replica.specs.declared.input.Input.{Input}
-use Rattle.rp_replica.specs.declared.input.Input.TheVariants.{Receive, Lead, Interrupt, Tick, Report}
+use Rattle.rp_replica.specs.declared.input.Input.TheVariants.{Receive, Lead, LeadRange, Interrupt, Tick, Report}
 use Rattle.rp_replica.specs.declared.sent.Sent.{Sent}
 use Rattle.rp_world.specs.Callers.{Caller}
 use Rattle.rp_world.specs.Nodes.{member_of, StandsWhile, TellsSent}
@@ -71,6 +72,7 @@ pub record IsTaskPlace (caller : Caller) (part : Part) : Type 0 where
 abbrev pub HasInputRanges : Input → Type 0
 HasInputRanges (Receive bytes) = Unit {0}
 HasInputRanges (Lead choice) = IfSome choice IsPosition
+HasInputRanges (LeadRange range) = IsRange range
 HasInputRanges (Interrupt source occurrence) = Unit {0}
 HasInputRanges (Tick now) = now < 2 ^ 32
 HasInputRanges (Report first) = IsPosition first
@@ -79,6 +81,7 @@ HasInputRanges (Report first) = IsPosition first
 abbrev pub IsGot : Part → Input → Type 0
 IsGot part (Receive bytes) = (m : Message) × Has m part.got × (bytes.now ≡ text_of m)
 IsGot part (Lead choice) = Unit {0}
+IsGot part (LeadRange range) = Unit {0}
 IsGot part (Interrupt source occurrence) = Unit {0}
 IsGot part (Tick now) = Unit {0}
 IsGot part (Report first) = Unit {0}

@@ -17,6 +17,9 @@ pub(crate) fn keeps_ranges(input: &Input)
         Input::Lead(choice) => {
             let _ = choice.map(Position::get);
         }
+        Input::LeadRange(range) => {
+            let _ = range.count();
+        }
         Input::Tick { now } => tick_keeps_range(now),
         Input::Report(first) => {
             let _ = first.get();

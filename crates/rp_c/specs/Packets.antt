@@ -1,7 +1,7 @@
 -- What the calls on packets answer (this project's own).
 use Rattle.std.specs.Prelude.{◌≡◌, ℕ, List, length, Err}
 use Rattle.rp_base.specs.declared.fault.PacketReason.{PacketReason}
-use Rattle.rp_codec.specs.Decoding.{BeginsWithPacket, IsReportText}
+use Rattle.rp_codec.specs.Decoding.{BeginsWithPacket, IsLongText}
 use Rattle.rp_codec.specs.Message.{Message, IsPacket}
 use Rattle.rp_codec.specs.Reading.{all_of}
 use Rattle.rp_codec.specs.Text.{IsTextBefore, IsTextOf, text_of}
@@ -19,5 +19,5 @@ PutsLength bytes old new _ = ⊥
 abbrev pub ChecksPacket : List ℕ → ℕ → ℕ → Status → Type 0
 ChecksPacket bytes old new Done = (p : Message) × IsPacket p × IsTextOf p bytes × (new ≡ old)
 ChecksPacket bytes old new BadPacket = (reason : PacketReason) × (all_of bytes ≡ Err reason) × (new ≡ reason_code reason)
-ChecksPacket bytes old new OutOfMemory = IsReportText bytes × (new ≡ old)
+ChecksPacket bytes old new OutOfMemory = IsLongText bytes × (new ≡ old)
 ChecksPacket bytes old new _ = ⊥

@@ -1,8 +1,8 @@
 -- A body that is read is the body that was written, and what was written is read again.
-use Rattle.std.proofs.Common.{◌≡◌, ℕ, ◌<◌, true, false, ltb, eqb, List, ◌∷◌, ◌++◌, length, Option, Some, None, Ok, refl, sym, ap, ◌∙◌, append_assoc}
+use Rattle.std.proofs.Common.{◌≡◌, ℕ, true, false, eqb, List, ◌∷◌, ◌++◌, length, Option, Some, None, Ok, refl, sym, ap, ◌∙◌, append_assoc}
 use Rattle.std.specs.Prelude.{IfSome}
 use Rattle.std.specs.Int.{w16, w32}
-use Rattle.std.proofs.lemmas.Bool.{eqb-true, eq-eqb, ltb-true, lt-ltb}
+use Rattle.std.proofs.lemmas.Bool.{eqb-true, eq-eqb}
 use Rattle.rp_base.specs.Ballot.{IsBallot}
 use Rattle.rp_base.specs.declared.reply.Reply.{Reply}
 use Rattle.rp_base.specs.declared.reply.Reply.TheVariants as replies
@@ -11,14 +11,15 @@ use Rattle.rp_codec.specs.declared.packet.Party.{Party}
 use Rattle.rp_codec.specs.declared.packet.Body.{Body}
 use Rattle.rp_codec.specs.declared.packet.Body.TheVariants as bodies
 use Rattle.rp_codec.specs.declared.kind.Kind.{Kind}
-use Rattle.rp_codec.specs.declared.kind.Kind.TheVariants.{Call, Prepare, Promise, Accept, Accepted, Decided, Ask, Nack, Reply as Answer, Report}
+use Rattle.rp_codec.specs.declared.kind.Kind.TheVariants.{Call, Prepare, Promise, Accept, Accepted, Decided, Ask, Nack, Reply as Answer, Report, PrepareRange, PromiseRange}
 use Rattle.rp_base.specs.Right.{IsReply}
 use Rattle.rp_codec.specs.declared.version.Version.{Version}
 use Rattle.rp_codec.specs.Message.{IsBody, IsNodeParty, IsTaskParty, IsAudit, IsVoteBelow, MaySay, report_len}
-use Rattle.rp_codec.specs.Text.{number_text, position_text, ballot_text, action_text_at, reply_text, last_text_at, kind_number, body_text_at, HasActionText, HasBodyText}
-use Rattle.rp_codec.specs.Reading.{value_at, truth_at, reply_at, lower_ballot_at, higher_ballot_at, vote_at, last_at, prepare_at, promise_at, accept_at, accepted_at, decided_at, ask_at, nack_at, answer_at, report_at, task_call_at, body_at}
-use Rattle.rp_codec.proofs.Steps.{IsBytes, Yields, Took, then, when, keeps, guarded}
-use Rattle.rp_codec.proofs.FieldLaws.{TookByte, TookNumber16, number16_took, number16_again, TookSigned, TookCount, TookPosition, TookBallot, byte_took, signed_took, signed_again, count_took, count_again, position_took, position_again, ballot_took, ballot_again}
+use Rattle.rp_codec.specs.Text.{number_text, position_text, ballot_text, action_text_at, reply_text, last_text_at, kind_number, body_text_at, HasActionText, HasBodyText, range_text, votes_text_at}
+use Rattle.rp_codec.specs.Reading.{value_at, truth_at, reply_at, vote_at, last_at, prepare_at, promise_at, accept_at, accepted_at, decided_at, ask_at, nack_at, answer_at, report_at, task_call_at, body_at, prepare_range_at, promise_range_at}
+use Rattle.rp_codec.proofs.Steps.{IsBytes, Yields, Took, then, when, guarded}
+use Rattle.rp_codec.proofs.FieldLaws.{TookByte, TookNumber16, number16_took, number16_again, TookSigned, TookCount, TookPosition, TookBallot, byte_took, signed_took, signed_again, count_took, count_again, position_took, position_again, ballot_took, ballot_again, TookLower, lower_took, lower_again, TookHigher, higher_took, higher_again, TookRange, range_took, range_again}
+use Rattle.rp_codec.proofs.VotesLaws.{TookReported, reported_took, reported_again}
 use Rattle.rp_codec.proofs.ActionLaws.{TookActions, each_text, actions_took, actions_again, TookAction, TookOwn, action_took, action_again, own_call_took, own_call_again}
 
 -- ---- replies
@@ -61,40 +62,6 @@ reply_again (replies.Truth true) rest right = refl
 reply_again replies.ConstraintError rest right = refl
 reply_again replies.ProgramError rest right = refl
 reply_again replies.NoSuchOperation rest right = refl
-
--- ---- ballots beside another
-
-abbrev IsLower : ℕ → ℕ → Type 0
-IsLower ballot lower = IsBallot lower × (lower < ballot)
-
-abbrev IsHigher : ℕ → ℕ → Type 0
-IsHigher ballot higher = IsBallot higher × (ballot < higher)
-
-abbrev TookLower : ℕ → List ℕ → ℕ × List ℕ → Type 0
-TookLower ballot bytes = Took ballot_text (IsLower ballot) bytes
-
-abbrev TookHigher : ℕ → List ℕ → ℕ × List ℕ → Type 0
-TookHigher ballot bytes = Took ballot_text (IsHigher ballot) bytes
-
-lower_took : (ballot : ℕ) (bytes : List ℕ) → IsBytes bytes → Yields (TookLower ballot bytes) (lower_ballot_at ballot bytes)
-unfolding lower_ballot_at
-lower_took ballot bytes h =
-    then (TookBallot bytes) (TookLower ballot bytes) _ _ (ballot_took bytes h)
-    (λ b t. keeps (TookLower ballot bytes) (ltb b.0 ballot) b (λ e. record { parts = t.parts; rest = t.rest; right = (t.right, ltb-true _ _ e) }))
-
-higher_took : (ballot : ℕ) (bytes : List ℕ) → IsBytes bytes → Yields (TookHigher ballot bytes) (higher_ballot_at ballot bytes)
-unfolding higher_ballot_at
-higher_took ballot bytes h =
-    then (TookBallot bytes) (TookHigher ballot bytes) _ _ (ballot_took bytes h)
-    (λ b t. keeps (TookHigher ballot bytes) (ltb ballot b.0) b (λ e. record { parts = t.parts; rest = t.rest; right = (t.right, ltb-true _ _ e) }))
-
-lower_again : (ballot lower : ℕ) (rest : List ℕ) → IsLower ballot lower → lower_ballot_at ballot (ballot_text lower ++ rest) ≡ Ok (lower, rest)
-unfolding lower_ballot_at
-lower_again ballot lower rest right = rw (ballot_again lower rest right.0, lt-ltb _ _ right.1) refl
-
-higher_again : (ballot higher : ℕ) (rest : List ℕ) → IsHigher ballot higher → higher_ballot_at ballot (ballot_text higher ++ rest) ≡ Ok (higher, rest)
-unfolding higher_ballot_at
-higher_again ballot higher rest right = rw (ballot_again higher rest right.0, lt-ltb _ _ right.1) refl
 
 -- ---- a promise's vote
 
@@ -141,6 +108,8 @@ number_of Ask = 7
 number_of Nack = 8
 number_of Answer = 9
 number_of Report = 10
+number_of PrepareRange = 12
+number_of PromiseRange = 13
 
 abbrev pub IsFrom : Kind → Party → Type 0
 IsFrom Call from = IsTaskParty from
@@ -153,6 +122,8 @@ IsFrom Ask from = IsNodeParty from
 IsFrom Nack from = IsNodeParty from
 IsFrom Answer from = IsNodeParty from
 IsFrom Report from = IsNodeParty from
+IsFrom PrepareRange from = IsNodeParty from
+IsFrom PromiseRange from = IsNodeParty from
 
 abbrev pub IsTo : Kind → Party → Type 0
 IsTo Call to = IsNodeParty to
@@ -165,6 +136,8 @@ IsTo Ask to = IsNodeParty to
 IsTo Nack to = IsNodeParty to
 IsTo Answer to = IsTaskParty to
 IsTo Report to = IsAudit to
+IsTo PrepareRange to = IsNodeParty to
+IsTo PromiseRange to = IsNodeParty to
 
 -- what reading a body of this kind shows
 pub record IsSaid (v : Version) (kind : Kind) (from : Party) (body : Body) : Type 0 where
@@ -262,6 +235,30 @@ report_took v from bytes h =
       };
     })))))
 
+prepare_range_took : (v : Version) (from : Party) (bytes : List ℕ) → IsBytes bytes → Yields (TookBody v PrepareRange from bytes) (prepare_range_at bytes)
+unfolding prepare_range_at
+prepare_range_took v from bytes h =
+    then (TookRange bytes) (TookBody v PrepareRange from bytes) _ _ (range_took bytes h)
+    (λ range r. then (TookBallot range.1) (TookBody v PrepareRange from bytes) _ _ (ballot_took range.1 r.rest)
+    (λ ballot b. record { parts = rw (r.parts, b.parts) (simp append_assoc); rest = b.rest; right = record { number = refl; ranges = (r.right, b.right); has = tt; rules = λ to f t. (f, t) } }))
+
+promise_range_took : (v : Version) (from : Party) (bytes : List ℕ) → IsBytes bytes → Yields (TookBody v PromiseRange from bytes) (promise_range_at v bytes)
+unfolding promise_range_at
+promise_range_took v from bytes h =
+    then (TookRange bytes) (TookBody v PromiseRange from bytes) _ _ (range_took bytes h)
+    (λ range r. then (TookBallot range.1) (TookBody v PromiseRange from bytes) _ _ (ballot_took range.1 r.rest)
+    (λ ballot b. then (TookReported v range.0 ballot.0 ballot.1) (TookBody v PromiseRange from bytes) _ _ (reported_took v range.0 ballot.0 ballot.1 b.rest)
+    (λ votes t. record {
+      parts = rw (r.parts, b.parts, t.parts) (simp append_assoc);
+      rest = t.rest;
+      right = record {
+        number = refl;
+        ranges = (r.right, b.right, t.right.ballots);
+        has = t.right.has;
+        rules = λ to f u. ((f, u), record { rising = t.right.rising; below = t.right.below; right = t.right.right });
+      };
+    })))
+
 pub body_took : (v : Version) (kind : Kind) (from : Party) (bytes : List ℕ) → IsBytes bytes → Yields (TookBody v kind from bytes) (body_at v kind from bytes)
 unfolding body_at
 body_took v Call from bytes h = task_call_took v from bytes h
@@ -274,6 +271,8 @@ body_took v Ask from bytes h = ask_took v from bytes h
 body_took v Nack from bytes h = nack_took v from bytes h
 body_took v Answer from bytes h = answer_took v from bytes h
 body_took v Report from bytes h = report_took v from bytes h
+body_took v PrepareRange from bytes h = prepare_range_took v from bytes h
+body_took v PromiseRange from bytes h = promise_range_took v from bytes h
 
 -- the kind of a body
 abbrev pub kind_of_body : Body → Kind
@@ -287,13 +286,15 @@ kind_of_body (bodies.Ask position) = Ask
 kind_of_body (bodies.Nack position ballot bound) = Nack
 kind_of_body (bodies.Reply number reply) = Answer
 kind_of_body (bodies.Report first applied actions) = Report
+kind_of_body (bodies.PrepareRange range ballot) = PrepareRange
+kind_of_body (bodies.PromiseRange range ballot votes) = PromiseRange
 
 -- three fields, one behind the other
 regroup : (x y z rest : List ℕ) → (x ++ y ++ z) ++ rest ≡ x ++ (y ++ (z ++ rest))
 regroup x y z rest = simp append_assoc
 
 pub body_again : (v : Version) (from to : Party) (body : Body) (rest : List ℕ) → IsBody body → MaySay from to body → HasBodyText v body → body_at v (kind_of_body body) from (body_text_at v body ++ rest) ≡ Ok (body, rest)
-unfolding body_at task_call_at prepare_at promise_at accept_at accepted_at decided_at ask_at nack_at answer_at report_at
+unfolding body_at task_call_at prepare_at promise_at accept_at accepted_at decided_at ask_at nack_at answer_at report_at prepare_range_at promise_range_at
 body_again v from to (bodies.Call action) rest ranges rules has = rw (own_call_again v from action rest rules.2 (rules.3, has)) refl
 body_again v from to (bodies.Prepare position ballot) rest ranges rules has =
     ap prepare_at (append_assoc (position_text position) (ballot_text ballot) rest) ∙ rw (position_again position (ballot_text ballot ++ rest) ranges.0, ballot_again ballot rest ranges.1) refl
@@ -314,3 +315,14 @@ body_again v from to (bodies.Report first applied actions) rest ranges rules has
     let told = rules.2 in
     let parts : body_text_at v (bodies.Report first applied actions) ++ rest ≡ position_text first ++ (number_text w16 applied ++ (length actions ∷ (each_text v actions ++ rest))) = simp append_assoc in
     ap (report_at v) parts ∙ rw (position_again first (number_text w16 applied ++ (length actions ∷ (each_text v actions ++ rest))) ranges.0, number16_again applied (length actions ∷ (each_text v actions ++ rest)) ranges.1, eq-eqb _ _ told.len, actions_again v actions rest told.right has) refl
+body_again v from to (bodies.PrepareRange range ballot) rest ranges rules has =
+    ap prepare_range_at (append_assoc (range_text range) (ballot_text ballot) rest) ∙ rw (range_again range (ballot_text ballot ++ rest) ranges.0, ballot_again ballot rest ranges.1) refl
+body_again v from to (bodies.PromiseRange range ballot votes) rest ranges rules has =
+    let reported = rules.1 in
+    let behind : List ℕ = votes_text_at v votes ++ rest in
+    ap (promise_range_at v) (regroup (range_text range) (ballot_text ballot) (votes_text_at v votes) rest)
+    ∙ rw (
+      range_again range (ballot_text ballot ++ behind) ranges.0,
+      ballot_again ballot behind ranges.1,
+      reported_again v range ballot votes rest ranges.0 (record { len = refl; rising = reported.rising; ballots = ranges.2; below = reported.below; right = reported.right; has = has }),
+    ) refl

@@ -7,16 +7,16 @@ use Rattle.rp_base.specs.declared.fault.PacketReason.{PacketReason}
 use Rattle.rp_base.specs.declared.fault.PacketReason.TheVariants.{Short, Long, Version as UnknownVersion, Kind as UnknownKind, Field}
 use Rattle.rp_codec.specs.declared.packet.Body.{Body}
 use Rattle.rp_codec.specs.declared.kind.Kind.{Kind}
-use Rattle.rp_codec.specs.declared.kind.Kind.TheVariants.{Call, Prepare, Promise, Accept, Accepted, Decided, Ask, Nack, Reply as Answer, Report}
+use Rattle.rp_codec.specs.declared.kind.Kind.TheVariants.{Call, Prepare, Promise, Accept, Accepted, Decided, Ask, Nack, Reply as Answer, Report, PrepareRange, PromiseRange}
 use Rattle.rp_codec.specs.Kind.{kind_of}
 use Rattle.rp_codec.specs.declared.version.Version.{Version}
 use Rattle.rp_codec.specs.declared.version.Version.TheVariants.{V2}
 use Rattle.rp_codec.specs.Version.{version_number, version_of}
 use Rattle.rp_codec.specs.Message.{Message, KeepsRules, IsPacket}
 use Rattle.rp_codec.specs.Text.{text_at, text_of, HasText, IsTextOf, IsTextBefore}
-use Rattle.rp_codec.specs.Decoding.{HasOtherVersion, HasNoKind, IsTooLong, IsDecoded, BeginsWithPacket, IsReportBody, IsReportText}
+use Rattle.rp_codec.specs.Decoding.{HasOtherVersion, HasNoKind, IsTooLong, IsDecoded, BeginsWithPacket, IsLongBody, IsLongText}
 use Rattle.rp_codec.specs.declared.content.Content.{Content}
-use Rattle.rp_codec.specs.declared.content.Content.TheVariants.{Whole as WholeBody, Listed}
+use Rattle.rp_codec.specs.declared.content.Content.TheVariants.{Whole as WholeBody, Listed, Voted}
 use Rattle.rp_codec.specs.declared.content.Found.{Found}
 use Rattle.rp_codec.specs.Found.{StandsFor, IsList, with_body}
 use Rattle.rp_codec.specs.Reading.{◌>>=◌, Read, said_at, known, kind_at, packet_at, all_of}
@@ -44,7 +44,9 @@ number_from_kind n kind e =
     (choice (eqb n 7) n Ask kind _ (λ t. eqb-true _ _ t)
     (choice (eqb n 8) n Nack kind _ (λ t. eqb-true _ _ t)
     (choice (eqb n 9) n Answer kind _ (λ t. eqb-true _ _ t)
-    (choice (eqb n 10) n Report kind _ (λ t. eqb-true _ _ t) (λ z. absurd cc))))))))))
+    (choice (eqb n 10) n Report kind _ (λ t. eqb-true _ _ t)
+    (choice (eqb n 12) n PrepareRange kind _ (λ t. eqb-true _ _ t)
+    (choice (eqb n 13) n PromiseRange kind _ (λ t. eqb-true _ _ t) (λ z. absurd cc))))))))))))
     e
 
 -- ---- a packet at the front
@@ -237,13 +239,14 @@ no_fault x e same = absurd cc
 pub front_none : (bytes : List ℕ) (e : PacketReason) → packet_at bytes ≡ Err e → BeginsWithPacket bytes → ⊥
 front_none bytes e none (p, rest, packet, text) = no_fault (p, rest) e (sym (packet_read p rest bytes packet text) ∙ none)
 
--- ---- a report
+-- ---- a packet that takes memory
 
-report_body : (content : Content) (after : List ℕ) (body : Body) → IsList content → StandsFor content after body → IsReportBody body
-report_body (WholeBody whole) after body list stands = absurd list
-report_body (Listed version first applied count text) after body list (actions, read, same) = subst IsReportBody (sym same) tt
+long_body : (content : Content) (after : List ℕ) (body : Body) → IsList content → StandsFor content after body → IsLongBody body
+long_body (WholeBody whole) after body list stands = absurd list
+long_body (Listed version first applied count text) after body list (actions, read, same) = subst IsLongBody (sym same) tt
+long_body (Voted version range ballot text) after body list (votes, read, same) = subst IsLongBody (sym same) tt
 
-pub report_text : (bytes : List ℕ) (found : Found) (body : Body) (after : List ℕ) → IsBytes bytes → IsList found.content → StandsFor found.content after body → all_of bytes ≡ Ok (with_body found body) → IsReportText bytes
-report_text bytes found body after h list stands e =
+pub long_text : (bytes : List ℕ) (found : Found) (body : Body) (after : List ℕ) → IsBytes bytes → IsList found.content → StandsFor found.content after body → all_of bytes ≡ Ok (with_body found body) → IsLongText bytes
+long_text bytes found body after h list stands e =
     let packet = whole_found bytes (Ok (with_body found body)) h (sym e) in
-    (with_body found body, packet.0, report_body found.content after body list stands, packet.1)
+    (with_body found body, packet.0, long_body found.content after body list stands, packet.1)

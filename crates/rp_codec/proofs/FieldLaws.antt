@@ -1,8 +1,8 @@
 -- A field that is read is the field that was written, and what was written is read again.
-use Rattle.std.proofs.Common.{◌≡◌, ℕ, suc, ◌+◌, ◌^◌, ◌<◌, ◌≤◌, inl, inr, rules, true, false, ltb, List, [], ◌∷◌, ◌++◌, length, take, drop, Ok, Err, refl, sym, arith, ℤ}
+use Rattle.std.proofs.Common.{◌≡◌, ℕ, suc, ◌+◌, ◌^◌, ◌<◌, ◌≤◌, inl, inr, rules, true, false, ltb, List, [], ◌∷◌, ◌++◌, length, take, drop, Ok, Err, refl, sym, arith, ℤ, ap, ◌∙◌, append_assoc}
 use Rattle.std.specs.Prelude.{FitsSigned}
 use Rattle.std.specs.Int.{Width, w16, w32, w64, byte_len, from_be_bytes, to_be_bytes, cast_signed, cast_unsigned}
-use Rattle.std.proofs.lemmas.Bool.{cases_lt, ltb-false, le-ltb, leb-true, le-leb}
+use Rattle.std.proofs.lemmas.Bool.{cases_lt, ltb-false, le-ltb, leb-true, le-leb, and_parts, and_from, ltb-true, lt-ltb}
 use Rattle.std.proofs.lemmas.Bool.Decides.{nat_tests}
 use Rattle.std.proofs.lemmas.Int.{to_z-of_z, of_z-to_z, ints}
 use Rattle.std.proofs.lemmas.List.{take_at, drop_at, take-append-drop, length-append, length-take, get_or-drop, get_or-take, get_or_past}
@@ -10,11 +10,12 @@ use Rattle.std.proofs.lemmas.Nat.{be_bytes_2, be_bytes_4, be_bytes_8, from_be_by
 use Rattle.rp_base.specs.Number.{IsPosition}
 use Rattle.rp_base.specs.Ballot.{IsBallot}
 use Rattle.rp_base.specs.Action.{IsIndex, IsCount}
+use Rattle.rp_base.specs.Ranges.{Range, IsRange}
 use Rattle.rp_base.specs.declared.fault.PacketReason.TheVariants.{Short}
-use Rattle.rp_codec.specs.Text.{number_text, signed_text, position_text, ballot_text}
-use Rattle.rp_codec.specs.Reading.{ruled, byte_at, number_at, signed_at, is_index, is_positive, is_ballot, index_at, count_at, position_at, ballot_at}
+use Rattle.rp_codec.specs.Text.{number_text, signed_text, position_text, ballot_text, range_text}
+use Rattle.rp_codec.specs.Reading.{ruled, byte_at, number_at, signed_at, is_index, is_positive, is_ballot, index_at, count_at, position_at, ballot_at, lower_ballot_at, higher_ballot_at, is_range, range_at}
 use Rattle.rp_codec.proofs.RuleTests.{is_ballot_decides}
-use Rattle.rp_codec.proofs.Steps.{IsBytes, Yields, Took, then, when, keeps}
+use Rattle.rp_codec.proofs.Steps.{IsBytes, Yields, Took, then, when, keeps, guarded}
 
 IsBytes-drop : (n : ℕ) (bytes : List ℕ) → IsBytes bytes → IsBytes (drop n bytes)
 IsBytes-drop n bytes h i = rw get_or-drop (h (n + i))
@@ -198,3 +199,64 @@ pub ballot_again : (b : ℕ) (rest : List ℕ) → IsBallot b → ballot_at (bal
 unfolding ballot_at
 ballot_again b rest right =
     rw (number_again w64 (2 ^ 64) wide64 b rest (ballot_fits b right), (is_ballot_decides b).1 right) refl
+
+-- ---- ballots beside another
+
+abbrev pub IsLower : ℕ → ℕ → Type 0
+IsLower ballot lower = IsBallot lower × (lower < ballot)
+
+abbrev pub IsHigher : ℕ → ℕ → Type 0
+IsHigher ballot higher = IsBallot higher × (ballot < higher)
+
+abbrev pub TookLower : ℕ → List ℕ → ℕ × List ℕ → Type 0
+TookLower ballot bytes = Took ballot_text (IsLower ballot) bytes
+
+abbrev pub TookHigher : ℕ → List ℕ → ℕ × List ℕ → Type 0
+TookHigher ballot bytes = Took ballot_text (IsHigher ballot) bytes
+
+pub lower_took : (ballot : ℕ) (bytes : List ℕ) → IsBytes bytes → Yields (TookLower ballot bytes) (lower_ballot_at ballot bytes)
+unfolding lower_ballot_at
+lower_took ballot bytes h =
+    then (TookBallot bytes) (TookLower ballot bytes) _ _ (ballot_took bytes h)
+    (λ b t. keeps (TookLower ballot bytes) (ltb b.0 ballot) b (λ e. record { parts = t.parts; rest = t.rest; right = (t.right, ltb-true _ _ e) }))
+
+pub higher_took : (ballot : ℕ) (bytes : List ℕ) → IsBytes bytes → Yields (TookHigher ballot bytes) (higher_ballot_at ballot bytes)
+unfolding higher_ballot_at
+higher_took ballot bytes h =
+    then (TookBallot bytes) (TookHigher ballot bytes) _ _ (ballot_took bytes h)
+    (λ b t. keeps (TookHigher ballot bytes) (ltb ballot b.0) b (λ e. record { parts = t.parts; rest = t.rest; right = (t.right, ltb-true _ _ e) }))
+
+pub lower_again : (ballot lower : ℕ) (rest : List ℕ) → IsLower ballot lower → lower_ballot_at ballot (ballot_text lower ++ rest) ≡ Ok (lower, rest)
+unfolding lower_ballot_at
+lower_again ballot lower rest right = rw (ballot_again lower rest right.0, lt-ltb _ _ right.1) refl
+
+pub higher_again : (ballot higher : ℕ) (rest : List ℕ) → IsHigher ballot higher → higher_ballot_at ballot (ballot_text higher ++ rest) ≡ Ok (higher, rest)
+unfolding higher_ballot_at
+higher_again ballot higher rest right = rw (ballot_again higher rest right.0, lt-ltb _ _ right.1) refl
+
+-- ---- ranges
+
+abbrev pub TookRange : List ℕ → Range × List ℕ → Type 0
+TookRange bytes = Took range_text IsRange bytes
+
+range_right : (first count : ℕ) → IsPosition first → is_range first count ≡ true → IsRange (record { first = first; count = count })
+range_right first count position e =
+    let both = and_parts _ _ e in
+    let ends = and_parts _ _ both.0 in
+    record { first = position; count = (leb-true _ _ ends.0, leb-true _ _ ends.1); last = leb-true _ _ both.1 }
+
+range_is : (range : Range) → IsRange range → is_range range.first range.count ≡ true
+range_is range right = and_from _ _ (and_from _ _ (le-leb _ _ right.count.0) (le-leb _ _ right.count.1)) (le-leb _ _ right.last)
+
+pub range_took : (bytes : List ℕ) → IsBytes bytes → Yields (TookRange bytes) (range_at bytes)
+unfolding range_at
+range_took bytes h =
+    then (TookPosition bytes) (TookRange bytes) _ _ (position_took bytes h)
+    (λ first p. then (TookByte first.1) (TookRange bytes) _ _ (byte_took first.1 p.rest)
+    (λ n b. guarded (TookRange bytes) (is_range first.0 n.0) n _
+    (λ e. record { parts = rw (p.parts, b.parts) (simp append_assoc); rest = b.rest; right = range_right first.0 n.0 p.right e })))
+
+pub range_again : (range : Range) (rest : List ℕ) → IsRange range → range_at (range_text range ++ rest) ≡ Ok (range, rest)
+unfolding range_at
+range_again range rest right =
+    ap range_at (append_assoc (position_text range.first) (range.count ∷ []) rest) ∙ rw (position_again range.first (range.count ∷ rest) right.first, range_is range right) refl

@@ -2,8 +2,6 @@
 use Rattle.std.proofs.Common.{◌≡◌, ◌≢◌, ℕ, ◌+◌, ◌<◌, Bool, true, false, cond, List, ◌∷◌, ◌++◌, length, get_or, Some, None, refl, sym, ap, subst, ◌∙◌, arith, length-append}
 use Rattle.std.specs.Prelude.{◌==◌, if◌then◌else◌}
 use Rattle.std.proofs.lemmas.Bool.{eq-eqb, ne_eqb}
-use Rattle.rp_base.specs.declared.action.Operation.{Operation}
-use Rattle.rp_base.specs.declared.action.Operation.TheVariants as operations
 use Rattle.rp_base.specs.declared.action.Action.{Action}
 use Rattle.rp_base.specs.declared.action.Action.TheVariants as actions
 use Rattle.rp_base.specs.declared.reply.Reply.{Reply}
@@ -52,6 +50,7 @@ length_at kind bytes other =
     if kind == 7 then 6 else
     if kind == 8 then 22 else
     if kind == 9 then 8 + reply_length (get_or bytes 8 0) else
+    if kind == 12 then 15 else
     other
 
 -- a body between parties of these numbers
@@ -80,6 +79,8 @@ body_long v from to f t (bodies.Ask position) rest rules = refl
 body_long v from to f t (bodies.Nack position ballot bound) rest rules = refl
 body_long v from to f t (bodies.Reply number reply) rest rules = omega (arith, reply_long reply rest)
 body_long v from to f t (bodies.Report first applied actions) rest rules = refl
+body_long v from to f t (bodies.PrepareRange range ballot) rest rules = refl
+body_long v from to f t (bodies.PromiseRange range ballot votes) rest rules = refl
 
 pub told : (kind : ℕ) (bytes : List ℕ) → get_or bytes 1 0 ≡ kind → (p : Message) (rest : List ℕ) → IsPacket p → IsTextBefore p rest bytes
     → length_at kind bytes (length (text_of p)) ≡ length (text_of p)
@@ -136,6 +137,8 @@ body_within v f t (bodies.Ask position) rest = omega arith
 body_within v f t (bodies.Nack position ballot bound) rest = omega arith
 body_within v f t (bodies.Reply number reply) rest = omega (arith, positive_reply reply, length-append (reply_text reply) rest)
 body_within v f t (bodies.Report first applied actions) rest = omega arith
+body_within v f t (bodies.PrepareRange range ballot) rest = omega arith
+body_within v f t (bodies.PromiseRange range ballot votes) rest = omega arith
 
 pub within : (kind : ℕ) (bytes : List ℕ) → get_or bytes 1 0 ≡ kind → (p : Message) (rest : List ℕ) (v : Version) → bytes ≡ text_at v p ++ rest → place_of kind < length bytes
 within kind bytes is p rest v parts =
@@ -159,6 +162,8 @@ vote_within v f t (bodies.Ask position) rest = omega arith
 vote_within v f t (bodies.Nack position ballot bound) rest = omega arith
 vote_within v f t (bodies.Reply number reply) rest = omega arith
 vote_within v f t (bodies.Report first applied actions) rest = omega arith
+vote_within v f t (bodies.PrepareRange range ballot) rest = omega arith
+vote_within v f t (bodies.PromiseRange range ballot votes) rest = omega arith
 
 pub voted_within : (bytes : List ℕ) → get_or bytes 1 0 ≡ 3 → get_or bytes 14 0 ≢ 0 → (p : Message) (rest : List ℕ) (v : Version) → bytes ≡ text_at v p ++ rest → 23 < length bytes
 voted_within bytes is flag p rest v parts =

@@ -4,6 +4,8 @@ pub mod FieldLaws
 pub mod VersionLaws
 pub mod ActionLaws
 pub mod ListReading
+pub mod VotesLaws
+pub mod VotesReading
 pub mod BodyLaws
 pub mod PacketLaws
 pub mod Decoded

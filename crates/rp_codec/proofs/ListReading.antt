@@ -13,7 +13,7 @@ use Rattle.rp_codec.specs.declared.packet.Body.TheVariants.{Report}
 use Rattle.rp_codec.specs.Reading.{◌>>=◌, Read, byte_at, number_at, position_at, action_at, actions_at, report_at}
 
 -- what is read behind a list that was read
-abbrev prefixed : List Action → Read (List Action) → Read (List Action)
+abbrev pub prefixed : {A : Type 0} → List A → Read (List A) → Read (List A)
 prefixed front (Ok x) = Ok (front ++ x.0, x.1)
 prefixed front (Err e) = Err e
 
@@ -21,7 +21,7 @@ prefixed front (Err e) = Err e
 pub record HasRead (v : Version) (count : ℕ) (bytes : List ℕ) (done : ℕ) (front : List Action) (rest : List ℕ) : Type 0 where
   pub read : actions_at v count bytes ≡ prefixed front (actions_at v (count - done) rest)
 
-prefixed_nil : (read : Read (List Action)) → read ≡ prefixed [] read
+pub prefixed_nil : {A : Type 0} (read : Read (List A)) → read ≡ prefixed [] read
 prefixed_nil (Ok x) = refl
 prefixed_nil (Err e) = refl
 
@@ -30,10 +30,10 @@ none_read v count bytes =
     let counted : count ≡ count - 0 = omega arith in
     record { read = prefixed_nil (actions_at v count bytes) ∙ ap (λ (k : ℕ). prefixed [] (actions_at v k bytes)) counted }
 
-joined : (front : List Action) (action : Action) (others : Read (List Action))
-    → prefixed front (others >>= λ x. Ok (action ∷ x.0, x.1)) ≡ prefixed (front ++ action ∷ []) others
-joined front action (Ok x) = ap (λ (l : List Action). Ok (l, x.1)) (sym (append_assoc front (action ∷ []) x.0))
-joined front action (Err e) = refl
+pub joined : {A : Type 0} (front : List A) (item : A) (others : Read (List A))
+    → prefixed front (others >>= λ x. Ok (item ∷ x.0, x.1)) ≡ prefixed (front ++ item ∷ []) others
+joined {A} front item (Ok x) = ap (λ (l : List A). Ok (l, x.1)) (sym (append_assoc front (item ∷ []) x.0))
+joined {A} front item (Err e) = refl
 
 read_step : (v : Version) (front : List Action) (left : ℕ) (rest : List ℕ) (action : Action) (after : List ℕ) → action_at v rest ≡ Ok (action, after)
     → prefixed front (actions_at v (suc left) rest) ≡ prefixed (front ++ action ∷ []) (actions_at v left after)
@@ -71,14 +71,14 @@ all_read v count bytes done front rest h whole =
 
 -- ---- what follows from a list that was read whole
 
-pub no_fault : (read : Read (List Action)) (reason : PacketReason) → read ≡ Err reason → IsOk read → ⊥
+pub no_fault : {A : Type 0} (read : Read (List A)) (reason : PacketReason) → read ≡ Err reason → IsOk read → ⊥
 no_fault (Ok x) reason e ok = absurd cc
 no_fault (Err other) reason e ok = absurd cc
 
-pub same_list : (read : Read (List Action)) (list : List Action) (rest : List ℕ) → read ≡ Ok (list, rest) → (actions : List Action) (after : List ℕ) → read ≡ Ok (actions, after) → list ≡ actions
-same_list read list rest e actions after f =
-    let same : (list, rest) ≡ (actions, after) = cc in
-    ap (λ (p : List Action × List ℕ). p.0) same
+pub same_list : {A : Type 0} (read : Read (List A)) (list : List A) (rest : List ℕ) → read ≡ Ok (list, rest) → (items : List A) (after : List ℕ) → read ≡ Ok (items, after) → list ≡ items
+same_list {A} read list rest e items after f =
+    let same : (list, rest) ≡ (items, after) = cc in
+    ap (λ (p : List A × List ℕ). p.0) same
 
 -- a report, field by field
 pub report_found : (v : Version) (bytes after_first after_applied text told after : List ℕ) (first applied count : ℕ) (actions : List Action)

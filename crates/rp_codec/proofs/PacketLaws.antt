@@ -7,7 +7,7 @@ use Rattle.rp_codec.specs.declared.packet.Party.TheVariants.{Node, Task, Audit}
 use Rattle.rp_codec.specs.declared.packet.Body.{Body}
 use Rattle.rp_codec.specs.declared.packet.Body.TheVariants as bodies
 use Rattle.rp_codec.specs.declared.kind.Kind.{Kind}
-use Rattle.rp_codec.specs.declared.kind.Kind.TheVariants.{Call, Prepare, Promise, Accept, Accepted, Decided, Ask, Nack, Reply as Answer, Report}
+use Rattle.rp_codec.specs.declared.kind.Kind.TheVariants.{Call, Prepare, Promise, Accept, Accepted, Decided, Ask, Nack, Reply as Answer, Report, PrepareRange, PromiseRange}
 use Rattle.rp_codec.specs.Kind.{kind_of}
 use Rattle.rp_codec.specs.declared.version.Version.{Version}
 use Rattle.rp_codec.specs.Message.{Message, IsParty, IsNodeParty, IsTaskParty, IsAudit, MaySay, IsPacket}
@@ -73,6 +73,8 @@ from_took Ask bytes h = node_took bytes h
 from_took Nack bytes h = node_took bytes h
 from_took Answer bytes h = node_took bytes h
 from_took Report bytes h = node_took bytes h
+from_took PrepareRange bytes h = node_took bytes h
+from_took PromiseRange bytes h = node_took bytes h
 
 to_took : (kind : Kind) (bytes : List ℕ) → IsBytes bytes → Yields (TookTo kind bytes) (to_at kind bytes)
 unfolding to_at
@@ -86,6 +88,8 @@ to_took Ask bytes h = node_took bytes h
 to_took Nack bytes h = node_took bytes h
 to_took Answer bytes h = task_took bytes h
 to_took Report bytes h = audit_took bytes h
+to_took PrepareRange bytes h = node_took bytes h
+to_took PromiseRange bytes h = node_took bytes h
 
 node_again : (party : Party) (rest : List ℕ) → IsParty party → IsNodeParty party → node_at (party_text party ++ rest) ≡ Ok (party, rest)
 unfolding node_at
@@ -119,6 +123,8 @@ from_again Ask party rest range from = node_again party rest range from
 from_again Nack party rest range from = node_again party rest range from
 from_again Answer party rest range from = node_again party rest range from
 from_again Report party rest range from = node_again party rest range from
+from_again PrepareRange party rest range from = node_again party rest range from
+from_again PromiseRange party rest range from = node_again party rest range from
 
 to_again : (kind : Kind) (party : Party) (rest : List ℕ) → IsParty party → IsTo kind party → to_at kind (party_text party ++ rest) ≡ Ok (party, rest)
 unfolding to_at
@@ -132,6 +138,8 @@ to_again Ask party rest range to = node_again party rest range to
 to_again Nack party rest range to = node_again party rest range to
 to_again Answer party rest range to = task_again party rest range to
 to_again Report party rest range to = audit_again party rest to
+to_again PrepareRange party rest range to = node_again party rest range to
+to_again PromiseRange party rest range to = node_again party rest range to
 
 -- ---- what stands behind the kind
 
@@ -175,6 +183,8 @@ may_send from to (bodies.Ask position) rules = rules
 may_send from to (bodies.Nack position ballot bound) rules = rules.0
 may_send from to (bodies.Reply number reply) rules = (rules.0, rules.1)
 may_send from to (bodies.Report first applied actions) rules = (rules.0, rules.1)
+may_send from to (bodies.PrepareRange range ballot) rules = rules
+may_send from to (bodies.PromiseRange range ballot votes) rules = rules.0
 
 said_again : (v : Version) (m : Message) (rest : List ℕ) → IsPacket m → HasText v m → said_at v (kind_of_body m.body) (said_text v m ++ rest) ≡ Ok (m, rest)
 unfolding said_at
@@ -197,6 +207,8 @@ kind_of_number (bodies.Ask position) = refl
 kind_of_number (bodies.Nack position ballot bound) = refl
 kind_of_number (bodies.Reply number reply) = refl
 kind_of_number (bodies.Report first applied actions) = refl
+kind_of_number (bodies.PrepareRange range ballot) = refl
+kind_of_number (bodies.PromiseRange range ballot votes) = refl
 
 pub packet_again : (v : Version) (m : Message) (rest : List ℕ) → IsPacket m → HasText v m → packet_at (text_at v m ++ rest) ≡ Ok (m, rest)
 unfolding packet_at

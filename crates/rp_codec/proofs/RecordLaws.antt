@@ -5,16 +5,17 @@ use Rattle.rp_base.specs.declared.fault.PacketReason.TheVariants.{Field}
 use Rattle.rp_base.specs.declared.fault.PacketReason.{PacketReason}
 use Rattle.rp_base.specs.declared.action.Action.{Action}
 use Rattle.rp_base.specs.declared.record.Rec.{Rec}
-use Rattle.rp_base.specs.declared.record.Rec.TheVariants.{Started, Promised, Voted, Learned}
+use Rattle.rp_base.specs.declared.record.Rec.TheVariants.{Started, Promised, Voted, Learned, PromisedRange}
+use Rattle.rp_base.specs.Ranges.{Range}
 use Rattle.rp_codec.specs.declared.version.Version.{Version}
 use Rattle.rp_codec.specs.declared.version.Version.TheVariants.{V2}
 use Rattle.rp_codec.specs.Version.{version_number, version_of}
-use Rattle.rp_codec.specs.Text.{number_text, position_text, ballot_text, action_text_at}
+use Rattle.rp_codec.specs.Text.{number_text, position_text, ballot_text, action_text_at, range_text}
 use Rattle.rp_codec.specs.Record.{record_text_at, record_text, HasRecordText, IsRecordTextBefore, IsRecord, BeginsWithRecord}
 use Rattle.rp_codec.specs.Reading.{◌>>=◌, Read, known, byte_at}
-use Rattle.rp_codec.specs.RecordReading.{started_at, promised_at, voted_at, learned_at, record_of_kind, record_at}
+use Rattle.rp_codec.specs.RecordReading.{started_at, promised_at, voted_at, learned_at, record_of_kind, record_at, promised_range_at}
 use Rattle.rp_codec.proofs.Steps.{IsBytes, Yields, Took, then, when, weaker}
-use Rattle.rp_codec.proofs.FieldLaws.{TookByte, TookPosition, TookBallot, byte_took, position_took, position_again, ballot_took, ballot_again}
+use Rattle.rp_codec.proofs.FieldLaws.{TookByte, TookPosition, TookBallot, byte_took, position_took, position_again, ballot_took, ballot_again, TookRange, range_took, range_again}
 use Rattle.rp_codec.proofs.VersionLaws.{version_of_number, number_once, number_from_version, has_action, action_same}
 use Rattle.rp_codec.proofs.ActionLaws.{TookAction, action_took, action_again}
 
@@ -56,6 +57,13 @@ learned_took v bytes rest begins h =
     (λ position p. then (TookAction v position.1) (TookRecordAt v bytes) _ _ (action_took v position.1 p.rest)
     (λ action a. record { parts = begins ∙ rw (p.parts, a.parts) (simp append_assoc); rest = a.rest; right = (record { ranges = p.right; right = a.right.0 }, a.right.1) }))
 
+promised_range_took : (v : Version) (bytes rest : List ℕ) → Begins v 5 rest bytes → IsBytes rest → Yields (TookRecordAt v bytes) (promised_range_at rest)
+unfolding promised_range_at
+promised_range_took v bytes rest begins h =
+    then (TookRange rest) (TookRecordAt v bytes) _ _ (range_took rest h)
+    (λ range r. then (TookBallot range.1) (TookRecordAt v bytes) _ _ (ballot_took range.1 r.rest)
+    (λ ballot b. record { parts = begins ∙ rw (r.parts, b.parts) (simp append_assoc); rest = b.rest; right = (record { ranges = (r.right, b.right); right = tt }, tt) }))
+
 kind_took : (v : Version) (bytes rest : List ℕ) → bytes ≡ version_number v ∷ rest → IsBytes rest
     → Yields (TookRecordAt v bytes) (byte_at rest >>= λ kind. record_of_kind v kind.0 kind.1)
 kind_took v bytes rest starts h =
@@ -66,7 +74,8 @@ kind_took v bytes rest starts h =
     when (TookRecordAt v bytes) (eqb kind.0 1) _ _ (λ e. started_took v bytes kind.1 (begins 1 e) k.rest)
     (λ _. when (TookRecordAt v bytes) (eqb kind.0 2) _ _ (λ e. promised_took v bytes kind.1 (begins 2 e) k.rest)
     (λ _. when (TookRecordAt v bytes) (eqb kind.0 3) _ _ (λ e. voted_took v bytes kind.1 (begins 3 e) k.rest)
-    (λ _. when (TookRecordAt v bytes) (eqb kind.0 4) _ _ (λ e. learned_took v bytes kind.1 (begins 4 e) k.rest) (λ _. tt)))))
+    (λ _. when (TookRecordAt v bytes) (eqb kind.0 4) _ _ (λ e. learned_took v bytes kind.1 (begins 4 e) k.rest)
+    (λ _. when (TookRecordAt v bytes) (eqb kind.0 5) _ _ (λ e. promised_range_took v bytes kind.1 (begins 5 e) k.rest) (λ _. tt))))))
 
 version_took : (o : Option Version) (bytes rest : List ℕ) → ((v : Version) → o ≡ Some v → bytes ≡ version_number v ∷ rest) → IsBytes rest
     → Yields (TookRecord bytes) (known Field o rest >>= λ version. byte_at version.1 >>= λ kind. record_of_kind version.0 kind.0 kind.1)
@@ -104,12 +113,19 @@ unfolding learned_at
 learned_again v position action rest is has =
     ap (learned_at v) (append_assoc (position_text position) (action_text_at v action) rest) ∙ rw (position_again position (action_text_at v action ++ rest) is.ranges, action_again v action rest (is.right, has)) refl
 
+promised_range_again : (range : Range) (ballot : ℕ) (rest : List ℕ) → IsRecord (PromisedRange range ballot)
+    → promised_range_at ((range_text range ++ ballot_text ballot) ++ rest) ≡ Ok (PromisedRange range ballot, rest)
+unfolding promised_range_at
+promised_range_again range ballot rest is =
+    ap promised_range_at (append_assoc (range_text range) (ballot_text ballot) rest) ∙ rw (range_again range (ballot_text ballot ++ rest) is.ranges.0, ballot_again ballot rest is.ranges.1) refl
+
 pub record_again : (v : Version) (r : Rec) (rest : List ℕ) → IsRecord r → HasRecordText v r → record_at (record_text_at v r ++ rest) ≡ Ok (r, rest)
 unfolding record_at
 record_again v (Started ballot) rest is has = rw (version_of_number v) (started_again ballot rest is)
 record_again v (Promised position ballot) rest is has = rw (version_of_number v) (promised_again position ballot rest is)
 record_again v (Voted position ballot action) rest is has = rw (version_of_number v) (voted_again v position ballot action rest is has)
 record_again v (Learned position action) rest is has = rw (version_of_number v) (learned_again v position action rest is has)
+record_again v (PromisedRange range ballot) rest is has = rw (version_of_number v) (promised_range_again range ballot rest is)
 
 -- the same of some text of it
 pub record_read : (r : Rec) (rest bytes : List ℕ) → IsRecord r → IsRecordTextBefore r rest bytes → record_at bytes ≡ Ok (r, rest)
@@ -121,6 +137,7 @@ has_latest (Started ballot) = tt
 has_latest (Promised position ballot) = tt
 has_latest (Voted position ballot action) = has_action action
 has_latest (Learned position action) = has_action action
+has_latest (PromisedRange range ballot) = tt
 
 -- the two texts of a record have one length
 pub record_long_at : (v : Version) (r : Rec) → length (record_text_at v r) ≡ length (record_text r)
@@ -129,6 +146,7 @@ record_long_at v (Started ballot) = refl
 record_long_at v (Promised position ballot) = refl
 record_long_at v (Voted position ballot action) = omega (arith, action_same v action)
 record_long_at v (Learned position action) = omega (arith, action_same v action)
+record_long_at v (PromisedRange range ballot) = refl
 
 -- ---- no text begins another
 
@@ -151,6 +169,7 @@ first_byte v (Started ballot) x = refl
 first_byte v (Promised position ballot) x = refl
 first_byte v (Voted position ballot action) x = refl
 first_byte v (Learned position action) x = refl
+first_byte v (PromisedRange range ballot) x = refl
 
 pub same_text : (v w : Version) (r s : Rec) (x y : List ℕ) → IsRecord r → IsRecord s → HasRecordText v r → HasRecordText w s → record_text_at v r ++ x ≡ record_text_at w s ++ y → (v ≡ w) × (r ≡ s) × (x ≡ y)
 same_text v w r s x y left right has also e =

@@ -1,5 +1,5 @@
 -- What the versions have in common, and what tells them apart.
-use Rattle.std.proofs.Common.{◌≡◌, ◌≢◌, ℕ, ◌+◌, Bool, true, false, cond, eqb, List, [], ◌∷◌, ◌++◌, length, Option, Some, None, refl, sym, ap, ◌∙◌, arith, length-append}
+use Rattle.std.proofs.Common.{◌≡◌, ◌≢◌, ℕ, Bool, true, false, cond, eqb, List, [], ◌∷◌, ◌++◌, length, Option, Some, None, refl, sym, ap, ◌∙◌, arith, length-append}
 use Rattle.std.specs.Prelude.{All, IfSome, flat_map}
 use Rattle.std.proofs.lemmas.Bool.{eqb-true, eqb-false}
 use Rattle.std.proofs.lemmas.List.Elements.{All-nil, All-cons}
@@ -8,13 +8,14 @@ use Rattle.rp_base.specs.declared.action.Operation.TheVariants as operations
 use Rattle.rp_base.specs.declared.action.Action.{Action}
 use Rattle.rp_base.specs.declared.action.Action.TheVariants as actions
 use Rattle.rp_base.specs.declared.record.Vote.{Vote}
+use Rattle.rp_base.specs.declared.placed.PlacedVote.{PlacedVote}
 use Rattle.rp_codec.specs.declared.packet.Body.{Body}
 use Rattle.rp_codec.specs.declared.packet.Body.TheVariants as bodies
 use Rattle.rp_codec.specs.declared.version.Version.{Version}
 use Rattle.rp_codec.specs.declared.version.Version.TheVariants.{V1, V2}
 use Rattle.rp_codec.specs.Version.{version_number, version_of}
 use Rattle.rp_codec.specs.Message.{Message}
-use Rattle.rp_codec.specs.Text.{number_text, signed_text, operation_text_at, action_text_at, action_text, last_text_at, body_text_at, text_at, text_of, HasOperationText, HasActionText, HasText, IsTextOf, IsTextBefore}
+use Rattle.rp_codec.specs.Text.{number_text, signed_text, operation_text_at, action_text_at, action_text, last_text_at, body_text_at, text_at, text_of, HasOperationText, HasActionText, HasText, IsTextOf, IsTextBefore, placed_text_at, placed_text, HasPlacedText}
 
 -- ---- the first byte
 
@@ -72,6 +73,10 @@ has_last : (last : Option Vote) → IfSome last (λ vote. HasActionText V2 vote.
 has_last None = tt
 has_last (Some vote) = has_action vote.action
 
+has_votes : (votes : List PlacedVote) → All (HasPlacedText V2) votes
+has_votes [] = All-nil (HasPlacedText V2)
+has_votes (placed ∷ others) = All-cons (HasPlacedText V2) placed others (has_action placed.vote.action) (has_votes others)
+
 has_body : (from to : _) (body : Body) → HasText V2 (record { from = from; to = to; body = body })
 has_body from to (bodies.Call action) = has_action action
 has_body from to (bodies.Prepare position ballot) = tt
@@ -83,6 +88,8 @@ has_body from to (bodies.Ask position) = tt
 has_body from to (bodies.Nack position ballot bound) = tt
 has_body from to (bodies.Reply number reply) = tt
 has_body from to (bodies.Report first applied actions) = has_actions actions
+has_body from to (bodies.PrepareRange range ballot) = tt
+has_body from to (bodies.PromiseRange range ballot votes) = has_votes votes
 
 pub has_text : (m : Message) → HasText V2 m
 has_text m = has_body m.from m.to m.body
@@ -123,6 +130,15 @@ unfolding number_text
 last_same v None = refl
 last_same v (Some vote) = omega (arith, action_same v vote.action)
 
+placed_same : (v : Version) (placed : PlacedVote) → length (placed_text_at v placed) ≡ length (placed_text placed)
+unfolding number_text
+placed_same v placed = omega (arith, action_same v placed.vote.action)
+
+votes_same : (v : Version) (votes : List PlacedVote) → length (flat_map (placed_text_at v) votes) ≡ length (flat_map placed_text votes)
+votes_same v [] = refl
+votes_same v (placed ∷ others) =
+    omega (arith, placed_same v placed, votes_same v others, length-append (placed_text_at v placed) (flat_map (placed_text_at v) others), length-append (placed_text placed) (flat_map placed_text others))
+
 body_same : (v : Version) (body : Body) → length (body_text_at v body) ≡ length (body_text_at V2 body)
 unfolding number_text
 body_same v (bodies.Call action) = action_same v action
@@ -135,6 +151,8 @@ body_same v (bodies.Ask position) = refl
 body_same v (bodies.Nack position ballot bound) = refl
 body_same v (bodies.Reply number reply) = refl
 body_same v (bodies.Report first applied actions) = omega (arith, actions_same v actions)
+body_same v (bodies.PrepareRange range ballot) = refl
+body_same v (bodies.PromiseRange range ballot votes) = omega (arith, votes_same v votes)
 
 pub text_same : (v : Version) (m : Message) → length (text_at v m) ≡ length (text_of m)
 text_same v m = omega (arith, body_same v m.body)

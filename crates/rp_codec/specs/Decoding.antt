@@ -1,9 +1,9 @@
 -- What bytes are read as: the packet of which they are a text, all of them, or why there is none.
-use Rattle.std.specs.Prelude.{◌≡◌, ◌≢◌, ◌↔◌, ℕ, List, [], ◌∷◌, ◌++◌, Result, Ok, Err, IfOk}
+use Rattle.std.specs.Prelude.{◌≡◌, ◌≢◌, ◌↔◌, ℕ, List, [], ◌∷◌, Result, Ok, Err, IfOk}
 use Rattle.rp_base.specs.declared.fault.PacketReason.{PacketReason}
 use Rattle.rp_base.specs.declared.fault.PacketReason.TheVariants.{Long, Version as UnknownVersion, Kind as UnknownKind}
 use Rattle.rp_codec.specs.declared.packet.Body.{Body}
-use Rattle.rp_codec.specs.declared.packet.Body.TheVariants.{Call, Prepare, Promise, Accept, Accepted, Decided, Ask, Nack, Reply as Answer, Report}
+use Rattle.rp_codec.specs.declared.packet.Body.TheVariants.{Call, Prepare, Promise, Accept, Accepted, Decided, Ask, Nack, Reply as Answer, Report, PrepareRange, PromiseRange}
 use Rattle.rp_codec.specs.Message.{Message, IsPacket}
 use Rattle.rp_codec.specs.declared.version.Version.{Version}
 use Rattle.rp_codec.specs.Version.{version_number}
@@ -38,18 +38,21 @@ pub record IsDecoded (bytes : List ℕ) (answer : Result Message PacketReason) :
 abbrev pub BeginsWithPacket : List ℕ → Type 0
 BeginsWithPacket bytes = (p : Message) × (rest : List ℕ) × IsPacket p × IsTextBefore p rest bytes
 
-abbrev pub IsReportBody : Body → Type 0
-IsReportBody (Call action) = ⊥
-IsReportBody (Prepare position ballot) = ⊥
-IsReportBody (Promise position ballot last) = ⊥
-IsReportBody (Accept position ballot action) = ⊥
-IsReportBody (Accepted position ballot action) = ⊥
-IsReportBody (Decided position action) = ⊥
-IsReportBody (Ask position) = ⊥
-IsReportBody (Nack position ballot bound) = ⊥
-IsReportBody (Answer number reply) = ⊥
-IsReportBody (Report first applied actions) = Unit {0}
+-- a body that takes memory: a report, or a promise for a range
+abbrev pub IsLongBody : Body → Type 0
+IsLongBody (Call action) = ⊥
+IsLongBody (Prepare position ballot) = ⊥
+IsLongBody (Promise position ballot last) = ⊥
+IsLongBody (Accept position ballot action) = ⊥
+IsLongBody (Accepted position ballot action) = ⊥
+IsLongBody (Decided position action) = ⊥
+IsLongBody (Ask position) = ⊥
+IsLongBody (Nack position ballot bound) = ⊥
+IsLongBody (Answer number reply) = ⊥
+IsLongBody (Report first applied actions) = Unit {0}
+IsLongBody (PrepareRange range ballot) = ⊥
+IsLongBody (PromiseRange range ballot votes) = Unit {0}
 
--- bytes that are a report's text
-abbrev pub IsReportText : List ℕ → Type 0
-IsReportText bytes = (p : Message) × IsPacket p × IsReportBody p.body × IsTextOf p bytes
+-- bytes that are the text of such a packet
+abbrev pub IsLongText : List ℕ → Type 0
+IsLongText bytes = (p : Message) × IsPacket p × IsLongBody p.body × IsTextOf p bytes

@@ -1,7 +1,7 @@
 -- The kinds of packets, and their numbers.
 use Rattle.std.specs.Prelude.{ℕ, ◌==◌, if◌then◌else◌, Option, Some, None, IsSome}
 use Rattle.rp_codec.specs.declared.kind.Kind.{Kind}
-use Rattle.rp_codec.specs.declared.kind.Kind.TheVariants.{Call, Prepare, Promise, Accept, Accepted, Decided, Ask, Nack, Reply, Report}
+use Rattle.rp_codec.specs.declared.kind.Kind.TheVariants.{Call, Prepare, Promise, Accept, Accepted, Decided, Ask, Nack, Reply, Report, PrepareRange, PromiseRange}
 
 -- the kind of a number
 abbrev pub kind_of : ℕ → Option Kind
@@ -16,6 +16,8 @@ kind_of n =
     if n == 8 then Some Nack else
     if n == 9 then Some Reply else
     if n == 10 then Some Report else
+    if n == 12 then Some PrepareRange else
+    if n == 13 then Some PromiseRange else
     None
 
 -- the numbers of the kinds

@@ -3,6 +3,8 @@ use Rattle.std.specs.Prelude.{◌≡◌, ℕ, ◌+◌, ◌-◌, ◌^◌, ◌<◌
 use Rattle.rp_base.specs.Number.{IsNode, IsTask, IsPosition}
 use Rattle.rp_base.specs.Ballot.{IsBallot}
 use Rattle.rp_base.specs.Action.{IsRight, IsCount}
+use Rattle.rp_base.specs.Ranges.{IsRange}
+use Rattle.rp_base.specs.PlacedVotes.{AreReported}
 use Rattle.rp_base.specs.Right.{IsReply}
 use Rattle.rp_base.specs.declared.action.Action.{Action}
 use Rattle.rp_base.specs.declared.action.Action.TheVariants as actions
@@ -10,7 +12,7 @@ use Rattle.rp_base.specs.declared.record.Vote.{Vote}
 use Rattle.rp_codec.specs.declared.packet.Party.{Party}
 use Rattle.rp_codec.specs.declared.packet.Party.TheVariants.{Node, Task, Audit}
 use Rattle.rp_codec.specs.declared.packet.Body.{Body}
-use Rattle.rp_codec.specs.declared.packet.Body.TheVariants.{Call, Prepare, Promise, Accept, Accepted, Decided, Ask, Nack, Reply as Answer, Report}
+use Rattle.rp_codec.specs.declared.packet.Body.TheVariants.{Call, Prepare, Promise, Accept, Accepted, Decided, Ask, Nack, Reply as Answer, Report, PrepareRange, PromiseRange}
 
 pub record Message : Type 0 where
   pub from : Party
@@ -36,6 +38,8 @@ IsBody (Ask position) = IsPosition position
 IsBody (Nack position ballot bound) = IsPosition position × IsBallot ballot × IsBallot bound
 IsBody (Answer number reply) = IsReply reply
 IsBody (Report first applied actions) = IsPosition first × (applied < 2 ^ 16)
+IsBody (PrepareRange range ballot) = IsRange range × IsBallot ballot
+IsBody (PromiseRange range ballot votes) = IsRange range × IsBallot ballot × All (λ placed. IsBallot placed.vote.ballot) votes
 
 -- ---- what who makes a packet owes
 
@@ -97,6 +101,8 @@ MaySay from to (Ask position) = BetweenNodes from to
 MaySay from to (Nack position ballot bound) = BetweenNodes from to × (ballot < bound)
 MaySay from to (Answer number reply) = IsNodeParty from × IsTaskParty to × IsCount number
 MaySay from to (Report first applied actions) = IsNodeParty from × IsAudit to × IsReport first applied actions
+MaySay from to (PrepareRange range ballot) = BetweenNodes from to
+MaySay from to (PromiseRange range ballot votes) = BetweenNodes from to × AreReported range ballot votes
 
 abbrev pub KeepsRules : Message → Type 0
 KeepsRules m = MaySay m.from m.to m.body

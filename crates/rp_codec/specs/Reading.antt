@@ -1,5 +1,5 @@
 -- Reading from left to right, with the first fault that is met.
-use Rattle.std.specs.Prelude.{◌≡◌, ℕ, zero, suc, ◌-◌, ◌^◌, ◌%◌, Bool, true, false, ◌&&◌, List, [], ◌∷◌, length, take, drop, Option, Some, None, Result, Ok, Err, nat_lt, nat_le, ◌==◌, if◌then◌else◌, ℤ}
+use Rattle.std.specs.Prelude.{◌≡◌, ℕ, zero, suc, ◌+◌, ◌-◌, ◌^◌, ◌%◌, Bool, true, false, ◌&&◌, List, [], ◌∷◌, length, take, drop, Option, Some, None, Result, Ok, Err, nat_lt, nat_le, ◌==◌, if◌then◌else◌, ℤ}
 use Rattle.std.specs.Int.{Width, w16, w32, w64, byte_len, from_be_bytes, cast_signed}
 use Rattle.rp_base.specs.declared.fault.PacketReason.{PacketReason}
 use Rattle.rp_base.specs.declared.fault.PacketReason.TheVariants.{Short, Long, Version as UnknownVersion, Kind as UnknownKind, Field}
@@ -10,12 +10,15 @@ use Rattle.rp_base.specs.declared.action.Action.TheVariants as actions
 use Rattle.rp_base.specs.declared.reply.Reply.{Reply}
 use Rattle.rp_base.specs.declared.reply.Reply.TheVariants as replies
 use Rattle.rp_base.specs.declared.record.Vote.{Vote}
+use Rattle.rp_base.specs.declared.placed.PlacedVote.{PlacedVote}
+use Rattle.rp_base.specs.Number.{in_range}
+use Rattle.rp_base.specs.Ranges.{Range, end_of}
 use Rattle.rp_codec.specs.declared.packet.Party.{Party}
 use Rattle.rp_codec.specs.declared.packet.Party.TheVariants.{Node, Task, Audit}
 use Rattle.rp_codec.specs.declared.packet.Body.{Body}
 use Rattle.rp_codec.specs.declared.packet.Body.TheVariants as bodies
 use Rattle.rp_codec.specs.declared.kind.Kind.{Kind}
-use Rattle.rp_codec.specs.declared.kind.Kind.TheVariants.{Call, Prepare, Promise, Accept, Accepted, Decided, Ask, Nack, Reply as Answer, Report}
+use Rattle.rp_codec.specs.declared.kind.Kind.TheVariants.{Call, Prepare, Promise, Accept, Accepted, Decided, Ask, Nack, Reply as Answer, Report, PrepareRange, PromiseRange}
 use Rattle.rp_codec.specs.Kind.{kind_of}
 use Rattle.rp_codec.specs.declared.version.Version.{Version}
 use Rattle.rp_codec.specs.declared.version.Version.TheVariants.{V1, V2}
@@ -86,6 +89,17 @@ unfoldable pub ballot_at : List ℕ → Read ℕ
 ballot_at bytes = do
   n ← number_at w64 bytes
   ruled (is_ballot n.0) n
+
+-- so many positions from the first on are a range
+abbrev pub is_range : ℕ → ℕ → Bool
+is_range first count = in_range 1 64 count && nat_le (first + count) (2 ^ 16)
+
+unfoldable pub range_at : List ℕ → Read Range
+range_at bytes = do
+  first ← position_at bytes
+  n ← byte_at first.1
+  count ← ruled (is_range first.0 n.0) n
+  Ok (record { first = first.0; count = count.0 }, count.1)
 
 -- ---- actions
 
@@ -313,6 +327,43 @@ report_at version bytes = do
   actions ← actions_at version right.0 right.1
   Ok (bodies.Report first.0 applied.0 actions.0, actions.1)
 
+unfoldable pub prepare_range_at : List ℕ → Read Body
+prepare_range_at bytes = do
+  range ← range_at bytes
+  ballot ← ballot_at range.1
+  Ok (bodies.PrepareRange range.0 ballot.0, ballot.1)
+
+-- a vote in a ballot below this one, at a position that is the first or a later one, and below the end
+unfoldable pub reported_at : Version → ℕ → ℕ → ℕ → List ℕ → Read PlacedVote
+reported_at version ballot end first bytes = do
+  n ← position_at bytes
+  position ← ruled (nat_le first n.0 && nat_lt n.0 end) n
+  lower ← lower_ballot_at ballot position.1
+  action ← action_at version lower.1
+  Ok (record { position = position.0; vote = record { ballot = lower.0; action = action.0 } }, action.1)
+
+-- so many such votes, each at a position above the one before
+unfoldable pub votes_at : Version → ℕ → ℕ → ℕ → ℕ → List ℕ → Read (List PlacedVote)
+votes_at version ballot end first zero bytes = Ok ([], bytes)
+votes_at version ballot end first (suc more) bytes = do
+  placed ← reported_at version ballot end first bytes
+  others ← votes_at version ballot end (suc placed.0.position) more placed.1
+  Ok (placed.0 ∷ others.0, others.1)
+
+-- how many votes there are, at most as many as the range has positions, and each of them
+unfoldable pub reported_votes_at : Version → Range → ℕ → List ℕ → Read (List PlacedVote)
+reported_votes_at version range ballot bytes = do
+  n ← byte_at bytes
+  count ← ruled (nat_le n.0 range.count) n
+  votes_at version ballot (end_of range) range.first count.0 count.1
+
+unfoldable pub promise_range_at : Version → List ℕ → Read Body
+promise_range_at version bytes = do
+  range ← range_at bytes
+  ballot ← ballot_at range.1
+  votes ← reported_votes_at version range.0 ballot.0 ballot.1
+  Ok (bodies.PromiseRange range.0 ballot.0 votes.0, votes.1)
+
 unfoldable pub body_at : Version → Kind → Party → List ℕ → Read Body
 body_at version Call from bytes = task_call_at version from bytes
 body_at version Prepare from bytes = prepare_at bytes
@@ -324,6 +375,8 @@ body_at version Ask from bytes = ask_at bytes
 body_at version Nack from bytes = nack_at bytes
 body_at version Answer from bytes = answer_at bytes
 body_at version Report from bytes = report_at version bytes
+body_at version PrepareRange from bytes = prepare_range_at bytes
+body_at version PromiseRange from bytes = promise_range_at version bytes
 
 -- ---- packets
 
@@ -359,6 +412,8 @@ from_at Ask bytes = node_at bytes
 from_at Nack bytes = node_at bytes
 from_at Answer bytes = node_at bytes
 from_at Report bytes = node_at bytes
+from_at PrepareRange bytes = node_at bytes
+from_at PromiseRange bytes = node_at bytes
 
 unfoldable pub to_at : Kind → List ℕ → Read Party
 to_at Call bytes = node_at bytes
@@ -371,6 +426,8 @@ to_at Ask bytes = node_at bytes
 to_at Nack bytes = node_at bytes
 to_at Answer bytes = task_at bytes
 to_at Report bytes = audit_at bytes
+to_at PrepareRange bytes = node_at bytes
+to_at PromiseRange bytes = node_at bytes
 
 -- what stands behind the kind
 unfoldable pub said_at : Version → Kind → List ℕ → Read Message

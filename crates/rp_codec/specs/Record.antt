@@ -2,13 +2,14 @@
 use Rattle.std.specs.Prelude.{◌≡◌, ℕ, List, [], ◌∷◌, ◌++◌}
 use Rattle.rp_base.specs.Number.{IsPosition}
 use Rattle.rp_base.specs.Ballot.{IsBallot}
+use Rattle.rp_base.specs.Ranges.{IsRange}
 use Rattle.rp_base.specs.Right.{IsRightRecord}
 use Rattle.rp_base.specs.declared.record.Rec.{Rec}
-use Rattle.rp_base.specs.declared.record.Rec.TheVariants.{Started, Promised, Voted, Learned}
+use Rattle.rp_base.specs.declared.record.Rec.TheVariants.{Started, Promised, Voted, Learned, PromisedRange}
 use Rattle.rp_codec.specs.declared.version.Version.{Version}
 use Rattle.rp_codec.specs.declared.version.Version.TheVariants.{V2}
 use Rattle.rp_codec.specs.Version.{version_number}
-use Rattle.rp_codec.specs.Text.{position_text, ballot_text, action_text_at, HasActionText}
+use Rattle.rp_codec.specs.Text.{range_text, position_text, ballot_text, action_text_at, HasActionText}
 
 -- the version, the kind, and the fields in order
 abbrev pub record_text_at : Version → Rec → List ℕ
@@ -19,6 +20,8 @@ record_text_at version (Voted position ballot action) =
     (version_number version ∷ 3 ∷ []) ++ position_text position ++ ballot_text ballot ++ action_text_at version action
 record_text_at version (Learned position action) =
     (version_number version ∷ 4 ∷ []) ++ position_text position ++ action_text_at version action
+record_text_at version (PromisedRange range ballot) =
+    (version_number version ∷ 5 ∷ []) ++ range_text range ++ ballot_text ballot
 
 -- what is written of a record
 abbrev pub record_text : Rec → List ℕ
@@ -30,6 +33,7 @@ HasRecordText version (Started ballot) = Unit {0}
 HasRecordText version (Promised position ballot) = Unit {0}
 HasRecordText version (Voted position ballot action) = HasActionText version action
 HasRecordText version (Learned position action) = HasActionText version action
+HasRecordText version (PromisedRange range ballot) = Unit {0}
 
 -- the bytes are a text of the record, and others behind it
 abbrev pub IsRecordTextBefore : Rec → List ℕ → List ℕ → Type 0
@@ -42,6 +46,7 @@ HasRecordRanges (Started ballot) = IsBallot ballot
 HasRecordRanges (Promised position ballot) = IsPosition position × IsBallot ballot
 HasRecordRanges (Voted position ballot action) = IsPosition position × IsBallot ballot
 HasRecordRanges (Learned position action) = IsPosition position
+HasRecordRanges (PromisedRange range ballot) = IsRange range × IsBallot ballot
 
 -- each number of the record is within its range
 pub record IsRecord (r : Rec) : Type 0 where

@@ -2,10 +2,10 @@
 use Rattle.std.specs.Prelude.{ℕ, List, Ok, Err, ◌==◌, if◌then◌else◌}
 use Rattle.rp_base.specs.declared.fault.PacketReason.TheVariants.{Field}
 use Rattle.rp_base.specs.declared.record.Rec.{Rec}
-use Rattle.rp_base.specs.declared.record.Rec.TheVariants.{Started, Promised, Voted, Learned}
+use Rattle.rp_base.specs.declared.record.Rec.TheVariants.{Started, Promised, Voted, Learned, PromisedRange}
 use Rattle.rp_codec.specs.declared.version.Version.{Version}
 use Rattle.rp_codec.specs.Version.{version_of}
-use Rattle.rp_codec.specs.Reading.{◌>>=◌, Read, known, byte_at, position_at, ballot_at, action_at}
+use Rattle.rp_codec.specs.Reading.{◌>>=◌, Read, known, byte_at, position_at, ballot_at, range_at, action_at}
 
 unfoldable pub started_at : List ℕ → Read Rec
 started_at bytes = do
@@ -31,12 +31,19 @@ learned_at version bytes = do
   action ← action_at version position.1
   Ok (Learned position.0 action.0, action.1)
 
+unfoldable pub promised_range_at : List ℕ → Read Rec
+promised_range_at bytes = do
+  range ← range_at bytes
+  ballot ← ballot_at range.1
+  Ok (PromisedRange range.0 ballot.0, ballot.1)
+
 abbrev pub record_of_kind : Version → ℕ → List ℕ → Read Rec
 record_of_kind version kind bytes =
     if kind == 1 then started_at bytes else
     if kind == 2 then promised_at bytes else
     if kind == 3 then voted_at version bytes else
     if kind == 4 then learned_at version bytes else
+    if kind == 5 then promised_range_at bytes else
     Err Field
 
 -- a record of either version and the bytes after it

@@ -9,10 +9,12 @@ use Rattle.rp_base.specs.declared.action.Action.TheVariants as actions
 use Rattle.rp_base.specs.declared.reply.Reply.{Reply}
 use Rattle.rp_base.specs.declared.reply.Reply.TheVariants as replies
 use Rattle.rp_base.specs.declared.record.Vote.{Vote}
+use Rattle.rp_base.specs.declared.placed.PlacedVote.{PlacedVote}
+use Rattle.rp_base.specs.Ranges.{Range}
 use Rattle.rp_codec.specs.declared.packet.Party.{Party}
 use Rattle.rp_codec.specs.declared.packet.Party.TheVariants.{Node, Task, Audit}
 use Rattle.rp_codec.specs.declared.packet.Body.{Body}
-use Rattle.rp_codec.specs.declared.packet.Body.TheVariants.{Call, Prepare, Promise, Accept, Accepted, Decided, Ask, Nack, Reply as Answer, Report}
+use Rattle.rp_codec.specs.declared.packet.Body.TheVariants.{Call, Prepare, Promise, Accept, Accepted, Decided, Ask, Nack, Reply as Answer, Report, PrepareRange, PromiseRange}
 use Rattle.rp_codec.specs.declared.version.Version.{Version}
 use Rattle.rp_codec.specs.declared.version.Version.TheVariants.{V1, V2}
 use Rattle.rp_codec.specs.Version.{version_number}
@@ -31,6 +33,10 @@ position_text position = number_text w16 position
 
 abbrev pub ballot_text : ℕ → List ℕ
 ballot_text ballot = number_text w64 ballot
+
+-- the first position of a range, and how many it has
+abbrev pub range_text : Range → List ℕ
+range_text range = position_text range.first ++ range.count ∷ []
 
 -- what stands for an entry's index
 abbrev pub entry_byte : Version → ℕ → ℕ
@@ -87,6 +93,21 @@ last_text_at version (Some vote) = (1 ∷ ballot_text vote.ballot) ++ action_tex
 abbrev pub last_text : Option Vote → List ℕ
 last_text last = last_text_at V2 last
 
+-- a vote with its position
+abbrev pub placed_text_at : Version → PlacedVote → List ℕ
+placed_text_at version placed =
+    position_text placed.position ++ ballot_text placed.vote.ballot ++ action_text_at version placed.vote.action
+
+abbrev pub placed_text : PlacedVote → List ℕ
+placed_text placed = placed_text_at V2 placed
+
+-- how many votes there are, and each
+abbrev pub votes_text_at : Version → List PlacedVote → List ℕ
+votes_text_at version votes = length votes ∷ flat_map (placed_text_at version) votes
+
+abbrev pub votes_text : List PlacedVote → List ℕ
+votes_text votes = votes_text_at V2 votes
+
 abbrev pub party_number : Party → ℕ
 party_number (Node n) = n
 party_number (Task t) = 16 + t
@@ -98,6 +119,10 @@ party_text party = party_number party ∷ []
 -- a report's actions behind what stands before them
 abbrev pub listed_text : List ℕ → List Action → List ℕ
 listed_text front actions = front ++ actions_text actions
+
+-- the votes of a promise for a range behind what stands before them
+abbrev pub reported_text : List ℕ → List PlacedVote → List ℕ
+reported_text front votes = front ++ votes_text votes
 
 -- the number of a packet's kind
 abbrev pub kind_number : Body → ℕ
@@ -111,8 +136,10 @@ kind_number (Ask position) = 7
 kind_number (Nack position ballot bound) = 8
 kind_number (Answer number reply) = 9
 kind_number (Report first applied actions) = 10
+kind_number (PrepareRange range ballot) = 12
+kind_number (PromiseRange range ballot votes) = 13
 
--- what a body says, but for a report's actions
+-- what a body says, but for a report's actions and the votes of a promise for a range
 abbrev pub short_body_text : Body → List ℕ
 short_body_text (Call action) = action_text action
 short_body_text (Prepare position ballot) = position_text position ++ ballot_text ballot
@@ -124,6 +151,8 @@ short_body_text (Ask position) = position_text position
 short_body_text (Nack position ballot bound) = position_text position ++ ballot_text ballot ++ ballot_text bound
 short_body_text (Answer number reply) = number_text w32 number ++ reply_text reply
 short_body_text (Report first applied actions) = position_text first ++ number_text w16 applied
+short_body_text (PrepareRange range ballot) = range_text range ++ ballot_text ballot
+short_body_text (PromiseRange range ballot votes) = range_text range ++ ballot_text ballot
 
 abbrev pub body_text_at : Version → Body → List ℕ
 body_text_at version (Call action) = action_text_at version action
@@ -140,6 +169,9 @@ body_text_at version (Nack position ballot bound) = position_text position ++ ba
 body_text_at version (Answer number reply) = number_text w32 number ++ reply_text reply
 body_text_at version (Report first applied actions) =
     position_text first ++ number_text w16 applied ++ actions_text_at version actions
+body_text_at version (PrepareRange range ballot) = range_text range ++ ballot_text ballot
+body_text_at version (PromiseRange range ballot votes) =
+    range_text range ++ ballot_text ballot ++ votes_text_at version votes
 
 -- the version, the kind, and who says it to whom
 abbrev pub head_text_at : Version → Message → List ℕ
@@ -175,6 +207,9 @@ HasActionText version (actions.Call task number object operation arg) = HasOpera
 HasActionText version (actions.Interrupt source occurrence) = Unit {0}
 HasActionText version (actions.Tick now) = Unit {0}
 
+abbrev pub HasPlacedText : Version → PlacedVote → Type 0
+HasPlacedText version placed = HasActionText version placed.vote.action
+
 abbrev pub HasBodyText : Version → Body → Type 0
 HasBodyText version (Call action) = HasActionText version action
 HasBodyText version (Prepare position ballot) = Unit {0}
@@ -186,6 +221,8 @@ HasBodyText version (Ask position) = Unit {0}
 HasBodyText version (Nack position ballot bound) = Unit {0}
 HasBodyText version (Answer number reply) = Unit {0}
 HasBodyText version (Report first applied actions) = All (HasActionText version) actions
+HasBodyText version (PrepareRange range ballot) = Unit {0}
+HasBodyText version (PromiseRange range ballot votes) = All (HasPlacedText version) votes
 
 abbrev pub HasText : Version → Message → Type 0
 HasText version m = HasBodyText version m.body

@@ -3,12 +3,13 @@
 ghost use Rattle.std.specs.Prelude.{◌≡◌, ◌+◌, ◌≤◌, ◌++◌, length};
 ghost use Rattle.rp_codec.specs.Text.{position_text, ballot_text, action_text, last_text, vote_text, short_body_text};
 ghost use Rattle.rp_codec.specs.Found.{Finds};
-ghost use Rattle.rp_codec.specs.Reading.{Gives, lower_ballot_at, higher_ballot_at, vote_at, last_at, prepare_at, promise_at, accept_at, accepted_at, decided_at, ask_at, nack_at, answer_at, task_call_at, body_at};
+ghost use Rattle.rp_codec.specs.Reading.{Gives, lower_ballot_at, higher_ballot_at, vote_at, last_at, prepare_at, promise_at, accept_at, accepted_at, decided_at, ask_at, nack_at, answer_at, task_call_at, prepare_range_at, body_at};
 
 use crate::action_text::{put_action, read_action, read_own_call};
 use crate::content::Content;
 use crate::fields::{
-    put_ballot, put_position, put_u16, put_u32, read_ballot, read_count, read_position,
+    put_ballot, put_position, put_range, put_u16, put_u32, read_ballot, read_count, read_position,
+    read_range,
 };
 use crate::kind::Kind;
 use crate::packet::{Body, Party};
@@ -17,11 +18,12 @@ use crate::reply_text::{put_reply, read_reply};
 use crate::report_text::read_report;
 use crate::short_text::ShortText;
 use crate::version::Version;
+use crate::votes_text::read_promise_range;
 use rp_base::{Action, Ballot, PacketReason, Position, Vote};
 
 #[inline(always)]
 #[tactic(auto, unfolding(crate::specs::Reading::lower_ballot_at))]
-fn read_lower_ballot(reader: &mut Reader, ballot: Ballot) -> Result<Ballot, PacketReason>
+pub(crate) fn read_lower_ballot(reader: &mut Reader, ballot: Ballot) -> Result<Ballot, PacketReason>
     ensures { Gives result reader.new (lower_ballot_at ballot reader.old) }
 {
     let lower = read_ballot(reader)?;
@@ -186,6 +188,16 @@ fn read_ask(reader: &mut Reader) -> Result<Body, PacketReason>
     Ok(Body::Ask { position })
 }
 
+#[inline(always)]
+#[tactic(auto, unfolding(crate::specs::Reading::prepare_range_at))]
+fn read_prepare_range(reader: &mut Reader) -> Result<Body, PacketReason>
+    ensures { Gives result reader.new (prepare_range_at reader.old) }
+{
+    let range = read_range(reader)?;
+    let ballot = read_ballot(reader)?;
+    Ok(Body::PrepareRange { range, ballot })
+}
+
 /// What a packet of this version and kind says, from this party.
 #[inline(always)]
 #[tactic(auto, unfolding(crate::specs::Reading::body_at))]
@@ -207,7 +219,9 @@ pub(crate) fn read_content<'a>(
         Kind::Ask => read_ask(reader),
         Kind::Nack => read_nack(reader),
         Kind::Reply => read_answer(reader),
+        Kind::PrepareRange => read_prepare_range(reader),
         Kind::Report => return read_report(reader, version),
+        Kind::PromiseRange => return read_promise_range(reader, version),
     };
     Ok(Content::Whole(body?))
 }
@@ -246,7 +260,8 @@ fn put_vote(text: &mut ShortText, position: Position, ballot: Ballot, action: &A
     put_action(text, action);
 }
 
-/// Adds a body's text, at most 36 bytes, of a report all but its actions.
+/// Adds a body's text, at most 36 bytes, of a report all but its actions, and of a promise for a
+/// range all but its votes.
 #[inline(always)]
 pub(crate) fn put_body(text: &mut ShortText, body: &Body)
     requires { length text.old + 36 ≤ 40 }
@@ -293,6 +308,10 @@ pub(crate) fn put_body(text: &mut ShortText, body: &Body)
         Body::Report { first, applied, .. } => {
             put_position(text, *first);
             put_u16(text, *applied);
+        }
+        Body::PrepareRange { range, ballot } | Body::PromiseRange { range, ballot, .. } => {
+            put_range(text, *range);
+            put_ballot(text, *ballot);
         }
     }
 }

@@ -1,9 +1,9 @@
-//! What was read of a packet, before memory is taken for a report's actions.
+//! What was read of a packet, before memory is taken for a report's actions or a promise's votes.
 
 use crate::packet::{Body, Party};
 use crate::reader::Reader;
 use crate::version::Version;
-use rp_base::Position;
+use rp_base::{Ballot, Position, PositionRange};
 
 /// What a packet says.
 #[derive(Drop)]
@@ -16,6 +16,13 @@ pub(crate) enum Content<'a> {
         applied: u16,
         count: u8,
         actions: Reader<'a>,
+    },
+    /// A promise for a range. How many votes it reports, and then each of them, stand at `votes`.
+    Voted {
+        version: Version,
+        range: PositionRange,
+        ballot: Ballot,
+        votes: Reader<'a>,
     },
 }
 

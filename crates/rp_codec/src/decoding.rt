@@ -5,7 +5,7 @@ ghost use Rattle.rp_codec.specs.Message.{Message, IsPacket};
 ghost use Rattle.rp_codec.specs.Text.{text_of, IsTextBefore};
 ghost use Rattle.rp_codec.specs.Reading.{Gives, node_at, task_at, audit_at, from_at, to_at, version_at, kind_at, packet_at, all_of};
 ghost use Rattle.rp_codec.specs.Found.{Skips, FindsPacket, FindsWhole, KeepsRulesAt, IsListed, IsList};
-ghost use Rattle.rp_codec.specs.Decoding.{IsDecoded, IsReportText, BeginsWithPacket};
+ghost use Rattle.rp_codec.specs.Decoding.{IsDecoded, IsLongText, BeginsWithPacket};
 
 use crate::body_text::read_content;
 use crate::content::{Content, Found};
@@ -18,6 +18,7 @@ use crate::usual_texts::{
     accept_of, accepted_of, decided_of, prepare_of, promise_of, reply_of, task_call_of,
 };
 use crate::version::Version;
+use crate::votes_text::list_votes;
 use rp_base::{NodeId, PacketReason, TaskId};
 use std::alloc::{AllocError, Global};
 
@@ -73,7 +74,9 @@ fn read_from(reader: &mut Reader, kind: Kind) -> Result<Party, PacketReason>
         | Kind::Ask
         | Kind::Nack
         | Kind::Reply
-        | Kind::Report => read_node(reader),
+        | Kind::Report
+        | Kind::PrepareRange
+        | Kind::PromiseRange => read_node(reader),
     }
 }
 
@@ -92,7 +95,9 @@ fn read_to(reader: &mut Reader, kind: Kind) -> Result<Party, PacketReason>
         | Kind::Accepted
         | Kind::Decided
         | Kind::Ask
-        | Kind::Nack => read_node(reader),
+        | Kind::Nack
+        | Kind::PrepareRange
+        | Kind::PromiseRange => read_node(reader),
     }
 }
 
@@ -146,7 +151,7 @@ fn read_whole<'a>(bytes: &'a [u8]) -> Result<Found<'a>, PacketReason>
     Ok(found)
 }
 
-/// Takes memory for a report's actions, and for nothing else.
+/// Takes memory for a report's actions or a promise's votes, and for nothing else.
 #[inline(always)]
 fn listed(alloc: Global, found: Found) -> Result<Packet, AllocError>
     requires { KeepsRulesAt found }
@@ -170,6 +175,19 @@ fn listed(alloc: Global, found: Found) -> Result<Packet, AllocError>
                 actions,
             }
         }
+        Content::Voted {
+            version,
+            range,
+            ballot,
+            votes,
+        } => {
+            let votes = list_votes(alloc, votes, version, range, ballot)?;
+            Body::PromiseRange {
+                range,
+                ballot,
+                votes,
+            }
+        }
     };
     Ok(Packet::new(from, to, body))
 }
@@ -178,7 +196,7 @@ fn listed(alloc: Global, found: Found) -> Result<Packet, AllocError>
 #[inline(never)]
 fn decode_fields(alloc: Global, bytes: &[u8]) -> Result<Result<Packet, PacketReason>, AllocError>
     ensures answer { IfOk result (λ answer. IsDecoded bytes.now answer) }
-    ensures memory { OnErr result (IsReportText bytes.now) }
+    ensures memory { OnErr result (IsLongText bytes.now) }
 {
     match read_whole(bytes) {
         Ok(found) => {
@@ -221,7 +239,7 @@ fn with_task_of(bytes: &[u8]) -> Option<Packet>
 #[inline(never)]
 fn decode_others(alloc: Global, bytes: &[u8]) -> Result<Result<Packet, PacketReason>, AllocError>
     ensures answer { IfOk result (λ answer. IsDecoded bytes.now answer) }
-    ensures memory { OnErr result (IsReportText bytes.now) }
+    ensures memory { OnErr result (IsLongText bytes.now) }
 {
     match with_task_of(bytes) {
         Some(packet) => {
@@ -234,11 +252,12 @@ fn decode_others(alloc: Global, bytes: &[u8]) -> Result<Result<Packet, PacketRea
 
 /// The packet of which the bytes are a text, of version 1 or 2, all of the bytes. Where they are no
 /// packet's text, the reason is the first fault from left to right, by the version that the first
-/// byte says: `Version` where it says neither. Only a report's actions take memory.
+/// byte says: `Version` where it says neither. Only a report's actions and the votes of a promise for
+/// a range take memory.
 #[inline(always)]
 pub fn decode(alloc: Global, bytes: &[u8]) -> Result<Result<Packet, PacketReason>, AllocError>
     ensures answer { IfOk result (λ answer. IsDecoded bytes.now answer) }
-    ensures memory { OnErr result (IsReportText bytes.now) }
+    ensures memory { OnErr result (IsLongText bytes.now) }
 {
     match between_nodes_of(bytes) {
         Some(packet) => {

@@ -2,7 +2,7 @@
 
 ghost use Rattle.std.specs.Prelude.{◌≡◌, ℕ, List, ◌++◌, length, IfOk, OnOk, OnErr};
 ghost use Rattle.rp_codec.specs.Message.{Message, IsPacket};
-ghost use Rattle.rp_codec.specs.Decoding.{IsReportBody};
+ghost use Rattle.rp_codec.specs.Decoding.{IsLongBody};
 ghost use Rattle.rp_codec.specs.declared.version.Version.{Version};
 ghost use Rattle.rp_codec.specs.Text.{kind_number, party_number, head_text, text_at, text_of, HasText};
 
@@ -11,6 +11,7 @@ use crate::fields::{AUDIT, TASK_BASE, VERSION};
 use crate::packet::{Body, Packet, Party};
 use crate::report_text::put_report;
 use crate::short_text::{LONGEST, ShortText};
+use crate::votes_text::put_promise_range;
 use std::alloc::{AllocError, Global};
 
 #[inline(always)]
@@ -28,6 +29,8 @@ fn kind_number(body: &Body) -> u8
         Body::Nack { .. } => 8,
         Body::Reply { .. } => 9,
         Body::Report { .. } => 10,
+        Body::PrepareRange { .. } => 12,
+        Body::PromiseRange { .. } => 13,
     }
 }
 
@@ -56,10 +59,11 @@ fn head_of(packet: &Packet) -> [u8; 4]
     ]
 }
 
-/// The one text of version 2 of a packet that is no report. It takes no memory.
+/// The one text of version 2 of a packet that is neither a report nor a promise for a range. It takes
+/// no memory.
 #[inline(always)]
 pub fn text_of_packet(packet: &Packet) -> ShortText
-    requires { ¬ IsReportBody packet.now.body }
+    requires { ¬ IsLongBody packet.now.body }
     ensures { result ≡ text_of packet.now }
 {
     let mut text = ShortText::starting_with(&head_of(packet));
@@ -77,6 +81,7 @@ pub fn encode_onto(packet: &Packet, out: &mut Vec<u8>) -> Result<(), AllocError>
     put_body(&mut front, packet.body());
     match packet.body() {
         Body::Report { actions, .. } => put_report(out, &front, actions.as_slice()),
+        Body::PromiseRange { votes, .. } => put_promise_range(out, &front, votes.as_slice()),
         Body::Call { .. }
         | Body::Prepare { .. }
         | Body::Promise { .. }
@@ -85,7 +90,8 @@ pub fn encode_onto(packet: &Packet, out: &mut Vec<u8>) -> Result<(), AllocError>
         | Body::Decided { .. }
         | Body::Ask { .. }
         | Body::Nack { .. }
-        | Body::Reply { .. } => out.extend_from_slice(front.as_slice()),
+        | Body::Reply { .. }
+        | Body::PrepareRange { .. } => out.extend_from_slice(front.as_slice()),
     }
 }
 

@@ -3,13 +3,13 @@
 
 ghost use Rattle.std.specs.Prelude.{◌≡◌, ◌+◌, ◌≤◌, ◌++◌, length};
 ghost use Rattle.std.specs.Int.{w16, w32, w64};
-ghost use Rattle.rp_codec.specs.Text.{number_text, signed_text, position_text, ballot_text};
-ghost use Rattle.rp_codec.specs.Reading.{Gives, byte_at, number_at, signed_at, index_at, count_at, position_at, ballot_at};
+ghost use Rattle.rp_codec.specs.Text.{number_text, signed_text, position_text, ballot_text, range_text};
+ghost use Rattle.rp_codec.specs.Reading.{Gives, byte_at, number_at, signed_at, index_at, count_at, position_at, ballot_at, range_at};
 
 use crate::reader::Reader;
 use crate::short_text::ShortText;
 use byteorder::{BigEndian, ByteOrder};
-use rp_base::{Ballot, PacketReason, Position};
+use rp_base::{Ballot, PacketReason, Position, PositionRange};
 
 /// The version of the texts that are written, their first byte.
 pub(crate) const VERSION: u8 = 2;
@@ -79,6 +79,20 @@ pub(crate) fn read_ballot(reader: &mut Reader) -> Result<Ballot, PacketReason>
     }
 }
 
+/// 1 to 64 positions, the last at most 65,535.
+#[inline(always)]
+#[tactic(auto, unfolding(crate::specs::Reading::range_at))]
+pub(crate) fn read_range(reader: &mut Reader) -> Result<PositionRange, PacketReason>
+    ensures { Gives result reader.new (range_at reader.old) }
+{
+    let first = read_position(reader)?;
+    let count = reader.byte()?;
+    match PositionRange::new(first, count) {
+        Ok(range) => Ok(range),
+        Err(_) => Err(PacketReason::Field),
+    }
+}
+
 #[inline(always)]
 #[tactic(auto, unfolding(crate::specs::Text::number_text))]
 pub(crate) fn put_u16(text: &mut ShortText, number: u16)
@@ -134,4 +148,14 @@ pub(crate) fn put_ballot(text: &mut ShortText, ballot: Ballot)
     let mut bytes = [0; 8];
     BigEndian::write_u64(&mut bytes, ballot.get());
     text.put(&bytes);
+}
+
+#[inline(always)]
+pub(crate) fn put_range(text: &mut ShortText, range: PositionRange)
+    requires { length text.old + 3 ≤ 40 }
+    ensures text { text.new ≡ text.old ++ range_text range }
+    ensures len { length text.new ≡ length text.old + 3 }
+{
+    put_position(text, range.first());
+    text.put(&[range.count()]);
 }

@@ -16,6 +16,8 @@ pub(crate) enum Kind {
     Nack,
     Reply,
     Report,
+    PrepareRange,
+    PromiseRange,
 }
 
 impl Kind {
@@ -35,6 +37,8 @@ impl Kind {
             8 => Some(Kind::Nack),
             9 => Some(Kind::Reply),
             10 => Some(Kind::Report),
+            12 => Some(Kind::PrepareRange),
+            13 => Some(Kind::PromiseRange),
             _ => None,
         }
     }

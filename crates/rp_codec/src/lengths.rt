@@ -32,7 +32,8 @@ fn reply_len(tag: u8) -> usize
 }
 
 /// How many bytes the packet's text has, of version 1 or 2, that the bytes begin with. Any bytes may
-/// follow it. It reads three bytes at most, but for a report, which it reads whole. It takes no memory.
+/// follow it. It reads three bytes at most, but for a report and a promise for a range, which it reads
+/// whole. It takes no memory.
 #[inline(always)]
 pub fn text_len(bytes: &[u8]) -> usize
     requires { BeginsWithPacket bytes.now }
@@ -50,6 +51,7 @@ pub fn text_len(bytes: &[u8]) -> usize
         7 => 6,
         8 => 22,
         9 => 8 + reply_len(bytes[8]),
+        12 => 15,
         _ => packet_len(bytes).unwrap(),
     }
 }

@@ -4,6 +4,7 @@
 //! In reading order:
 //! - `packet`: what nodes and tasks say to one another
 //! - `actions`: the actions of a report
+//! - `votes`: the votes of a promise for a range
 //! - `rules`: who may say what to whom
 //! - `kind`: the kinds of packets
 //! - `version`: the versions of texts
@@ -12,8 +13,9 @@
 //! - `action_text`: actions as bytes
 //! - `reply_text`: replies as bytes
 //! - `report_text`: reports as bytes
+//! - `votes_text`: promises for a range as bytes
 //! - `body_text`: bodies as bytes
-//! - `content`: what was read of a packet, before memory is taken for a report's actions
+//! - `content`: what was read of a packet, before memory is taken for a list
 //! - `usual_texts`: packets of the usual kinds, each read in one piece
 //! - `encoding`: packets to bytes
 //! - `decoding`: bytes to packets
@@ -40,6 +42,8 @@ mod rules;
 mod short_text;
 mod usual_texts;
 mod version;
+mod votes;
+mod votes_text;
 
 pub use actions::Actions;
 pub use decoding::{decode, packet_len};
@@ -52,3 +56,4 @@ pub use record_text::{
 pub use rules::report_len;
 pub use short_text::ShortText;
 pub use version::Version;
+pub use votes::Votes;

@@ -4,7 +4,8 @@ ghost use Rattle.std.specs.Prelude.{◌≡◌, ◌↔◌, IsSome, IfSome};
 
 use crate::actions::Actions;
 use crate::rules;
-use rp_base::{Action, Ballot, NodeId, Position, TaskId, Vote};
+use crate::votes::Votes;
+use rp_base::{Action, Ballot, NodeId, Position, PositionRange, TaskId, Vote};
 use std::alloc::AllocError;
 use std::marker::Model;
 
@@ -75,12 +76,24 @@ pub enum Body {
         applied: u16,
         actions: Actions,
     },
+    /// A leader asks for promises at each position of the range.
+    PrepareRange {
+        range: PositionRange,
+        ballot: Ballot,
+    },
+    /// The node takes no part in lower ballots at each position of the range, and these are its last
+    /// votes there, by rising position.
+    PromiseRange {
+        range: PositionRange,
+        ballot: Ballot,
+        votes: Votes,
+    },
 }
 
 /// A body with who says it and who hears it, by the rules: a task calls a node, in a call of its
 /// own; a node replies to a task and reports to the audit; all else goes from node to node. Actions
-/// are right, a promise's vote is in a lower ballot, the bound of a `Nack` is above its ballot, and a
-/// report has as many actions as `report_len` says.
+/// are right, a promise's votes are in lower ballots, those for a range at positions of it that rise,
+/// the bound of a `Nack` is above its ballot, and a report has as many actions as `report_len` says.
 #[derive(Debug, PartialEq, Eq, Drop)]
 pub struct Packet {
     from: Party,

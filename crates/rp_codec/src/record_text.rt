@@ -1,15 +1,17 @@
 //! Records as bytes: the version, and then a byte that says which they are: 1 `Started`,
-//! 2 `Promised`, 3 `Voted`, 4 `Learned`.
+//! 2 `Promised`, 3 `Voted`, 4 `Learned`, 5 `PromisedRange`.
 
 ghost use Rattle.std.specs.Prelude.{◌≡◌, ◌≤◌, ℕ, List, ◌++◌, ◌↔◌, length, Some, IsSome, IfSome, IfOk};
 ghost use Rattle.rp_base.specs.declared.record.Rec.{Rec};
 ghost use Rattle.rp_codec.specs.declared.version.Version.{Version};
 ghost use Rattle.rp_codec.specs.Record.{record_text_at, record_text, HasRecordText, IsRecordTextBefore, IsRecord, BeginsWithRecord};
 ghost use Rattle.rp_codec.specs.Reading.{Gives};
-ghost use Rattle.rp_codec.specs.RecordReading.{started_at, promised_at, voted_at, learned_at, record_at};
+ghost use Rattle.rp_codec.specs.RecordReading.{started_at, promised_at, voted_at, learned_at, promised_range_at, record_at};
 
 use crate::action_text::{put_action, read_action};
-use crate::fields::{VERSION, put_ballot, put_position, read_ballot, read_position};
+use crate::fields::{
+    VERSION, put_ballot, put_position, put_range, read_ballot, read_position, read_range,
+};
 use crate::reader::Reader;
 use crate::short_text::ShortText;
 use crate::version::Version;
@@ -52,6 +54,15 @@ fn read_learned(reader: &mut Reader, version: Version) -> Result<Rec, PacketReas
     Ok(Rec::Learned(position, action))
 }
 
+#[tactic(auto, unfolding(crate::specs::RecordReading::promised_range_at))]
+fn read_promised_range(reader: &mut Reader) -> Result<Rec, PacketReason>
+    ensures { Gives result reader.new (promised_range_at reader.old) }
+{
+    let range = read_range(reader)?;
+    let ballot = read_ballot(reader)?;
+    Ok(Rec::PromisedRange(range, ballot))
+}
+
 #[tactic(auto, unfolding(crate::specs::RecordReading::record_at))]
 fn read_record(reader: &mut Reader) -> Result<Rec, PacketReason>
     ensures { Gives result reader.new (record_at reader.old) }
@@ -66,6 +77,7 @@ fn read_record(reader: &mut Reader) -> Result<Rec, PacketReason>
         2 => read_promised(reader),
         3 => read_voted(reader, version),
         4 => read_learned(reader, version),
+        5 => read_promised_range(reader),
         _ => Err(PacketReason::Field),
     }
 }
@@ -98,6 +110,12 @@ pub fn text_of_record(rec: &Rec) -> ShortText
             let mut text = ShortText::starting_with(&[VERSION, 4]);
             put_position(&mut text, *position);
             put_action(&mut text, action);
+            text
+        }
+        Rec::PromisedRange(range, ballot) => {
+            let mut text = ShortText::starting_with(&[VERSION, 5]);
+            put_range(&mut text, *range);
+            put_ballot(&mut text, *ballot);
             text
         }
     }

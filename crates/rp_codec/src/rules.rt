@@ -1,12 +1,15 @@
 //! Who may say what to whom.
 
-ghost use Rattle.std.specs.Prelude.{◌≡◌, ◌↔◌, ◌<◌, ◌^◌, IfSome, IsTrue};
+ghost use Rattle.std.specs.Prelude.{◌≡◌, ◌↔◌, ◌<◌, ◌^◌, All, IfSome, IsTrue};
 ghost use Rattle.rp_base.specs.Action.{IsRight};
 ghost use Rattle.rp_base.specs.Right.{IsReply};
 ghost use Rattle.rp_codec.specs.Message.{IsParty, IsBody, IsNodeParty, IsTaskParty, IsAudit, IsCallBy, IsCallOf, BetweenNodes, IsVoteBelow, IsReport, MayCall, MaySay, report_len};
+ghost use Rattle.rp_base.specs.Ballot.{IsBallot};
+ghost use Rattle.rp_base.specs.Ranges.{IsRange};
+ghost use Rattle.rp_base.specs.PlacedVotes.{AreRising, AreReported};
 
 use crate::packet::{Body, Party};
-use rp_base::{Action, Ballot, Position, Reply, TaskId, Vote};
+use rp_base::{Action, Ballot, PlacedVote, Position, PositionRange, Reply, TaskId, Vote};
 
 /// How many actions the longest report tells.
 const MOST_ACTIONS: u32 = 200;
@@ -38,11 +41,26 @@ fn applied_in_range(applied: u16)
     ensures { applied < 2 ^ 16 }
 {}
 
+fn range_in_range(range: PositionRange)
+    ensures { IsRange range }
+{
+    let _first = range.first();
+}
+
+/// Shows that each ballot of the votes is one.
+fn votes_in_range(votes: &[PlacedVote])
+    ensures { All (λ placed. IsBallot placed.vote.ballot) votes.now }
+{
+    for placed in votes {
+        let _number = placed.vote.ballot.get();
+    }
+}
+
 /// Shows that each position and each ballot of a body is within its range.
 pub(crate) fn body_in_range(body: &Body)
     ensures { IsBody body.now }
 {
-    match *body {
+    match body {
         Body::Call { action: _ } => {}
         Body::Prepare { position, ballot }
         | Body::Accept {
@@ -81,10 +99,23 @@ pub(crate) fn body_in_range(body: &Body)
         } => {
             let _numbers = (position.get(), ballot.get(), bound.get());
         }
-        Body::Reply { number: _, reply } => reply_in_range(reply),
+        Body::Reply { number: _, reply } => reply_in_range(*reply),
         Body::Report { first, applied, .. } => {
             let _number = first.get();
-            applied_in_range(applied);
+            applied_in_range(*applied);
+        }
+        Body::PrepareRange { range, ballot } => {
+            range_in_range(*range);
+            let _number = ballot.get();
+        }
+        Body::PromiseRange {
+            range,
+            ballot,
+            votes,
+        } => {
+            range_in_range(*range);
+            let _number = ballot.get();
+            votes_in_range(votes.as_slice());
         }
     }
 }
@@ -168,13 +199,36 @@ fn is_report(first: Position, applied: u16, actions: &[Action]) -> bool
         && actions.iter().all(|action| action.is_right())
 }
 
+/// Whether the positions of the votes rise, from the first one on and below the end.
+fn are_rising(first: u32, end: u32, votes: &[PlacedVote]) -> bool
+    ensures { IsTrue result ↔ AreRising first end votes.now }
+{
+    match votes {
+        [] => true,
+        [placed, later @ ..] => {
+            let number = u32::from(placed.position.get());
+            first <= number && number < end && are_rising(number + 1, end, later)
+        }
+    }
+}
+
+fn are_reported(range: PositionRange, ballot: Ballot, votes: &[PlacedVote]) -> bool
+    ensures { IsTrue result ↔ AreReported range ballot votes.now }
+{
+    are_rising(u32::from(range.first().get()), range.end(), votes)
+        && votes.iter().all(|placed| placed.vote.ballot < ballot)
+        && votes.iter().all(|placed| placed.vote.action.is_right())
+}
+
 /// Whether this party may say this to that one.
 pub(crate) fn may_say(from: &Party, to: &Party, body: &Body) -> bool
     ensures { IsTrue result ↔ MaySay from.now to.now body.now }
 {
     match body {
         Body::Call { action } => is_call(from, to, action),
-        Body::Prepare { .. } | Body::Ask { .. } => between_nodes(from, to),
+        Body::Prepare { .. } | Body::PrepareRange { .. } | Body::Ask { .. } => {
+            between_nodes(from, to)
+        }
         Body::Promise { ballot, last, .. } => {
             between_nodes(from, to) && is_last_below(*ballot, *last)
         }
@@ -192,5 +246,10 @@ pub(crate) fn may_say(from: &Party, to: &Party, body: &Body) -> bool
         } => {
             is_node_party(from) && is_audit(to) && is_report(*first, *applied, actions.as_slice())
         }
+        Body::PromiseRange {
+            range,
+            ballot,
+            votes,
+        } => between_nodes(from, to) && are_reported(*range, *ballot, votes.as_slice()),
     }
 }

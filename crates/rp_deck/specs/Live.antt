@@ -3,7 +3,7 @@ use Rattle.std.specs.Prelude.{All}
 use Rattle.rp_model.specs.declared.event.Event.{Event}
 use Rattle.rp_model.specs.declared.event.Event.TheVariants.{Submit, Again, Node, Cut, Stop, Restart}
 use Rattle.rp_model.specs.declared.event.Step.{Step}
-use Rattle.rp_model.specs.declared.event.Step.TheVariants.{Deliver, Lead, Interrupt, Tick, Report}
+use Rattle.rp_model.specs.declared.event.Step.TheVariants.{Deliver, Lead, LeadRange, Interrupt, Tick, Report}
 use Rattle.rp_deck.specs.declared.deck.Command.{Command}
 use Rattle.rp_deck.specs.declared.deck.Command.TheVariants.{Take, Lose, Drain, Show}
 use Rattle.rp_deck.specs.declared.deck.Deck.{Deck}
@@ -14,6 +14,7 @@ use Rattle.rp_deck.specs.declared.deck.Mode.TheVariants.{Script, Live}
 abbrev pub IsLiveStep : Step → Type 0
 IsLiveStep (Deliver message) = ⊥
 IsLiveStep (Lead node position) = ⊥
+IsLiveStep (LeadRange node first count) = ⊥
 IsLiveStep (Interrupt node interrupt) = Unit {0}
 IsLiveStep (Tick node now) = Unit {0}
 IsLiveStep (Report node first) = ⊥

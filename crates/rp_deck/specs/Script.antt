@@ -7,7 +7,7 @@ use Rattle.rp_model.specs.Events.{IsEvent, event_of}
 use Rattle.rp_model.specs.declared.event.Event.{Event}
 use Rattle.rp_model.specs.declared.event.Event.TheVariants.{Submit, Again, Node, Cut, Stop, Restart}
 use Rattle.rp_model.specs.declared.event.Step.{Step}
-use Rattle.rp_model.specs.declared.event.Step.TheVariants.{Deliver, Lead, Interrupt, Tick, Report}
+use Rattle.rp_model.specs.declared.event.Step.TheVariants.{Deliver, Lead, LeadRange, Interrupt, Tick, Report}
 use Rattle.rp_deck.specs.declared.deck.Command.{Command}
 use Rattle.rp_deck.specs.declared.deck.Command.TheVariants.{Take, Lose, Drain, Show}
 use Rattle.rp_deck_declarations.specs.declared.deck_program.DeckProgram.{DeckProgram}
@@ -27,6 +27,7 @@ IsMessage message = (1 ≤ message) × (message < 2 ^ 63)
 abbrev pub IsStepWithin : ℕ → Step → Type 0
 IsStepWithin nodes (Deliver message) = IsMessage message
 IsStepWithin nodes (Lead node position) = IsUpTo nodes node
+IsStepWithin nodes (LeadRange node first count) = IsUpTo nodes node × IsUpTo 64 count
 IsStepWithin nodes (Interrupt node interrupt) = IsUpTo nodes node
 IsStepWithin nodes (Tick node now) = IsUpTo nodes node
 IsStepWithin nodes (Report node first) = IsUpTo nodes node
@@ -59,6 +60,7 @@ KeepsRanges Show = Unit {0}
 abbrev pub IsStepDeclared : ℕ → Step → Type 0
 IsStepDeclared interrupts (Deliver message) = Unit {0}
 IsStepDeclared interrupts (Lead node position) = Unit {0}
+IsStepDeclared interrupts (LeadRange node first count) = Unit {0}
 IsStepDeclared interrupts (Interrupt node interrupt) = IsUpTo interrupts interrupt.source
 IsStepDeclared interrupts (Tick node now) = Unit {0}
 IsStepDeclared interrupts (Report node first) = Unit {0}

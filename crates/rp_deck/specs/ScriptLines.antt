@@ -6,7 +6,7 @@ use Rattle.rp_base.specs.declared.action.Operation.{Operation}
 use Rattle.rp_base.specs.declared.action.Operation.TheVariants.{SetTimer, CancelTimer}
 use Rattle.rp_base.specs.declared.fault.DeckReason.{DeckReason}
 use Rattle.rp_base.specs.declared.fault.DeckReason.TheVariants.{UnknownWord, UnknownName, NotInLive}
-use Rattle.rp_model.specs.Events.{Event, Step, Submit, Again, Makes, Cut, Stop, Restart, Deliver, Lead, Interrupt, Tick}
+use Rattle.rp_model.specs.Events.{Event, Step, Submit, Again, Makes, Cut, Stop, Restart, Deliver, Lead, LeadRange, Interrupt, Tick}
 use Rattle.rp_deck.specs.declared.deck.Mode.{Mode}
 use Rattle.rp_deck.specs.declared.deck.Mode.TheVariants.{Script, Live}
 use Rattle.rp_deck.specs.declared.verbs.Verb.{Verb}
@@ -36,6 +36,7 @@ verb_named word =
     else if bytes_eq word (codes "disarm") then Some verbs.Disarm
     else if bytes_eq word (codes "again") then Some verbs.Again
     else if bytes_eq word (codes "lead") then Some verbs.Lead
+    else if bytes_eq word (codes "range") then Some verbs.Range
     else if bytes_eq word (codes "deliver") then Some verbs.Deliver
     else if bytes_eq word (codes "lose") then Some verbs.Lose
     else if bytes_eq word (codes "drain") then Some verbs.Drain
@@ -113,6 +114,14 @@ lead_at nodes words = do
   position ← position_at node.1
   Ok (Lead node.0 position.0, position.1)
 
+-- `range NODE FIRST COUNT`
+unfoldable pub range_at : ℕ → List ℕ → Result (Step × List ℕ) DeckReason
+range_at nodes words = do
+  node ← number_at 1 nodes words
+  first ← number_at 1 65535 node.1
+  count ← number_at 1 64 first.1
+  Ok (LeadRange node.0 first.0 count.0, count.1)
+
 -- `deliver M`
 unfoldable pub deliver_at : List ℕ → Result (Step × List ℕ) DeckReason
 deliver_at words = do
@@ -134,10 +143,11 @@ tick_at nodes words = do
   now ← number_at 0 (2 ^ 32 - 1) node.1
   Ok (Tick node.0 now.0, now.1)
 
--- a step that may be cut, `lead NODE [POSITION]` or `deliver M`, by its first word
+-- a step that may be cut, `lead NODE [POSITION]`, `range NODE FIRST COUNT` or `deliver M`, by its first word
 unfoldable pub step_from : ℕ → List ℕ → List ℕ → Result (Step × List ℕ) DeckReason
 step_from nodes first words =
     if bytes_eq first (codes "lead") then lead_at nodes words
+    else if bytes_eq first (codes "range") then range_at nodes words
     else if bytes_eq first (codes "deliver") then deliver_at words
     else Err UnknownWord
 
@@ -176,7 +186,7 @@ again_at d words = do
   node ← number_at 1 d.nodes task.1
   Ok (Again task.0 node.0, node.1)
 
--- `cut KEPT lead NODE [POSITION]`, `cut KEPT deliver M`
+-- `cut KEPT lead NODE [POSITION]`, `cut KEPT range NODE FIRST COUNT`, `cut KEPT deliver M`
 unfoldable pub cut_at : ℕ → List ℕ → Result (Event × List ℕ) DeckReason
 cut_at nodes words = do
   kept ← number_at 0 (2 ^ 63 - 1) words
@@ -200,6 +210,7 @@ command_at d verbs.Arm words = made_of Take (arm_at d words)
 command_at d verbs.Disarm words = made_of Take (disarm_at d words)
 command_at d verbs.Again words = made_of Take (again_at d words)
 command_at d verbs.Lead words = made_of (λ step. Take (Makes step)) (lead_at d.nodes words)
+command_at d verbs.Range words = made_of (λ step. Take (Makes step)) (range_at d.nodes words)
 command_at d verbs.Deliver words = made_of (λ step. Take (Makes step)) (deliver_at words)
 command_at d verbs.Lose words = lose_at words
 command_at d verbs.Drain words = Ok (Drain, words)

@@ -8,7 +8,7 @@ ghost use Rattle.rp_words.specs.LineFaults.{IsDeckFault, Reads};
 ghost use Rattle.rp_deck.specs.Live.{IsLiveCommand, IsTaken};
 ghost use Rattle.rp_words.specs.Reading.{Gives};
 ghost use Rattle.rp_deck.specs.Script.{IsRightCommand, IsRightLine, IsRightEvent, IsStepDeclared, IsStepWithin, IsEventDeclared, IsEventWithin, IsCommandDeclared, IsMessage, FitsIn};
-ghost use Rattle.rp_deck.specs.ScriptLines.{script_of, command_line, command_at, is_live, lose_at, last_at, message_at, lead_at, deliver_at, position_at, step_from, again_at, cut_at};
+ghost use Rattle.rp_deck.specs.ScriptLines.{script_of, command_line, command_at, is_live, lose_at, last_at, message_at, lead_at, range_at, deliver_at, position_at, step_from, again_at, cut_at};
 ghost use Rattle.rp_deck_declarations.specs.DeclaredViews.{names_of};
 ghost use Rattle.rp_deck.specs.DeckViews.{command_text, line_command};
 ghost use Rattle.rp_words.specs.Words.{unread};
@@ -96,6 +96,7 @@ fn command_of(verb: Verb, words: &mut Words<'_>, declared: &Declared) -> Result<
         Verb::Restart => Ok(Command::Take(Event::Restart(read_node(words, declared.nodes)?))),
         Verb::Cut => Ok(Command::Take(read_cut(words, declared.nodes)?)),
         Verb::Lead => Ok(Command::Take(Event::Node(read_lead(words, declared.nodes)?))),
+        Verb::Range => Ok(Command::Take(Event::Node(read_range(words, declared.nodes)?))),
         Verb::Deliver => Ok(Command::Take(Event::Node(read_deliver(words)?))),
         Verb::Interrupt => Ok(Command::Take(Event::Node(read_interrupt(words, declared)?))),
         Verb::Tick => Ok(Command::Take(Event::Node(read_tick(words, declared.nodes)?))),
@@ -118,7 +119,8 @@ fn read_again(words: &mut Words<'_>, declared: &Declared) -> Result<Event, DeckR
     Ok(Event::Again { task, node })
 }
 
-/// Reads the rest of `cut KEPT lead NODE [POSITION]` or `cut KEPT deliver M`.
+/// Reads the rest of `cut KEPT lead NODE [POSITION]`, `cut KEPT range NODE FIRST COUNT` or
+/// `cut KEPT deliver M`.
 #[tactic(auto, unfolding(crate::specs::ScriptLines::cut_at))]
 fn read_cut(words: &mut Words<'_>, nodes: u8) -> Result<Event, DeckReason>
     requires { nodes ≤ 7 }
@@ -135,7 +137,8 @@ fn read_cut(words: &mut Words<'_>, nodes: u8) -> Result<Event, DeckReason>
     Ok(Event::Cut { step, kept })
 }
 
-/// Reads a step that may be cut, `lead NODE [POSITION]` or `deliver M`, after its first word.
+/// Reads a step that may be cut, `lead NODE [POSITION]`, `range NODE FIRST COUNT` or `deliver M`,
+/// after its first word.
 #[tactic(auto, unfolding(crate::specs::ScriptLines::step_from))]
 fn read_step(first: &[u8], words: &mut Words<'_>, nodes: u8) -> Result<Step, DeckReason>
     requires { nodes ≤ 7 }
@@ -146,6 +149,8 @@ fn read_step(first: &[u8], words: &mut Words<'_>, nodes: u8) -> Result<Step, Dec
 {
     if is_word(first, b"lead") {
         read_lead(words, nodes)
+    } else if is_word(first, b"range") {
+        read_range(words, nodes)
     } else if is_word(first, b"deliver") {
         read_deliver(words)
     } else {
@@ -165,6 +170,24 @@ fn read_lead(words: &mut Words<'_>, nodes: u8) -> Result<Step, DeckReason>
     let node = read_node(words, nodes)?;
     let position = read_optional_position(words)?;
     Ok(Step::Lead { node, position })
+}
+
+/// The most positions that a range has.
+const MOST_COVERED: u64 = 64;
+
+/// Reads the rest of `range NODE FIRST COUNT`.
+#[tactic(auto, unfolding(crate::specs::ScriptLines::range_at))]
+fn read_range(words: &mut Words<'_>, nodes: u8) -> Result<Step, DeckReason>
+    requires { nodes ≤ 7 }
+    ensures read { Gives (λ step. (step_of step, unread words.new)) result
+        (range_at nodes (unread words.old)) }
+    ensures within { IfOk result (IsStepWithin nodes) }
+    ensures declared { IfOk result (λ step. (interrupts : ℕ) → IsStepDeclared interrupts step) }
+{
+    let node = read_node(words, nodes)?;
+    let first = read_position(words)?;
+    let count = words.take_number(1, MOST_COVERED)? as u8;
+    Ok(Step::LeadRange { node, first, count })
 }
 
 /// Reads `[POSITION]`.

@@ -14,6 +14,7 @@ pub enum Verb {
     Disarm,
     Again,
     Lead,
+    Range,
     Deliver,
     Lose,
     Drain,
@@ -41,6 +42,8 @@ impl Verb {
             Some(Verb::Again)
         } else if is_word(word, b"lead") {
             Some(Verb::Lead)
+        } else if is_word(word, b"range") {
+            Some(Verb::Range)
         } else if is_word(word, b"deliver") {
             Some(Verb::Deliver)
         } else if is_word(word, b"lose") {

@@ -11,7 +11,7 @@ use Rattle.std.proofs.lemmas.Slice.Eq.{bytes_eq-Decides}
 use Rattle.rp_base.specs.declared.action.Operation.{Operation}
 use Rattle.rp_base.specs.declared.action.Operation.TheVariants as operations
 use Rattle.rp_base.specs.declared.fault.DeckReason.{DeckReason}
-use Rattle.rp_model.specs.Events.{Event, Step, Submit, Again, Makes, Cut, Stop, Restart, Deliver, Lead, Interrupt, Tick, Report}
+use Rattle.rp_model.specs.Events.{Event, Step, Submit, Again, Makes, Cut, Stop, Restart, Deliver, Lead, LeadRange, Interrupt, Tick, Report}
 use Rattle.rp_deck.specs.declared.deck.Mode.TheVariants.{Script}
 use Rattle.rp_deck.specs.declared.verbs.Verb.{Verb}
 use Rattle.rp_deck.specs.declared.verbs.Verb.TheVariants as verbs
@@ -21,7 +21,7 @@ use Rattle.rp_words.specs.Reading.{made_of, number_at}
 use Rattle.rp_deck.specs.Script.{IsUpTo, IsMessage}
 use Rattle.rp_deck_objects.specs.ObjectViews.{OperationsText}
 use Rattle.rp_deck_declarations.specs.ScriptNames.{DeclaredNames}
-use Rattle.rp_deck.specs.ScriptLines.{declared_at, operation_at, timer_at, message_at, argument_at, position_at, last_at, lead_at, deliver_at, interrupt_at, tick_at, step_from, call_at, arm_at, disarm_at, again_at, cut_at, lose_at, CommandText, Take, Lose, Drain, Show, verb_named, command_at, command_line}
+use Rattle.rp_deck.specs.ScriptLines.{declared_at, operation_at, timer_at, message_at, argument_at, position_at, last_at, lead_at, range_at, deliver_at, interrupt_at, tick_at, step_from, call_at, arm_at, disarm_at, again_at, cut_at, lose_at, CommandText, Take, Lose, Drain, Show, verb_named, command_at, command_line}
 use Rattle.rp_deck_text.specs.ScriptText.{spaced, line_of, step_words, submit_words, event_words, command_words, name_numbered, same_operation, operation_name_in, operation_name, operations_numbered, is_distinct, are_names, AreDeclared, IsOneOf, IsCallOf, IsTimerOf, IsSubmitOf, IsStepOf, MayBeCut, IsEventOf, IsCommandOf}
 use Rattle.rp_words.proofs.WordsLemmas.{both}
 use Rattle.rp_words.proofs.TablesLemmas.{found_step}
@@ -224,6 +224,16 @@ lead_any : (d : DeclaredNames) (node : ℕ) → AreDeclared d → IsUpTo d.nodes
 unfolding lead_at
 lead_any d node right within = rw (node_back d node [] right within, no_position) refl
 
+range_back : (d : DeclaredNames) (node first count : ℕ) → AreDeclared d → IsUpTo d.nodes node → IsUpTo 65535 first → IsUpTo 64 count
+    → range_at d.nodes (spaced (decimal node ∷ decimal first ∷ decimal count ∷ [])) ≡ Ok (LeadRange node first count, spaced [])
+unfolding range_at
+range_back d node first count right within position few =
+    rw (
+      node_back d node (decimal first ∷ decimal count ∷ []) right within,
+      number_back 1 65535 first (decimal count ∷ []) position.0 position.1 (omega (arith, position.1)),
+      number_back 1 64 count [] few.0 few.1 (omega (arith, few.1)),
+    ) refl
+
 deliver_back : (message : ℕ) → IsMessage message → deliver_at (spaced (decimal message ∷ [])) ≡ Ok (Deliver message, spaced [])
 unfolding deliver_at
 deliver_back message is = rw (message_back message [] is) refl
@@ -300,6 +310,10 @@ cut_lead : (nodes : ℕ) (words : List (List ℕ)) → step_from nodes (codes "l
 unfolding step_from
 cut_lead nodes words = refl
 
+cut_range : (nodes : ℕ) (words : List (List ℕ)) → step_from nodes (codes "range") (spaced words) ≡ range_at nodes (spaced words)
+unfolding step_from
+cut_range nodes words = refl
+
 cut_deliver : (nodes : ℕ) (words : List (List ℕ)) → step_from nodes (codes "deliver") (spaced words) ≡ deliver_at (spaced words)
 unfolding step_from
 cut_deliver nodes words = refl
@@ -327,6 +341,8 @@ step_back : (d : DeclaredNames) (number : ℕ) (step : Step) → AreDeclared d �
 step_back d number (Deliver message) right is = line_back d number (codes "deliver") (decimal message ∷ []) verbs.Deliver _ refl (ap made (deliver_back message is))
 step_back d number (Lead node None) right is = line_back d number (codes "lead") (decimal node ∷ []) verbs.Lead _ refl (ap made (lead_any d node right is.0))
 step_back d number (Lead node (Some position)) right is = line_back d number (codes "lead") (decimal node ∷ decimal position ∷ []) verbs.Lead _ refl (ap made (lead_back d node position right is.0 is.1))
+step_back d number (LeadRange node first count) right is =
+    line_back d number (codes "range") (decimal node ∷ decimal first ∷ decimal count ∷ []) verbs.Range _ refl (ap made (range_back d node first count right is.0 is.1 is.2))
 step_back d number (Interrupt node source occurrence) right is =
     line_back d number (codes "irq") (decimal node ∷ name_numbered d.interrupts source ∷ decimal occurrence ∷ []) verbs.Interrupt _ refl (ap made (interrupt_back d node source occurrence right is.0 is.1 is.2))
 step_back d number (Tick node now) right is = line_back d number (codes "tick") (decimal node ∷ decimal now ∷ []) verbs.Tick _ refl (ap made (tick_back d node now right is.0 is.1))
@@ -340,6 +356,10 @@ cut_line d number kept (Lead node None) right is may small =
 cut_line d number kept (Lead node (Some position)) right is may small =
     line_back d number (codes "cut") (decimal kept ∷ codes "lead" ∷ decimal node ∷ decimal position ∷ []) verbs.Cut _ refl
     (ap taken (cut_back d kept (codes "lead") (decimal node ∷ decimal position ∷ []) (Lead node (Some position)) small refl (cut_lead d.nodes (decimal node ∷ decimal position ∷ []) ∙ lead_back d node position right is.0 is.1)))
+cut_line d number kept (LeadRange node first count) right is may small =
+    line_back d number (codes "cut") (decimal kept ∷ codes "range" ∷ decimal node ∷ decimal first ∷ decimal count ∷ []) verbs.Cut _ refl
+    (ap taken (cut_back d kept (codes "range") (decimal node ∷ decimal first ∷ decimal count ∷ []) (LeadRange node first count) small refl
+    (cut_range d.nodes (decimal node ∷ decimal first ∷ decimal count ∷ []) ∙ range_back d node first count right is.0 is.1 is.2)))
 cut_line d number kept (Interrupt node source occurrence) right is may small = absurd may
 cut_line d number kept (Tick node now) right is may small = absurd may
 cut_line d number kept (Report node first) right is may small = absurd may

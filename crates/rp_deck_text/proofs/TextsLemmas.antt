@@ -9,7 +9,7 @@ use Rattle.std.proofs.lemmas.Bool.{leb-true, le-leb, eq-eqb}
 use Rattle.std.proofs.lemmas.Bool.Decides.{nat_tests}
 use Rattle.rp_base.specs.declared.action.Operation.TheVariants as operations
 use Rattle.rp_base.specs.declared.action.Operation.{Operation}
-use Rattle.rp_model.specs.Events.{Event, Step, Submit, Again, Makes, Cut, Stop, Restart, Deliver, Lead, Interrupt, Tick, Report}
+use Rattle.rp_model.specs.Events.{Event, Step, Submit, Again, Makes, Cut, Stop, Restart, Deliver, Lead, LeadRange, Interrupt, Tick, Report}
 use Rattle.rp_deck.specs.declared.deck.Mode.TheVariants.{Script}
 use Rattle.rp_deck.specs.Script.{IsUpTo}
 use Rattle.rp_deck_declarations.specs.ScriptNames.{DeclaredNames}
@@ -137,6 +137,8 @@ step_line : (d : DeclaredNames) (step : Step) → AreDeclared d → IsStepOf d s
 step_line d (Deliver message) right is = (refl, refl, (decimal_solid message is.1, tt))
 step_line d (Lead node None) right is = (refl, refl, (small_node d node right is.0, tt))
 step_line d (Lead node (Some position)) right is = (refl, refl, (small_node d node right is.0, (decimal_solid position (omega (arith, is.1.1)), tt)))
+step_line d (LeadRange node first count) right is =
+    (refl, refl, (small_node d node right is.0, (decimal_solid first (omega (arith, is.1.1)), (decimal_solid count (omega (arith, is.2.1)), tt))))
 step_line d (Interrupt node source occurrence) right is =
     (refl, refl, (small_node d node right is.0, (name_solid (name_numbered d.interrupts source) (numbered d.interrupts source right.interrupts is.1).name, (decimal_solid occurrence (omega (arith, is.2.1)), tt))))
 step_line d (Tick node now) right is = (refl, refl, (small_node d node right is.0, (decimal_solid now (omega (arith, is.1)), tt)))

@@ -6,7 +6,7 @@ use Rattle.std.specs.List.{list_all}
 use Rattle.rp_base.specs.declared.action.Operation.{Operation}
 use Rattle.rp_base.specs.declared.action.Operation.TheVariants as operations
 use Rattle.rp_object.specs.declared.program.Handler.{Handler}
-use Rattle.rp_model.specs.Events.{Event, Step, Submit, Again, Makes, Cut, Stop, Restart, Deliver, Lead, Interrupt, Tick, Report}
+use Rattle.rp_model.specs.Events.{Event, Step, Submit, Again, Makes, Cut, Stop, Restart, Deliver, Lead, LeadRange, Interrupt, Tick, Report}
 use Rattle.rp_words.specs.Lines.{LineText}
 use Rattle.rp_deck.specs.Script.{IsUpTo, IsMessage}
 use Rattle.rp_deck_objects.specs.ObjectViews.{OperationsText}
@@ -56,6 +56,7 @@ abbrev pub step_words : DeclaredNames → Step → List (List ℕ)
 step_words d (Deliver message) = codes "deliver" ∷ decimal message ∷ []
 step_words d (Lead node None) = codes "lead" ∷ decimal node ∷ []
 step_words d (Lead node (Some position)) = codes "lead" ∷ decimal node ∷ decimal position ∷ []
+step_words d (LeadRange node first count) = codes "range" ∷ decimal node ∷ decimal first ∷ decimal count ∷ []
 step_words d (Interrupt node source occurrence) = codes "irq" ∷ decimal node ∷ name_numbered d.interrupts source ∷ decimal occurrence ∷ []
 step_words d (Tick node now) = codes "tick" ∷ decimal node ∷ decimal now ∷ []
 step_words d (Report node first) = []
@@ -158,6 +159,7 @@ IsSubmitOf d object operation arg = IsCallOf d object operation × FitsSigned w6
 abbrev pub IsStepOf : DeclaredNames → Step → Type 0
 IsStepOf d (Deliver message) = IsMessage message
 IsStepOf d (Lead node position) = IsUpTo d.nodes node × IfSome position (IsUpTo 65535)
+IsStepOf d (LeadRange node first count) = IsUpTo d.nodes node × IsUpTo 65535 first × IsUpTo 64 count
 IsStepOf d (Interrupt node source occurrence) =
     IsUpTo d.nodes node × IsUpTo (length d.interrupts) source × IsUpTo (2 ^ 32 - 1) occurrence
 IsStepOf d (Tick node now) = IsUpTo d.nodes node × (now < 2 ^ 32)
@@ -167,6 +169,7 @@ IsStepOf d (Report node first) = ⊥
 abbrev pub MayBeCut : Step → Type 0
 MayBeCut (Deliver message) = Unit {0}
 MayBeCut (Lead node position) = Unit {0}
+MayBeCut (LeadRange node first count) = Unit {0}
 MayBeCut _ = ⊥
 
 abbrev pub IsEventOf : DeclaredNames → Event → Type 0

@@ -7,7 +7,7 @@ use Rattle.rp_base.specs.declared.fault.Fault.TheVariants.{OutOfMemory}
 use Rattle.rp_base.specs.declared.reply.Answer.{Answer}
 use Rattle.rp_boxes.specs.Parts.{Part, Role, OfNode}
 use Rattle.rp_boxes.specs.Seats.{Chair, IsGot, IsReason, IsStopped, IsTurn, IsCutTurn, IsNoTurn, setting_at}
-use Rattle.rp_model.specs.Effect.{Setting, Done, NodeInput, Receive, Lead, Interrupt, Tick, Report, turned, turned_if, effect_while, running_effect}
+use Rattle.rp_model.specs.Effect.{Setting, Done, NodeInput, Receive, Lead, LeadRange, Interrupt, Tick, Report, turned, turned_if, effect_while, running_effect}
 use Rattle.rp_model.specs.Parts.{NodePart, Running, Turn}
 use Rattle.rp_replica.specs.Inputs.{IsRightInput, given_by}
 use Rattle.rp_replica.specs.declared.input.Input.{Input}
@@ -26,6 +26,7 @@ turned_runs node (Err fault) done is = absurd (cc)
 abbrev IsTaken : NodeInput → Type 0
 IsTaken (Receive message) = ⊥
 IsTaken (Lead choice) = ⊥
+IsTaken (LeadRange first count) = ⊥
 IsTaken (Interrupt source occurrence) = Unit {0}
 IsTaken (Tick now) = Unit {0}
 IsTaken (Report first) = Unit {0}
@@ -40,6 +41,7 @@ module _ {S : Type 0} (s : Setting S) (me : ℕ) (node : NodePart) where
   only_memory input None fault taken runs why = absurd (cc)
   only_memory (Receive message) (Some running) fault taken runs why = absurd taken
   only_memory (Lead choice) (Some running) fault taken runs why = absurd taken
+  only_memory (LeadRange first count) (Some running) fault taken runs why = absurd taken
   only_memory (Interrupt source occurrence) (Some running) fault taken runs why = why
   only_memory (Tick now) (Some running) fault taken runs why = why
   only_memory (Report first) (Some running) fault taken runs why = why
@@ -88,6 +90,7 @@ module _ {S P : Type 0} (next : S → Action → S) (answers : S → Action → 
   note_taken : (input : Input) (given : NodeInput) → IsNote input → given_by input ≡ Ok given → IsTaken given
   note_taken (inputs.Receive bytes) given note is = absurd note
   note_taken (inputs.Lead choice) given note is = absurd note
+  note_taken (inputs.LeadRange range) given note is = absurd note
   note_taken (inputs.Interrupt source occurrence) given note is = let e : Interrupt source occurrence ≡ given = cc in subst IsTaken e tt
   note_taken (inputs.Tick now) given note is = let e : Tick now ≡ given = cc in subst IsTaken e tt
   note_taken (inputs.Report first) given note is = absurd note
@@ -111,6 +114,7 @@ module _ {S P : Type 0} (next : S → Action → S) (answers : S → Action → 
 pub note_right : (input : Input) → IsNote input → IsRightInput input
 note_right (inputs.Receive bytes) note = tt
 note_right (inputs.Lead choice) note = tt
+note_right (inputs.LeadRange range) note = tt
 note_right (inputs.Interrupt source occurrence) note = note
 note_right (inputs.Tick now) note = tt
 note_right (inputs.Report first) note = tt
@@ -118,6 +122,7 @@ note_right (inputs.Report first) note = tt
 pub note_got : (part : Part) (input : Input) → IsNote input → IsGot part input
 note_got part (inputs.Receive bytes) note = absurd note
 note_got part (inputs.Lead choice) note = tt
+note_got part (inputs.LeadRange range) note = tt
 note_got part (inputs.Interrupt source occurrence) note = tt
 note_got part (inputs.Tick now) note = tt
 note_got part (inputs.Report first) note = tt

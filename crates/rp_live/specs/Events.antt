@@ -3,13 +3,14 @@ use Rattle.std.specs.Prelude.{ℕ, ◌≤◌, nat_eq, Option, Some, None, if◌t
 use Rattle.rp_model.specs.declared.event.Event.{Event}
 use Rattle.rp_model.specs.declared.event.Event.TheVariants.{Submit, Again, Node, Cut, Stop, Restart}
 use Rattle.rp_model.specs.declared.event.Step.{Step}
-use Rattle.rp_model.specs.declared.event.Step.TheVariants.{Deliver, Lead, Interrupt, Tick, Report}
+use Rattle.rp_model.specs.declared.event.Step.TheVariants.{Deliver, Lead, LeadRange, Interrupt, Tick, Report}
 use Rattle.rp_threads.specs.declared.tasks.TaskCall.{TaskCall}
 
 -- one of so many nodes notes an interrupt or a tick
 abbrev pub IsNoting : ℕ → Step → Type 0
 IsNoting nodes (Deliver number) = ⊥
 IsNoting nodes (Lead node position) = ⊥
+IsNoting nodes (LeadRange node first count) = ⊥
 IsNoting nodes (Interrupt node interrupt) = node ≤ nodes
 IsNoting nodes (Tick node now) = node ≤ nodes
 IsNoting nodes (Report node first) = ⊥

@@ -5,7 +5,7 @@ use Rattle.rp_base.specs.declared.reply.Answer.{Answer}
 use Rattle.rp_model.specs.declared.event.Event.{Event}
 use Rattle.rp_model.specs.declared.event.Event.TheVariants.{Submit, Again, Node, Cut, Stop, Restart}
 use Rattle.rp_model.specs.declared.event.Step.{Step}
-use Rattle.rp_model.specs.declared.event.Step.TheVariants.{Deliver, Lead, Interrupt, Tick, Report}
+use Rattle.rp_model.specs.declared.event.Step.TheVariants.{Deliver, Lead, LeadRange, Interrupt, Tick, Report}
 use Rattle.rp_replica.specs.declared.input.Input.{Input}
 use Rattle.rp_replica.specs.declared.input.Input.TheVariants as inputs
 use Rattle.rp_replica.specs.declared.sent.Sent.{Sent}
@@ -15,6 +15,7 @@ use Rattle.rp_boxes.specs.Seats.{Chair, IsTurn}
 abbrev pub noted_in : Step → Option (ℕ × Input)
 noted_in (Deliver number) = None
 noted_in (Lead node position) = None
+noted_in (LeadRange node first count) = None
 noted_in (Interrupt node interrupt) = Some (node, inputs.Interrupt interrupt.source interrupt.occurrence)
 noted_in (Tick node now) = Some (node, inputs.Tick now)
 noted_in (Report node first) = None

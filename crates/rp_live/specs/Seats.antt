@@ -7,7 +7,7 @@ use Rattle.rp_boxes.specs.Parts.{Part, OfNode}
 use Rattle.rp_boxes.specs.Seats.{Chair, HasApplied, IsReport}
 use Rattle.rp_model.specs.Parts.{NodePart}
 use Rattle.rp_replica.specs.declared.input.Input.{Input}
-use Rattle.rp_replica.specs.declared.input.Input.TheVariants.{Receive, Lead, Interrupt, Tick, Report}
+use Rattle.rp_replica.specs.declared.input.Input.TheVariants.{Receive, Lead, LeadRange, Interrupt, Tick, Report}
 use Rattle.rp_replica.specs.declared.sent.Sent.{Sent}
 use Rattle.rp_threads.specs.Loops.{IsSameSeat}
 use Rattle.rp_threads.specs.Rounds.{IsNodeFault}
@@ -21,6 +21,7 @@ Runs part = (node : NodePart) × (part.role ≡ OfNode node) × IsSome node.runn
 abbrev pub IsNote : Input → Type 0
 IsNote (Receive bytes) = ⊥
 IsNote (Lead choice) = ⊥
+IsNote (LeadRange range) = ⊥
 IsNote (Interrupt source occurrence) = IsIndex source × IsCount occurrence
 IsNote (Tick now) = Unit {0}
 IsNote (Report first) = ⊥

@@ -10,7 +10,7 @@ use Rattle.std.proofs.lemmas.Bool.{cases_eq, eq-eqb, ne_eqb}
 use Rattle.std.proofs.lemmas.Map.Steps.{le-length_from_below}
 use Rattle.rp_base.specs.declared.action.Action.{Action}
 use Rattle.rp_base.specs.declared.record.Rec.{Rec}
-use Rattle.rp_base.specs.declared.record.Rec.TheVariants.{Started, Promised, Voted, Learned}
+use Rattle.rp_base.specs.declared.record.Rec.TheVariants.{Started, Promised, Voted, Learned, PromisedRange}
 use Rattle.rp_base.specs.Records.{or_else, learned_in, learned_at, learned_run, applied_of, unless_missing}
 use Rattle.rp_log.specs.Contents.{Contents, action_at, with_room, with_action, next_to_take, IsTakenInOrder}
 use Rattle.rp_log.specs.Recorded.{LearnedAlike}
@@ -120,6 +120,7 @@ spots (Started ballot ∷ rest) = spots rest
 spots (Promised position ballot ∷ rest) = spots rest
 spots (Voted position ballot action ∷ rest) = spots rest
 spots (Learned position action ∷ rest) = (position - 1) ∷ spots rest
+spots (PromisedRange range ballot ∷ rest) = spots rest
 
 length-spots : (records : List Rec) → length (spots records) ≤ length records
 unfolding spots
@@ -128,6 +129,7 @@ length-spots (Started ballot ∷ rest) = let h = length-spots rest in omega arit
 length-spots (Promised position ballot ∷ rest) = let h = length-spots rest in omega arith
 length-spots (Voted position ballot action ∷ rest) = let h = length-spots rest in omega arith
 length-spots (Learned position action ∷ rest) = let h = length-spots rest in omega arith
+length-spots (PromisedRange range ballot ∷ rest) = let h = length-spots rest in omega arith
 
 or_true : (b : Bool) → (b || true) ≡ true
 or_true true = refl
@@ -149,6 +151,7 @@ is_spot (Learned position action ∷ rest) q found = ⊎_elim
     subst Found (ne_eqb position (suc q) apart) found in
     ap (λ b. nat_eq q (position - 1) || b) (is_spot rest q later) ∙ or_true (nat_eq q (position - 1)))
     (cases_eq position (suc q))
+is_spot (PromisedRange range ballot ∷ rest) q found = is_spot rest q found
 
 -- ---- the law
 

@@ -1,6 +1,7 @@
 -- No effect is a fault of a device.
 use Rattle.std.proofs.Common.{ℕ, Bool, true, false, if◌then◌else◌, Option, Some, None, Result, Ok, Err, List}
-use Rattle.std.specs.Prelude.{◌^◌, is_some, nat_le, nat_lt, not, ◌||◌}
+use Rattle.std.specs.Prelude.{◌^◌, ◌+◌, is_some, nat_eq, nat_le, nat_lt, not, ◌||◌, length}
+use Rattle.std.specs.List.{list_any}
 use Rattle.rp_base.specs.Action.{is_right}
 use Rattle.rp_base.specs.Ballot.{round_of, next_ballot}
 use Rattle.rp_base.specs.Calls.{are_spent}
@@ -15,8 +16,11 @@ use Rattle.rp_codec.specs.declared.packet.Party.{Party}
 use Rattle.rp_codec.specs.declared.packet.Party.TheVariants.{Node, Task, Audit}
 use Rattle.rp_model.specs.Effect as nodes
 use Rattle.rp_model.specs.Effect.{Setting, Done, NodeInput, running_effect, turned_if, effect_while, node_effect, stops_while, cut_if}
-use Rattle.rp_model.specs.Events.{Step, Deliver, Lead, Interrupt, Tick, Report, Event, Submit, Again, Makes, Cut, Stop, Restart}
-use Rattle.rp_model.specs.Leader.{chosen_position, is_out_of_reach, starts_above, begins}
+use Rattle.rp_model.specs.Events.{Step, Deliver, Lead, LeadRange, Interrupt, Tick, Report, Event, Submit, Again, Makes, Cut, Stop, Restart}
+use Rattle.rp_model.specs.Leader.{chosen_position, is_out_of_reach, starts_above, begins, begins_if, offers, leads_at, unlearned_in, begins_range, on_lead_range}
+use Rattle.rp_base.specs.Number.{in_range}
+use Rattle.rp_base.specs.Proposals.{Proposal, proposal_at, is_prepared}
+use Rattle.rp_base.specs.Ranges.{Range, positions_of, range_of}
 use Rattle.rp_model.specs.Says.{notes}
 use Rattle.rp_model.specs.Parts.{NodePart, TaskPart, Running, Turn}
 use Rattle.rp_model.specs.Tasks as tasks
@@ -80,21 +84,67 @@ task_told : (config : Config) (w : World) (t : ℕ) (message : Message) (o : Opt
 task_told config w t message None = tt
 task_told config w t message (Some part) = task_so w t (task_effect config t part (tasks.Take message)) tt
 
-lead_so : (learned far spent : Bool) (one other : Turn)
-    → NoDevice (let r : Result Turn Fault = if learned then Ok one else if far then Err LogFull else if spent then Err BallotsSpent else Ok other in r)
-lead_so true far spent one other = tt
-lead_so false true spent one other = tt
-lead_so false false true one other = tt
-lead_so false false false one other = tt
+begins_so : (spent : Bool) (turn : Turn) → NoDevice (let r : Result Turn Fault = if spent then Err BallotsSpent else Ok turn in r)
+begins_so true turn = tt
+begins_so false turn = tt
+
+prepared_so : (prepared : Bool) (turn : Turn) (r : Result Turn Fault) → NoDevice r → NoDevice (let s : Result Turn Fault = if prepared then Ok turn else r in s)
+prepared_so true turn r so = tt
+prepared_so false turn r so = so
+
+lead_so : (learned far : Bool) (turn : Turn) (r : Result Turn Fault) → NoDevice r
+    → NoDevice (let s : Result Turn Fault = if learned then Ok turn else if far then Err LogFull else r in s)
+lead_so true far turn r so = tt
+lead_so false true turn r so = tt
+lead_so false false turn r so = so
+
+range_so : (far learned spent : Bool) (one other : Turn)
+    → NoDevice (let r : Result Turn Fault = if far then Err LogFull else if learned then Ok one else if spent then Err BallotsSpent else Ok other in r)
+range_so true learned spent one other = tt
+range_so false true spent one other = tt
+range_so false false true one other = tt
+range_so false false false one other = tt
+
+sized_so : (full : Bool) (range : Range) → NoDevice (let r : Result Range Fault = if full then Err LogFull else Ok range in r)
+sized_so true range = tt
+sized_so false range = tt
+
+counted_so : (wrong : Bool) (r : Result Range Fault) → NoDevice r → NoDevice (let s : Result Range Fault = if wrong then Err BadConfig else r in s)
+counted_so true r so = tt
+counted_so false r so = so
 
 module _ {S : Type 0} (s : Setting S) where
+  begin_is : (me : ℕ) (records : List Rec) (running : Running) (i : ℕ) → NoDevice (begins_if s.next s.answers s.begin s.config.nodes me records running i)
+  begin_is me records running i =
+      let b = next_ballot me (starts_above records running) in
+      begins_so (nat_le (2 ^ 32) (round_of b)) (begins s.next s.answers s.begin s.config.nodes me records running i b)
+
+  leads_is : (me : ℕ) (records : List Rec) (running : Running) (i : ℕ) (o : Option Proposal) → NoDevice (leads_at s.next s.answers s.begin s.config.nodes me records running i o)
+  leads_is me records running i None = begin_is me records running i
+  leads_is me records running i (Some p) =
+      prepared_so (is_prepared s.config.nodes p) (offers s.next s.answers s.begin s.config.nodes me records running p)
+      (begins_if s.next s.answers s.begin s.config.nodes me records running i) (begin_is me records running i)
+
+  leads_range_is : (me : ℕ) (records : List Rec) (running : Running) (r : Result Range Fault) → NoDevice r → NoDevice (on_lead_range s.config me records running r)
+  leads_range_is me records running (Err Device) so = so
+  leads_range_is me records running (Err _) so = so
+  leads_range_is me records running (Ok range) so =
+      let b = next_ballot me (starts_above records running) in
+      range_so (list_any (is_out_of_reach s.config.max_positions records) (positions_of range)) (nat_eq (length (unlearned_in records range)) 0) (nat_le (2 ^ 32) (round_of b))
+      (notes running) (begins_range s.config.nodes me records running range b)
+
   -- the turn of a node that runs
   pub turn_is : (me : ℕ) (records : List Rec) (running : Running) (input : NodeInput) → NoDevice (running_effect s me records running input)
   turn_is me records running (nodes.Receive message) = tt
   turn_is me records running (nodes.Lead choice) =
-      let i = chosen_position records running choice in
-      let b = next_ballot me (starts_above records running) in
-      lead_so (is_some (learned_at records i)) (is_out_of_reach s.config.max_positions records i) (nat_le (2 ^ 32) (round_of b)) (notes running) (begins s.next s.answers s.begin s.config.nodes me records running i b)
+      let i = chosen_position s.config.nodes records running choice in
+      lead_so (is_some (learned_at records i)) (is_out_of_reach s.config.max_positions records i) (notes running)
+      (leads_at s.next s.answers s.begin s.config.nodes me records running i (proposal_at running.proposals i))
+      (leads_is me records running i (proposal_at running.proposals i))
+  turn_is me records running (nodes.LeadRange first count) =
+      leads_range_is me records running (range_of first count)
+      (counted_so (not (in_range 1 64 count)) (if nat_lt (2 ^ 16) (first + count) then Err LogFull else Ok (record { first = first; count = count }))
+      (sized_so (nat_lt (2 ^ 16) (first + count)) (record { first = first; count = count })))
   turn_is me records running (nodes.Interrupt source occurrence) = tt
   turn_is me records running (nodes.Tick now) = tt
   turn_is me records running (nodes.Report first) = tt
@@ -132,6 +182,7 @@ module _ {S : Type 0} (s : Setting S) where
   step_is : (w : World) (step : Step) → NoDevice (step_effect s w step)
   step_is w (Deliver number) = delivery_is w (part_at w.sent number)
   step_is w (Lead me choice) = takes_is w me (nodes.Lead choice) (part_at w.nodes me)
+  step_is w (LeadRange me first count) = takes_is w me (nodes.LeadRange first count) (part_at w.nodes me)
   step_is w (Interrupt me source occurrence) = takes_is w me (nodes.Interrupt source occurrence) (part_at w.nodes me)
   step_is w (Tick me now) = takes_is w me (nodes.Tick now) (part_at w.nodes me)
   step_is w (Report me first) = takes_is w me (nodes.Report first) (part_at w.nodes me)
@@ -158,6 +209,7 @@ module _ {S : Type 0} (s : Setting S) where
   cut_step_is : (w : World) (step : Step) (kept : ℕ) → NoDevice (cut_step s w step kept)
   cut_step_is w (Deliver number) kept = delivery_cut_is w (part_at w.sent number) kept
   cut_step_is w (Lead me choice) kept = cut_is w me (nodes.Lead choice) kept (part_at w.nodes me)
+  cut_step_is w (LeadRange me first count) kept = cut_is w me (nodes.LeadRange first count) kept (part_at w.nodes me)
   cut_step_is w (Interrupt me source occurrence) kept = cut_is w me (nodes.Interrupt source occurrence) kept (part_at w.nodes me)
   cut_step_is w (Tick me now) kept = cut_is w me (nodes.Tick now) kept (part_at w.nodes me)
   cut_step_is w (Report me first) kept = cut_is w me (nodes.Report first) kept (part_at w.nodes me)

@@ -15,6 +15,9 @@ use Rattle.rp_base.specs.declared.voting.PrepareAnswer.{PrepareAnswer}
 use Rattle.rp_base.specs.declared.voting.PrepareAnswer.TheVariants as prepares
 use Rattle.rp_base.specs.declared.voting.AcceptAnswer.{AcceptAnswer}
 use Rattle.rp_base.specs.declared.voting.AcceptAnswer.TheVariants as accepts
+use Rattle.rp_base.specs.declared.voting.RangeAnswer.{RangeAnswer}
+use Rattle.rp_base.specs.declared.voting.RangeAnswer.TheVariants as range_prepares
+use Rattle.rp_base.specs.Ranges.{Range, positions_of, range_of}
 use Rattle.rp_base.specs.Majority.{is_majority}
 use Rattle.rp_base.specs.Promises.{Promise, HeardVote, offer_of, same_vote, same_heard, makes_majority}
 use Rattle.rp_base.specs.Records.{or_else, learned_in, learned_at, applied_of}
@@ -26,8 +29,8 @@ use Rattle.rp_model.specs.declared.effect.Dropped.{Dropped}
 use Rattle.rp_model.specs.declared.effect.Dropped.TheVariants.{No, Full, Foreign}
 use Rattle.rp_model.specs.Parts.{with_record}
 use Rattle.rp_base.specs.Ballot.{greatest_with, next_ballot, round_of}
-use Rattle.rp_base.specs.Proposals.{Proposal, proposal_at, without_proposal, with_proposal, is_in, takes_promise, with_promise, is_promised, after_promise}
-use Rattle.rp_base.specs.Voting.{prepare_answer, accept_answer}
+use Rattle.rp_base.specs.Proposals.{Proposal, proposal_at, with_proposal, is_in, takes_promise, with_promise, is_promised, after_promise, is_prepared, once_promised, is_given_up}
+use Rattle.rp_base.specs.Voting.{prepare_answer, range_answer, accept_answer}
 use Rattle.rp_base.specs.declared.fault.Fault.TheVariants.{BallotsSpent, LogFull}
 use Rattle.rp_base.specs.declared.record.Rec.TheVariants.{Started, Learned}
 use Rattle.rp_codec.specs.declared.packet.Body.{Body}
@@ -35,9 +38,9 @@ use Rattle.rp_codec.specs.declared.packet.Body.TheVariants as bodies
 use Rattle.rp_machine.specs.Asked.{last_number, last_occurrence, kept_reply}
 use Rattle.rp_machine.specs.Replay.{kept_of, replay_answers}
 use Rattle.rp_model.specs.Says.{says, says_to_all, says_to_others, says_to_task, sends, notes, drops_foreign, drops_full}
-use Rattle.rp_model.specs.Acceptor.{tells_promise, tells_vote}
+use Rattle.rp_model.specs.Acceptor.{tells_promise, tells_range, tells_vote}
 use Rattle.rp_model.specs.Pending.{most_pending, is_same_call, adds_pending, on_numbered, on_call, on_interrupt}
-use Rattle.rp_model.specs.Leader.{chosen_position, is_beyond, is_out_of_reach, starts_above, begins, on_lead, counts_promise, on_promise_to, on_nack}
+use Rattle.rp_model.specs.Leader.{chosen_position, is_beyond, is_out_of_reach, starts_above, begins, begins_if, offers, leads_at, on_lead, unlearned_in, begins_range, on_lead_range, counts_promise, on_promise_to, on_nack}
 use Rattle.rp_model.specs.Learner.{missing_position, asks_for, tells_learned, learns, on_vote, on_accepted, on_decision}
 use Rattle.rp_model.specs.Receiving.{is_for_node, party_number, on_body, receives}
 use Rattle.rp_model.specs.Effect as inputs
@@ -163,6 +166,11 @@ module _ (grown : (records : List Rec) (rec : Rec) (i : ℕ) → learned_at (rec
     prepares_alike me from i b (prepares.Nack bound) = quiet None (says me (bodies.Nack i b bound) from ∷ []) No one refl
     prepares_alike me from i b prepares.Silent = nothing
 
+    ranges_alike : (me from : ℕ) (range : Range) (b : ℕ) (answer : RangeAnswer) → AreAlikeTurns records (tells_range me one from range b answer) (tells_range me other from range b answer)
+    ranges_alike me from range b (range_prepares.Promise votes rec) = quiet (Some rec) (says me (bodies.PromiseRange range b votes) from ∷ []) No one refl
+    ranges_alike me from range b (range_prepares.Nack i bound) = quiet None (says me (bodies.Nack i b bound) from ∷ []) No one refl
+    ranges_alike me from range b range_prepares.Silent = nothing
+
     votes_alike : (me from i b : ℕ) (v : Action) (answer : AcceptAnswer) → AreAlikeTurns records (tells_vote me one from i b v answer) (tells_vote me other from i b v answer)
     votes_alike me from i b v (accepts.Vote rec) = quiet (Some rec) (says me (bodies.Accepted i b v) from ∷ []) No one refl
     votes_alike me from i b v accepts.Again = quiet None (says me (bodies.Accepted i b v) from ∷ []) No one refl
@@ -189,9 +197,9 @@ module _ (grown : (records : List Rec) (rec : Rec) (i : ℕ) → learned_at (rec
           | false ↦ nothing
         ]
 
-    nack_alike : (i b bound : ℕ) → AreAlikeTurns records (on_nack one i b bound) (on_nack other i b bound)
-    nack_alike i b bound =
-        let known : Running = record one { proposals = without_proposal one.proposals i; refused = greatest_with one.refused bound } in
+    nack_alike : (nodes i b bound : ℕ) → AreAlikeTurns records (on_nack nodes one i b bound) (on_nack nodes other i b bound)
+    nack_alike nodes i b bound =
+        let known : Running = record one { proposals = filter (λ p. not (is_given_up nodes i b p)) one.proposals; refused = greatest_with one.refused bound } in
         elim (is_in b (proposal_at one.proposals i)) as (λ t. AreAlikeTurns records (if t then notes known else notes one) (if t then notes (record known { heard = heard }) else notes other)) [
           | true ↦ quiet None [] No known refl
           | false ↦ nothing
@@ -325,30 +333,49 @@ module _ (grown : (records : List Rec) (rec : Rec) (i : ℕ) → learned_at (rec
       body_alike nodes me from (bodies.Accepted i b v) = accepted_alike nodes me from i (record { ballot = b; action = v })
       body_alike nodes me from (bodies.Decided i v) = decision_alike me from i v (learned_at records i)
       body_alike nodes me from (bodies.Ask i) = ask_alike me from i (learned_at records i)
-      body_alike nodes me from (bodies.Nack i b bound) = nack_alike i b bound
+      body_alike nodes me from (bodies.Nack i b bound) = nack_alike nodes i b bound
       body_alike nodes me from (bodies.Reply number reply) = nothing
       body_alike nodes me from (bodies.Report first applied actions) = nothing
+      body_alike nodes me from (bodies.PrepareRange range b) = ranges_alike me from range b (range_answer records range b)
+      body_alike nodes me from (bodies.PromiseRange range b votes) =
+          quiet None [] No (record one { proposals = map (once_promised nodes from range b votes) one.proposals }) refl
+
+      begin_alike : (nodes me i : ℕ) → AreAlikeAnswers records (begins_if next answers begin nodes me records one i) (begins_if next answers begin nodes me records other i)
+      begin_alike nodes me i =
+          let b = next_ballot me (starts_above records one) in
+          let led : Running → Turn = λ running. begins next answers begin nodes me records running i b in
+          elim (nat_le (2 ^ 32) (round_of b))
+          as (λ t. AreAlikeAnswers records (if t then Err BallotsSpent else Ok (led one)) (if t then Err BallotsSpent else Ok (led other))) [
+            | true ↦ refl
+            | false ↦ quiet (Some (Started b)) (says_to_all nodes me (bodies.Prepare i b)) No (led one).running refl
+          ]
+
+      leads_alike : (nodes me i : ℕ) (found : Option Proposal)
+          → AreAlikeAnswers records (leads_at next answers begin nodes me records one i found) (leads_at next answers begin nodes me records other i found)
+      leads_alike nodes me i None = begin_alike nodes me i
+      leads_alike nodes me i (Some p) =
+          let offered : Running → Turn = λ running. offers next answers begin nodes me records running p in
+          let begun : Running → Result Turn Fault = λ running. begins_if next answers begin nodes me records running i in
+          elim (is_prepared nodes p)
+          as (λ t. AreAlikeAnswers records (if t then Ok (offered one) else begun one) (if t then Ok (offered other) else begun other)) [
+            | true ↦ quiet None (offered one).sent No (offered one).running refl
+            | false ↦ begin_alike nodes me i
+          ]
 
       lead_alike : (config : Config) (me : ℕ) (choice : Option ℕ)
           → AreAlikeAnswers records (on_lead next answers begin config me records one choice) (on_lead next answers begin config me records other choice)
       lead_alike config me choice =
-          let i = chosen_position records one choice in
-          let b = next_ballot me (starts_above records one) in
-          let led : Running → Turn = λ running. begins next answers begin config.nodes me records running i b in
+          let i = chosen_position config.nodes records one choice in
+          let led : Running → Result Turn Fault = λ running. leads_at next answers begin config.nodes me records running i (proposal_at running.proposals i) in
           let Answered : Result Turn Fault → Result Turn Fault → Type 0 = AreAlikeAnswers records in
           elim (is_some (learned_at records i))
-          as (λ t. Answered (if t then Ok (notes one) else if is_out_of_reach config.max_positions records i then Err LogFull else if nat_le (2 ^ 32) (round_of b) then Err BallotsSpent else Ok (led one))
-          (if t then Ok (notes other) else if is_out_of_reach config.max_positions records i then Err LogFull else if nat_le (2 ^ 32) (round_of b) then Err BallotsSpent else Ok (led other))) [
+          as (λ t. Answered (if t then Ok (notes one) else if is_out_of_reach config.max_positions records i then Err LogFull else led one)
+          (if t then Ok (notes other) else if is_out_of_reach config.max_positions records i then Err LogFull else led other)) [
             | true ↦ nothing
             | false ↦ elim (is_out_of_reach config.max_positions records i)
-                as (λ t. Answered (if t then Err LogFull else if nat_le (2 ^ 32) (round_of b) then Err BallotsSpent else Ok (led one))
-                (if t then Err LogFull else if nat_le (2 ^ 32) (round_of b) then Err BallotsSpent else Ok (led other))) [
+                as (λ t. Answered (if t then Err LogFull else led one) (if t then Err LogFull else led other)) [
                   | true ↦ refl
-                  | false ↦ elim (nat_le (2 ^ 32) (round_of b))
-                      as (λ t. Answered (if t then Err BallotsSpent else Ok (led one)) (if t then Err BallotsSpent else Ok (led other))) [
-                        | true ↦ refl
-                        | false ↦ quiet (Some (Started b)) (says_to_all config.nodes me (bodies.Prepare i b)) No (led one).running refl
-                      ]
+                  | false ↦ leads_alike config.nodes me i (proposal_at one.proposals i)
                 ]
           ]
 
@@ -363,9 +390,33 @@ module _ (grown : (records : List Rec) (rec : Rec) (i : ℕ) → learned_at (rec
             | false ↦ quiet None [] Foreign one refl
           ]
 
+    range_alike : (config : Config) (me : ℕ) (found : Result Range Fault) → AreAlikeAnswers records (on_lead_range config me records one found) (on_lead_range config me records other found)
+    range_alike config me (Err fault) = refl
+    range_alike config me (Ok range) =
+        let b = next_ballot me (starts_above records one) in
+        let led : Running → Turn = λ running. begins_range config.nodes me records running range b in
+        let Answered : Result Turn Fault → Result Turn Fault → Type 0 = AreAlikeAnswers records in
+        elim (list_any (is_out_of_reach config.max_positions records) (positions_of range))
+        as (λ t. Answered
+        (if t then Err LogFull else if nat_eq (length (unlearned_in records range)) 0 then Ok (notes one) else if nat_le (2 ^ 32) (round_of b) then Err BallotsSpent else Ok (led one))
+        (if t then Err LogFull else if nat_eq (length (unlearned_in records range)) 0 then Ok (notes other) else if nat_le (2 ^ 32) (round_of b) then Err BallotsSpent else Ok (led other))) [
+          | true ↦ refl
+          | false ↦ elim (nat_eq (length (unlearned_in records range)) 0)
+              as (λ t. Answered (if t then Ok (notes one) else if nat_le (2 ^ 32) (round_of b) then Err BallotsSpent else Ok (led one))
+              (if t then Ok (notes other) else if nat_le (2 ^ 32) (round_of b) then Err BallotsSpent else Ok (led other))) [
+                | true ↦ nothing
+                | false ↦ elim (nat_le (2 ^ 32) (round_of b))
+                    as (λ t. Answered (if t then Err BallotsSpent else Ok (led one)) (if t then Err BallotsSpent else Ok (led other))) [
+                      | true ↦ refl
+                      | false ↦ quiet (Some (Started b)) (says_to_all config.nodes me (bodies.PrepareRange range b)) No (led one).running refl
+                    ]
+              ]
+        ]
+
     input_alike : {S : Type 0} (s : Setting S) (me : ℕ) (input : NodeInput) → AreAlikeAnswers records (running_effect s me records one input) (running_effect s me records other input)
     input_alike s me (inputs.Receive message) = receive_alike s.next s.answers s.begin s.config me message
     input_alike s me (inputs.Lead choice) = lead_alike s.next s.answers s.begin s.config me choice
+    input_alike s me (inputs.LeadRange first count) = range_alike s.config me (range_of first count)
     input_alike s me (inputs.Interrupt source occurrence) = interrupt_alike (kept_of s.next s.answers s.begin (applied_of records)) source occurrence
     input_alike s me (inputs.Tick now) = adds_alike (actions.Tick now)
     input_alike s me (inputs.Report first) = quiet None (report_of me first (applied_of records) ∷ []) No one refl

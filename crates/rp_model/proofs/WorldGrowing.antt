@@ -19,7 +19,7 @@ use Rattle.rp_model.specs.Effect as nodes
 use Rattle.rp_model.specs.Effect.{Setting, Done, NodeInput, running_effect, turned_if, effect_while, node_effect, stop_part, cut_part, cut_if, stops_while, restart_while, restart_part}
 use Rattle.rp_model.specs.Tasks as tasks
 use Rattle.rp_model.specs.Tasks.{TaskInput, task_effect}
-use Rattle.rp_model.specs.Events.{Step, Deliver, Lead, Interrupt, Tick, Report, Event, Submit, Again, Makes, Cut, Stop, Restart}
+use Rattle.rp_model.specs.Events.{Step, Deliver, Lead, LeadRange, Interrupt, Tick, Report, Event, Submit, Again, Makes, Cut, Stop, Restart}
 use Rattle.rp_model.specs.World.{World, Happening, part_at, with_part, nothing_happens, node_done, task_done, node_done_if, task_done_if, task_takes, task_is_told, node_takes, node_hears, node_is_told, arrives, delivers, step_effect, node_is_cut, hearing_is_cut, arrival_is_cut, delivery_is_cut, cut_step, stops, restarts, event_effect}
 use Rattle.rp_model.specs.Growing.{Grows}
 use Rattle.rp_model.proofs.AppliedGrowing.{applied_more}
@@ -179,6 +179,7 @@ module _ {S : Type 0} (s : Setting S) where
   step_grows : (w : World) (step : Step) → GrowsIf w (step_effect s w step)
   step_grows w (Deliver number) = delivery_grows w (part_at w.sent number)
   step_grows w (Lead me choice) = takes_grow w me (nodes.Lead choice) (part_at w.nodes me) refl
+  step_grows w (LeadRange me first count) = takes_grow w me (nodes.LeadRange first count) (part_at w.nodes me) refl
   step_grows w (Interrupt me source occurrence) = takes_grow w me (nodes.Interrupt source occurrence) (part_at w.nodes me) refl
   step_grows w (Tick me now) = takes_grow w me (nodes.Tick now) (part_at w.nodes me) refl
   step_grows w (Report me first) = takes_grow w me (nodes.Report first) (part_at w.nodes me) refl
@@ -204,6 +205,7 @@ module _ {S : Type 0} (s : Setting S) where
   cut_grows : (w : World) (step : Step) (kept : ℕ) → GrowsIf w (cut_step s w step kept)
   cut_grows w (Deliver number) kept = delivery_cut_grows w (part_at w.sent number) kept
   cut_grows w (Lead me choice) kept = cuts_grow w me (nodes.Lead choice) kept (part_at w.nodes me) refl
+  cut_grows w (LeadRange me first count) kept = cuts_grow w me (nodes.LeadRange first count) kept (part_at w.nodes me) refl
   cut_grows w (Interrupt me source occurrence) kept = cuts_grow w me (nodes.Interrupt source occurrence) kept (part_at w.nodes me) refl
   cut_grows w (Tick me now) kept = cuts_grow w me (nodes.Tick now) kept (part_at w.nodes me) refl
   cut_grows w (Report me first) kept = cuts_grow w me (nodes.Report first) kept (part_at w.nodes me) refl

@@ -4,9 +4,12 @@ use Rattle.rp_base.specs.declared.action.Action.{Action}
 use Rattle.rp_base.specs.declared.record.Rec.{Rec}
 use Rattle.rp_base.specs.declared.voting.PrepareAnswer.{PrepareAnswer}
 use Rattle.rp_base.specs.declared.voting.PrepareAnswer.TheVariants as prepares
+use Rattle.rp_base.specs.Ranges.{Range}
+use Rattle.rp_base.specs.declared.voting.RangeAnswer.{RangeAnswer}
+use Rattle.rp_base.specs.declared.voting.RangeAnswer.TheVariants as range_prepares
 use Rattle.rp_base.specs.declared.voting.AcceptAnswer.{AcceptAnswer}
 use Rattle.rp_base.specs.declared.voting.AcceptAnswer.TheVariants as accepts
-use Rattle.rp_base.specs.Voting.{prepare_answer, accept_answer}
+use Rattle.rp_base.specs.Voting.{prepare_answer, range_answer, accept_answer}
 use Rattle.rp_codec.specs.declared.packet.Body.TheVariants as bodies
 use Rattle.rp_model.specs.Parts.{Running}
 use Rattle.rp_model.specs.Parts.{Turn}
@@ -21,6 +24,17 @@ tells_promise me running from i b prepares.Silent = notes running
 -- Prepare: a node asks for a promise at a position in a ballot
 abbrev pub on_prepare : ℕ → List Rec → Running → ℕ → ℕ → ℕ → Turn
 on_prepare me records running from i b = tells_promise me running from i b (prepare_answer records i b)
+
+-- the answer to a PrepareRange is told: a promise for the range once it is written, a refusal, or nothing
+abbrev pub tells_range : ℕ → Running → ℕ → Range → ℕ → RangeAnswer → Turn
+tells_range me running from range b (range_prepares.Promise votes rec) =
+    writes rec running (says me (bodies.PromiseRange range b votes) from ∷ [])
+tells_range me running from range b (range_prepares.Nack i bound) = sends running (says me (bodies.Nack i b bound) from ∷ [])
+tells_range me running from range b range_prepares.Silent = notes running
+
+-- PrepareRange: a node asks for a promise at each position of a range in a ballot
+abbrev pub on_prepare_range : ℕ → List Rec → Running → ℕ → Range → ℕ → Turn
+on_prepare_range me records running from range b = tells_range me running from range b (range_answer records range b)
 
 -- the answer to an Accept is told: a vote once it is written, a vote again, a refusal, or nothing
 abbrev pub tells_vote : ℕ → Running → ℕ → ℕ → ℕ → Action → AcceptAnswer → Turn

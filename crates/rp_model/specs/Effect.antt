@@ -8,6 +8,7 @@ use Rattle.rp_base.specs.declared.fault.Fault.TheVariants.{NotRunning}
 use Rattle.rp_base.specs.declared.record.Rec.{Rec}
 use Rattle.rp_base.specs.declared.reply.Answer.{Answer}
 use Rattle.rp_base.specs.Records.{applied_of}
+use Rattle.rp_base.specs.Ranges.{range_of}
 use Rattle.rp_codec.specs.Message.{Message, report_len}
 use Rattle.rp_codec.specs.declared.packet.Party.TheVariants.{Node, Audit}
 use Rattle.rp_codec.specs.declared.packet.Body.TheVariants as bodies
@@ -21,7 +22,7 @@ use Rattle.rp_model.specs.Parts.{fresh_running, with_record}
 use Rattle.rp_model.specs.Says.{sends}
 use Rattle.rp_model.specs.Texts.{written_for}
 use Rattle.rp_model.specs.Pending.{on_interrupt, on_tick}
-use Rattle.rp_model.specs.Leader.{on_lead}
+use Rattle.rp_model.specs.Leader.{on_lead, on_lead_range}
 use Rattle.rp_model.specs.Receiving.{receives}
 
 -- what all nodes share: the configuration, and the machine with its start
@@ -46,11 +47,12 @@ pub record Done (P : Type 0) : Type 0 where
 abbrev pub goes_on_as : {P : Type 0} → P → Done P
 goes_on_as part = record { part = part; written = None; sends = []; dropped = No; taken = None; opened = None }
 
--- what a node may be given: a packet, the word to lead at a position or the least free one, an interrupt of
--- a source, a tick, or the wish to report
+-- what a node may be given: a packet, the word to lead at a position or the least free one, the word to lead
+-- at so many positions from one on, an interrupt of a source, a tick, or the wish to report
 pub data NodeInput : Type 0 where
   Receive : Message → NodeInput
   Lead : Option ℕ → NodeInput
+  LeadRange : ℕ → ℕ → NodeInput
   Interrupt : ℕ → ℕ → NodeInput
   Tick : ℕ → NodeInput
   Report : ℕ → NodeInput
@@ -65,6 +67,7 @@ report_of me first applied =
 abbrev pub running_effect : {S : Type 0} → Setting S → ℕ → List Rec → Running → NodeInput → Result Turn Fault
 running_effect s me records running (Receive message) = Ok (receives s.next s.answers s.begin s.config me records running message)
 running_effect s me records running (Lead choice) = on_lead s.next s.answers s.begin s.config me records running choice
+running_effect s me records running (LeadRange first count) = on_lead_range s.config me records running (range_of first count)
 running_effect s me records running (Interrupt source occurrence) =
     Ok (on_interrupt (kept_of s.next s.answers s.begin (applied_of records)) running source occurrence)
 running_effect s me records running (Tick now) = Ok (on_tick running now)

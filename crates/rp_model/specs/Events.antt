@@ -11,11 +11,12 @@ use Rattle.rp_model.specs.declared.event.Event.{Event as TakenEvent}
 use Rattle.rp_model.specs.declared.event.Event.TheVariants as taken_events
 
 -- A node's step: a packet that was sent, by its number from 1, is delivered to whom it is for; or the node
--- of a number leads, at a position or the least free one, notes an interrupt of a source, notes a
+-- of a number leads, at a position or the least free one or at so many from a position on, notes an interrupt of a source, notes a
 -- tick, or reports from a position on.
 pub data Step : Type 0 where
   Deliver : ℕ → Step
   Lead : ℕ → Option ℕ → Step
+  LeadRange : ℕ → ℕ → ℕ → Step
   Interrupt : ℕ → ℕ → ℕ → Step
   Tick : ℕ → ℕ → Step
   Report : ℕ → ℕ → Step
@@ -42,6 +43,7 @@ IsOperation (CancelTimer index) = index < 2 ^ 8
 abbrev pub IsStep : Step → Type 0
 IsStep (Deliver number) = Unit {0}
 IsStep (Lead node position) = IsNode node × IfSome position IsPosition
+IsStep (LeadRange node first count) = IsNode node × IsPosition first × (count < 2 ^ 8)
 IsStep (Interrupt node source occurrence) = IsNode node × IsIndex source × IsCount occurrence
 IsStep (Tick node now) = IsNode node × (now < 2 ^ 32)
 IsStep (Report node first) = IsNode node × IsPosition first
@@ -61,6 +63,7 @@ IsEvent (Restart node) = IsNode node
 abbrev pub step_of : TakenStep → Step
 step_of (taken_steps.Deliver number) = Deliver number
 step_of (taken_steps.Lead node position) = Lead node position
+step_of (taken_steps.LeadRange node first count) = LeadRange node first count
 step_of (taken_steps.Interrupt node interrupt) = Interrupt node interrupt.source interrupt.occurrence
 step_of (taken_steps.Tick node now) = Tick node now
 step_of (taken_steps.Report node first) = Report node first

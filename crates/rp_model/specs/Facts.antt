@@ -1,16 +1,18 @@
 -- What the packets of a world tell, and what it has decided. Lamport, "Paxos Made Simple", section 2.2:
 -- a value is chosen when a majority of acceptors have accepted it in one proposal.
-use Rattle.std.specs.Prelude.{◌≡◌, ℕ, suc, ◌≤◌, Option, Some, List, length, slice_get}
+use Rattle.std.specs.Prelude.{◌≡◌, ℕ, suc, ◌≤◌, true, Option, Some, List, length, slice_get}
 use Rattle.rp_base.specs.declared.action.Action.{Action}
 use Rattle.rp_base.specs.declared.record.Vote.{Vote}
 use Rattle.rp_base.specs.Sets.{Has}
+use Rattle.rp_base.specs.Ranges.{is_covered}
+use Rattle.rp_base.specs.PlacedVotes.{placed_at}
 use Rattle.rp_base.specs.Majority.{majority_of, AreNodes}
 use Rattle.rp_codec.specs.Message.{Message}
 use Rattle.rp_codec.specs.declared.packet.Party.TheVariants.{Node}
 use Rattle.rp_codec.specs.declared.packet.Body.{Body}
 use Rattle.rp_codec.specs.declared.packet.Body.TheVariants as bodies
 
--- the body promises the ballot at the position, with this last vote
+-- the body promises the ballot at the position, with this last vote; one for a range does at each of its positions
 abbrev pub IsPromise : Body → ℕ → ℕ → Option Vote → Type 0
 IsPromise (bodies.Call action) i b last = ⊥
 IsPromise (bodies.Prepare position ballot) i b last = ⊥
@@ -22,6 +24,9 @@ IsPromise (bodies.Ask position) i b last = ⊥
 IsPromise (bodies.Nack position ballot bound) i b last = ⊥
 IsPromise (bodies.Reply number reply) i b last = ⊥
 IsPromise (bodies.Report first applied actions) i b last = ⊥
+IsPromise (bodies.PrepareRange range ballot) i b last = ⊥
+IsPromise (bodies.PromiseRange range ballot votes) i b last =
+    (is_covered range i ≡ true) × (ballot ≡ b) × (placed_at votes i ≡ last)
 
 -- a node said that it promises, with this last vote
 abbrev pub HasPromised : List Message → ℕ → ℕ → ℕ → Option Vote → Type 0

@@ -6,7 +6,7 @@ use Rattle.rp_base.specs.declared.action.Action.{Action}
 use Rattle.rp_base.specs.declared.reply.Answer.{Answer}
 use Rattle.rp_base.specs.declared.record.Vote.{Vote}
 use Rattle.rp_base.specs.declared.record.Rec.{Rec}
-use Rattle.rp_base.specs.declared.record.Rec.TheVariants.{Started, Promised, Voted, Learned}
+use Rattle.rp_base.specs.declared.record.Rec.TheVariants.{Started, Promised, Voted, Learned, PromisedRange}
 use Rattle.rp_base.specs.Sets.{with_member}
 use Rattle.rp_base.specs.Records.{learned_at, applied_of, first_unlearned}
 use Rattle.rp_base.specs.Promises.{same_heard, makes_majority, heard_elsewhere}
@@ -26,6 +26,7 @@ learns_above i (Started ballot) = false
 learns_above i (Promised position ballot) = false
 learns_above i (Voted position ballot action) = false
 learns_above i (Learned position action) = nat_lt i position
+learns_above i (PromisedRange range ballot) = false
 
 -- the first unlearned position, if a learned one lies above it
 abbrev pub missing_position : List Rec → Option ℕ

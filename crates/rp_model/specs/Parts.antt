@@ -2,7 +2,7 @@
 -- (this project's own).
 use Rattle.std.specs.Prelude.{ℕ, Bool, true, nat_le, Option, Some, None, List, [], ◌∷◌, ◌++◌, filter}
 use Rattle.rp_base.specs.declared.record.Rec.{Rec}
-use Rattle.rp_base.specs.declared.record.Rec.TheVariants.{Started, Promised, Voted, Learned}
+use Rattle.rp_base.specs.declared.record.Rec.TheVariants.{Started, Promised, Voted, Learned, PromisedRange}
 use Rattle.rp_base.specs.Proposals.{Proposal}
 use Rattle.rp_base.specs.declared.action.Action.{Action}
 use Rattle.rp_base.specs.declared.record.Vote.{Vote}
@@ -56,12 +56,13 @@ abbrev pub with_record : List Rec → Option Rec → List Rec
 with_record records None = records
 with_record records (Some rec) = records ++ rec ∷ []
 
--- the record is at a position of the log, or at none
+-- the record is at a position of the log, or at none; one for a range is where its first position is
 abbrev pub is_in_log : ℕ → Rec → Bool
 is_in_log most (Started ballot) = true
 is_in_log most (Promised position ballot) = nat_le position most
 is_in_log most (Voted position ballot action) = nat_le position most
 is_in_log most (Learned position action) = nat_le position most
+is_in_log most (PromisedRange range ballot) = nat_le range.first most
 
 -- the records that count in a node's part: those above the log are skipped one by one
 abbrev pub records_in_log : ℕ → List Rec → List Rec

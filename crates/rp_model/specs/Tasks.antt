@@ -75,6 +75,8 @@ task_hears task part (bodies.Ask position) = goes_on_as part
 task_hears task part (bodies.Nack position ballot bound) = goes_on_as part
 task_hears task part (bodies.Reply number reply) = takes_reply task part number reply
 task_hears task part (bodies.Report first applied actions) = goes_on_as part
+task_hears task part (bodies.PrepareRange range ballot) = goes_on_as part
+task_hears task part (bodies.PromiseRange range ballot votes) = goes_on_as part
 
 -- What an input comes to for a task, or its refusal, after which the task is as it was.
 abbrev pub task_effect : Config → ℕ → TaskPart → TaskInput → Result (Done TaskPart) Fault

@@ -19,7 +19,7 @@ use Rattle.rp_model.specs.Effect as nodes
 use Rattle.rp_model.specs.Effect.{Setting, Done, NodeInput, node_effect, stop_effect, cut_effect, restart_part}
 use Rattle.rp_model.specs.Tasks as tasks
 use Rattle.rp_model.specs.Tasks.{TaskInput, task_effect}
-use Rattle.rp_model.specs.Events.{Step, Deliver, Lead, Interrupt, Tick, Report, Event, Submit, Again, Makes, Cut, Stop, Restart}
+use Rattle.rp_model.specs.Events.{Step, Deliver, Lead, LeadRange, Interrupt, Tick, Report, Event, Submit, Again, Makes, Cut, Stop, Restart}
 
 -- the nodes and the tasks, each from number 1, and the packets ever sent, in order
 pub record World : Type 0 where
@@ -121,6 +121,7 @@ delivers s w (Some message) = arrives s w message message.to
 abbrev pub step_effect : {S : Type 0} → Setting S → World → Step → Result Happening Fault
 step_effect s w (Deliver number) = delivers s w (part_at w.sent number)
 step_effect s w (Lead me choice) = node_takes s w me (nodes.Lead choice) (part_at w.nodes me)
+step_effect s w (LeadRange me first count) = node_takes s w me (nodes.LeadRange first count) (part_at w.nodes me)
 step_effect s w (Interrupt me source occurrence) = node_takes s w me (nodes.Interrupt source occurrence) (part_at w.nodes me)
 step_effect s w (Tick me now) = node_takes s w me (nodes.Tick now) (part_at w.nodes me)
 step_effect s w (Report me first) = node_takes s w me (nodes.Report first) (part_at w.nodes me)
@@ -150,6 +151,7 @@ delivery_is_cut s w (Some message) kept = arrival_is_cut s w message message.to 
 abbrev pub cut_step : {S : Type 0} → Setting S → World → Step → ℕ → Result Happening Fault
 cut_step s w (Deliver number) kept = delivery_is_cut s w (part_at w.sent number) kept
 cut_step s w (Lead me choice) kept = node_is_cut s w me (nodes.Lead choice) kept (part_at w.nodes me)
+cut_step s w (LeadRange me first count) kept = node_is_cut s w me (nodes.LeadRange first count) kept (part_at w.nodes me)
 cut_step s w (Interrupt me source occurrence) kept = node_is_cut s w me (nodes.Interrupt source occurrence) kept (part_at w.nodes me)
 cut_step s w (Tick me now) kept = node_is_cut s w me (nodes.Tick now) kept (part_at w.nodes me)
 cut_step s w (Report me first) kept = node_is_cut s w me (nodes.Report first) kept (part_at w.nodes me)
@@ -191,6 +193,7 @@ receiver_of (Some message) = node_named message.to
 abbrev pub stepping : World → Step → Option ℕ
 stepping w (Deliver number) = receiver_of (part_at w.sent number)
 stepping w (Lead me choice) = Some me
+stepping w (LeadRange me first count) = Some me
 stepping w (Interrupt me source occurrence) = Some me
 stepping w (Tick me now) = Some me
 stepping w (Report me first) = Some me
@@ -226,6 +229,7 @@ delivery_writes s w (Some message) = arrival_writes s w message message.to
 abbrev pub step_writes : {S : Type 0} → Setting S → World → Step → Option Rec
 step_writes s w (Deliver number) = delivery_writes s w (part_at w.sent number)
 step_writes s w (Lead me choice) = node_writes s me (nodes.Lead choice) (part_at w.nodes me)
+step_writes s w (LeadRange me first count) = node_writes s me (nodes.LeadRange first count) (part_at w.nodes me)
 step_writes s w (Interrupt me source occurrence) = node_writes s me (nodes.Interrupt source occurrence) (part_at w.nodes me)
 step_writes s w (Tick me now) = node_writes s me (nodes.Tick now) (part_at w.nodes me)
 step_writes s w (Report me first) = node_writes s me (nodes.Report first) (part_at w.nodes me)

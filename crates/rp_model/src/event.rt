@@ -18,6 +18,12 @@ pub enum Step {
         node: NodeId,
         position: Option<Position>,
     },
+    /// The node leads at this many positions from the first on: 1 to 64, the last at most 65,535.
+    LeadRange {
+        node: NodeId,
+        first: Position,
+        count: u8,
+    },
     /// The node notes an interrupt of a source, to be proposed.
     Interrupt {
         node: NodeId,
@@ -107,6 +113,10 @@ impl Step {
             Step::Lead { node, position } => {
                 let _ = (node.get(), position.map(Position::get));
             }
+            Step::LeadRange { node, first, count } => {
+                let _ = (node.get(), first.get());
+                count_keeps_range(count);
+            }
             Step::Interrupt { node, interrupt } => {
                 let _ = (node.get(), interrupt.source, interrupt.occurrence);
             }
@@ -137,4 +147,9 @@ fn index_of(operation: Operation) -> u8
 fn call_keeps_ranges(object: u8, arg: i64)
     ensures object { object < 2 ^ 8 }
     ensures arg { FitsSigned w64 arg }
+{}
+
+/// A count is within its range.
+fn count_keeps_range(count: u8)
+    ensures { count < 2 ^ 8 }
 {}

@@ -3,3 +3,4 @@ pub mod OnePromiseMore
 pub mod Promised
 pub mod Places
 pub mod Windows
+pub mod Starting

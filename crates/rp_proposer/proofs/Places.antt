@@ -3,10 +3,11 @@ use Rattle.std.proofs.Common.{◌≡◌, ℕ, suc, ◌+◌, ◌<◌, true, false
 use Rattle.std.specs.Prelude.{slice_get}
 use Rattle.std.proofs.lemmas.Bool.{eq-eqb, ne_eqb}
 use Rattle.std.proofs.lemmas.Bool.Decides.{eqb_tells}
+use Rattle.rp_base.specs.declared.action.Action.{Action}
 use Rattle.rp_base.specs.Promises.{Promise}
-use Rattle.rp_base.specs.Proposals.{Proposal, proposal_at, without_proposal, with_proposal, after_promise, takes_promise, is_promised, with_promise}
+use Rattle.rp_base.specs.Proposals.{Proposal, proposal_at, without_proposal, with_proposal, after_promise, takes_promise, is_promised, with_promise, is_prepared, as_offered}
 use Rattle.rp_base.specs.declared.proposal.Phase.TheVariants.{Offering}
-use Rattle.rp_proposer.specs.Proposing.{index_from, once_noted}
+use Rattle.rp_proposer.specs.Proposing.{index_from, once_noted, once_offered}
 
 -- a proposal is there, and another in its place is put there
 pub record IsFound (proposals : List Proposal) (i n : ℕ) (p : Proposal) : Type 0 where
@@ -85,3 +86,7 @@ stays_there nodes p promise = elim (is_promised nodes (with_promise p promise)) 
 pub noted_there : (nodes b : ℕ) (p : Proposal) (promise : Promise) → (once_noted nodes b p promise).position ≡ p.position
 noted_there nodes b p promise =
     elim (takes_promise b p) as (λ t. (cond t (after_promise nodes p promise) p).position ≡ p.position) [ true ↦ stays_there nodes p promise | false ↦ refl ]
+
+pub offered_there : (nodes : ℕ) (own : Action) (p : Proposal) → (once_offered nodes own p).position ≡ p.position
+offered_there nodes own p =
+    elim (is_prepared nodes p) as (λ t. (cond t (as_offered own p) p).position ≡ p.position) [ true ↦ refl | false ↦ refl ]

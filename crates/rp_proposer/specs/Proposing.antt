@@ -1,6 +1,7 @@
 -- What a node knows as a proposer, and what it does with promises and refusals. Lamport, "Paxos Made
 -- Simple", section 2.2; one proposal for each position as in section 3.
-use Rattle.std.specs.Prelude.{ℕ, suc, ◌+◌, ◌<◌, ◌≤◌, Bool, true, false, ◌&&◌, nat_eq, max, Option, Some, None, option_map, List, [], ◌∷◌, map, length, if◌then◌else◌}
+use Rattle.std.specs.Prelude.{ℕ, suc, ◌+◌, ◌-◌, ◌<◌, ◌≤◌, Bool, true, false, not, ◌&&◌, nat_eq, max, Option, Some, None, option_map, List, [], ◌∷◌, map, filter, length, if◌then◌else◌}
+use Rattle.std.specs.Int.{bit_at}
 use Rattle.std.specs.List.{list_any}
 use Rattle.rp_base.specs.declared.action.Action.{Action}
 use Rattle.rp_base.specs.declared.record.Rec.{Rec}
@@ -8,8 +9,10 @@ use Rattle.rp_base.specs.Action.{equal_items}
 use Rattle.rp_base.specs.Sets.{Has, IsSet}
 use Rattle.rp_base.specs.Ballot.{number_of, greatest_with}
 use Rattle.rp_base.specs.Records.{started_of}
-use Rattle.rp_base.specs.Promises.{Promise, offer_of}
-use Rattle.rp_base.specs.Proposals.{Proposal, new_proposal, proposal_at, without_proposal, with_proposal, is_in, is_preparing, takes_promise, with_promise, is_promised, after_promise}
+use Rattle.rp_base.specs.declared.placed.PlacedVote.{PlacedVote}
+use Rattle.rp_base.specs.Ranges.{Range, positions_of}
+use Rattle.rp_base.specs.Promises.{Promise, highest_vote, offer_of}
+use Rattle.rp_base.specs.Proposals.{Proposal, new_proposal, proposal_at, without_proposal, with_proposal, is_in, is_preparing, takes_promise, with_promise, is_promised, after_promise, is_prepared, with_range, once_promised, as_offered, is_given_up}
 use Rattle.rp_proposer.specs.declared.proposal.Progress.{Progress}
 use Rattle.rp_proposer.specs.declared.proposal.Progress.TheVariants.{Waiting, Offer, Stale}
 
@@ -74,6 +77,15 @@ abbrev pub begins : ProposerPart → ℕ → ℕ → Option Action → ProposerP
 begins part i b own =
     record part { proposals = with_proposal part.proposals (new_proposal i b own); started = max part.started b }
 
+-- the positions of a range, but for those whose bit, counted from the first position, is set in a mask
+abbrev pub unskipped : Range → ℕ → List ℕ
+unskipped range skip = filter (λ i. not (nat_eq (bit_at skip (i - range.first)) 1)) (positions_of range)
+
+-- a proposal begins at each of these positions, in place of any other there, and its ballot is counted as started
+abbrev pub begins_range : ProposerPart → List ℕ → ℕ → ProposerPart
+begins_range part positions b =
+    record part { proposals = with_range part.proposals b positions; started = max part.started b }
+
 -- what a promise in its ballot makes of a proposal: in phase 1 an offer, where it makes a majority
 abbrev pub progress_of : ℕ → Proposal → Promise → Progress
 progress_of nodes p promise =
@@ -81,10 +93,11 @@ progress_of nodes p promise =
     then Offer (offer_of p.own (with_promise p promise).promises)
     else Waiting
 
--- what a promise in a ballot makes of the proposal that runs at its position
+-- what a promise for its position in a ballot makes of the proposal that runs there; one that began with a
+-- range takes promises for a range alone
 abbrev pub progress_in : ℕ → ℕ → Promise → Option Proposal → Progress
 progress_in nodes b promise None = Stale
-progress_in nodes b promise (Some p) = if nat_eq p.ballot b then progress_of nodes p promise else Stale
+progress_in nodes b promise (Some p) = if nat_eq p.ballot b && not p.ranged then progress_of nodes p promise else Stale
 
 -- a proposal after a promise in its ballot, which counts while promises are waited for
 abbrev pub noted : ℕ → Proposal → Promise → Proposal
@@ -112,11 +125,33 @@ notes_promise part b promise None = part
 notes_promise part b promise (Some p) =
     record part { proposals = with_proposal part.proposals (once_noted part.nodes b p promise) }
 
--- a refusal of the proposal that runs at the position, in its ballot: the proposal ends, and the bound counts
+-- a promise for a range is noted at each proposal of the range that takes it
+abbrev pub notes_range : ProposerPart → ℕ → Range → ℕ → List PlacedVote → ProposerPart
+notes_range part from range b votes =
+    record part { proposals = map (once_promised part.nodes from range b votes) part.proposals }
+
+-- the ballot of a prepared proposal, and the action of the highest vote that its promises report
+abbrev pub prepared_by : ℕ → Option Proposal → Option (ℕ × Option Action)
+prepared_by nodes None = None
+prepared_by nodes (Some p) =
+    if is_prepared nodes p then Some (p.ballot, option_map (λ vote. vote.action) (highest_vote p.promises)) else None
+
+-- a proposal once it is told to offer: if it is prepared its second phase begins, with this own action where no
+-- promise reports a vote
+abbrev pub once_offered : ℕ → Action → Proposal → Proposal
+once_offered nodes own p = if is_prepared nodes p then as_offered own p else p
+
+-- the proposal that runs at a position is told to offer
+abbrev pub offers : ProposerPart → Action → Option Proposal → ProposerPart
+offers part own None = part
+offers part own (Some p) = record part { proposals = with_proposal part.proposals (once_offered part.nodes own p) }
+
+-- A refusal of the proposal that runs at the position, in its ballot: the proposal ends, and each other of the
+-- ballot that gathers promises, and the bound counts.
 abbrev pub notes_refusal : ProposerPart → ℕ → ℕ → ℕ → ProposerPart
 notes_refusal part i b bound =
     if is_in b (proposal_at part.proposals i)
-    then record part { proposals = without_proposal part.proposals i; refused = greatest_with part.refused bound }
+    then record part { proposals = filter (λ p. not (is_given_up part.nodes i b p)) part.proposals; refused = greatest_with part.refused bound }
     else part
 
 -- the position is settled: a proposal there ends

@@ -1,13 +1,15 @@
 //! A proposal that runs.
 
-ghost use Rattle.std.specs.Prelude.{◌≡◌, ℕ, ◌≤◌, List};
+ghost use Rattle.std.specs.Prelude.{◌≡◌, ℕ, ◌≤◌, List, option_map};
 ghost use Rattle.rp_base.specs.Action.{equal_items};
-ghost use Rattle.rp_base.specs.Promises.{Promise, offer_of};
-ghost use Rattle.rp_base.specs.Proposals.{Proposal as RunningProposal, new_proposal, is_preparing, with_promise, is_promised};
-ghost use Rattle.rp_proposer.specs.Proposing.{progress_of, once_noted, offers_made, is_own};
+ghost use Rattle.rp_base.specs.Promises.{Promise, highest_vote, offer_of};
+ghost use Rattle.rp_base.specs.Proposals.{Proposal as RunningProposal, new_proposal, range_proposal, is_preparing, with_promise, is_promised, is_prepared, is_gathering, takes_range_promise, once_promised, own_unless, is_given_up};
+ghost use Rattle.rp_proposer.specs.Proposing.{progress_of, once_noted, once_offered, offers_made, is_own};
 
-use crate::promise::HeardPromise;
-use rp_base::{Action, Ballot, History, NodeId, Phase, Position, Senders, Vote, majority};
+use crate::promise::{HeardPromise, HeardRange};
+use rp_base::{
+    Action, Ballot, History, NodeId, Phase, PlacedVote, Position, Senders, Vote, majority,
+};
 use std::marker::Model;
 
 /// What a promise makes of a proposal.
@@ -17,7 +19,7 @@ pub enum Progress {
     Waiting,
     /// The promise makes a majority, and this action is to be offered to all.
     Offer(Action),
-    /// No proposal runs at the position in the ballot.
+    /// No proposal runs at the position in the ballot, or it began with a range.
     Stale,
 }
 
@@ -28,6 +30,7 @@ pub(crate) struct Proposal {
     position: Position,
     ballot: Ballot,
     own: Option<Action>,
+    ranged: bool,
     phase: Phase,
     senders: Senders,
     last: Option<Vote>,
@@ -47,6 +50,7 @@ impl Model for Proposal {
       position = p.position;
       ballot = p.ballot;
       own = p.own;
+      ranged = p.ranged;
       phase = p.phase;
       promises = set_of p.heard;
     } };
@@ -64,6 +68,23 @@ impl Proposal {
             position,
             ballot,
             own,
+            ranged: false,
+            phase: Phase::Preparing,
+            senders: Senders::new(),
+            last: None,
+            heard: History::new(),
+        }
+    }
+
+    /// A proposal that begins with a range: it has no action of its own yet.
+    pub(crate) fn of_range(position: Position, ballot: Ballot) -> Proposal
+        ensures { result ≡ range_proposal ballot position }
+    {
+        Proposal {
+            position,
+            ballot,
+            own: None,
+            ranged: true,
             phase: Phase::Preparing,
             senders: Senders::new(),
             last: None,
@@ -90,6 +111,82 @@ impl Proposal {
         ensures { result ≡ is_preparing self.now.phase }
     {
         self.phase == Phase::Preparing
+    }
+
+    /// Whether it began with a range.
+    pub(crate) fn is_ranged(&self) -> bool
+        ensures { result ≡ self.now.ranged }
+    {
+        self.ranged
+    }
+
+    /// Whether a majority promised, though it still waits for promises.
+    pub(crate) fn is_prepared(&self, nodes: u8) -> bool
+        requires { nodes ≤ 7 }
+        ensures { result ≡ is_prepared nodes self.now }
+    {
+        self.is_preparing() && self.is_promised(nodes)
+    }
+
+    /// Whether it waits for promises, and no majority promised yet.
+    pub(crate) fn is_gathering(&self, nodes: u8) -> bool
+        requires { nodes ≤ 7 }
+        ensures { result ≡ is_gathering nodes self.now }
+    {
+        self.is_preparing() && !self.is_promised(nodes)
+    }
+
+    /// Whether a refusal at a position in a ballot ends it.
+    pub(crate) fn is_given_up(&self, nodes: u8, position: Position, ballot: Ballot) -> bool
+        requires { nodes ≤ 7 }
+        ensures { result ≡ is_given_up nodes position ballot self.now }
+    {
+        self.position == position || self.ballot == ballot && self.is_gathering(nodes)
+    }
+
+    /// The action of the highest vote that its promises report.
+    pub(crate) fn value(&self) -> Option<Action>
+        ensures { result ≡ option_map (λ vote. vote.action) (highest_vote self.now.promises) }
+    {
+        match self.last {
+            Some(vote) => Some(vote.action),
+            None => None,
+        }
+    }
+
+    /// Begins its second phase, if it is prepared, with this own action where no promise reports a
+    /// vote.
+    pub(crate) fn offer(&mut self, nodes: u8, own: Action)
+        requires { nodes ≤ 7 }
+        ensures { self.new ≡ once_offered nodes own self.old }
+    {
+        if self.is_prepared(nodes) {
+            self.own = own_unless(own, self.last);
+            self.phase = Phase::Offering;
+        }
+    }
+
+    /// Notes a promise for a range, if it counts for it.
+    pub(crate) fn note_range(&mut self, nodes: u8, heard: &HeardRange)
+        requires { nodes ≤ 7 }
+        ensures { self.new ≡ once_promised nodes heard.now.from heard.now.range heard.now.ballot
+            heard.now.votes.now self.old }
+    {
+        if heard.range.covers(self.position) && self.takes_range_promise(nodes, heard.ballot) {
+            let last = PlacedVote::find(heard.votes, self.position);
+            self.add(HeardPromise {
+                from: heard.from,
+                last,
+            });
+        }
+    }
+
+    /// Whether a promise for a range in a ballot counts for it.
+    fn takes_range_promise(&self, nodes: u8, ballot: Ballot) -> bool
+        requires { nodes ≤ 7 }
+        ensures { result ≡ takes_range_promise nodes ballot self.now }
+    {
+        self.ballot == ballot && (self.ranged && self.is_gathering(nodes))
     }
 
     /// Whether the item is its own action.
@@ -154,12 +251,22 @@ impl Proposal {
         requires { nodes ≤ 7 }
         ensures { self.new ≡ once_noted nodes ballot self.old promise }
     {
-        if self.ballot == ballot && self.is_preparing() {
+        if self.ballot == ballot && (self.is_preparing() && !self.ranged) {
             self.add(promise);
             if self.is_promised(nodes) {
                 self.phase = Phase::Offering;
             }
         }
+    }
+}
+
+/// The action, where there is no vote.
+fn own_unless(own: Action, vote: Option<Vote>) -> Option<Action>
+    ensures { result ≡ own_unless own vote }
+{
+    match vote {
+        Some(_) => None,
+        None => Some(own),
     }
 }
 

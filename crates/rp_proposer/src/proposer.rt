@@ -1,14 +1,15 @@
 //! A node as a proposer.
 
-ghost use Rattle.std.specs.Prelude.{◌≡◌, ℕ, List, ◌↔◌, ◌+◌, ◌<◌, ◌≤◌, ◌^◌, max, length, vec_capacity, IsTrue, IfOk, IsErrOf, IsOkUnless, option_copied};
+ghost use Rattle.std.specs.Prelude.{◌≡◌, ℕ, List, ◌↔◌, ◌+◌, ◌<◌, ◌≤◌, ◌^◌, max, map, filter, nat_eq, not, false, length, vec_capacity, IsTrue, IfOk, IsErrOf, IsOkUnless, option_copied, if◌then◌else◌};
+ghost use Rattle.std.specs.Int.{bit_at};
 ghost use Rattle.rp_base.specs.Ballot.{number_of, round_of, next_ballot, IsAbove, IsNext};
 ghost use Rattle.rp_base.specs.Records.{started_of};
-ghost use Rattle.rp_base.specs.Proposals.{Proposal as RunningProposal, is_in, proposal_at, without_proposal, with_proposal};
-ghost use Rattle.rp_proposer.specs.Proposing.{counted_by, restored, ballot_at, HasRoom, begins, is_own_elsewhere, index_from, AreInWindow, IsInWindow, progress_in, notes_promise, notes_refusal, settles};
+ghost use Rattle.rp_base.specs.Proposals.{Proposal as RunningProposal, is_in, proposal_at, without_proposal, with_proposal, with_range, once_promised, is_given_up};
+ghost use Rattle.rp_proposer.specs.Proposing.{counted_by, restored, ballot_at, HasRoom, begins, is_own_elsewhere, index_from, AreInWindow, IsInWindow, progress_in, notes_promise, notes_refusal, settles, most_running, unskipped, begins_range, notes_range, prepared_by, offers};
 
-use crate::promise::HeardPromise;
+use crate::promise::{HeardPromise, HeardRange};
 use crate::proposal::{Progress, Proposal};
-use rp_base::{Action, Ballot, Fault, NodeId, Position, Rec, Vote};
+use rp_base::{Action, Ballot, Fault, NodeId, PlacedVote, Position, PositionRange, Rec, Vote};
 use std::alloc::Global;
 use std::marker::Model;
 
@@ -107,6 +108,64 @@ impl Proposer {
         self.started = Ballot::greater(self.started, Some(ballot));
     }
 
+    /// Begins a proposal at each position of a range, in place of any other there, but where the
+    /// position's bit, counted from the range's first, is set in `skip`. The ballot counts as
+    /// started.
+    pub fn begin_range(&mut self, range: PositionRange, skip: u64, ballot: Ballot)
+        requires room { length (with_range self.old.proposals ballot (unskipped range skip))
+            ≤ most_running }
+        requires ballot { IsAbove self.old.node (counted_by self.old) ballot }
+        ensures { self.new ≡ begins_range self.old (unskipped range skip) ballot }
+    {
+        put_range(&mut self.proposals, range, skip, ballot);
+        self.started = Ballot::greater(self.started, Some(ballot));
+    }
+
+    /// The ballot of the prepared proposal at a position, one that a majority promised though it
+    /// offers nothing yet, and the action of the highest vote that its promises report.
+    pub fn prepared(&self, position: Position) -> Option<(Ballot, Option<Action>)>
+        ensures { result ≡ prepared_by self.now.nodes (proposal_at self.now.proposals position) }
+    {
+        match proposal_at(&self.proposals, position) {
+            Some(proposal) if proposal.is_prepared(self.nodes) => {
+                Some((proposal.ballot(), proposal.value()))
+            }
+            _ => None,
+        }
+    }
+
+    /// Begins the second phase of a prepared proposal. Its own action is this one where no promise
+    /// reports a vote; else it has none.
+    pub fn offer(&mut self, position: Position, own: Action)
+        ensures offered { self.new ≡ offers self.old own (proposal_at self.old.proposals position) }
+        ensures nodes { self.new.nodes ≡ self.old.nodes }
+    {
+        if let Some(index) = index_of(&self.proposals, position) {
+            self.proposals[index].offer(self.nodes, own);
+        }
+    }
+
+    /// Notes a promise of one of the nodes for a range, at each of its positions where a proposal
+    /// that began with a range gathers promises in this ballot. Any other changes nothing.
+    pub fn note_range(
+        &mut self,
+        from: NodeId,
+        range: PositionRange,
+        ballot: Ballot,
+        votes: &[PlacedVote],
+    )
+        ensures noted { self.new ≡ notes_range self.old from range ballot votes.now }
+        ensures nodes { self.new.nodes ≡ self.old.nodes }
+    {
+        let heard = HeardRange {
+            from,
+            range,
+            ballot,
+            votes,
+        };
+        note_range(&mut self.proposals, self.nodes, &heard);
+    }
+
     /// Whether the item is the own action of a proposal that runs at another position: a call by
     /// its task and number, all else whole.
     pub fn is_own_elsewhere(&self, position: Position, item: &Action) -> bool
@@ -132,7 +191,7 @@ impl Proposer {
             (proposal_at self.now.proposals position) }
     {
         match proposal_at(&self.proposals, position) {
-            Some(proposal) if proposal.ballot() == ballot => {
+            Some(proposal) if proposal.ballot() == ballot && !proposal.is_ranged() => {
                 proposal.progress(self.nodes, &HeardPromise { from, last })
             }
             _ => Progress::Stale,
@@ -159,13 +218,14 @@ impl Proposer {
     }
 
     /// Counts a refusal of the proposal at the position in this ballot, whose sender has promised a
-    /// greater one: the proposal is given up. Any other refusal changes nothing.
+    /// greater one: the proposal is given up, and each other of the ballot that gathers promises.
+    /// Any other refusal changes nothing.
     pub fn nack(&mut self, position: Position, ballot: Ballot, promised: Ballot)
         ensures noted { self.new ≡ notes_refusal self.old position ballot promised }
         ensures nodes { self.new.nodes ≡ self.old.nodes }
     {
         if is_in(&self.proposals, position, ballot) {
-            leave_out(&mut self.proposals, position);
+            give_up(&mut self.proposals, self.nodes, position, ballot);
             self.refused = Ballot::greater(self.refused, Some(promised));
         }
     }
@@ -232,6 +292,17 @@ fn leave_out(proposals: &mut Vec<Proposal>, position: Position)
     proposals.retain(|proposal| proposal.position() != position);
 }
 
+/// Ends the proposals that a refusal at a position in a ballot ends.
+fn give_up(proposals: &mut Vec<Proposal>, nodes: u8, position: Position, ballot: Ballot)
+    requires { nodes ≤ 7 }
+    ensures items { proposals.new.items
+        ≡ filter (λ p. not (is_given_up nodes position ballot p)) proposals.old.items }
+    ensures fewer { length proposals.new.items ≤ length proposals.old.items }
+    ensures capacity { vec_capacity proposals.new ≡ vec_capacity proposals.old }
+{
+    proposals.retain(|proposal| !proposal.is_given_up(nodes, position, ballot));
+}
+
 /// Where the proposal at a position is.
 fn index_of(proposals: &[Proposal], position: Position) -> Option<usize>
     ensures { result ≡ index_from 0 position proposals.now }
@@ -258,6 +329,55 @@ fn put(proposals: &mut Vec<Proposal>, proposal: Proposal)
     match index_of(proposals, proposal.position()) {
         Some(index) => proposals[index] = proposal,
         None => proposals.push_reserved(proposal),
+    }
+}
+
+/// Puts a new proposal at each position of a range that is not skipped.
+fn put_range(proposals: &mut Vec<Proposal>, range: PositionRange, skip: u64, ballot: Ballot)
+    requires { length (with_range proposals.old.items ballot (unskipped range skip))
+        ≤ vec_capacity proposals.old }
+    ensures items { proposals.new.items
+        ≡ with_range proposals.old.items ballot (unskipped range skip) }
+    ensures capacity { vec_capacity proposals.new ≡ vec_capacity proposals.old }
+{
+    for index in 0..range.count() {
+        let proposal = Proposal::of_range(range.at(index), ballot);
+        put_unless(proposals, has_bit(skip, index), proposal);
+    }
+}
+
+/// Puts a proposal in place of the one at its position, or behind the others, unless it is skipped.
+fn put_unless(proposals: &mut Vec<Proposal>, skipped: bool, proposal: Proposal)
+    requires { skipped ≡ false → length (without_proposal proposals.old.items proposal.position)
+        < vec_capacity proposals.old }
+    ensures items { proposals.new.items ≡ (if skipped then proposals.old.items
+        else with_proposal proposals.old.items proposal) }
+    ensures capacity { vec_capacity proposals.new ≡ vec_capacity proposals.old }
+{
+    if !skipped {
+        put(proposals, proposal);
+    }
+}
+
+/// Whether the bit at an index is set.
+fn has_bit(mask: u64, index: u8) -> bool
+    requires { index < 64 }
+    ensures { result ≡ nat_eq (bit_at mask index) 1 }
+{
+    mask >> index & 1 == 1
+}
+
+/// Notes a promise for a range at each proposal that takes it.
+fn note_range(proposals: &mut Vec<Proposal>, nodes: u8, heard: &HeardRange)
+    requires { nodes ≤ 7 }
+    ensures items { proposals.new.items ≡ map (once_promised nodes heard.now.from heard.now.range
+        heard.now.ballot heard.now.votes.now) proposals.old.items }
+    ensures capacity { vec_capacity proposals.new ≡ vec_capacity proposals.old }
+{
+    let mut index = 0;
+    while index < proposals.len() {
+        proposals[index].note_range(nodes, heard);
+        index += 1;
     }
 }
 

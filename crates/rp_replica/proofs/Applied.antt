@@ -13,7 +13,7 @@ use Rattle.rp_model.specs.Says.{says_to_task, sends, notes}
 use Rattle.rp_model.specs.Pending.{adds_pending, on_numbered, on_interrupt}
 use Rattle.rp_base.specs.declared.action.Action.{Action}
 use Rattle.rp_base.specs.declared.record.Rec.{Rec}
-use Rattle.rp_base.specs.declared.record.Rec.TheVariants.{Started, Promised, Voted, Learned}
+use Rattle.rp_base.specs.declared.record.Rec.TheVariants.{Started, Promised, Voted, Learned, PromisedRange}
 use Rattle.rp_base.specs.Action.{IsRight}
 use Rattle.rp_base.specs.Right.{IsRightRecord}
 use Rattle.rp_base.specs.Records.{or_else, learned_at, applied_of}
@@ -41,6 +41,7 @@ learned_right (Started ballot ∷ rest) i v right is = learned_right rest i v ri
 learned_right (Promised position ballot ∷ rest) i v right is = learned_right rest i v right.1 is
 learned_right (Voted position ballot action ∷ rest) i v right is = learned_right rest i v right.1 is
 learned_right (Learned position action ∷ rest) i v right is = learned_here rest i v action (nat_eq position i) right.0 (learned_right rest i v right.1) is
+learned_right (PromisedRange range ballot ∷ rest) i v right is = learned_right rest i v right.1 is
 
 -- ---- what a replica is asked, in the words of its part
 

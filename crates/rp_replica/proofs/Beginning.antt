@@ -45,7 +45,7 @@ absent : (ps : List Proposal) (q : Proposal) → proposal_at ps q.position ≡ N
 absent [] q e = (refl, λ h. h)
 absent (p ∷ rest) q e = absent_here rest q p (nat_eq p.position q.position) refl (absent rest q) e
 
-window_more : (first : ℕ) (ps : List Proposal) (q : Proposal) (o : Option Proposal) → proposal_at ps q.position ≡ o → AreInWindow first ps → IsInWindow first q.position → AreInWindow first (with_proposal ps q)
+pub window_more : (first : ℕ) (ps : List Proposal) (q : Proposal) (o : Option Proposal) → proposal_at ps q.position ≡ o → AreInWindow first ps → IsInWindow first q.position → AreInWindow first (with_proposal ps q)
 window_more first ps q (Some p) at w inside =
     let same = same_places ps q p at in
     record {
@@ -63,7 +63,7 @@ window_more first ps q None at w inside =
       ];
     }
 
-place_of_more : (ps : List Proposal) (q : Proposal) (o : Option Proposal) (j : ℕ) → proposal_at ps q.position ≡ o → Has j (places (with_proposal ps q)) → Has j (places ps) ⊎ (j ≡ q.position)
+pub place_of_more : (ps : List Proposal) (q : Proposal) (o : Option Proposal) (j : ℕ) → proposal_at ps q.position ≡ o → Has j (places (with_proposal ps q)) → Has j (places ps) ⊎ (j ≡ q.position)
 place_of_more ps q (Some p) j at h = inl (subst (λ (is : List ℕ). Has j is) (same_places ps q p at) h)
 place_of_more ps q None j at h =
     let more = absent ps q at in
@@ -75,7 +75,7 @@ place_of_more ps q None j at h =
 
 -- ---- the start of a ballot learns nothing
 
-learned_same : (records : List Rec) (b i : ℕ) → learned_at (records ++ Started b ∷ []) i ≡ learned_at records i
+pub learned_same : (records : List Rec) (b i : ℕ) → learned_at (records ++ Started b ∷ []) i ≡ learned_at records i
 learned_same records b i = learned_push records (Started b) i ∙ or_none (learned_at records i)
 
 pub leads_started : (me : ℕ) (config : Config) (records : List Rec) (taken : ℕ) (part : ProposerPart) (i b : ℕ) (own : Action) → IsProposer me config records taken part → IsRight own
@@ -114,19 +114,19 @@ in_reach records log applied i a least unlearned below =
 -- ---- all parts
 
 module _ {S D : Type 0} (disk : D → Disk) (me : ℕ) (config : Config) (learner : Learning) (votes : List HeardVote) (log : Contents) (applied : Applied S) where
-  -- the ballot is written, and the proposal begins
-  pub tied_started : (old new : Stored D) (records after : List Rec) (proposer leading : ProposerPart) (i b : ℕ) (own : Action) → IsPut disk (record_text (Started b)) old new → after ≡ records ++ Started b ∷ []
-      → leading ≡ begins proposer i b (Some own) → Tied me config (disk old.device) old.failed records proposer learner votes log applied → IsBallot b → IsRight own → learned_at records i ≡ None
-      → IsInWindow (suc (length log.taken)) i → Tied me config (disk new.device) new.failed after leading learner votes log applied
-  tied_started old new records after proposer leading i b own put noted begun t ballot right unlearned inside =
+  -- the ballot is written, and a proposal or several begin
+  pub tied_started : (old new : Stored D) (records after : List Rec) (proposer leading begun : ProposerPart) (b : ℕ) → IsPut disk (record_text (Started b)) old new → after ≡ records ++ Started b ∷ []
+      → leading ≡ begun → Tied me config (disk old.device) old.failed records proposer learner votes log applied → IsBallot b
+      → IsProposer me config (records ++ Started b ∷ []) (length log.taken) begun → Tied me config (disk new.device) new.failed after leading learner votes log applied
+  tied_started old new records after proposer leading begun b put noted is t ballot leads =
       let stands : IsOnDisk config.max_positions (disk new.device) false (records ++ Started b ∷ []) =
       disk_more config.max_positions (disk old.device) (disk new.device) records (Started b)
       (subst (λ (f : Bool). IsOnDisk config.max_positions (disk old.device) f records) put.worked t.stands) (record { ranges = ballot; right = tt }) refl put.disk_is in
-      let fresh : Tied me config (disk new.device) false (records ++ Started b ∷ []) (begins proposer i b (Some own)) learner votes log applied = record {
+      let fresh : Tied me config (disk new.device) false (records ++ Started b ∷ []) begun learner votes log applied = record {
         sizes = t.sizes;
         member = t.member;
         stands = stands;
-        leads = leads_started me config records (length log.taken) proposer i b own t.leads right unlearned inside;
+        leads = leads;
         learns = learns_alike config records (records ++ Started b ∷ []) (length log.taken) learner votes (λ j. learned_same records b j) t.learns;
         applies = record {
           learned = λ j. t.applies.learned j ∙ sym (learned_same records b j);
@@ -136,8 +136,8 @@ module _ {S D : Type 0} (disk : D → Disk) (me : ℕ) (config : Config) (learne
         };
       } in
       subst (λ (rs : List Rec). Tied me config (disk new.device) new.failed rs leading learner votes log applied) (sym noted)
-      (subst (λ (p : ProposerPart). Tied me config (disk new.device) new.failed (records ++ Started b ∷ []) p learner votes log applied) (sym begun)
-      (subst (λ (f : Bool). Tied me config (disk new.device) f (records ++ Started b ∷ []) (begins proposer i b (Some own)) learner votes log applied) (sym put.working) fresh))
+      (subst (λ (p : ProposerPart). Tied me config (disk new.device) new.failed (records ++ Started b ∷ []) p learner votes log applied) (sym is)
+      (subst (λ (f : Bool). Tied me config (disk new.device) f (records ++ Started b ∷ []) begun learner votes log applied) (sym put.working) fresh))
 
 -- ---- what a leader looks at
 

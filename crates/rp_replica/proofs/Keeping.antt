@@ -1,17 +1,18 @@
 -- A replica's parts once a promise or a vote is written, or was to be.
 use Rattle.std.proofs.Common.{◌≡◌, ℕ, Bool, true, false, if◌then◌else◌, Option, Some, None, List, [], ◌∷◌, ◌++◌, length, take, refl, sym, ap, subst, ◌∙◌, arith, inl, inr}
-use Rattle.std.proofs.lemmas.List.{append-nil}
+use Rattle.std.proofs.lemmas.List.{append-nil, append_assoc}
 use Rattle.std.proofs.lemmas.List.Elements.{filter-append}
 use Rattle.std.specs.Prelude.{Result, Ok, Err, OnOk, OnErr, IfErr}
 use Rattle.rp_base.specs.declared.action.Action.{Action}
 use Rattle.rp_base.specs.declared.config.Config.{Config}
 use Rattle.rp_base.specs.declared.record.Rec.{Rec}
-use Rattle.rp_base.specs.declared.record.Rec.TheVariants.{Started, Promised, Voted, Learned}
+use Rattle.rp_base.specs.declared.record.Rec.TheVariants.{Started, Promised, Voted, Learned, PromisedRange}
 use Rattle.rp_base.specs.declared.fault.Fault.{Fault}
 use Rattle.rp_base.specs.declared.fault.Fault.TheVariants.{OutOfMemory, Device, Failed}
 use Rattle.rp_base.specs.Sets.{Has}
 use Rattle.rp_base.specs.Promises.{HeardVote}
-use Rattle.rp_acceptor.specs.Noted.{Noted, places_in, HasRoom, reserves}
+use Rattle.rp_acceptor.specs.Noted.{Noted, HasRoom, reserves, reserves_vote, reserves_range, reserves_for, notes, nothing_noted, restored_from, restored}
+use Rattle.rp_base.specs.Ranges.{Range}
 use Rattle.rp_store.specs.Stored.{Stored, IsUnchanged, IsPut, FailsInPut, IsNotPut}
 use Rattle.rp_base.specs.Records.{or_else, started_of, learned_at}
 use Rattle.rp_base.proofs.MoreRecords.{started_push, learned_push}
@@ -82,12 +83,14 @@ started_same records (Started ballot) is = absurd is
 started_same records (Promised position ballot) is = started_push records (Promised position ballot) ∙ omega arith
 started_same records (Voted position ballot action) is = started_push records (Voted position ballot action) ∙ omega arith
 started_same records (Learned position action) is = absurd is
+started_same records (PromisedRange range ballot) is = started_push records (PromisedRange range ballot) ∙ omega arith
 
 pub learned_same : (records : List Rec) (rec : Rec) (i : ℕ) → IsAnswer rec → learned_at (records ++ rec ∷ []) i ≡ learned_at records i
 learned_same records (Started ballot) i is = absurd is
 learned_same records (Promised position ballot) i is = learned_push records (Promised position ballot) i ∙ or_none (learned_at records i)
 learned_same records (Voted position ballot action) i is = learned_push records (Voted position ballot action) i ∙ or_none (learned_at records i)
 learned_same records (Learned position action) i is = absurd is
+learned_same records (PromisedRange range ballot) i is = learned_push records (PromisedRange range ballot) i ∙ or_none (learned_at records i)
 
 -- ---- all parts
 
@@ -130,20 +133,61 @@ module _ {S : Type 0} (me : ℕ) (config : Config) (disk after : Disk) (records 
 
 -- ---- room
 
-has_last : (i : ℕ) (xs : List ℕ) → Has i (xs ++ i ∷ [])
-has_last i [] = inl refl
-has_last i (x ∷ xs) = inr (has_last i xs)
+has_last : {X : Type 0} (x : X) (xs : List X) → Has x (xs ++ x ∷ [])
+has_last x [] = inl refl
+has_last x (y ∷ ys) = inr (has_last x ys)
+
+has_only : {X : Type 0} (x y : X) → Has x (y ∷ []) → x ≡ y
+has_only x y (inl e) = e
+has_only x y (inr none) = absurd none
+
+-- what is the only one is there once it is added
+added : {X : Type 0} (x y : X) (xs : List X) → Has x (y ∷ []) → Has x (xs ++ y ∷ [])
+added {X = X} x y xs h = subst (λ (z : X). Has x (xs ++ z ∷ [])) (has_only x y h) (has_last x xs)
 
 -- room is made where the record counts
-pub room_made : {T E : Type 0} (r : Result T E) (old new : Noted) (p : ℕ) (rec : Rec) → OnOk r (new ≡ reserves old p) → places_in rec ≡ p ∷ [] → OnOk r (HasRoom new rec)
-room_made (Err e) old new p rec ok at = tt
-room_made (Ok v) old new p rec ok at = λ i h.
-    let here : i ≡ p = by_one i p (subst (λ (l : List ℕ). Has i l) at h) in
-    subst (λ (n : Noted). Has i n.reserved) (sym ok) (subst (λ (j : ℕ). Has i (old.reserved ++ j ∷ [])) here (has_last i old.reserved))
+module _ {T E : Type 0} (old new : Noted) (rec : Rec) where
+  pub room_promise : (r : Result T E) (position ballot : ℕ) → rec ≡ Promised position ballot → OnOk r (new ≡ reserves old position) → OnOk r (HasRoom new rec)
+  room_promise (Err e) position ballot is ok = tt
+  room_promise (Ok v) position ballot is ok = subst (HasRoom new) (sym is) (subst (λ (n : Noted). HasRoom n (Promised position ballot)) (sym ok) (record {
+    promise = λ i h. added i position old.reserved h;
+    vote = λ i none. absurd none;
+    range = λ r none. absurd none;
+  }))
+
+  pub room_vote : (r : Result T E) (position ballot : ℕ) (action : Action) → rec ≡ Voted position ballot action → OnOk r (new ≡ reserves_vote old position) → OnOk r (HasRoom new rec)
+  room_vote (Err e) position ballot action is ok = tt
+  room_vote (Ok v) position ballot action is ok = subst (HasRoom new) (sym is) (subst (λ (n : Noted). HasRoom n (Voted position ballot action)) (sym ok) (record {
+    promise = λ i none. absurd none;
+    vote = λ i h. added i position old.votes h;
+    range = λ r none. absurd none;
+  }))
+
+  pub room_range : (r : Result T E) (range : Range) (ballot : ℕ) → rec ≡ PromisedRange range ballot → OnOk r (new ≡ reserves_range old range) → OnOk r (HasRoom new rec)
+  room_range (Err e) range ballot is ok = tt
+  room_range (Ok v) range ballot is ok = subst (HasRoom new) (sym is) (subst (λ (n : Noted). HasRoom n (PromisedRange range ballot)) (sym ok) (record {
+    promise = λ i none. absurd none;
+    vote = λ i none. absurd none;
+    range = λ r h. added r range old.ranges h;
+  }))
+
+-- ---- what is restored
+
+restored_records : (noted : Noted) (rest : List Rec) → (restored_from noted rest).records ≡ noted.records ++ rest
+restored_records noted [] = sym (append-nil noted.records)
+restored_records noted (rec ∷ rest) =
+    restored_records (notes (reserves_for noted rec) rec) rest ∙ ap (λ (rs : List Rec). (rs ++ rec ∷ []) ++ rest) (same_records noted rec) ∙ append_assoc noted.records (rec ∷ []) rest
   where
-    by_one : (i p : ℕ) → Has i (p ∷ []) → i ≡ p
-    by_one i p (inl e) = e
-    by_one i p (inr none) = absurd none
+    same_records : (noted : Noted) (rec : Rec) → (reserves_for noted rec).records ≡ noted.records
+    same_records noted (Started ballot) = refl
+    same_records noted (Promised position ballot) = refl
+    same_records noted (Voted position ballot action) = refl
+    same_records noted (Learned position action) = refl
+    same_records noted (PromisedRange range ballot) = refl
+
+-- an acceptor that is restored has noted the records
+pub all_restored : (records : List Rec) → (restored records).records ≡ records
+all_restored records = restored_records nothing_noted records
 
 -- ---- by what a write answers
 

@@ -1,6 +1,7 @@
 pub mod Noting
 pub mod Keeping
 pub mod Answering
+pub mod RangeAnswering
 pub mod Applied
 pub mod Saying
 pub mod Promising
@@ -8,6 +9,9 @@ pub mod Settling
 pub mod Starting
 pub mod Hearing
 pub mod Beginning
+pub mod Covered
+pub mod Planning
+pub mod Prepared
 pub mod Choosing
 pub mod FreePlaces
 pub mod Leading

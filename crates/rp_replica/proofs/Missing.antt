@@ -6,7 +6,7 @@ use Rattle.std.proofs.lemmas.Bool.{or_cases, or_left, or_right}
 use Rattle.std.proofs.lemmas.Bool.Decides.{eqb_tells}
 use Rattle.rp_base.specs.declared.action.Action.{Action}
 use Rattle.rp_base.specs.declared.record.Rec.{Rec}
-use Rattle.rp_base.specs.declared.record.Rec.TheVariants.{Started, Promised, Voted, Learned}
+use Rattle.rp_base.specs.declared.record.Rec.TheVariants.{Started, Promised, Voted, Learned, PromisedRange}
 use Rattle.rp_base.specs.Number.{IsPosition}
 use Rattle.rp_base.specs.Records.{or_else, learned_at, first_unlearned}
 use Rattle.rp_log.specs.Contents.{Contents, IsLearned}
@@ -27,6 +27,7 @@ above_is n (Learned position action ∷ rest) i above found =
       | inl same ↦ or_left (nat_lt n position) (list_any (learns_above n) rest) (lt-ltb n position (subst (λ (j : ℕ). n < j) (sym same.1) above))
       | inr other ↦ or_right (nat_lt n position) (list_any (learns_above n) rest) (above_is n rest i above (no_other (learned_at rest i) (nat_eq position i) action other.0 found))
     ]
+above_is n (PromisedRange range ballot ∷ rest) i above found = above_is n rest i above found
 
 some_first : (o : Option Action) (here : Bool) (v : Action) → here ≡ true → IsSome (or_else (cond here (Some v) None) o)
 some_first o true v e = refl
@@ -46,6 +47,7 @@ is_above n (Learned position action ∷ rest) e =
       | inl here ↦ (position, ltb-true n position here, some_first (learned_at rest position) (nat_eq position position) action (eq-eqb position position refl))
       | inr later ↦ let more = is_above n rest later in (more.0, more.1, some_later (learned_at rest more.0) (nat_eq position more.0) action more.2)
     ]
+is_above n (PromisedRange range ballot ∷ rest) e = is_above n rest e
 
 -- a learned position lies above
 pub missing_below : (records : List Rec) (log : Contents) (n top : ℕ) (o : Option ℕ) → LearnedAlike records log → n ≡ first_unlearned records → n < top → IsLearned log top

@@ -1,6 +1,6 @@
 -- What a promise or a refusal makes of the proposals that run.
 use Rattle.std.proofs.Common.{◌≡◌, ℕ, Bool, true, false, ◌&&◌, cond, not, nat_eq, nat_lt, Option, Some, None, List, [], ◌∷◌, ◌++◌, length, map, refl, sym, ap, subst, ◌∙◌, eqb-true}
-use Rattle.std.specs.Prelude.{IfSome, filter, filter_map, unwrap_or}
+use Rattle.std.specs.Prelude.{IfSome, filter, filter_map, find, option_map, unwrap_or}
 use Rattle.std.specs.List.{AllByRecursion, cons_option, list_any}
 use Rattle.rp_base.specs.declared.action.Action.{Action}
 use Rattle.rp_base.specs.declared.action.Action.TheVariants.{Noop}
@@ -12,13 +12,16 @@ use Rattle.rp_base.specs.Action.{IsRight}
 use Rattle.rp_base.specs.Right.{IsRightVote}
 use Rattle.rp_base.specs.Records.{higher_vote, highest}
 use Rattle.rp_base.specs.Sets.{Has, IsSet}
-use Rattle.rp_base.specs.Promises.{Promise, HeardVote, same_promise, action_or, offer_of}
+use Rattle.rp_base.specs.declared.placed.PlacedVote.{PlacedVote}
+use Rattle.rp_base.specs.PlacedVotes.{placed_at}
+use Rattle.rp_base.specs.Ranges.{Range, is_covered}
+use Rattle.rp_base.specs.Promises.{Promise, HeardVote, same_promise, action_or, highest_vote, offer_of}
 use Rattle.rp_base.specs.Ballot.{greatest_with}
-use Rattle.rp_base.specs.Proposals.{Proposal, proposal_at, without_proposal, with_proposal, is_in, is_preparing, with_promise, is_promised}
+use Rattle.rp_base.specs.Proposals.{Proposal, proposal_at, with_proposal, is_in, is_preparing, takes_promise, with_promise, is_promised, is_prepared, takes_range_promise, once_promised, own_unless, as_offered, is_given_up}
 use Rattle.rp_base.proofs.Members.{has_passing, has_mapped, mapped_has}
 use Rattle.rp_codec.specs.declared.packet.Body.TheVariants as bodies
 use Rattle.rp_proposer.proofs.Places.{noted_there}
-use Rattle.rp_proposer.specs.Proposing.{ProposerPart, progress_in, once_noted, notes_promise, notes_refusal}
+use Rattle.rp_proposer.specs.Proposing.{ProposerPart, progress_in, once_noted, notes_promise, notes_range, notes_refusal, once_offered, offers}
 use Rattle.rp_proposer.specs.declared.proposal.Progress.{Progress}
 use Rattle.rp_proposer.specs.declared.proposal.Progress.TheVariants.{Waiting, Offer, Stale}
 use Rattle.rp_model.specs.Parts.{Running}
@@ -67,26 +70,30 @@ promise_turn nodes me i b running known Waiting = notes known
 promise_turn nodes me i b running known (Offer v) = sends known (says_to_all nodes me (bodies.Accept i b v))
 promise_turn nodes me i b running known Stale = notes running
 
-turn_by : (nodes me i b : ℕ) (running : Running) (p waiting offering : Proposal) (v : Action) (same prep many : Bool) → p.position ≡ i → (same ≡ true → p.ballot ≡ b) → with_proposal running.proposals p ≡ running.proposals
-    → promise_turn nodes me i b running (record running { proposals = with_proposal running.proposals (cond (same && prep) (cond many offering waiting) p) }) (cond same (cond (prep && many) (Offer v) Waiting) Stale)
-    ≡ cond (same && prep)
+turn_by : (nodes me i b : ℕ) (running : Running) (p waiting offering : Proposal) (v : Action) (same prep alone many : Bool) → p.position ≡ i → (same ≡ true → p.ballot ≡ b)
+    → with_proposal running.proposals p ≡ running.proposals
+    → promise_turn nodes me i b running (record running { proposals = with_proposal running.proposals (cond (same && (prep && alone)) (cond many offering waiting) p) })
+    (cond (same && alone) (cond (prep && many) (Offer v) Waiting) Stale)
+    ≡ cond (same && (prep && alone))
     (cond many (sends (record running { proposals = with_proposal running.proposals (cond many offering waiting) }) (says_to_all nodes me (bodies.Accept p.position p.ballot v)))
     (notes (record running { proposals = with_proposal running.proposals (cond many offering waiting) })))
     (notes running)
-turn_by nodes me i b running p waiting offering v true true true place ballot back =
+turn_by nodes me i b running p waiting offering v true true true true place ballot back =
     let known = record running { proposals = with_proposal running.proposals offering } in
     ap (λ (j : ℕ). sends known (says_to_all nodes me (bodies.Accept j b v))) (sym place)
     ∙ ap (λ (k : ℕ). sends known (says_to_all nodes me (bodies.Accept p.position k v))) (sym (ballot refl))
-turn_by nodes me i b running p waiting offering v true true false place ballot back = refl
-turn_by nodes me i b running p waiting offering v true false many place ballot back = ap (λ (ps : List Proposal). notes (record running { proposals = ps })) back
-turn_by nodes me i b running p waiting offering v false prep many place ballot back = refl
+turn_by nodes me i b running p waiting offering v true true true false place ballot back = refl
+turn_by nodes me i b running p waiting offering v true true false many place ballot back = refl
+turn_by nodes me i b running p waiting offering v true false true many place ballot back = ap (λ (ps : List Proposal). notes (record running { proposals = ps })) back
+turn_by nodes me i b running p waiting offering v true false false many place ballot back = refl
+turn_by nodes me i b running p waiting offering v false prep alone many place ballot back = refl
 
 turn_to : (nodes me i b : ℕ) (running : Running) (promise : Promise) (o : Option Proposal) → proposal_at running.proposals i ≡ o
     → promise_turn nodes me i b running (promised_running nodes running b promise o) (progress_in nodes b promise o) ≡ on_promise_to nodes me running b promise o
 turn_to nodes me i b running promise None at = refl
 turn_to nodes me i b running promise (Some p) at =
     let after = with_promise p promise in
-    turn_by nodes me i b running p after (record after { phase = Offering }) (offer_of p.own after.promises) (nat_eq p.ballot b) (is_preparing p.phase) (is_promised nodes after)
+    turn_by nodes me i b running p after (record after { phase = Offering }) (offer_of p.own after.promises) (nat_eq p.ballot b) (is_preparing p.phase) (not p.ranged) (is_promised nodes after)
     (at_position running.proposals i p at) (eqb-true p.ballot b) (same_back running.proposals i p at)
 
 pub turn_is : (nodes me i b : ℕ) (running : Running) (promise : Promise) (answer : Progress) → answer ≡ progress_in nodes b promise (proposal_at running.proposals i)
@@ -105,7 +112,7 @@ highest_more : (o : Option Vote) (votes : List Vote) → IfSome o IsRightVote �
 highest_more None votes right rest = rest
 highest_more (Some v) votes right rest = higher_right v (highest votes) right rest
 
-highest_right : (promises : List Promise) → AllByRecursion IsRightPromise promises → IfSome (highest (filter_map (λ p. p.1) promises)) IsRightVote
+pub highest_right : (promises : List Promise) → AllByRecursion IsRightPromise promises → IfSome (highest (filter_map (λ p. p.1) promises)) IsRightVote
 highest_right [] right = tt
 highest_right (promise ∷ rest) right = highest_more promise.1 (filter_map (λ p. p.1) rest) right.0 (highest_right rest right.1)
 
@@ -149,9 +156,9 @@ progress_right nodes b promise None right last = tt
 progress_right nodes b promise (Some p) right last =
     let after = with_promise p promise in
     let fine : IsRightProposal after = promised_right p promise right last in
-    offer_by (offer_of p.own after.promises) (nat_eq p.ballot b) (is_preparing p.phase && is_promised nodes after) (offer_is_right p.own after.promises fine.own fine.promises)
+    offer_by (offer_of p.own after.promises) (nat_eq p.ballot b && not p.ranged) (is_preparing p.phase && is_promised nodes after) (offer_is_right p.own after.promises fine.own fine.promises)
 
-all_found : (ps : List Proposal) (i : ℕ) → AllByRecursion IsRightProposal ps → IfSome (proposal_at ps i) IsRightProposal
+pub all_found : (ps : List Proposal) (i : ℕ) → AllByRecursion IsRightProposal ps → IfSome (proposal_at ps i) IsRightProposal
 all_found [] i all = tt
 all_found (p ∷ rest) i all = elim (nat_eq p.position i) as (λ t. IfSome (cond t (Some p) (proposal_at rest i)) IsRightProposal) [ true ↦ all.0 | false ↦ all_found rest i all.1 ]
 
@@ -163,7 +170,7 @@ offers_right ps nodes i b promise v all last is = subst (λ (a : Progress). IsRi
 -- ---- the proposals still hang together
 
 once_right : (nodes b : ℕ) (p : Proposal) (promise : Promise) → IsRightProposal p → IsRightPromise promise → IsRightProposal (once_noted nodes b p promise)
-once_right nodes b p promise right last = by (nat_eq p.ballot b && is_preparing p.phase) (is_promised nodes (with_promise p promise))
+once_right nodes b p promise right last = by (takes_promise b p) (is_promised nodes (with_promise p promise))
   where
     by : (counts many : Bool) → IsRightProposal (cond counts (cond many (record (with_promise p promise) { phase = Offering }) (with_promise p promise)) p)
     by true true = record { own = right.own; promises = (promised_right p promise right last).promises }
@@ -211,13 +218,62 @@ fewer_right test (p ∷ rest) all =
       | false ↦ fewer_right test rest all.1
     ]
 
+-- ---- proposals of a range
+
+ranged_place : (nodes from : ℕ) (range : Range) (b : ℕ) (votes : List PlacedVote) (p : Proposal) → (once_promised nodes from range b votes p).position ≡ p.position
+ranged_place nodes from range b votes p = by (is_covered range p.position && takes_range_promise nodes b p)
+  where
+    by : (t : Bool) → (cond t (with_promise p (from, placed_at votes p.position)) p).position ≡ p.position
+    by true = refl
+    by false = refl
+
+ranged_places : (nodes from : ℕ) (range : Range) (b : ℕ) (votes : List PlacedVote) (ps : List Proposal) → places (map (once_promised nodes from range b votes) ps) ≡ places ps
+ranged_places nodes from range b votes [] = refl
+ranged_places nodes from range b votes (p ∷ rest) =
+    let here = ranged_place nodes from range b votes p in
+    let later = ranged_places nodes from range b votes rest in
+    λ i. here i ∷ later i
+
+placed_right : (votes : List PlacedVote) (i : ℕ) → AllByRecursion (λ placed. IsRightVote placed.vote) votes → IfSome (placed_at votes i) IsRightVote
+placed_right [] i all = tt
+placed_right (placed ∷ rest) i all = by (nat_eq placed.position i) (placed_right rest i all.1)
+  where
+    by : (b : Bool) → IfSome (placed_at rest i) IsRightVote → IfSome (option_map (λ (q : PlacedVote). q.vote) (cond b (Some placed) (find (λ (q : PlacedVote). nat_eq q.position i) rest))) IsRightVote
+    by true later = all.0
+    by false later = later
+
+ranged_right : (nodes from : ℕ) (range : Range) (b : ℕ) (votes : List PlacedVote) (ps : List Proposal) → AllByRecursion (λ placed. IsRightVote placed.vote) votes → AllByRecursion IsRightProposal ps
+    → AllByRecursion IsRightProposal (map (once_promised nodes from range b votes) ps)
+ranged_right nodes from range b votes [] right all = tt
+ranged_right nodes from range b votes (p ∷ rest) right all =
+    (by (is_covered range p.position && takes_range_promise nodes b p), ranged_right nodes from range b votes rest right all.1)
+  where
+    by : (t : Bool) → IsRightProposal (cond t (with_promise p (from, placed_at votes p.position)) p)
+    by true = promised_right p (from, placed_at votes p.position) all.0 (placed_right votes p.position right)
+    by false = all.0
+
+offered_there : (nodes : ℕ) (own : Action) (p : Proposal) → (once_offered nodes own p).position ≡ p.position
+offered_there nodes own p = by (is_prepared nodes p)
+  where
+    by : (t : Bool) → (cond t (as_offered own p) p).position ≡ p.position
+    by true = refl
+    by false = refl
+
+own_right : (own : Action) (o : Option Vote) → IsRight own → IfSome (own_unless own o) IsRight
+own_right own None right = right
+own_right own (Some vote) right = tt
+
+offered_right : (nodes : ℕ) (own : Action) (p : Proposal) → IsRight own → IsRightProposal p → IsRightProposal (once_offered nodes own p)
+offered_right nodes own p right all = by (is_prepared nodes p)
+  where
+    by : (t : Bool) → IsRightProposal (cond t (as_offered own p) p)
+    by true = record { own = own_right own (highest_vote p.promises) right; promises = all.promises }
+    by false = all
+
 module _ (me : ℕ) (config : Config) (records : List Rec) (taken : ℕ) (part : ProposerPart) (t : IsProposer me config records taken part) where
-  noted_in : (b i : ℕ) (promise : Promise) → IsRightPromise promise → (o : Option Proposal) → proposal_at part.proposals i ≡ o → IfSome o IsRightProposal
-      → IsProposer me config records taken (notes_promise part b promise o)
-  noted_in b i promise last None at right = t
-  noted_in b i promise last (Some p) at right =
-      let q = once_noted part.nodes b p promise in
-      let place : q.position ≡ i = noted_there part.nodes b p promise ∙ at_position part.proposals i p at in
+  -- with another proposal in place of the one at its position
+  put_in : (i : ℕ) (q p : Proposal) → proposal_at part.proposals i ≡ Some p → q.position ≡ i → IsRightProposal q → IsProposer me config records taken (record part { proposals = with_proposal part.proposals q })
+  put_in i q p at place right =
       let same : places (with_proposal part.proposals q) ≡ places part.proposals = same_places part.proposals q p (ap (proposal_at part.proposals) place ∙ at) in
       record {
         node = t.node;
@@ -228,8 +284,14 @@ module _ (me : ℕ) (config : Config) (records : List Rec) (taken : ℕ) (part :
           inside = λ j h. t.window.inside j (subst (λ (is : List ℕ). Has j is) same h);
         };
         unlearned = λ j h. t.unlearned j (subst (λ (is : List ℕ). Has j is) same h);
-        right = put_right part.proposals q t.right (once_right part.nodes b p promise right last);
+        right = put_right part.proposals q t.right right;
       }
+
+  noted_in : (b i : ℕ) (promise : Promise) → IsRightPromise promise → (o : Option Proposal) → proposal_at part.proposals i ≡ o → IfSome o IsRightProposal
+      → IsProposer me config records taken (notes_promise part b promise o)
+  noted_in b i promise last None at right = t
+  noted_in b i promise last (Some p) at right =
+      put_in i (once_noted part.nodes b p promise) p at (noted_there part.nodes b p promise ∙ at_position part.proposals i p at) (once_right part.nodes b p promise right last)
 
   -- once a promise is noted
   pub leads_promised : (b i : ℕ) (promise : Promise) → IsRightPromise promise → IsProposer me config records taken (notes_promise part b promise (proposal_at part.proposals i))
@@ -252,11 +314,37 @@ module _ (me : ℕ) (config : Config) (records : List Rec) (taken : ℕ) (part :
   -- once a refusal is noted
   pub leads_refused : (i b bound : ℕ) → IsProposer me config records taken (notes_refusal part i b bound)
   leads_refused i b bound =
-      let less = record part { proposals = without_proposal part.proposals i; refused = greatest_with part.refused bound } in
+      let less = record part { proposals = filter (λ p. not (is_given_up part.nodes i b p)) part.proposals; refused = greatest_with part.refused bound } in
       elim (is_in b (proposal_at part.proposals i)) as (λ s. IsProposer me config records taken (cond s less part)) [
-        | true ↦ leads_passing (λ p. not (nat_eq p.position i)) (greatest_with part.refused bound)
+        | true ↦ leads_passing (λ p. not (is_given_up part.nodes i b p)) (greatest_with part.refused bound)
         | false ↦ t
       ]
+
+  -- once a promise for a range is noted
+  pub leads_promised_range : (from : ℕ) (range : Range) (b : ℕ) (votes : List PlacedVote) → AllByRecursion (λ placed. IsRightVote placed.vote) votes
+      → IsProposer me config records taken (notes_range part from range b votes)
+  leads_promised_range from range b votes right =
+      let same : places (map (once_promised part.nodes from range b votes) part.proposals) ≡ places part.proposals = ranged_places part.nodes from range b votes part.proposals in
+      record {
+        node = t.node;
+        nodes = t.nodes;
+        started = t.started;
+        window = record {
+          different = subst IsSet (sym same) t.window.different;
+          inside = λ j h. t.window.inside j (subst (λ (is : List ℕ). Has j is) same h);
+        };
+        unlearned = λ j h. t.unlearned j (subst (λ (is : List ℕ). Has j is) same h);
+        right = ranged_right part.nodes from range b votes part.proposals right t.right;
+      }
+
+  offered_in : (i : ℕ) (own : Action) → IsRight own → (o : Option Proposal) → proposal_at part.proposals i ≡ o → IfSome o IsRightProposal → IsProposer me config records taken (offers part own o)
+  offered_in i own right None at all = t
+  offered_in i own right (Some p) at all =
+      put_in i (once_offered part.nodes own p) p at (offered_there part.nodes own p ∙ at_position part.proposals i p at) (offered_right part.nodes own p right all)
+
+  -- once a prepared proposal offers
+  pub leads_offered : (i : ℕ) (own : Action) → IsRight own → IsProposer me config records taken (offers part own (proposal_at part.proposals i))
+  leads_offered i own right = offered_in i own right (proposal_at part.proposals i) refl (all_found part.proposals i t.right)
 
 module _ {S : Type 0} (me : ℕ) (config : Config) (disk : Disk) (failed : Bool) (records : List Rec) (proposer after : ProposerPart) (learner : Learning) (votes : List HeardVote) (log : Contents) (applied : Applied S) where
   -- the same parts with another proposer

@@ -6,7 +6,7 @@ use Rattle.std.proofs.lemmas.Bool.Decides.{Decides-eqb, eqb_tells}
 use Rattle.rp_base.specs.declared.action.Action.{Action}
 use Rattle.rp_base.specs.declared.config.Config.{Config}
 use Rattle.rp_base.specs.declared.record.Rec.{Rec}
-use Rattle.rp_base.specs.declared.record.Rec.TheVariants.{Started, Promised, Voted, Learned}
+use Rattle.rp_base.specs.declared.record.Rec.TheVariants.{Started, Promised, Voted, Learned, PromisedRange}
 use Rattle.rp_base.specs.Sets.{Has, with_member}
 use Rattle.rp_base.specs.Promises.{HeardVote, heard_elsewhere}
 use Rattle.rp_base.specs.Records.{or_else, learned_in, learned_at}
@@ -167,6 +167,7 @@ tells_none (Started ballot) other j = refl
 tells_none (Promised position ballot) other j = refl
 tells_none (Voted position ballot action) other j = refl
 tells_none (Learned position action) other j = absurd (other position action refl)
+tells_none (PromisedRange range ballot) other j = refl
 
 -- making room takes nothing
 pub taken_same : (log : Contents) (i : ℕ) → (with_room log i).taken ≡ log.taken

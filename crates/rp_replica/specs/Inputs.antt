@@ -13,7 +13,7 @@ use Rattle.rp_model.specs.Parts.{Turn}
 use Rattle.rp_model.specs.Effect.{NodeInput}
 use Rattle.rp_model.specs.Effect as nodes
 use Rattle.rp_replica.specs.declared.input.Input.{Input}
-use Rattle.rp_replica.specs.declared.input.Input.TheVariants.{Receive, Lead, Interrupt, Tick, Report}
+use Rattle.rp_replica.specs.declared.input.Input.TheVariants.{Receive, Lead, LeadRange, Interrupt, Tick, Report}
 use Rattle.rp_replica.specs.Held.{Held}
 use Rattle.rp_replica.specs.Turning.{effect_of}
 
@@ -31,6 +31,7 @@ packet_given (Err reason) = Err (BadPacket reason)
 abbrev pub given_by : Input → Result NodeInput Fault
 given_by (Receive bytes) = packet_given (all_of bytes.now)
 given_by (Lead choice) = Ok (nodes.NodeInput.Lead choice)
+given_by (LeadRange range) = Ok (nodes.NodeInput.LeadRange range.first range.count)
 given_by (Interrupt source occurrence) = Ok (nodes.NodeInput.Interrupt source occurrence)
 given_by (Tick now) = Ok (nodes.NodeInput.Tick now)
 given_by (Report first) = Ok (nodes.NodeInput.Report first)

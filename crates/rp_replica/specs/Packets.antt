@@ -26,7 +26,7 @@ pub record RoomyRun : Type 0 where
   pub run : Run
   pub room : ℕ
 
--- how many bytes the text of a packet has at most, if it is no report
+-- how many bytes the text of a packet has at most, if it takes no memory
 abbrev pub longest_text : ℕ
 longest_text = 40
 

@@ -3,7 +3,7 @@ use Rattle.std.specs.Prelude.{◌≡◌, ℕ, suc, ◌+◌, ◌<◌, ◌≤◌, 
 use Rattle.std.specs.List.{AllByRecursion}
 use Rattle.rp_base.specs.declared.config.Config.{Config}
 use Rattle.rp_base.specs.declared.record.Rec.{Rec}
-use Rattle.rp_base.specs.declared.record.Rec.TheVariants.{Started, Promised, Voted, Learned}
+use Rattle.rp_base.specs.declared.record.Rec.TheVariants.{Started, Promised, Voted, Learned, PromisedRange}
 use Rattle.rp_base.specs.Action.{IsRight}
 use Rattle.rp_base.specs.Config.{IsRightConfig}
 use Rattle.rp_base.specs.Right.{IsRightVote}
@@ -104,6 +104,7 @@ IsAnswer (Started ballot) = ⊥
 IsAnswer (Promised position ballot) = Unit {0}
 IsAnswer (Voted position ballot action) = Unit {0}
 IsAnswer (Learned position action) = ⊥
+IsAnswer (PromisedRange range ballot) = Unit {0}
 
 -- every record is at a position of the log, or at none
 abbrev pub AllInLog : ℕ → List Rec → Type 0

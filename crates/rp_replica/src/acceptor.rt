@@ -1,15 +1,18 @@
 //! What a replica decides that is asked for a promise or a vote (Lamport, "Paxos Made Simple",
 //! section 2.2).
 
-ghost use Rattle.std.specs.Prelude.{◌≡◌, ◌≤◌};
+ghost use Rattle.std.specs.Prelude.{◌≡◌, ◌≤◌, true};
 ghost use Rattle.rp_base.specs.Action.{IsRight};
-ghost use Rattle.rp_model.specs.Acceptor.{on_prepare, on_accept};
+ghost use Rattle.rp_model.specs.Acceptor.{on_prepare, on_prepare_range, on_accept};
+ghost use Rattle.rp_model.specs.Receiving.{is_range_within};
 ghost use Rattle.rp_replica.specs.Plans.{turn_of, MayCommit};
 
-use crate::plan::Plan;
+use crate::plan::{Plan, RangePromise};
 use crate::replica::Replica;
-use rp_acceptor::{AcceptAnswer, PrepareAnswer};
-use rp_base::{Action, Ballot, NodeId, Position, last_votes_lie_below};
+use rp_base::{
+    AcceptAnswer, Action, Ballot, NodeId, Position, PositionRange, PrepareAnswer, RangeAnswer,
+    last_votes_lie_below, range_votes_are_reported,
+};
 use rp_machine::Machine;
 use rp_model::Dropped;
 use rp_store::Device;
@@ -28,6 +31,31 @@ impl<M: Machine, D: Device> Replica<M, D> {
             PrepareAnswer::Promise { last, rec: _ } => Plan::Promise(from, position, ballot, last),
             PrepareAnswer::Nack(bound) => Plan::Refuse(from, position, ballot, bound),
             PrepareAnswer::Silent => Plan::Pass(Dropped::No),
+        }
+    }
+
+    /// A `PrepareRange` comes.
+    #[inline(never)]
+    pub(crate) fn on_prepare_range(
+        &self,
+        from: NodeId,
+        range: PositionRange,
+        ballot: Ballot,
+    ) -> Plan
+        requires place { is_range_within self.now.config.max_positions range ≡ true }
+        ensures turn { turn_of M.next M.answers self.now result
+            ≡ on_prepare_range self.now.me self.now.records self.now.running from range ballot }
+        ensures may { MayCommit self.now result }
+    {
+        range_votes_are_reported();
+        match self.acceptor.prepare_range(range, ballot) {
+            RangeAnswer::Promise { .. } => Plan::PromiseRange(RangePromise {
+                to: from,
+                range,
+                ballot,
+            }),
+            RangeAnswer::Nack(position, bound) => Plan::Refuse(from, position, ballot, bound),
+            RangeAnswer::Silent => Plan::Pass(Dropped::No),
         }
     }
 

@@ -5,7 +5,7 @@ ghost use Rattle.std.specs.Prelude.{◌≡◌, ◌++◌, ◌∷◌, ◌<◌, [],
 ghost use Rattle.rp_base.specs.Action.{IsCount};
 ghost use Rattle.rp_base.specs.Right.{IsRightRecord};
 ghost use Rattle.rp_base.specs.declared.fault.Fault.TheVariants as faults;
-ghost use Rattle.rp_codec.specs.Decoding.{IsReportBody};
+ghost use Rattle.rp_codec.specs.Decoding.{IsLongBody};
 ghost use Rattle.rp_codec.specs.Message.{MaySay};
 ghost use Rattle.rp_codec.specs.declared.packet.Party.TheVariants.{Node};
 ghost use Rattle.rp_codec.specs.declared.packet.Body.TheVariants.{Reply as Answered};
@@ -65,13 +65,19 @@ impl<M: Machine, D: Device> Replica<M, D> {
                 };
                 self.keep_and_tell(out, &Rec::Voted(*position, *ballot, *action), told, *to)?;
             }
+            Plan::PromiseRange(promise) => self.promise_range(alloc, out, promise)?,
             Plan::Lead(position, ballot, own) => self.begin(out, *position, *ballot, own)?,
+            Plan::LeadRange(range, ballot) => self.begin_range(out, *range, *ballot)?,
+            Plan::OfferPrepared(position, ballot, action) => {
+                self.offer_prepared(out, *position, *ballot, action)?;
+            }
             Plan::Learn(position, action) => self.learn_by_votes(out, *position, action)?,
             Plan::Follow(from, position, action) => {
                 self.learn_by_decision(out, *from, *position, action)?;
             }
             Plan::Offer(promise, action) => self.offer(out, promise, action)?,
             Plan::Count(promise) => self.note_promise(promise),
+            Plan::CountRange(promise) => self.note_range(promise),
             Plan::Yield(position, ballot, bound) => self.note_refusal(*position, *ballot, *bound),
             Plan::Hear(from, position, vote) => self.hear(alloc, *from, *position, vote)?,
             Plan::Await(item) => self.add(*item),
@@ -120,7 +126,7 @@ impl<M: Machine, D: Device> Replica<M, D> {
     /// A node is told something.
     fn tell(&self, out: &mut Outbox, told: Body, to: NodeId) -> Result<(), Fault>
         requires may { MaySay (Node self.now.me) (Node to) told }
-        requires short { ¬ IsReportBody told }
+        requires short { ¬ IsLongBody told }
         ensures ok { OnOk result (Commits (sends self.now.running (says self.now.me told to ∷ []))
             self.now self.now out.old.run out.new.run Dropped.No) }
         ensures only { IsOkUnless result faults.OutOfMemory }
@@ -166,7 +172,7 @@ impl<M: Machine, D: Device> Replica<M, D> {
         requires place { is_in_log self.old.config.max_positions rec.now ≡ true }
         requires answer { IsAnswer rec.now }
         requires may { MaySay (Node self.old.me) (Node to) told }
-        requires short { ¬ IsReportBody told }
+        requires short { ¬ IsLongBody told }
         ensures ok { OnOk result (Commits
             (writes rec.now self.old.running (says self.old.me told to ∷ []))
             self.old self.new out.old.run out.new.run Dropped.No) }

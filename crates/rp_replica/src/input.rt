@@ -1,6 +1,6 @@
 //! What a replica may be given.
 
-use rp_base::Position;
+use rp_base::{Position, PositionRange};
 
 /// What a replica may be given: one of these makes one step.
 #[derive(Clone, Copy, Debug)]
@@ -8,8 +8,10 @@ pub enum Input<'a> {
     /// The text of a packet, as it came.
     Receive(&'a [u8]),
     /// The word to lead at a position, or at the least one that is not learned and at which no
-    /// proposal of the node runs.
+    /// proposal of the node runs but a prepared one.
     Lead(Option<Position>),
+    /// The word to ask once for promises at all unlearned positions of a range.
+    LeadRange(PositionRange),
     /// An occurrence, from 1, of an interrupt's source, 1 to 8.
     Interrupt { source: u8, occurrence: u32 },
     /// A tick of the clock.

@@ -15,7 +15,7 @@ use rp_store::Device;
 
 impl<M: Machine, D: Device> Replica<M, D> {
     /// The word to lead at a position, or with none at the least position that is not learned and at
-    /// which no proposal of this node runs. Where the position is learned nothing happens. It is
+    /// which no proposal of this node runs but a prepared one. Where the position is learned nothing happens. It is
     /// refused with `LogFull` above the log or 64 positions above the first unlearned one, with
     /// `BallotsSpent` where the node has no ballot left.
     pub(crate) fn on_lead(&self, choice: Option<Position>) -> Result<Plan, Fault>
@@ -38,9 +38,10 @@ impl<M: Machine, D: Device> Replica<M, D> {
     /// first unlearned one none is free.
     pub(crate) fn least_free(&self) -> Option<Position>
         ensures some { IfSome result (λ position. position
-            ≡ least_free self.now.records self.now.running.proposals) }
+            ≡ least_free self.now.config.nodes self.now.records self.now.running.proposals) }
         ensures none { IfNone result (is_out_of_reach self.now.config.max_positions self.now.records
-            (least_free self.now.records self.now.running.proposals) ≡ true) }
+            (least_free self.now.config.nodes self.now.records self.now.running.proposals)
+            ≡ true) }
     {
         let first = self.log.next_unlearned();
         let end = (first + WINDOW).min(u32::from(self.config.max_positions) + 1);
@@ -53,12 +54,15 @@ impl<M: Machine, D: Device> Replica<M, D> {
         None
     }
 
-    /// Whether nothing is learned at the position and no proposal runs there.
+    /// Whether nothing is learned at the position and no proposal runs there but a prepared one.
     fn is_free_position(&self, position: Position) -> bool
         ensures { result
-            ≡ is_free_position self.now.records self.now.running.proposals position }
+            ≡ is_free_position self.now.config.nodes self.now.records
+            self.now.running.proposals position }
     {
-        !self.is_learned(position) && self.proposer.runs(position).is_none()
+        !self.is_learned(position)
+            && (self.proposer.runs(position).is_none()
+                || self.proposer.prepared(position).is_some())
     }
 }
 

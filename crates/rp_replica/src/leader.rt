@@ -1,17 +1,21 @@
 //! What a replica decides that leads, and that is answered by promises (Lamport, "Paxos Made
 //! Simple", section 2.2).
 
-ghost use Rattle.std.specs.Prelude.{◌≡◌, ◌+◌, ◌^◌, ◌<◌, ◌≤◌, Some, is_some, Ok, Err, IfNone, IfOk, IfErr, IfSome};
+ghost use Rattle.std.specs.Prelude.{◌≡◌, ◌+◌, ◌^◌, ◌<◌, ◌≤◌, Some, is_some, unwrap_or, Ok, Err, IfNone, IfOk, IfErr, IfSome, false};
+ghost use Rattle.rp_base.specs.Action.{IsRight};
 ghost use Rattle.rp_base.specs.Ballot.{IsAbove, next_ballot, round_of};
-ghost use Rattle.rp_base.specs.Records.{learned_at};
+ghost use Rattle.rp_base.specs.Proposals.{without_proposal};
+ghost use Rattle.rp_base.specs.Records.{applied_of, learned_at};
+ghost use Rattle.rp_machine.specs.Replay.{kept_of};
 ghost use Rattle.rp_model.specs.Effect as inputs;
-ghost use Rattle.rp_model.specs.Leader.{is_out_of_reach, starts_above, on_promise};
+ghost use Rattle.rp_model.specs.Leader.{is_out_of_reach, starts_above, begins_if, on_promise};
+ghost use Rattle.rp_model.specs.Pending.{own_action};
 ghost use Rattle.rp_replica.specs.Plans.{turn_of, MayCommit, MayCount};
 ghost use Rattle.rp_replica.specs.Turning.{effect_of};
 
 use crate::plan::{CountedPromise, Plan};
 use crate::replica::Replica;
-use rp_base::{Ballot, Fault, Position};
+use rp_base::{Action, Ballot, Fault, Position};
 use rp_learner::WINDOW;
 use rp_machine::Machine;
 use rp_model::Dropped;
@@ -19,7 +23,8 @@ use rp_proposer::Progress;
 use rp_store::Device;
 
 impl<M: Machine, D: Device> Replica<M, D> {
-    /// The word to lead at a position. Where it is learned nothing happens. It is refused with
+    /// The word to lead at a position. Where it is learned nothing happens, and a prepared proposal
+    /// there offers its action. It is refused with
     /// `LogFull` above the log or 64 positions above the first unlearned one, with `BallotsSpent`
     /// where the node has no ballot left.
     pub(crate) fn on_lead_at(&self, position: Position) -> Result<Plan, Fault>
@@ -35,6 +40,42 @@ impl<M: Machine, D: Device> Replica<M, D> {
         if self.is_out_of_reach(position) {
             return Err(Fault::LogFull);
         }
+        match self.proposer.prepared(position) {
+            Some((ballot, reported)) => {
+                let action = self.prepared_action(position, reported);
+                Ok(Plan::OfferPrepared(position, ballot, action))
+            }
+            None => self.on_lead_anew(position),
+        }
+    }
+
+    /// What a prepared proposal at the position offers: the action of the highest vote that its
+    /// promises report, or one of its own where they report none.
+    fn prepared_action(&self, position: Position, reported: Option<Action>) -> Action
+        ensures action { result ≡ unwrap_or reported (own_action
+            (kept_of M.next M.answers self.now.begin (applied_of self.now.records))
+            (without_proposal self.now.running.proposals position) self.now.running.pending) }
+        ensures right { IfSome reported IsRight → IsRight result }
+    {
+        match reported {
+            Some(action) => action,
+            None => self.own_action(position).get(),
+        }
+    }
+
+    /// The word to lead at a position within reach at which nothing is learned or prepared.
+    fn on_lead_anew(&self, position: Position) -> Result<Plan, Fault>
+        requires unlearned { is_some (learned_at self.now.records position) ≡ false }
+        requires reach { is_out_of_reach self.now.config.max_positions self.now.records position
+            ≡ false }
+        ensures ok { IfOk result (λ plan. Ok (turn_of M.next M.answers self.now plan)
+            ≡ begins_if M.next M.answers self.now.begin self.now.config.nodes self.now.me
+            self.now.records self.now.running position) }
+        ensures may { IfOk result (λ plan. MayCommit self.now plan) }
+        ensures err { IfErr result (λ fault. Err fault
+            ≡ begins_if M.next M.answers self.now.begin self.now.config.nodes self.now.me
+            self.now.records self.now.running position) }
+    {
         match self.next_ballot() {
             Some(ballot) => {
                 let own = self.own_action(position).get();

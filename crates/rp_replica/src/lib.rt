@@ -6,11 +6,13 @@
 //! - `input`: what a replica may be given
 //! - `plan`: what the rules decided for an input, before anything of it is done
 //! - `turn`: a step: it decides by the rules, and commits
-//! - `receiving`, `acceptor`, `leader`, `lead`, `own_action`, `learner`, `arrivals`: the rules, which
-//!   read alone: for a packet, a question for a promise or a vote, promises, the word to lead, the
-//!   action that a proposal takes as its own, votes and decisions, calls and interrupts and ticks
+//! - `receiving`, `acceptor`, `leader`, `lead`, `ranges`, `own_action`, `learner`, `arrivals`: the
+//!   rules, which read alone: for a packet, a question for a promise or a vote, promises, the word to
+//!   lead at a position or a range, the action that a proposal takes as its own, votes and decisions,
+//!   calls and interrupts and ticks
 //! - `commit`: a plan, committed: it is written, takes effect and is sent
-//! - `proposal`, `decisions`, `report`: plans of a leader, of a learner and for the audit, committed
+//! - `range_promise`, `proposal`, `decisions`, `report`: a promise for a range, plans of a leader, of a
+//!   learner and for the audit, committed
 //! - `learning`, `applying`, `window`, `pending`: an action that is learned, applied in order and
 //!   answered; the learner's window, which follows the log; the items that wait to be proposed
 //! - `cut`: a node that stops within a step
@@ -38,6 +40,8 @@ mod own_action;
 mod pending;
 mod plan;
 mod proposal;
+mod range_promise;
+mod ranges;
 mod receiving;
 mod replica;
 mod report;

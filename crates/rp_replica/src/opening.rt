@@ -37,6 +37,7 @@ fn is_in_log(max_positions: u16, rec: &Rec) -> bool
         Rec::Promised(position, _) | Rec::Voted(position, _, _) | Rec::Learned(position, _) => {
             position.get() <= max_positions
         }
+        Rec::PromisedRange(range, _) => range.first().get() <= max_positions,
     }
 }
 

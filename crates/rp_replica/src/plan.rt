@@ -4,7 +4,8 @@ ghost use Rattle.std.specs.Prelude.{◌≡◌, IfSome};
 ghost use Rattle.rp_codec.specs.Record.{HasRecordRanges};
 ghost use Rattle.rp_replica.specs.Plans.{written_by};
 
-use rp_base::{Action, Ballot, NodeId, Position, Rec, Reply, TaskId, Vote};
+use rp_base::{Action, Ballot, NodeId, Position, PositionRange, Rec, Reply, TaskId, Vote};
+use rp_codec::Votes;
 use rp_model::{Dropped, RightAction};
 
 /// A promise that came from a node, in a ballot at a position, with the vote that it reports.
@@ -16,14 +17,33 @@ pub(crate) struct CountedPromise {
     pub(crate) last: Option<Vote>,
 }
 
+/// A promise to a node for a range in a ballot.
+#[derive(Clone, Copy, Debug)]
+pub(crate) struct RangePromise {
+    pub(crate) to: NodeId,
+    pub(crate) range: PositionRange,
+    pub(crate) ballot: Ballot,
+}
+
+/// A promise that came from a node, in a ballot for a range, with the votes that it reports.
+#[derive(Debug, Drop)]
+pub(crate) struct CountedRange {
+    pub(crate) from: NodeId,
+    pub(crate) range: PositionRange,
+    pub(crate) ballot: Ballot,
+    pub(crate) votes: Votes,
+}
+
 /// What a step does: decided by reading alone, small and without texts. To commit it is to write
 /// its record, if it has one, then to update the state, and then to send.
-#[derive(Clone, Copy, Debug)]
+#[derive(Debug, Drop)]
 pub(crate) enum Plan {
     /// Nothing, and what is dropped.
     Pass(Dropped),
     /// A promise to a node at a position in a ballot, with the last vote there.
     Promise(NodeId, Position, Ballot, Option<Vote>),
+    /// A promise for a range, with the last votes there.
+    PromiseRange(RangePromise),
     /// A vote for an action, at a position in a ballot, that is told to a node.
     Vote(NodeId, Position, Ballot, Action),
     /// A vote that was cast before is told to a node again.
@@ -38,8 +58,15 @@ pub(crate) enum Plan {
     Await(RightAction),
     /// A proposal begins, with an action of its own.
     Lead(Position, Ballot, Action),
+    /// A proposal begins at each unlearned position of a range.
+    LeadRange(PositionRange, Ballot),
+    /// A prepared proposal offers an action to all: that of the highest vote that its promises
+    /// report, or one of its own where they report none.
+    OfferPrepared(Position, Ballot, Action),
     /// A promise counts, and makes no majority.
     Count(CountedPromise),
+    /// A promise for a range counts at each proposal that takes it.
+    CountRange(CountedRange),
     /// A promise makes a majority, and the action is offered to all.
     Offer(CountedPromise, Action),
     /// A proposal is refused by a bound.
@@ -71,6 +98,9 @@ pub(crate) fn record_in_range(rec: &Rec)
         Rec::Learned(position, _) => {
             let _number = position.get();
         }
+        Rec::PromisedRange(range, ballot) => {
+            let _numbers = (range.count(), ballot.get());
+        }
     }
 }
 
@@ -81,8 +111,11 @@ impl Plan {
     {
         match *self {
             Plan::Promise(_, position, ballot, _) => Some(Rec::Promised(position, ballot)),
+            Plan::PromiseRange(promise) => {
+                Some(Rec::PromisedRange(promise.range, promise.ballot))
+            }
             Plan::Vote(_, position, ballot, action) => Some(Rec::Voted(position, ballot, action)),
-            Plan::Lead(_, ballot, _) => Some(Rec::Started(ballot)),
+            Plan::Lead(_, ballot, _) | Plan::LeadRange(_, ballot) => Some(Rec::Started(ballot)),
             Plan::Learn(position, action) | Plan::Follow(_, position, action) => {
                 Some(Rec::Learned(position, action))
             }

@@ -5,18 +5,19 @@ ghost use Rattle.std.specs.Prelude.{◌≡◌, [], Some, None, IfErr, OnOk, OnEr
 ghost use Rattle.rp_base.specs.Action.{IsRight};
 ghost use Rattle.rp_base.specs.declared.record.Rec.TheVariants.{Started};
 ghost use Rattle.rp_codec.specs.declared.packet.Body.TheVariants as bodies;
-ghost use Rattle.rp_model.specs.Leader.{on_nack};
+ghost use Rattle.rp_base.specs.Proposals.{proposal_at};
+ghost use Rattle.rp_model.specs.Leader.{begins_range, on_promise_range, on_nack};
 ghost use Rattle.rp_model.specs.Says.{says_to_all, notes, sends, writes};
 ghost use Rattle.rp_replica.specs.Committing.{Commits};
 ghost use Rattle.rp_replica.specs.Held.{held_after};
-ghost use Rattle.rp_replica.specs.Plans.{MayBegin, MayCount, once_promised};
-ghost use Rattle.rp_replica.specs.Proposed.{started_running};
+ghost use Rattle.rp_replica.specs.Plans.{MayBegin, MayBeginRange, MayCount, MayCountRange, once_promised};
+ghost use Rattle.rp_replica.specs.Proposed.{started_running, offered_running};
 ghost use Rattle.rp_replica.specs.Turning.{Stops};
 
-use crate::plan::CountedPromise;
+use crate::plan::{CountedPromise, CountedRange};
 use crate::replica::{Replica, write};
 use crate::sent::Outbox;
-use rp_base::{Action, Ballot, Fault, Position, Rec};
+use rp_base::{Action, Ballot, Fault, Position, PositionRange, Rec};
 use rp_codec::Body;
 use rp_machine::Machine;
 use rp_model::Dropped;
@@ -52,6 +53,62 @@ impl<M: Machine, D: Device> Replica<M, D> {
         Ok(())
     }
 
+    /// A proposal begins at each unlearned position of a range, in place of another there: its
+    /// ballot is written, and then each node is asked once for all promises.
+    pub(crate) fn begin_range(
+        &mut self,
+        out: &mut Outbox,
+        range: PositionRange,
+        ballot: Ballot,
+    ) -> Result<(), Fault>
+        requires working { self.old.failed ≡ false }
+        requires may { MayBeginRange self.old range ballot }
+        ensures ok { OnOk result (Commits (begins_range self.old.config.nodes self.old.me
+            self.old.records self.old.running range ballot)
+            self.old self.new out.old.run out.new.run Dropped.No) }
+        ensures err { IfErr result (λ fault.
+            Stops (Some (Started ballot)) self.old self.new fault) }
+        ensures unsent { OnErr result (out.new.run ≡ out.old.run) }
+    {
+        out.reserve(usize::from(self.config.nodes))?;
+        self.start_range(range, ballot)?;
+        out.say_to_all(
+            self.me,
+            self.config.nodes,
+            Body::PrepareRange { range, ballot },
+        );
+        Ok(())
+    }
+
+    /// A prepared proposal offers an action to all.
+    pub(crate) fn offer_prepared(
+        &mut self,
+        out: &mut Outbox,
+        position: Position,
+        ballot: Ballot,
+        action: &Action,
+    ) -> Result<(), Fault>
+        requires working { self.old.failed ≡ false }
+        requires right { IsRight action.now }
+        ensures ok { OnOk result (Commits (sends (offered_running self.old.config.nodes
+            self.old.running action.now (proposal_at self.old.running.proposals position))
+            (says_to_all self.old.config.nodes self.old.me
+            (bodies.Accept position ballot action.now)))
+            self.old self.new out.old.run out.new.run Dropped.No) }
+        ensures err { IfErr result (λ fault. Stops None self.old self.new fault) }
+        ensures unsent { OnErr result (out.new.run ≡ out.old.run) }
+    {
+        out.reserve(usize::from(self.config.nodes))?;
+        self.start_offer(position, action);
+        let offered = Body::Accept {
+            position,
+            ballot,
+            action: *action,
+        };
+        out.say_to_all(self.me, self.config.nodes, offered);
+        Ok(())
+    }
+
     /// A promise makes a majority, and the action is offered to all.
     pub(crate) fn offer(
         &mut self,
@@ -83,7 +140,7 @@ impl<M: Machine, D: Device> Replica<M, D> {
     /// A proposal is refused by a bound.
     pub(crate) fn note_refusal(&mut self, position: Position, ballot: Ballot, bound: Ballot)
         ensures { self.new ≡ held_after self.old
-            (on_nack self.old.running position ballot bound) }
+            (on_nack self.old.config.nodes self.old.running position ballot bound) }
     {
         self.proposer.nack(position, ballot, bound);
     }
@@ -103,6 +160,49 @@ impl<M: Machine, D: Device> Replica<M, D> {
         let _number = position.get();
         self.proposer.begin(position, ballot, Some(*own));
         Ok(())
+    }
+
+    /// Begins a proposal at each unlearned position of a range: the ballot is written first.
+    fn start_range(&mut self, range: PositionRange, ballot: Ballot) -> Result<(), Fault>
+        requires working { self.old.failed ≡ false }
+        requires may { MayBeginRange self.old range ballot }
+        ensures ok { OnOk result (self.new ≡ held_after self.old (writes (Started ballot)
+            (begins_range self.old.config.nodes self.old.me self.old.records self.old.running
+            range ballot).running [])) }
+        ensures err { IfErr result (λ fault.
+            Stops (Some (Started ballot)) self.old self.new fault) }
+    {
+        let learned = self.learned_mask(range);
+        let rec = Rec::Started(ballot);
+        write(&mut self.store, &mut self.acceptor, &rec)?;
+        self.proposer.begin_range(range, learned, ballot);
+        Ok(())
+    }
+
+    /// The second phase of a prepared proposal begins.
+    fn start_offer(&mut self, position: Position, action: &Action)
+        requires right { IsRight action.now }
+        ensures { self.new ≡ held_after self.old (notes (offered_running
+            self.old.config.nodes self.old.running action.now (proposal_at self.old.running.proposals position))) }
+    {
+        self.proposer.offer(position, *action);
+    }
+
+    /// A promise for a range counts at each proposal that takes it.
+    pub(crate) fn note_range(&mut self, promise: &CountedRange)
+        requires may { MayCountRange self.old promise.now }
+        ensures { self.new ≡ held_after self.old (on_promise_range self.old.config.nodes
+            self.old.running promise.now.from promise.now.range promise.now.ballot
+            promise.now.votes) }
+    {
+        let CountedRange {
+            from,
+            range,
+            ballot,
+            votes,
+        } = promise;
+        self.proposer
+            .note_range(*from, *range, *ballot, votes.as_slice());
     }
 
     /// A promise counts, and makes no majority.

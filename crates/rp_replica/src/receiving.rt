@@ -1,49 +1,54 @@
 //! What a replica decides that is given a packet.
 
-ghost use Rattle.std.specs.Prelude.{◌≡◌, nat_eq, true};
+ghost use Rattle.std.specs.Prelude.{◌≡◌, nat_eq, true, IfOk, IfErr, IsOkUnless};
+ghost use Rattle.rp_base.specs.declared.fault.Fault.TheVariants as faults;
 ghost use Rattle.rp_base.specs.Ballot.{owner_of};
 ghost use Rattle.rp_codec.specs.Message.{IsNodeParty, IsPacket};
 ghost use Rattle.rp_codec.specs.declared.packet.Party.TheVariants.{Node};
-ghost use Rattle.rp_model.specs.Receiving.{is_for_node, is_allowed, is_node, is_no_node_above, party_number, on_body, receives};
+ghost use Rattle.rp_model.specs.Receiving.{is_for_node, is_allowed, is_range_within, is_node, is_no_node_above, party_number, on_body, receives};
 ghost use Rattle.rp_replica.specs.Plans.{turn_of, MayCommit};
 
-use crate::plan::{CountedPromise, Plan};
+use crate::plan::{CountedPromise, CountedRange, Plan};
 use crate::replica::Replica;
-use rp_base::{Ballot, Config, NodeId};
+use rp_base::{Ballot, Config, Fault, NodeId, PositionRange};
 use rp_codec::{Body, Packet, Party};
 use rp_machine::Machine;
 use rp_model::Dropped;
 use rp_store::Device;
 
 impl<M: Machine, D: Device> Replica<M, D> {
-    /// A packet comes.
+    /// A packet comes. Only a promise for a range takes memory: its votes are kept in the plan.
     // A call of its own, so that the packet is read where it lies.
     #[inline(never)]
-    pub(crate) fn on_packet(&self, packet: &Packet) -> Plan
-        ensures turn { turn_of M.next M.answers self.now result ≡ receives M.next M.answers
-            self.now.begin self.now.config self.now.me self.now.records self.now.running packet.now }
-        ensures may { MayCommit self.now result }
+    pub(crate) fn on_packet(&self, packet: &Packet) -> Result<Plan, Fault>
+        ensures turn { IfOk result (λ plan. turn_of M.next M.answers self.now plan
+            ≡ receives M.next M.answers self.now.begin self.now.config self.now.me
+            self.now.records self.now.running packet.now) }
+        ensures may { IfOk result (λ plan. MayCommit self.now plan) }
+        ensures only { IsOkUnless result faults.OutOfMemory }
     {
         if !is_for_node(self.config, self.me, packet) {
-            return Plan::Pass(Dropped::Foreign);
+            return Ok(Plan::Pass(Dropped::Foreign));
         }
         match packet.from() {
             Party::Node(from) => self.on_node(from, packet),
-            Party::Task(_) | Party::Audit => self.on_task(packet),
+            Party::Task(_) | Party::Audit => Ok(self.on_task(packet)),
         }
     }
 
     /// A packet comes from a node, for this one.
-    fn on_node(&self, from: NodeId, packet: &Packet) -> Plan
+    fn on_node(&self, from: NodeId, packet: &Packet) -> Result<Plan, Fault>
         requires sender { packet.now.from ≡ Node from }
         requires right { is_for_node self.now.config self.now.me packet.now ≡ true }
-        ensures turn { turn_of M.next M.answers self.now result ≡ on_body M.next M.answers
-            self.now.begin self.now.config.nodes self.now.me self.now.records self.now.running
-            from packet.now.body }
-        ensures may { MayCommit self.now result }
+        ensures turn { IfOk result (λ plan. turn_of M.next M.answers self.now plan
+            ≡ on_body M.next M.answers self.now.begin self.now.config.nodes self.now.me
+            self.now.records self.now.running from packet.now.body) }
+        ensures may { IfOk result (λ plan. MayCommit self.now plan) }
+        ensures only { IsOkUnless result faults.OutOfMemory }
     {
-        match packet.body() {
+        Ok(match packet.body() {
             Body::Prepare { position, ballot } => self.on_prepare(from, *position, *ballot),
+            Body::PrepareRange { range, ballot } => self.on_prepare_range(from, *range, *ballot),
             Body::Promise {
                 position,
                 ballot,
@@ -53,6 +58,16 @@ impl<M: Machine, D: Device> Replica<M, D> {
                 position: *position,
                 ballot: *ballot,
                 last: *last,
+            }),
+            Body::PromiseRange {
+                range,
+                ballot,
+                votes,
+            } => Plan::CountRange(CountedRange {
+                from,
+                range: *range,
+                ballot: *ballot,
+                votes: votes.clone()?,
             }),
             Body::Accept {
                 position,
@@ -74,7 +89,7 @@ impl<M: Machine, D: Device> Replica<M, D> {
             Body::Call { .. } | Body::Reply { .. } | Body::Report { .. } => {
                 Plan::Pass(Dropped::No)
             }
-        }
+        })
     }
 
     /// A packet comes from a task, for this node.
@@ -112,7 +127,7 @@ fn is_no_node_above(nodes: u8, party: Party) -> bool
     }
 }
 
-/// Whether the position is within the log, and who asks for a ballot owns it.
+/// Whether the position, or each of a range, is within the log, and who asks for a ballot owns it.
 fn is_allowed(max_positions: u16, from: Party, body: &Body) -> bool
     ensures { result ≡ is_allowed max_positions (party_number from) body.now }
 {
@@ -129,7 +144,18 @@ fn is_allowed(max_positions: u16, from: Party, body: &Body) -> bool
         | Body::Decided { position, .. }
         | Body::Ask { position }
         | Body::Nack { position, .. } => position.get() <= max_positions,
+        Body::PrepareRange { range, ballot } => {
+            is_range_within(max_positions, range) && owns(from, ballot)
+        }
+        Body::PromiseRange { range, .. } => is_range_within(max_positions, range),
     }
+}
+
+/// Whether the range begins and ends within the log.
+fn is_range_within(max_positions: u16, range: PositionRange) -> bool
+    ensures { result ≡ is_range_within max_positions range }
+{
+    range.first().get() <= max_positions && range.end() <= u32::from(max_positions) + 1
 }
 
 /// Whether the ballot is the party's own.

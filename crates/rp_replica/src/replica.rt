@@ -88,7 +88,8 @@ fn reserve(acceptor: &mut Acceptor, rec: &Rec) -> Result<(), Fault>
 {
     match *rec {
         Rec::Promised(position, _) => acceptor.reserve(position),
-        Rec::Voted(position, _, _) => acceptor.reserve(position),
+        Rec::Voted(position, _, _) => acceptor.reserve_vote(position),
+        Rec::PromisedRange(range, _) => acceptor.reserve_range(range),
         Rec::Started(_) | Rec::Learned(_, _) => Ok(()),
     }
 }

@@ -2,7 +2,7 @@
 
 ghost use Rattle.std.specs.Prelude.{◌≡◌, ◌+◌, ◌*◌, ◌≤◌, ◌<◌, ◌++◌, [], length, slice_set, OnOk, OnErr};
 ghost use Rattle.rp_base.specs.Action.{IsCount};
-ghost use Rattle.rp_codec.specs.Decoding.{IsReportBody};
+ghost use Rattle.rp_codec.specs.Decoding.{IsLongBody};
 ghost use Rattle.rp_codec.specs.Message.{MaySay};
 ghost use Rattle.rp_codec.specs.declared.packet.Party.TheVariants.{Node};
 ghost use Rattle.rp_codec.specs.declared.packet.Body.TheVariants.{Reply as Answered};
@@ -15,7 +15,7 @@ use rp_model::Dropped;
 use std::alloc::AllocError;
 use std::marker::Model;
 
-/// How many bytes the text of a packet has at most, if it is no report.
+/// How many bytes the text of a packet has at most, if it takes no memory.
 const LONGEST_TEXT: usize = 40;
 
 /// The place of a text at which its receiver stands, from 0.
@@ -62,13 +62,34 @@ impl Outbox {
         Outbox { bytes, packets: 0 }
     }
 
-    /// Makes room for as many packets more, at most 64 of them, if none is a report.
+    /// Makes room for as many packets more, at most 64 of them, if none takes memory.
     pub(crate) fn reserve(&mut self, packets: usize) -> Result<(), AllocError>
         requires few { packets ≤ 64 }
         ensures run { self.new.run ≡ self.old.run }
         ensures room { OnOk result (longest_text * packets ≤ self.new.room) }
     {
         self.bytes.reserve(LONGEST_TEXT * packets)
+    }
+
+    /// Makes room for this many bytes more.
+    pub(crate) fn make_room(&mut self, bytes: usize) -> Result<(), AllocError>
+        ensures run { self.new.run ≡ self.old.run }
+        ensures room { OnOk result (bytes ≤ self.new.room) }
+    {
+        self.bytes.reserve(bytes)
+    }
+
+    /// One packet more, as its text, into the room.
+    pub(crate) fn put_text(&mut self, text: &[u8])
+        requires some { 0 < length text.now }
+        requires room { length text.now ≤ self.old.room }
+        ensures { self.new.run ≡ record {
+          bytes = self.old.run.bytes ++ text.now;
+          packets = self.old.run.packets + 1;
+        } }
+    {
+        self.bytes.extend_from_slice(text).unwrap();
+        self.packets += 1;
     }
 
     /// One packet more. Where memory is refused, the packets stay as they are.
@@ -81,10 +102,10 @@ impl Outbox {
         Ok(())
     }
 
-    /// One packet more, which is no report, into the room.
+    /// One packet more, which takes no memory, into the room.
     #[inline(always)]
     pub(crate) fn put(&mut self, packet: &Packet)
-        requires short { ¬ IsReportBody packet.now.body }
+        requires short { ¬ IsLongBody packet.now.body }
         requires room { longest_text ≤ self.old.room }
         ensures run { self.new.run ≡ with_packet self.old.run packet.now }
         ensures room { self.old.room ≤ self.new.room + longest_text }
@@ -94,10 +115,11 @@ impl Outbox {
         self.packets += 1;
     }
 
-    /// One packet more, from node to node, into the room.
+    /// One packet more, from node to node, which takes no memory, into the room.
     #[inline(always)]
     pub(crate) fn say(&mut self, me: NodeId, to: NodeId, body: Body)
         requires may { MaySay (Node me) (Node to) body }
+        requires short { ¬ IsLongBody body }
         requires room { longest_text ≤ self.old.room }
         ensures run { self.new.run ≡ with_packet self.old.run (says me body to) }
         ensures room { self.old.room ≤ self.new.room + longest_text }
@@ -127,7 +149,7 @@ impl Outbox {
     pub(crate) fn say_to_all(&mut self, me: NodeId, nodes: u8, body: Body)
         requires nodes { nodes ≤ 7 }
         requires may { MaySay (Node me) (Node me) body }
-        requires short { ¬ IsReportBody body }
+        requires short { ¬ IsLongBody body }
         requires room { longest_text * nodes ≤ self.old.room }
         ensures run { self.new.run ≡ with_packets self.old.run (says_to_all nodes me body) }
         ensures room { self.old.room ≤ self.new.room + longest_text * nodes }
@@ -142,7 +164,7 @@ impl Outbox {
     pub(crate) fn say_to_others(&mut self, me: NodeId, nodes: u8, body: Body)
         requires nodes { nodes ≤ 7 }
         requires may { MaySay (Node me) (Node me) body }
-        requires short { ¬ IsReportBody body }
+        requires short { ¬ IsLongBody body }
         requires room { longest_text * nodes ≤ self.old.room }
         ensures run { self.new.run ≡ with_packets self.old.run (says_to_others nodes me body) }
         ensures room { self.old.room ≤ self.new.room + longest_text * nodes }

@@ -13,7 +13,7 @@ use crate::input::Input;
 use crate::plan::Plan;
 use crate::replica::Replica;
 use crate::sent::{Outbox, Sent};
-use rp_base::{Fault, Position};
+use rp_base::{Fault, Position, PositionRange};
 use rp_codec::decode;
 use rp_machine::Machine;
 use rp_store::Device;
@@ -39,6 +39,7 @@ impl<M: Machine, D: Device> Replica<M, D> {
         match *input {
             Input::Receive(bytes) => self.on_text(alloc, bytes),
             Input::Lead(choice) => self.on_lead(choice),
+            Input::LeadRange(range) => self.on_lead_range(range),
             Input::Interrupt { source, occurrence } => Ok(self.on_interrupt(source, occurrence)),
             Input::Tick { now } => Ok(self.on_tick(now)),
             Input::Report(first) => Ok(Plan::Report(first)),
@@ -57,7 +58,7 @@ impl<M: Machine, D: Device> Replica<M, D> {
             self.now self.now fault) }
     {
         match &decode(alloc, bytes) {
-            Ok(Ok(packet)) => Ok(self.on_packet(packet)),
+            Ok(Ok(packet)) => self.on_packet(packet),
             Ok(Err(reason)) => Err(Fault::BadPacket(*reason)),
             Err(_) => Err(Fault::OutOfMemory),
         }
@@ -103,7 +104,8 @@ impl<M: Machine, D: Device> Replica<M, D> {
     {
         let mut out = Outbox::new(buffer);
         // By reference, so that the plan is not copied.
-        let committed = match &self.decide(alloc, input) {
+        let decided = self.decide(alloc, input);
+        let committed = match &decided {
             Ok(plan) => self.commit(alloc, &mut out, plan),
             Err(fault) => Err(*fault),
         };
@@ -125,14 +127,25 @@ impl<M: Machine, D: Device> Replica<M, D> {
     }
 
     /// The word to lead at a position, or with none at the least position that is not learned and at
-    /// which no proposal of this node runs. Where the position is learned nothing happens. It is
-    /// refused with `LogFull` above the log or 64 positions above the first unlearned one, with
+    /// which no proposal of this node runs but a prepared one. A prepared proposal offers its action.
+    /// Where the position is learned nothing happens. It is refused with `LogFull` above the log or 64 positions above the first unlearned one, with
     /// `BallotsSpent` where the node has no ballot left, and then as `Replica` says.
     pub fn lead(&mut self, alloc: Global, choice: Option<Position>) -> Result<Sent, Fault>
         ensures { Answers (effect_of M.next M.answers self.old (inputs.NodeInput.Lead choice))
             self.old self.new result }
     {
         self.turn(alloc, &Input::Lead(choice))
+    }
+
+    /// The word to lead at all positions of a range that are not learned, with one question for all
+    /// of them. Where all are learned nothing happens. It is refused with `LogFull` where one of them
+    /// is above the log or 64 positions above the first unlearned one, with `BallotsSpent` where the
+    /// node has no ballot left, and then as `Replica` says.
+    pub fn lead_range(&mut self, alloc: Global, range: PositionRange) -> Result<Sent, Fault>
+        ensures { Answers (effect_of M.next M.answers self.old
+            (inputs.NodeInput.LeadRange range.first range.count)) self.old self.new result }
+    {
+        self.turn(alloc, &Input::LeadRange(range))
     }
 
     /// The word to lead at a position, as `lead` with one.

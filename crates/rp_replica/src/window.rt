@@ -10,7 +10,7 @@ use rp_learner::{Learner, WINDOW};
 use rp_log::Log;
 
 /// The bits, in which this one is clear, with it set or not.
-fn with_bit(bits: u64, offset: u32, is_set: bool) -> u64
+pub(crate) fn with_bit(bits: u64, offset: u32, is_set: bool) -> u64
     requires offset { offset < window }
     requires clear { is_marked bits offset ≡ false }
     ensures here { is_marked result offset ≡ is_set }

@@ -28,7 +28,7 @@ use Rattle.rp_model.specs.World.{World, Happening, part_at, nothing_happens, tas
 use Rattle.rp_model.specs.declared.event.Event.{Event}
 use Rattle.rp_model.specs.declared.event.Event.TheVariants as events
 use Rattle.rp_model.specs.declared.event.Step.{Step}
-use Rattle.rp_model.specs.declared.event.Step.TheVariants.{Deliver, Lead, Interrupt, Tick, Report}
+use Rattle.rp_model.specs.declared.event.Step.TheVariants.{Deliver, Lead, LeadRange, Interrupt, Tick, Report}
 use Rattle.rp_agreement.specs.Answered.{calls_so_far}
 use Rattle.rp_script.specs.Agreeing.{call_for}
 use Rattle.rp_script.specs.Items.{Item, Called, Asked}
@@ -130,6 +130,7 @@ module _ {S : Type 0} (s : Setting S) (event : Event) (no_call : called_by event
   step_for : (w : World) (step : Step) → IsFor s.config w event (step_effect s w (step_of step))
   step_for w (Deliver number) = delivery_for w (part_at w.sent number)
   step_for w (Lead me choice) = takes_for w me (nodes.Lead choice) (part_at w.nodes me)
+  step_for w (LeadRange me first count) = takes_for w me (nodes.LeadRange first count) (part_at w.nodes me)
   step_for w (Interrupt me interrupt) = takes_for w me (nodes.Interrupt interrupt.source interrupt.occurrence) (part_at w.nodes me)
   step_for w (Tick me now) = takes_for w me (nodes.Tick now) (part_at w.nodes me)
   step_for w (Report me first) = takes_for w me (nodes.Report first) (part_at w.nodes me)
@@ -156,6 +157,7 @@ module _ {S : Type 0} (s : Setting S) (event : Event) (no_call : called_by event
   cut_step_for : (w : World) (step : Step) (kept : ℕ) → IsFor s.config w event (cut_step s w (step_of step) kept)
   cut_step_for w (Deliver number) kept = delivery_cut_for w (part_at w.sent number) kept
   cut_step_for w (Lead me choice) kept = cuts_for w me (nodes.Lead choice) kept (part_at w.nodes me)
+  cut_step_for w (LeadRange me first count) kept = cuts_for w me (nodes.LeadRange first count) kept (part_at w.nodes me)
   cut_step_for w (Interrupt me interrupt) kept = cuts_for w me (nodes.Interrupt interrupt.source interrupt.occurrence) kept (part_at w.nodes me)
   cut_step_for w (Tick me now) kept = cuts_for w me (nodes.Tick now) kept (part_at w.nodes me)
   cut_step_for w (Report me first) kept = cuts_for w me (nodes.Report first) kept (part_at w.nodes me)
@@ -298,6 +300,8 @@ hears_steps t part message (bodies.Ask i) = stays t part (Take message) refl
 hears_steps t part message (bodies.Nack i b bound) = stays t part (Take message) refl
 hears_steps t part message (bodies.Reply number reply) = reply_steps t part message number reply
 hears_steps t part message (bodies.Report first applied told) = stays t part (Take message) refl
+hears_steps t part message (bodies.PrepareRange range b) = stays t part (Take message) refl
+hears_steps t part message (bodies.PromiseRange range b votes) = stays t part (Take message) refl
 
 task_steps : (config : Config) (t : ℕ) (part : TaskPart) (input : TaskInput) → StepsOnIf t part input (task_effect config t part input)
 task_steps config t part (Submit node object operation arg) =

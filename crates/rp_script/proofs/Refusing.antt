@@ -18,7 +18,7 @@ use Rattle.rp_codec.specs.declared.packet.Party.TheVariants.{Node, Task, Audit}
 use Rattle.rp_model.specs.declared.event.Event.{Event}
 use Rattle.rp_model.specs.declared.event.Event.TheVariants.{Submit, Again, Node as NodeStep, Cut, Stop, Restart}
 use Rattle.rp_model.specs.declared.event.Step.{Step}
-use Rattle.rp_model.specs.declared.event.Step.TheVariants.{Deliver, Lead, Interrupt, Tick, Report}
+use Rattle.rp_model.specs.declared.event.Step.TheVariants.{Deliver, Lead, LeadRange, Interrupt, Tick, Report}
 use Rattle.rp_model.specs.Parts.{NodePart}
 use Rattle.rp_model.specs.Parts.{Running}
 use Rattle.rp_model.specs.Parts.{TaskPart}
@@ -29,7 +29,10 @@ use Rattle.rp_model.specs.Tasks as tasks
 use Rattle.rp_model.specs.Tasks.{next_call, may_call, calls_if, asks_again, task_hears}
 use Rattle.rp_model.specs.Events.{event_of, step_of}
 use Rattle.rp_model.specs.World.{World, Happening, part_at, with_part, nothing_happens, node_done, task_done, node_done_if, task_done_if, task_takes, task_is_told, node_takes, node_hears, node_is_told, arrives, delivers, stops, restarts, step_effect, cut_step, delivery_is_cut, arrival_is_cut, hearing_is_cut, node_is_cut, event_effect}
-use Rattle.rp_deck.specs.Script.{IsStepWithin, IsEventWithin}
+use Rattle.rp_deck.specs.Script.{IsUpTo, IsStepWithin, IsEventWithin}
+use Rattle.rp_base.specs.Proposals.{Proposal, proposal_at, is_prepared}
+use Rattle.rp_base.specs.Ranges.{Range}
+use Rattle.rp_model.specs.Leader.{chosen_position, begins_if, offers, leads_at, on_lead_range}
 
 -- the number is one of those by which a script's step is refused
 abbrev pub IsNumbered : Fault → Type 0
@@ -136,24 +139,61 @@ cut_allowed : (kept : ℕ) (part : NodePart) (answer : Result (Done NodePart) Fa
 cut_allowed kept part (Ok done) allowed = tt
 cut_allowed kept part (Err fault) allowed = allowed
 
-lead_by : (part : NodePart) (learned full spent : Bool) (quiet begins : Turn)
-    → IsAllowed (turned_if part (cond learned (Ok quiet) (cond full (Err LogFull) (cond spent (Err BallotsSpent) (Ok begins)))))
-lead_by part true full spent quiet begins = tt
-lead_by part false true spent quiet begins = (omega arith, omega arith)
-lead_by part false false true quiet begins = (omega arith, omega arith)
-lead_by part false false false quiet begins = tt
+begun_by : (part : NodePart) (exhausted : Bool) (begins : Turn) → IsAllowed (turned_if part (cond exhausted (Err BallotsSpent) (Ok begins)))
+begun_by part true begins = (omega arith, omega arith)
+begun_by part false begins = tt
+
+lead_by : (part : NodePart) (learned full : Bool) (quiet : Turn) (led : Result Turn Fault) → IsAllowed (turned_if part led)
+    → IsAllowed (turned_if part (cond learned (Ok quiet) (cond full (Err LogFull) led)))
+lead_by part true full quiet led allowed = tt
+lead_by part false true quiet led allowed = (omega arith, omega arith)
+lead_by part false false quiet led allowed = allowed
+
+range_by : (part : NodePart) (full learned exhausted : Bool) (quiet begins : Turn)
+    → IsAllowed (turned_if part (cond full (Err LogFull) (cond learned (Ok quiet) (cond exhausted (Err BallotsSpent) (Ok begins)))))
+range_by part true learned exhausted quiet begins = (omega arith, omega arith)
+range_by part false true exhausted quiet begins = tt
+range_by part false false exhausted quiet begins = begun_by part exhausted begins
+
+-- a range to lead at has 1 to 64 positions
+abbrev pub HasCount : NodeInput → Type 0
+HasCount (nodes.LeadRange first count) = IsUpTo 64 count
+HasCount _ = Unit {0}
 
 module _ {S : Type 0} (s : Setting S) where
-  running_allowed : (me : ℕ) (part : NodePart) (input : NodeInput) (running : Running) → IsAllowed (effect_while s me part input (Some running))
-  running_allowed me part (nodes.Receive message) running = tt
-  running_allowed me part (nodes.Lead choice) running = lead_by part _ _ _ _ _
-  running_allowed me part (nodes.Interrupt source occurrence) running = tt
-  running_allowed me part (nodes.Tick now) running = tt
-  running_allowed me part (nodes.Report first) running = tt
+  led_by : (me : ℕ) (part : NodePart) (running : Running) (i : ℕ) (found : Option Proposal)
+      → IsAllowed (turned_if part (leads_at s.next s.answers s.begin s.config.nodes me part.records running i found))
+  led_by me part running i None = begun_by part _ _
+  led_by me part running i (Some p) = by (is_prepared s.config.nodes p)
+    where
+      by : (prepared : Bool)
+          → IsAllowed (turned_if part (cond prepared (Ok (offers s.next s.answers s.begin s.config.nodes me part.records running p)) (begins_if s.next s.answers s.begin s.config.nodes me part.records running i)))
+      by true = tt
+      by false = begun_by part _ _
 
-  input_allowed : (me : ℕ) (part : NodePart) (input : NodeInput) (running : Option Running) → IsAllowed (effect_while s me part input running)
-  input_allowed me part input None = (omega arith, omega arith)
-  input_allowed me part input (Some running) = running_allowed me part input running
+  range_found : (me : ℕ) (part : NodePart) (running : Running) (wrong over : Bool) (range : Range) → wrong ≡ false
+      → IsAllowed (turned_if part (on_lead_range s.config me part.records running (cond wrong (Err BadConfig) (cond over (Err LogFull) (Ok range)))))
+  range_found me part running true over range counted = absurd (cc)
+  range_found me part running false true range counted = (omega arith, omega arith)
+  range_found me part running false false range counted = range_by part _ _ _ _ _
+
+  count_right : (count : ℕ) → IsUpTo 64 count → not (in_range 1 64 count) ≡ false
+  count_right count few =
+      ap (λ (t : Bool). not (t && nat_le count 64)) (le-leb 1 count few.0) ∙ ap not (le-leb count 64 few.1)
+
+  running_allowed : (me : ℕ) (part : NodePart) (input : NodeInput) (running : Running) → HasCount input → IsAllowed (effect_while s me part input (Some running))
+  running_allowed me part (nodes.Receive message) running counted = tt
+  running_allowed me part (nodes.Lead choice) running counted =
+      let i = chosen_position s.config.nodes part.records running choice in
+      lead_by part _ _ _ _ (led_by me part running i (proposal_at running.proposals i))
+  running_allowed me part (nodes.LeadRange first count) running counted = range_found me part running (not (in_range 1 64 count)) _ _ (count_right count counted)
+  running_allowed me part (nodes.Interrupt source occurrence) running counted = tt
+  running_allowed me part (nodes.Tick now) running counted = tt
+  running_allowed me part (nodes.Report first) running counted = tt
+
+  input_allowed : (me : ℕ) (part : NodePart) (input : NodeInput) (running : Option Running) → HasCount input → IsAllowed (effect_while s me part input running)
+  input_allowed me part input None counted = (omega arith, omega arith)
+  input_allowed me part input (Some running) counted = running_allowed me part input running counted
 
   -- ---- a message
 
@@ -162,7 +202,7 @@ module _ {S : Type 0} (s : Setting S) where
 
   hears_keep : (w : World) (me : ℕ) (message : Message) (part : NodePart) (running : Option Running) → Keeps w (node_hears s w me message part running)
   hears_keep w me message part None = nothing_keeps w
-  hears_keep w me message part (Some running) = allowed_keeps w me _ (input_allowed me part (nodes.Receive message) part.running)
+  hears_keep w me message part (Some running) = allowed_keeps w me _ (input_allowed me part (nodes.Receive message) part.running tt)
 
   told_keeps : (w : World) (me : ℕ) (message : Message) (part : Option NodePart) → Keeps w (node_is_told s w me message part)
   told_keeps w me message None = nothing_keeps w
@@ -183,17 +223,17 @@ module _ {S : Type 0} (s : Setting S) where
 
   -- ---- a node's step, whole or cut
 
-  takes_keep : (w : World) (me : ℕ) (input : NodeInput) (part : Option NodePart) (found : NodePart) → part ≡ Some found → Keeps w (node_takes s w me input part)
-  takes_keep w me input None found there = absurd (cc)
-  takes_keep w me input (Some part) found there = allowed_keeps w me _ (input_allowed me part input part.running)
+  takes_keep : (w : World) (me : ℕ) (input : NodeInput) (part : Option NodePart) (found : NodePart) → HasCount input → part ≡ Some found → Keeps w (node_takes s w me input part)
+  takes_keep w me input None found counted there = absurd (cc)
+  takes_keep w me input (Some part) found counted there = allowed_keeps w me _ (input_allowed me part input part.running counted)
 
-  cut_keeps : (w : World) (me : ℕ) (input : NodeInput) (kept : ℕ) (part : Option NodePart) (found : NodePart) → part ≡ Some found → Keeps w (node_is_cut s w me input kept part)
-  cut_keeps w me input kept None found there = absurd (cc)
-  cut_keeps w me input kept (Some part) found there = allowed_keeps w me _ (cut_allowed kept part _ (input_allowed me part input part.running))
+  cut_keeps : (w : World) (me : ℕ) (input : NodeInput) (kept : ℕ) (part : Option NodePart) (found : NodePart) → HasCount input → part ≡ Some found → Keeps w (node_is_cut s w me input kept part)
+  cut_keeps w me input kept None found counted there = absurd (cc)
+  cut_keeps w me input kept (Some part) found counted there = allowed_keeps w me _ (cut_allowed kept part _ (input_allowed me part input part.running counted))
 
   hearing_cut_keeps : (w : World) (message : Message) (me kept : ℕ) (part : Option NodePart) → Keeps w (hearing_is_cut s w message me part kept)
   hearing_cut_keeps w message me kept None = (omega arith, omega arith)
-  hearing_cut_keeps w message me kept (Some part) = allowed_keeps w me _ (cut_allowed kept part _ (input_allowed me part (nodes.Receive message) part.running))
+  hearing_cut_keeps w message me kept (Some part) = allowed_keeps w me _ (cut_allowed kept part _ (input_allowed me part (nodes.Receive message) part.running tt))
 
   arrival_cut_keeps : (w : World) (message : Message) (kept : ℕ) (party : Party) → Keeps w (arrival_is_cut s w message party kept)
   arrival_cut_keeps w message kept (Node me) = hearing_cut_keeps w message me kept (part_at w.nodes me)
@@ -206,17 +246,23 @@ module _ {S : Type 0} (s : Setting S) where
 
   step_keeps : (w : World) (step : Step) → length w.nodes ≡ s.config.nodes → IsStepWithin s.config.nodes step → Keeps w (step_effect s w (step_of step))
   step_keeps w (Deliver message) many fits = delivery_keeps w (part_at w.sent message)
-  step_keeps w (Lead node position) many fits = let there = part_there w.nodes node fits.0 (omega arith) in takes_keep w node (nodes.Lead position) (part_at w.nodes node) there.0 there.1
-  step_keeps w (Interrupt node interrupt) many fits = let there = part_there w.nodes node fits.0 (omega arith) in takes_keep w node (nodes.Interrupt interrupt.source interrupt.occurrence) (part_at w.nodes node) there.0 there.1
-  step_keeps w (Tick node now) many fits = let there = part_there w.nodes node fits.0 (omega arith) in takes_keep w node (nodes.Tick now) (part_at w.nodes node) there.0 there.1
-  step_keeps w (Report node first) many fits = let there = part_there w.nodes node fits.0 (omega arith) in takes_keep w node (nodes.Report first) (part_at w.nodes node) there.0 there.1
+  step_keeps w (Lead node position) many fits = let there = part_there w.nodes node fits.0 (omega arith) in takes_keep w node (nodes.Lead position) (part_at w.nodes node) there.0 tt there.1
+  step_keeps w (LeadRange node first count) many fits =
+      let there = part_there w.nodes node fits.0.0 (omega arith) in
+      takes_keep w node (nodes.LeadRange first count) (part_at w.nodes node) there.0 fits.1 there.1
+  step_keeps w (Interrupt node interrupt) many fits = let there = part_there w.nodes node fits.0 (omega arith) in takes_keep w node (nodes.Interrupt interrupt.source interrupt.occurrence) (part_at w.nodes node) there.0 tt there.1
+  step_keeps w (Tick node now) many fits = let there = part_there w.nodes node fits.0 (omega arith) in takes_keep w node (nodes.Tick now) (part_at w.nodes node) there.0 tt there.1
+  step_keeps w (Report node first) many fits = let there = part_there w.nodes node fits.0 (omega arith) in takes_keep w node (nodes.Report first) (part_at w.nodes node) there.0 tt there.1
 
   cut_step_keeps : (w : World) (step : Step) (kept : ℕ) → length w.nodes ≡ s.config.nodes → IsStepWithin s.config.nodes step → Keeps w (cut_step s w (step_of step) kept)
   cut_step_keeps w (Deliver message) kept many fits = delivery_cut_keeps w kept (part_at w.sent message)
-  cut_step_keeps w (Lead node position) kept many fits = let there = part_there w.nodes node fits.0 (omega arith) in cut_keeps w node (nodes.Lead position) kept (part_at w.nodes node) there.0 there.1
-  cut_step_keeps w (Interrupt node interrupt) kept many fits = let there = part_there w.nodes node fits.0 (omega arith) in cut_keeps w node (nodes.Interrupt interrupt.source interrupt.occurrence) kept (part_at w.nodes node) there.0 there.1
-  cut_step_keeps w (Tick node now) kept many fits = let there = part_there w.nodes node fits.0 (omega arith) in cut_keeps w node (nodes.Tick now) kept (part_at w.nodes node) there.0 there.1
-  cut_step_keeps w (Report node first) kept many fits = let there = part_there w.nodes node fits.0 (omega arith) in cut_keeps w node (nodes.Report first) kept (part_at w.nodes node) there.0 there.1
+  cut_step_keeps w (Lead node position) kept many fits = let there = part_there w.nodes node fits.0 (omega arith) in cut_keeps w node (nodes.Lead position) kept (part_at w.nodes node) there.0 tt there.1
+  cut_step_keeps w (LeadRange node first count) kept many fits =
+      let there = part_there w.nodes node fits.0.0 (omega arith) in
+      cut_keeps w node (nodes.LeadRange first count) kept (part_at w.nodes node) there.0 fits.1 there.1
+  cut_step_keeps w (Interrupt node interrupt) kept many fits = let there = part_there w.nodes node fits.0 (omega arith) in cut_keeps w node (nodes.Interrupt interrupt.source interrupt.occurrence) kept (part_at w.nodes node) there.0 tt there.1
+  cut_step_keeps w (Tick node now) kept many fits = let there = part_there w.nodes node fits.0 (omega arith) in cut_keeps w node (nodes.Tick now) kept (part_at w.nodes node) there.0 tt there.1
+  cut_step_keeps w (Report node first) kept many fits = let there = part_there w.nodes node fits.0 (omega arith) in cut_keeps w node (nodes.Report first) kept (part_at w.nodes node) there.0 tt there.1
 
   -- ---- stops and restarts
 

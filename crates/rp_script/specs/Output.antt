@@ -22,7 +22,7 @@ use Rattle.rp_model.specs.declared.effect.Dropped.TheVariants.{No, Full, Foreign
 use Rattle.rp_model.specs.declared.event.Event.{Event}
 use Rattle.rp_model.specs.declared.event.Event.TheVariants.{Submit, Again, Node, Cut, Stop, Restart}
 use Rattle.rp_model.specs.declared.event.Step.{Step}
-use Rattle.rp_model.specs.declared.event.Step.TheVariants.{Deliver, Lead, Interrupt, Tick, Report}
+use Rattle.rp_model.specs.declared.event.Step.TheVariants.{Deliver, Lead, LeadRange, Interrupt, Tick, Report}
 use Rattle.rp_model.specs.Parts.{NodePart, Running}
 use Rattle.rp_model.specs.Effect.{Setting}
 use Rattle.rp_model.specs.Events.{event_of}
@@ -94,6 +94,7 @@ least_unsettled play = find (λ m. not (is_among play.settled m)) (one_to (lengt
 abbrev pub delivered_by : Step → List ℕ
 delivered_by (Deliver message) = message ∷ []
 delivered_by (Lead node position) = []
+delivered_by (LeadRange node first count) = []
 delivered_by (Interrupt node interrupt) = []
 delivered_by (Tick node now) = []
 delivered_by (Report node first) = []
@@ -177,6 +178,7 @@ receiver_of (Some m) = node_of_party m.to
 abbrev pub node_of_step : List Message → Step → Option ℕ
 node_of_step sent (Deliver message) = receiver_of (part_at sent message)
 node_of_step sent (Lead node position) = Some node
+node_of_step sent (LeadRange node first count) = Some node
 node_of_step sent (Interrupt node interrupt) = Some node
 node_of_step sent (Tick node now) = Some node
 node_of_step sent (Report node first) = Some node

@@ -2,9 +2,10 @@
 use Rattle.std.specs.Prelude.{ℕ, Option, Some, None, List, [], ◌++◌, codes, decimal}
 use Rattle.rp_base.specs.declared.action.Action.{Action}
 use Rattle.rp_base.specs.declared.action.Action.TheVariants as actions
+use Rattle.rp_base.specs.Ranges.{Range}
 use Rattle.rp_codec.specs.Message.{Message}
 use Rattle.rp_codec.specs.declared.packet.Body.{Body}
-use Rattle.rp_codec.specs.declared.packet.Body.TheVariants.{Call, Prepare, Promise, Accept, Accepted, Decided, Ask, Nack, Reply, Report}
+use Rattle.rp_codec.specs.declared.packet.Body.TheVariants.{Call, Prepare, Promise, Accept, Accepted, Decided, Ask, Nack, Reply, Report, PrepareRange, PromiseRange}
 use Rattle.rp_codec.specs.declared.packet.Party.{Party}
 use Rattle.rp_codec.specs.declared.packet.Party.TheVariants.{Node, Task, Audit}
 use Rattle.rp_model.specs.World.{part_at}
@@ -34,6 +35,10 @@ call_number (actions.Tick now) = 0
 abbrev pub ballot_text_of : ℕ → ℕ → List ℕ
 ballot_text_of position ballot = decimal position ++ (codes " " ++ decimal ballot)
 
+-- a range, its first position and how many they are, and a ballot
+abbrev pub range_text_of : Range → ℕ → List ℕ
+range_text_of range ballot = decimal range.first ++ (codes " " ++ (decimal range.count ++ (codes " " ++ decimal ballot)))
+
 -- the kind of a packet, and what tells it from others of its kind
 abbrev pub body_text_of : Body → List ℕ
 body_text_of (Call action) = codes "call " ++ decimal (call_number action)
@@ -46,6 +51,8 @@ body_text_of (Ask position) = codes "ask " ++ decimal position
 body_text_of (Nack position ballot bound) = codes "nack " ++ ballot_text_of position ballot
 body_text_of (Reply number reply) = codes "reply " ++ decimal number
 body_text_of (Report first applied told) = codes "report " ++ decimal first
+body_text_of (PrepareRange range ballot) = codes "prepare_range " ++ range_text_of range ballot
+body_text_of (PromiseRange range ballot votes) = codes "promise_range " ++ range_text_of range ballot
 
 -- the message of a number: who says what to whom
 abbrev pub trace_line_of : ℕ → List ℕ → List ℕ → Body → List ℕ

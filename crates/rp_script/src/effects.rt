@@ -264,6 +264,7 @@ fn node_of_step<M: Machine, D: CutDevice>(
     match step {
         Step::Deliver(message) => receiver(alloc, cluster, message),
         Step::Lead { node, .. }
+        | Step::LeadRange { node, .. }
         | Step::Interrupt { node, .. }
         | Step::Tick { node, .. }
         | Step::Report { node, .. } => Ok(Some(node)),

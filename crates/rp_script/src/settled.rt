@@ -96,8 +96,11 @@ impl Settled {
     {
         match step {
             Step::Deliver(message) => self.settle(message),
-            Step::Lead { .. } | Step::Interrupt { .. } | Step::Tick { .. } | Step::Report { .. } =>
-                { Ok(()) }
+            Step::Lead { .. }
+            | Step::LeadRange { .. }
+            | Step::Interrupt { .. }
+            | Step::Tick { .. }
+            | Step::Report { .. } => Ok(()),
         }
     }
 

@@ -3,7 +3,7 @@
 ghost use Rattle.std.specs.Prelude.{◌≡◌, Some};
 ghost use Rattle.rp_script.specs.Trace.{body_text_of, call_number, trace_line_of};
 
-use rp_base::{Action, Ballot, NodeId, Position};
+use rp_base::{Action, Ballot, NodeId, Position, PositionRange};
 use rp_codec::Body;
 use std::fmt;
 
@@ -48,6 +48,26 @@ impl fmt::Display for BallotText {
         let position = self.position.get();
         let ballot = self.ballot.get();
         write!(f, "{position} {ballot}")
+    }
+}
+
+/// A range, its first position and how many they are, and a ballot: `1 4 9`.
+#[derive(Clone, Copy, Debug, PartialEq, Eq)]
+struct RangeText {
+    range: PositionRange,
+    ballot: Ballot,
+}
+
+impl fmt::Display for RangeText {
+    ghost use Rattle.rp_script.specs.Trace.{range_text_of};
+
+    ghost output = { λ r. Some (range_text_of r.range r.ballot) };
+
+    fn fmt<W: fmt::Write>(&self, f: &mut fmt::Formatter<W>) -> fmt::Result {
+        let first = self.range.first().get();
+        let count = self.range.count();
+        let ballot = self.ballot.get();
+        write!(f, "{first} {count} {ballot}")
     }
 }
 
@@ -109,6 +129,14 @@ impl fmt::Display for BodyText<'_> {
             } => {
                 let ballot = BallotText { position, ballot };
                 write!(f, "nack {ballot}")
+            }
+            Body::PrepareRange { range, ballot } => {
+                let range = RangeText { range, ballot };
+                write!(f, "prepare_range {range}")
+            }
+            Body::PromiseRange { range, ballot, .. } => {
+                let range = RangeText { range, ballot };
+                write!(f, "promise_range {range}")
             }
             Body::Reply { number, .. } => write!(f, "reply {number}"),
             Body::Report { first, .. } => {

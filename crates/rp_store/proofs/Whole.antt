@@ -4,7 +4,7 @@ use Rattle.std.specs.Prelude.{min}
 use Rattle.std.specs.List.{AllByRecursion}
 use Rattle.std.proofs.lemmas.List.{append-nil, append_cancel_right, nil_from_length, take_all, drop_at}
 use Rattle.rp_base.specs.declared.record.Rec.{Rec}
-use Rattle.rp_base.specs.declared.record.Rec.TheVariants.{Started, Promised, Voted, Learned}
+use Rattle.rp_base.specs.declared.record.Rec.TheVariants.{Started, Promised, Voted, Learned, PromisedRange}
 use Rattle.rp_codec.specs.declared.version.Version.{Version}
 use Rattle.rp_codec.specs.declared.version.Version.TheVariants.{V2}
 use Rattle.rp_codec.specs.Record.{record_text_at, record_text, HasRecordText, IsRecord, IsRecordTextBefore, BeginsWithRecord}
@@ -18,6 +18,7 @@ record_long (Started ballot) = omega arith
 record_long (Promised position ballot) = omega arith
 record_long (Voted position ballot action) = omega arith
 record_long (Learned position action) = omega arith
+record_long (PromisedRange range ballot) = omega arith
 
 -- ---- texts, joined
 

@@ -1,5 +1,6 @@
 use rp_base::{
-    Action, Ballot, NodeId, Operation, PacketReason, Position, Rec, Reply, TaskId, Vote,
+    Action, Ballot, Fault, NodeId, Operation, PacketReason, PlacedVote, Position, PositionRange,
+    Rec, Reply, TaskId, Vote,
 };
 use rp_codec::*;
 use std::alloc::Global;
@@ -339,6 +340,201 @@ fn each_spoiled_ask_or_report_has_its_reason(rt: HostRuntime) -> Result<(), Fail
     Ok(())
 }
 
+const PREPARE_RANGE: [u8; 15] = [2, 12, 1, 2, 0, 1, 4, 0, 0, 0, 0, 0, 0, 0, 9];
+
+const PROMISE_RANGE: [u8; 27] = [
+    2, 13, 3, 2, 0, 1, 2, 0, 0, 0, 0, 0, 0, 0, 10, 1, 0, 1, 0, 0, 0, 0, 0, 0, 0, 9, 0,
+];
+
+const PROMISE_RANGE_OF_NONE: [u8; 16] = [2, 13, 3, 2, 255, 255, 1, 0, 0, 0, 0, 0, 0, 0, 10, 0];
+
+fn range(first: u16, count: u8) -> Result<PositionRange, Fail> {
+    let first = Position::new(first).ok_or("a position")?;
+    Ok(PositionRange::new(first, count)?)
+}
+
+fn placed(position: u16, number: u64, action: Action) -> Result<PlacedVote, Fail> {
+    Ok(PlacedVote {
+        position: Position::new(position).ok_or("a position")?,
+        vote: Vote {
+            ballot: ballot(number)?,
+            action,
+        },
+    })
+}
+
+fn promise_range(
+    alloc: Global,
+    range: PositionRange,
+    number: u64,
+    votes: &[PlacedVote],
+) -> Result<Body, Fail> {
+    Ok(Body::PromiseRange {
+        range,
+        ballot: ballot(number)?,
+        votes: Votes::from_vec(Vec::from_slice(alloc, votes)?),
+    })
+}
+
+#[test]
+fn a_leader_prepares_a_range_and_is_promised(rt: HostRuntime) -> Result<(), Fail> {
+    let prepare = Body::PrepareRange {
+        range: range(1, 4)?,
+        ballot: ballot(9)?,
+    };
+    both_ways(&rt, rt.alloc(), node(1)?, node(2)?, prepare, &PREPARE_RANGE)?;
+    let votes = [placed(1, 9, Action::Noop)?];
+    let promise = promise_range(rt.alloc(), range(1, 2)?, 10, &votes)?;
+    both_ways(&rt, rt.alloc(), node(3)?, node(2)?, promise, &PROMISE_RANGE)?;
+    let promise = promise_range(rt.alloc(), range(65535, 1)?, 10, &[])?;
+    both_ways(
+        &rt,
+        rt.alloc(),
+        node(3)?,
+        node(2)?,
+        promise,
+        &PROMISE_RANGE_OF_NONE,
+    )
+}
+
+#[test]
+fn a_promise_for_a_range_reports_at_most_64_votes(rt: HostRuntime) -> Result<(), Fail> {
+    let mut votes = Vec::new(rt.alloc());
+    for position in 65472..=65535 {
+        votes.push(placed(position, 9, call())?)?;
+    }
+    let most = promise_range(rt.alloc(), range(65472, 64)?, 10, votes.as_slice())?;
+    let packet = Packet::checked(node(1)?, node(2)?, most).ok_or("the promise keeps the rules")?;
+    let text = encode(rt.alloc(), &packet)?;
+    assert_eq!(rt; text.len(), 1744);
+    assert_eq!(rt; decode(rt.alloc(), text.as_slice())?, Ok(packet.clone()?));
+    let Body::PromiseRange { votes, .. } = packet.body() else {
+        return Err("a promise for a range".into());
+    };
+    assert_eq!(rt; votes.clone()?, *votes);
+    assert_eq!(rt; votes.clone()?.into_vec().len(), 64);
+    Ok(())
+}
+
+#[test]
+fn no_wrong_promise_for_a_range_is_made(rt: HostRuntime) -> Result<(), Fail> {
+    let first = placed(1, 9, Action::Noop)?;
+    let second = placed(2, 9, Action::Noop)?;
+    let cases = [
+        [second, first],
+        [first, first],
+        [first, placed(5, 9, Action::Noop)?],
+        [first, placed(2, 10, Action::Noop)?],
+        [
+            first,
+            placed(
+                2,
+                9,
+                Action::Interrupt {
+                    source: 0,
+                    occurrence: 1,
+                },
+            )?,
+        ],
+    ];
+    for votes in cases {
+        let promise = promise_range(rt.alloc(), range(1, 4)?, 10, &votes)?;
+        assert_eq!(rt; Packet::checked(node(1)?, node(2)?, promise), None);
+    }
+    let promise = promise_range(rt.alloc(), range(2, 4)?, 10, &[first])?;
+    assert_eq!(rt; Packet::checked(node(1)?, node(2)?, promise), None);
+    let promise = promise_range(rt.alloc(), range(1, 4)?, 10, &[first, second])?;
+    let task = Party::Task(TaskId::first());
+    assert_eq!(rt; Packet::checked(task, node(2)?, promise), None);
+    Ok(())
+}
+
+#[test]
+fn each_spoiled_range_has_its_reason(rt: HostRuntime) -> Result<(), Fail> {
+    let cases: [(&[u8], PacketReason); 9] = [
+        (&[2, 12, 1, 2, 0, 1], PacketReason::Short),
+        (
+            &[2, 12, 1, 2, 0, 0, 4, 0, 0, 0, 0, 0, 0, 0, 9],
+            PacketReason::Field,
+        ),
+        (
+            &[2, 12, 1, 2, 0, 1, 0, 0, 0, 0, 0, 0, 0, 0, 9],
+            PacketReason::Field,
+        ),
+        (
+            &[2, 12, 1, 2, 0, 1, 65, 0, 0, 0, 0, 0, 0, 0, 9],
+            PacketReason::Field,
+        ),
+        (&[2, 12, 1, 2, 255, 255, 2], PacketReason::Field),
+        (&[2, 12, 1, 17, 0, 1], PacketReason::Field),
+        (
+            &[2, 11, 1, 2, 0, 1, 4, 0, 0, 0, 0, 0, 0, 0, 9],
+            PacketReason::Kind,
+        ),
+        (
+            &[2, 14, 1, 2, 0, 1, 4, 0, 0, 0, 0, 0, 0, 0, 9],
+            PacketReason::Kind,
+        ),
+        (
+            &[2, 12, 1, 2, 0, 1, 4, 0, 0, 0, 0, 0, 0, 0, 9, 0],
+            PacketReason::Long,
+        ),
+    ];
+    for (bytes, reason) in &cases {
+        assert_eq!(rt; decode(rt.alloc(), bytes)?, Err(*reason));
+    }
+    Ok(())
+}
+
+/// A promise of node 3 for positions 1 and 2 in ballot 10 that says this count, and two votes.
+fn two_votes(count: u8, first: u8, second: u8, ballot: u8) -> [u8; 38] {
+    [
+        2, 13, 3, 2, 0, 1, 2, 0, 0, 0, 0, 0, 0, 0, 10, count, 0, first, 0, 0, 0, 0, 0, 0, 0, 9, 0,
+        0, second, 0, 0, 0, 0, 0, 0, 0, ballot, 0,
+    ]
+}
+
+#[test]
+fn each_spoiled_promise_for_a_range_has_its_reason(rt: HostRuntime) -> Result<(), Fail> {
+    assert!(rt; decode(rt.alloc(), &two_votes(2, 1, 2, 9))?.is_ok());
+    let cases = [
+        (two_votes(3, 1, 2, 9), PacketReason::Field),
+        (two_votes(1, 1, 2, 9), PacketReason::Long),
+        (two_votes(2, 2, 1, 9), PacketReason::Field),
+        (two_votes(2, 1, 1, 9), PacketReason::Field),
+        (two_votes(2, 1, 3, 9), PacketReason::Field),
+        (two_votes(2, 0, 2, 9), PacketReason::Field),
+        (two_votes(2, 1, 2, 10), PacketReason::Field),
+    ];
+    for (bytes, reason) in cases {
+        assert_eq!(rt; decode(rt.alloc(), &bytes)?, Err(reason));
+    }
+    let bytes = two_votes(2, 1, 2, 9);
+    assert_eq!(rt; decode(rt.alloc(), &bytes[..37])?, Err(PacketReason::Short));
+    Ok(())
+}
+
+#[test]
+fn a_range_has_1_to_64_positions_up_to_the_last(rt: HostRuntime) -> Result<(), Fail> {
+    let last = Position::new(65535).ok_or("the last position")?;
+    let first = Position::first();
+    assert_eq!(rt; PositionRange::new(first, 0), Err(Fault::BadConfig));
+    assert_eq!(rt; PositionRange::new(first, 65), Err(Fault::BadConfig));
+    assert_eq!(rt; PositionRange::new(last, 65), Err(Fault::BadConfig));
+    assert_eq!(rt; PositionRange::new(last, 2), Err(Fault::LogFull));
+    let whole = PositionRange::new(last, 1)?;
+    assert_eq!(rt;
+        (whole.first(), whole.last(), whole.count()),
+        (last, last, 1)
+    );
+    assert_eq!(rt; whole.end(), 65536);
+    let range = range(1, 64)?;
+    assert_eq!(rt; range.at(63).get(), 64);
+    assert!(rt; range.covers(range.last()));
+    assert!(rt; !range.covers(Position::new(65).ok_or("a position")?));
+    Ok(())
+}
+
 #[test]
 fn no_wrong_packet_is_made(rt: HostRuntime) -> Result<(), Fail> {
     let task = Party::Task(TaskId::first());
@@ -367,6 +563,8 @@ const STARTED: [u8; 10] = [2, 1, 0, 0, 0, 0, 0, 0, 0, 9];
 
 const PROMISED: [u8; 12] = [2, 2, 0, 1, 0, 0, 0, 0, 0, 0, 0, 9];
 
+const PROMISED_RANGE: [u8; 13] = [2, 5, 0, 1, 4, 0, 0, 0, 0, 0, 0, 0, 9];
+
 const VOTED: [u8; 29] = [
     2, 3, 0, 1, 0, 0, 0, 0, 0, 0, 0, 9, 1, 1, 0, 0, 0, 1, 1, 2, 1, 0, 0, 0, 0, 0, 0, 0, 5,
 ];
@@ -378,11 +576,15 @@ const LEARNED: [u8; 21] = [
 #[test]
 fn each_record_has_its_text_and_is_read_from_its_front(rt: HostRuntime) -> Result<(), Fail> {
     let position = Position::first();
-    let cases: [(Rec, &[u8]); 4] = [
+    let cases: [(Rec, &[u8]); 5] = [
         (Rec::Started(ballot(9)?), &STARTED),
         (Rec::Promised(position, ballot(9)?), &PROMISED),
         (Rec::Voted(position, ballot(9)?, call()), &VOTED),
         (Rec::Learned(position, call()), &LEARNED),
+        (
+            Rec::PromisedRange(range(1, 4)?, ballot(9)?),
+            &PROMISED_RANGE,
+        ),
     ];
     for (rec, text) in &cases {
         let mut bytes = encode_rec(rt.alloc(), rec)?;
@@ -399,13 +601,52 @@ fn each_record_has_its_text_and_is_read_from_its_front(rt: HostRuntime) -> Resul
     Ok(())
 }
 
+/// How many bytes the texts of the records have.
+fn text_len_of(records: &[Rec]) -> usize {
+    let mut len = 0usize;
+    for rec in records {
+        len = len.saturating_add(text_of_record(rec).as_slice().len());
+    }
+    len
+}
+
+#[test]
+fn devices_hold_one_record_for_a_range(rt: HostRuntime) -> Result<(), Fail> {
+    let (first, second) = (Position::first(), range(1, 2)?.last());
+    let (nine, ten) = (ballot(9)?, ballot(10)?);
+    let learned = [Rec::Learned(first, call()), Rec::Learned(second, call())];
+    let decided = [
+        Rec::Voted(first, ten, call()),
+        Rec::Voted(second, ten, call()),
+    ];
+    let both = text_len_of(&learned).saturating_add(text_len_of(&decided));
+    let started = Rec::Started(ten);
+    let promised = Rec::Promised(first, nine);
+    let ranged = Rec::PromisedRange(range(1, 2)?, ten);
+    let voted = Rec::Voted(first, nine, call());
+    let cases: [(&[Rec], usize); 5] = [
+        (&[started, ranged], 123),
+        (&[ranged], 113),
+        (&[started, promised], 122),
+        (&[started, promised, ranged], 135),
+        (&[voted, ranged], 142),
+    ];
+    for (others, len) in cases {
+        assert_eq!(rt; text_len_of(others).saturating_add(both), len);
+    }
+    Ok(())
+}
+
 #[test]
 fn no_record_is_read_where_none_begins(rt: HostRuntime) {
-    let cases: [&[u8]; 6] = [
+    let cases: [&[u8]; 9] = [
         &[],
         &[3, 1, 0, 0, 0, 0, 0, 0, 0, 9],
         &[2, 0, 0, 0, 0, 0, 0, 0, 0, 9],
-        &[2, 5, 0, 0, 0, 0, 0, 0, 0, 9],
+        &[2, 6, 0, 0, 0, 0, 0, 0, 0, 9],
+        &[2, 5, 0, 1, 0, 0, 0, 0, 0, 0, 0, 0, 9],
+        &[2, 5, 0, 1, 65, 0, 0, 0, 0, 0, 0, 0, 9],
+        &[2, 5, 255, 255, 2, 0, 0, 0, 0, 0, 0, 0, 9],
         &[2, 1, 0, 0, 0, 0, 0, 0, 0, 16],
         &[2, 2, 0, 1, 0, 0, 0, 0, 0, 0, 0, 0],
     ];

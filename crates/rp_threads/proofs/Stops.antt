@@ -1,18 +1,25 @@
 -- Why a turn is not made, and what other turns leave of the device and of a stopped node.
 use Rattle.std.proofs.Common.{◌≡◌, ◌⊎◌, ℕ, ◌<◌, ◌^◌, Bool, true, false, Option, Some, None, Result, Ok, Err, List, inl, inr, refl, sym, ap, subst, ◌∙◌, nat_le, is_some, if◌then◌else◌}
 use Rattle.rp_base.specs.Ballot.{next_ballot, round_of}
+use Rattle.rp_base.specs.Proposals.{Proposal, proposal_at, is_prepared}
 use Rattle.rp_base.specs.Records.{learned_at}
+use Rattle.rp_base.specs.declared.fault.PacketReason.{PacketReason}
+use Rattle.rp_base.specs.declared.record.Rec.{Rec}
 use Rattle.rp_base.specs.declared.action.Action.{Action}
 use Rattle.rp_base.specs.declared.fault.Fault.{Fault}
 use Rattle.rp_base.specs.declared.fault.Fault.TheVariants.{BallotsSpent, Device, Failed, LogFull, OutOfMemory}
 use Rattle.rp_base.specs.declared.reply.Answer.{Answer}
+use Rattle.rp_codec.specs.Message.{Message}
+use Rattle.rp_codec.specs.Reading.{all_of}
 use Rattle.rp_codec.specs.declared.packet.Party.{Party}
 use Rattle.rp_codec.specs.declared.packet.Party.TheVariants.{Node}
-use Rattle.rp_model.specs.Effect.{Setting, Done, NodeInput, Receive, Lead, Interrupt, Tick, Report, turned, turned_if, effect_while, running_effect}
-use Rattle.rp_model.specs.Leader.{chosen_position, is_out_of_reach, begins, starts_above}
+use Rattle.rp_model.specs.Effect.{Setting, Done, NodeInput, Receive, Lead, LeadRange, Interrupt, Tick, Report, turned, turned_if, effect_while, running_effect}
+use Rattle.rp_model.specs.Leader.{chosen_position, is_out_of_reach, begins, begins_if, offers, leads_at, starts_above}
 use Rattle.rp_model.specs.Parts.{NodePart, Running, Turn}
 use Rattle.rp_model.specs.Says.{notes}
 use Rattle.rp_replica.specs.declared.input.Input.{Input}
+use Rattle.rp_replica.specs.declared.input.Input.TheVariants as inputs
+use Rattle.rp_replica.specs.Inputs.{given_by, packet_given}
 use Rattle.rp_replica.specs.declared.sent.Sent.{Sent}
 use Rattle.rp_tasks.specs.Line.{Line}
 use Rattle.rp_boxes.specs.Parts.{Part, Role, OfNode}
@@ -48,40 +55,103 @@ module _ {S : Type 0} (s : Setting S) (me : ℕ) (node : NodePart) (input : Node
 
 -- ---- what refuses a step only refuses that the node leads
 
-led_or_refused : (learned out over : Bool) (noted begun : Turn) (fault : Fault)
-    → (if learned then Ok noted else if out then Err LogFull else if over then Err BallotsSpent else Ok begun) ≡ Err fault → is_refusal fault ≡ true
-led_or_refused true out over noted begun fault is = absurd (cc)
-led_or_refused false true over noted begun fault is = let e : LogFull ≡ fault = cc in subst (λ (f : Fault). is_refusal f ≡ true) e refl
-led_or_refused false false true noted begun fault is = let e : BallotsSpent ≡ fault = cc in subst (λ (f : Fault). is_refusal f ≡ true) e refl
-led_or_refused false false false noted begun fault is = absurd (cc)
+led_or_refused : (learned out : Bool) (noted : Turn) (led : Result Turn Fault) (fault : Fault) → (led ≡ Err fault → is_refusal fault ≡ true)
+    → (if learned then Ok noted else if out then Err LogFull else led) ≡ Err fault → is_refusal fault ≡ true
+led_or_refused true out noted led fault rest is = absurd (cc)
+led_or_refused false true noted led fault rest is = let e : LogFull ≡ fault = cc in subst (λ (f : Fault). is_refusal f ≡ true) e refl
+led_or_refused false false noted led fault rest is = rest is
+
+begun_or_refused : (over : Bool) (begun : Turn) (fault : Fault) → (if over then Err BallotsSpent else Ok begun) ≡ Err fault → is_refusal fault ≡ true
+begun_or_refused true begun fault is = let e : BallotsSpent ≡ fault = cc in subst (λ (f : Fault). is_refusal f ≡ true) e refl
+begun_or_refused false begun fault is = absurd (cc)
+
+module _ {S : Type 0} (s : Setting S) (me : ℕ) (records : List Rec) (running : Running) (i : ℕ) where
+  begins_refused : (fault : Fault) → begins_if s.next s.answers s.begin s.config.nodes me records running i ≡ Err fault → is_refusal fault ≡ true
+  begins_refused fault is =
+      let b = next_ballot me (starts_above records running) in
+      begun_or_refused (nat_le (2 ^ 32) (round_of b)) (begins s.next s.answers s.begin s.config.nodes me records running i b) fault is
+
+  leads_refused : (found : Option Proposal) (fault : Fault) → leads_at s.next s.answers s.begin s.config.nodes me records running i found ≡ Err fault → is_refusal fault ≡ true
+  leads_refused None fault is = begins_refused fault is
+  leads_refused (Some p) fault is = by (is_prepared s.config.nodes p) is
+    where
+      by : (prepared : Bool)
+          → (if prepared then Ok (offers s.next s.answers s.begin s.config.nodes me records running p) else begins_if s.next s.answers s.begin s.config.nodes me records running i) ≡ Err fault
+          → is_refusal fault ≡ true
+      by true is = absurd (cc)
+      by false is = begins_refused fault is
+
+-- no range is to be led
+abbrev IsNoRange : NodeInput → Type 0
+IsNoRange (Receive message) = Unit {0}
+IsNoRange (Lead choice) = Unit {0}
+IsNoRange (LeadRange first count) = ⊥
+IsNoRange (Interrupt source occurrence) = Unit {0}
+IsNoRange (Tick now) = Unit {0}
+IsNoRange (Report first) = Unit {0}
+
+abbrev LeadsNoRange : Input → Type 0
+LeadsNoRange (inputs.Receive bytes) = Unit {0}
+LeadsNoRange (inputs.Lead choice) = Unit {0}
+LeadsNoRange (inputs.LeadRange range) = ⊥
+LeadsNoRange (inputs.Interrupt source occurrence) = Unit {0}
+LeadsNoRange (inputs.Tick now) = Unit {0}
+LeadsNoRange (inputs.Report first) = Unit {0}
+
+packet_no_range : (read : Result Message PacketReason) (given : NodeInput) → packet_given read ≡ Ok given → IsNoRange given
+packet_no_range (Ok message) given is = let e : Receive message ≡ given = cc in subst IsNoRange e tt
+packet_no_range (Err reason) given is = absurd (cc)
+
+given_no_range : (input : Input) (given : NodeInput) → LeadsNoRange input → given_by input ≡ Ok given → IsNoRange given
+given_no_range (inputs.Receive bytes) given none is = packet_no_range (all_of bytes.now) given is
+given_no_range (inputs.Lead choice) given none is = let e : Lead choice ≡ given = cc in subst IsNoRange e tt
+given_no_range (inputs.LeadRange range) given none is = absurd none
+given_no_range (inputs.Interrupt source occurrence) given none is = let e : Interrupt source occurrence ≡ given = cc in subst IsNoRange e tt
+given_no_range (inputs.Tick now) given none is = let e : Tick now ≡ given = cc in subst IsNoRange e tt
+given_no_range (inputs.Report first) given none is = let e : Report first ≡ given = cc in subst IsNoRange e tt
+
+receipt_no_range : (text : List ℕ) (input : Input) → IsReceipt text input → LeadsNoRange input
+receipt_no_range text (inputs.Receive bytes) is = tt
+receipt_no_range text (inputs.Lead choice) is = absurd is
+receipt_no_range text (inputs.LeadRange range) is = absurd is
+receipt_no_range text (inputs.Interrupt source occurrence) is = absurd is
+receipt_no_range text (inputs.Tick now) is = absurd is
+receipt_no_range text (inputs.Report first) is = absurd is
+
+lead_no_range : (input : Input) → IsLead input → LeadsNoRange input
+lead_no_range input is = subst LeadsNoRange (sym is) tt
+
+anew_no_range : (part : Part) (input : Input) → IsLeadAnew part input → LeadsNoRange input
+anew_no_range part input anew = subst LeadsNoRange (sym anew.2) tt
 
 turned_refused : (node : NodePart) (turn : Result Turn Fault) (fault : Fault) → turned_if node turn ≡ Err fault → turn ≡ Err fault
 turned_refused node (Ok turn) fault is = absurd (cc)
 turned_refused node (Err other) fault is = cc
 
 module _ {S : Type 0} (s : Setting S) (me : ℕ) (node : NodePart) where
-  running_refused : (input : NodeInput) (running : Running) (fault : Fault) → running_effect s me node.records running input ≡ Err fault → is_refusal fault ≡ true
-  running_refused (Receive message) running fault is = absurd (cc)
-  running_refused (Lead choice) running fault is =
-      let i = chosen_position node.records running choice in
-      let b = next_ballot me (starts_above node.records running) in
-      led_or_refused (is_some (learned_at node.records i)) (is_out_of_reach s.config.max_positions node.records i) (nat_le (2 ^ 32) (round_of b))
-      (notes running) (begins s.next s.answers s.begin s.config.nodes me node.records running i b) fault is
-  running_refused (Interrupt source occurrence) running fault is = absurd (cc)
-  running_refused (Tick now) running fault is = absurd (cc)
-  running_refused (Report first) running fault is = absurd (cc)
+  running_refused : (input : NodeInput) (running : Running) (fault : Fault) → IsNoRange input → running_effect s me node.records running input ≡ Err fault → is_refusal fault ≡ true
+  running_refused (Receive message) running fault none is = absurd (cc)
+  running_refused (Lead choice) running fault none is =
+      let i = chosen_position s.config.nodes node.records running choice in
+      let found = proposal_at running.proposals i in
+      led_or_refused (is_some (learned_at node.records i)) (is_out_of_reach s.config.max_positions node.records i) (notes running)
+      (leads_at s.next s.answers s.begin s.config.nodes me node.records running i found) fault (leads_refused s me node.records running i found fault) is
+  running_refused (LeadRange first count) running fault none is = absurd none
+  running_refused (Interrupt source occurrence) running fault none is = absurd (cc)
+  running_refused (Tick now) running fault none is = absurd (cc)
+  running_refused (Report first) running fault none is = absurd (cc)
 
   -- a step that is not made: the node is stopped, memory ran out, or it only refuses that the node leads
-  reason : (input : NodeInput) (running : Option Running) (fault : Fault) → IsReason running (effect_while s me node input running) fault
+  reason : (input : NodeInput) (running : Option Running) (fault : Fault) → IsNoRange input → IsReason running (effect_while s me node input running) fault
       → ((fault ≡ Failed) × (running ≡ None)) ⊎ ((fault ≡ OutOfMemory) ⊎ (is_refusal fault ≡ true))
-  reason input None fault why = inl (why, refl)
-  reason input (Some running) fault why =
+  reason input None fault none why = inl (why, refl)
+  reason input (Some running) fault none why =
       let told : (effect : Result (Done NodePart) Fault) → effect_while s me node input (Some running) ≡ effect → IsReason (Some running) effect fault
       → (fault ≡ OutOfMemory) ⊎ (is_refusal fault ≡ true) =
       λ effect. elim effect as (λ (e : Result (Done NodePart) Fault). effect_while s me node input (Some running) ≡ e → IsReason (Some running) e fault → (fault ≡ OutOfMemory) ⊎ (is_refusal fault ≡ true)) [
         | Ok done ↦ λ is why. inl why
         | Err refusal ↦ λ is why. inr (subst (λ (f : Fault). is_refusal f ≡ true) (sym why)
-            (running_refused input running refusal (turned_refused node (running_effect s me node.records running input) refusal is)))
+            (running_refused input running refusal none (turned_refused node (running_effect s me node.records running input) refusal is)))
       ] in
       inr (told (effect_while s me node input (Some running)) refl why)
 
@@ -139,18 +209,18 @@ module _ {S P : Type 0} (next : S → Action → S) (answers : S → Action → 
     stopped = λ stopped. absurd (turn_runs old new input sent t stopped);
   }
 
-  no_turn : (old new : Chair P) (input : Input) (fault : Fault) → IsNoTurn next answers begin old input new fault → IsCause old fault
-  no_turn old new input fault none =
-      elim (reason (setting_at next answers begin old) old.number none.node none.given none.node.running fault none.why) [
+  no_turn : (old new : Chair P) (input : Input) (fault : Fault) → LeadsNoRange input → IsNoTurn next answers begin old input new fault → IsCause old fault
+  no_turn old new input fault small none =
+      elim (reason (setting_at next answers begin old) old.number none.node none.given none.node.running fault (given_no_range input none.given small none.gives) none.why) [
         | inl failed ↦ inl (failed.0, (none.node, none.was, failed.1))
         | inr other ↦ inr other
       ]
 
-  pub stop_left : (Is : Input → Type 0) (old new : Chair P) (fault : Fault) → IsStopBy next answers begin Is old new fault → IsLeft old new fault
-  stop_left Is old new fault s = elim s.why [
+  pub stop_left : (Is : Input → Type 0) (old new : Chair P) (fault : Fault) → ((input : Input) → Is input → LeadsNoRange input) → IsStopBy next answers begin Is old new fault → IsLeft old new fault
+  stop_left Is old new fault small s = elim s.why [
     | inl cut ↦ inl (cut.device, cut.failed)
     | inr other ↦ elim other [
-      | inl none ↦ inr (sound_same old new none.unchanged, no_turn old new s.input fault none)
+      | inl none ↦ inr (sound_same old new none.unchanged, no_turn old new s.input fault (small s.input s.is) none)
       | inr unsent ↦ inr (event_sound old new s.input unsent.sent unsent.turn, inr (inl unsent.memory))
     ]
   ]
@@ -161,8 +231,8 @@ module _ {S P : Type 0} (next : S → Action → S) (answers : S → Action → 
   works_sound None false old new count w = sound_same old new w.0
 
   fails_left : (given : Option (List ℕ)) (lead : Bool) (old new : Chair P) (fault : Fault) → Fails next answers begin given lead old new fault → IsLeft old new fault
-  fails_left (Some text) lead old new fault f = stop_left (IsReceipt text) old new fault f
-  fails_left None true old new fault f = stop_left IsLead old new fault f
+  fails_left (Some text) lead old new fault f = stop_left (IsReceipt text) old new fault (receipt_no_range text) f
+  fails_left None true old new fault f = stop_left IsLead old new fault lead_no_range f
   fails_left None false old new fault f = absurd f
 
   module _ (from : Party) (lead : Bool) (old new : Chair P) (line after : Line) where
@@ -185,7 +255,7 @@ module _ {S P : Type 0} (next : S → Action → S) (answers : S → Action → 
         left_on old stopped.between new fault (brought_sound stopped.between stopped.full stopped.brought)
         (fails_left (given_on stopped.full) lead stopped.between new fault stopped.fails)
     unmade_left fault (inr (inr anew)) =
-        left_on old anew.between new fault (turn_sound anew.between anew.turned anew.first) (stop_left (IsLeadAnew anew.between.part) anew.between new fault anew.stops)
+        left_on old anew.between new fault (turn_sound anew.between anew.turned anew.first) (stop_left (IsLeadAnew anew.between.part) anew.between new fault (anew_no_range anew.between.part) anew.stops)
 
     -- a turn that is made or skipped
     pub turned_sound : (heard : ℕ → Type 0) (passes : Bool) (made : Option declared.Turn) → IsMadeOrSkipped next answers begin from lead old new line after heard passes made → IsSound old new

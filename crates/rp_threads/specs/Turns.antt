@@ -11,7 +11,7 @@ use Rattle.rp_codec.specs.declared.packet.Party.{Party}
 use Rattle.rp_codec.specs.declared.packet.Party.TheVariants.{Node}
 use Rattle.rp_replica.specs.Packets.{texts_of}
 use Rattle.rp_replica.specs.declared.input.Input.{Input}
-use Rattle.rp_replica.specs.declared.input.Input.TheVariants.{Receive, Lead, Interrupt, Tick, Report}
+use Rattle.rp_replica.specs.declared.input.Input.TheVariants.{Receive, Lead, LeadRange, Interrupt, Tick, Report}
 use Rattle.rp_replica.specs.declared.sent.Sent.{Sent}
 use Rattle.rp_tasks.specs.Line.{Line}
 use Rattle.rp_boxes.specs.Moments.{WasPut, WasInUse}
@@ -54,6 +54,7 @@ turn_of None false = Idle
 abbrev pub IsReceipt : List ℕ → Input → Type 0
 IsReceipt text (Receive bytes) = bytes.now ≡ text
 IsReceipt text (Lead choice) = ⊥
+IsReceipt text (LeadRange range) = ⊥
 IsReceipt text (Interrupt source occurrence) = ⊥
 IsReceipt text (Tick now) = ⊥
 IsReceipt text (Report first) = ⊥

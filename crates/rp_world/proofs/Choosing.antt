@@ -1,18 +1,34 @@
 -- Which node makes a step, and what that node is given.
-use Rattle.std.proofs.Common.{◌≡◌, ℕ, zero, suc, ◌<◌, ◌≤◌, Option, Some, None, Ok, List, [], ◌∷◌, length, slice_get, option_map, refl, sym, ap, ◌∙◌, arith}
+use Rattle.std.proofs.Common.{◌≡◌, ◌≢◌, ℕ, zero, suc, ◌<◌, ◌≤◌, Bool, true, false, if◌then◌else◌, not, Option, Some, None, Result, Ok, Err, List, [], ◌∷◌, length, map, slice_get, option_map, refl, sym, ap, subst, ◌∙◌, arith, nat_lt, ◌+◌, ◌^◌}
+use Rattle.std.specs.Prelude.{IfOk, IfErr, IsSome}
+use Rattle.std.proofs.lemmas.List.{length-map}
 use Rattle.std.proofs.lemmas.Option.{slice_get_past}
-use Rattle.rp_base.specs.declared.fault.Fault.TheVariants.{NotRunning, BadConfig, NoSuchMessage}
+use Rattle.rp_base.specs.Number.{in_range}
+use Rattle.rp_base.specs.declared.config.Config.{Config}
+use Rattle.rp_base.specs.Ranges.{Range, range_of}
+use Rattle.rp_base.specs.declared.fault.Fault.{Fault}
+use Rattle.rp_base.specs.declared.fault.Fault.TheVariants.{NotRunning, BadConfig, NoSuchMessage, LogFull, Device}
 use Rattle.rp_codec.specs.Message.{Message}
 use Rattle.rp_codec.specs.Text.{text_of}
 use Rattle.rp_codec.specs.declared.packet.Party.{Party}
 use Rattle.rp_codec.specs.declared.packet.Party.TheVariants.{Node, Task, Audit}
 use Rattle.rp_model.specs.Effect as nodes
-use Rattle.rp_model.specs.Effect.{Setting, NodeInput}
-use Rattle.rp_model.specs.Events.{Step, Deliver}
-use Rattle.rp_model.specs.World.{World, part_at, cut_step, node_named, receiver_of, node_is_cut, hearing_is_cut, arrival_is_cut, delivery_is_cut, arrival_writes, delivery_writes}
+use Rattle.rp_model.specs.Effect.{Setting, NodeInput, node_effect, effect_while, turned_if, cut_if}
+use Rattle.rp_model.specs.Events.{Step, Deliver, LeadRange}
+use Rattle.rp_model.specs.Leader.{on_lead_range}
+use Rattle.rp_model.specs.Parts.{NodePart, Running}
+use Rattle.rp_model.specs.World.{World, part_at, cut_step, node_named, receiver_of, node_takes, node_done_if, node_is_cut, hearing_is_cut, arrival_is_cut, delivery_is_cut, arrival_writes, delivery_writes}
 use Rattle.rp_replica.specs.Inputs.{given_by}
 use Rattle.rp_replica.specs.declared.input.Input.{Input}
-use Rattle.rp_world.specs.Choosing.{IsOf, IsOfNone}
+use Rattle.rp_replica.specs.declared.input.Input.TheVariants as inputs
+use Rattle.rp_store.specs.Disk.{Disk}
+use Rattle.rp_world.specs.Choosing.{AreNodesOf, IsOf, IsOfNone, IsRefused}
+use Rattle.rp_world.specs.Callers.{Caller}
+use Rattle.rp_world.specs.Messages.{Sending}
+use Rattle.rp_world.specs.Nodes.{StandsFor, member_of}
+use Rattle.rp_world.specs.Shape.{IsWorld, part_by, world_of}
+use Rattle.rp_world.specs.declared.node.Node.{Node as OneNode}
+use Rattle.rp_world.proofs.Moving.{no_node, part_here, stands_here}
 
 there_is : {A : Type 0} (xs : List A) (i : ℕ) → i < length xs → (x : A) × (slice_get xs i ≡ Some x)
 there_is {A = A} [] i within = absurd (omega (arith, within))
@@ -73,3 +89,92 @@ module _ {S : Type 0} (s : Setting S) (w : World) (number : ℕ) where
             writes = ap (delivery_writes s w) sent ∙ ap (arrival_writes s w m) (sym to);
             node = ap receiver_of sent ∙ ap node_named (sym to);
           }
+
+-- ---- the nodes of a world
+
+-- the nodes as they lie in memory are those of their world
+pub nodes_of : {S D P : Type 0} (disk : D → Disk) (config : Config) (begin : S) (nodes : List (OneNode S D P)) (tasks : List Caller) (messages : Sending) (lent : List (OneNode S D P))
+    → lent ≡ nodes → IsWorld disk config begin nodes tasks → AreNodesOf disk begin lent (world_of disk config.max_positions nodes tasks messages)
+nodes_of disk config begin nodes tasks messages lent same kept = record {
+  config = config;
+  tasks = tasks;
+  kept = subst (λ (l : List (OneNode _ _ _)). IsWorld disk config begin l tasks) (sym same) kept;
+  parts = ap (map (part_by disk config.max_positions)) (sym same);
+}
+
+module _ {S D P : Type 0} (disk : D → Disk) (begin : S) (nodes : List (OneNode S D P)) (w : World) (are : AreNodesOf disk begin nodes w) where
+  pub as_many : length w.nodes ≡ length nodes
+  as_many = ap length are.parts ∙ length-map nodes (part_by disk are.config.max_positions)
+
+  module _ (i me : ℕ) (placed : suc i ≡ me) where
+    pub none_among : length nodes ≤ i → part_at w.nodes me ≡ None
+    none_among past = ap (λ (l : List NodePart). part_at l me) are.parts ∙ no_node disk are.config begin nodes are.tasks i me placed (slice_get_past nodes i past)
+
+    module _ (n : OneNode S D P) (here : slice_get nodes i ≡ Some n) where
+      abbrev its_part : NodePart
+      its_part = part_by disk are.config.max_positions n
+
+      pub one_among : part_at w.nodes me ≡ Some its_part
+      one_among = ap (λ (l : List NodePart). part_at l me) are.parts ∙ part_here disk are.config begin nodes are.tasks i me placed n here
+
+      pub stands_among : StandsFor disk (member_of me are.config begin) n its_part
+      stands_among = stands_here disk are.config begin nodes are.tasks i me placed n here are.kept
+
+-- ---- the word to lead at a range
+
+-- the range of these numbers, where the count is wrong or the last position above the greatest
+abbrev range_if : Bool → Bool → Range → Result Range Fault
+range_if wrong far range = if wrong then Err BadConfig else if far then Err LogFull else Ok range
+
+given_if : (wrong far : Bool) (first count : ℕ)
+    → IfOk (range_if wrong far (record { first = first; count = count })) (λ range. given_by (inputs.LeadRange range) ≡ Ok (nodes.LeadRange first count))
+given_if true far first count = tt
+given_if false true first count = tt
+given_if false false first count = refl
+
+pub range_given : (first count : ℕ) → IfOk (range_of first count) (λ range. given_by (inputs.LeadRange range) ≡ Ok (nodes.LeadRange first count))
+range_given first count = given_if (not (in_range 1 64 count)) (nat_lt (2 ^ 16) (first + count)) first count
+
+reason_if : (wrong far : Bool) (range : Range) → IfErr (range_if wrong far range) (λ fault. fault ≢ Device)
+reason_if true far range = λ same. cc
+reason_if false true range = λ same. cc
+reason_if false false range = tt
+
+no_range_reason : (first count : ℕ) → IfErr (range_of first count) (λ fault. fault ≢ Device)
+no_range_reason first count = reason_if (not (in_range 1 64 count)) (nat_lt (2 ^ 16) (first + count)) (record { first = first; count = count })
+
+-- the fault of an answer that is one
+pub fault_of : {A : Type 0} (answer : Result A Fault) (P : Fault → Type 0) → ((fault : Fault) → answer ≡ Err fault → P fault) → IfErr answer P
+fault_of (Ok found) P so = tt
+fault_of (Err fault) P so = so fault refl
+
+module _ {S : Type 0} (s : Setting S) (w : World) (me first count : ℕ) where
+  abbrev given_range : NodeInput
+  given_range = nodes.LeadRange first count
+
+  -- there is no such node
+  pub no_node_leads : part_at w.nodes me ≡ None → IsRefused s w (LeadRange me first count) BadConfig
+  no_node_leads none = record {
+    whole = ap (node_takes s w me given_range) none;
+    none = record { cut = λ kept. ap (node_is_cut s w me given_range kept) none; reason = λ same. cc };
+  }
+
+  module _ (part : NodePart) (here : part_at w.nodes me ≡ Some part) where
+    refuses : (fault : Fault) → node_effect s me part given_range ≡ Err fault → fault ≢ Device → IsRefused s w (LeadRange me first count) fault
+    refuses fault came reason = record {
+      whole = ap (node_takes s w me given_range) here ∙ ap (node_done_if w me) came;
+      none = record { cut = λ kept. ap (node_is_cut s w me given_range kept) here ∙ ap (λ effect. node_done_if w me (cut_if kept part effect)) came; reason = reason };
+    }
+
+    -- the node is stopped
+    pub stopped_leads : part.running ≡ None → IsRefused s w (LeadRange me first count) NotRunning
+    stopped_leads stopped = refuses NotRunning (ap (effect_while s me part given_range) stopped) (λ same. cc)
+
+    refused_while : (known : Option Running) (fault : Fault) → IsSome known → range_of first count ≡ Err fault → effect_while s me part given_range known ≡ Err fault
+    refused_while None fault runs is = absurd cc
+    refused_while (Some running) fault runs is = ap (λ found. turned_if part (on_lead_range s.config me part.records running found)) is
+
+    -- it runs, and the numbers make no range
+    pub leads_no_range : (fault : Fault) → IsSome part.running → range_of first count ≡ Err fault → IsRefused s w (LeadRange me first count) fault
+    leads_no_range fault runs is =
+        refuses fault (refused_while part.running fault runs is) (subst (λ found. IfErr found (λ f. f ≢ Device)) is (no_range_reason first count))

@@ -19,7 +19,7 @@ use Rattle.rp_model.proofs.Devices.{NoDevice, input_is, turn_is}
 use Rattle.rp_replica.specs.declared.cut.NotCut.{NotCut}
 use Rattle.rp_replica.specs.declared.cut.NotCut.TheVariants.{Failed as DeviceFailed, Refused}
 use Rattle.rp_replica.specs.declared.input.Input.{Input}
-use Rattle.rp_replica.specs.declared.input.Input.TheVariants.{Receive, Lead, Interrupt, Tick, Report}
+use Rattle.rp_replica.specs.declared.input.Input.TheVariants.{Receive, Lead, LeadRange, Interrupt, Tick, Report}
 use Rattle.rp_replica.specs.declared.sent.Sent.{Sent}
 use Rattle.rp_replica.specs.Cutting.{CutsIf, IsNotCutIf, cut_disk}
 use Rattle.rp_replica.specs.Held.{Held, setting_of, with_text}
@@ -61,6 +61,7 @@ module _ {S : Type 0} (next : S → Action → S) (answers : S → Action → Li
   input_so : (input : Input) → NoDevice (input_effect next answers old input)
   input_so (Receive bytes) = no_packet next answers old (all_of bytes.now)
   input_so (Lead choice) = turn_is (setting_of next answers old) old.me old.records old.running (NodeInput.Lead choice)
+  input_so (LeadRange range) = turn_is (setting_of next answers old) old.me old.records old.running (NodeInput.LeadRange range.first range.count)
   input_so (Interrupt source occurrence) = tt
   input_so (Tick now) = tt
   input_so (Report first) = tt

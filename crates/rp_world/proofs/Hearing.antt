@@ -143,6 +143,8 @@ hears_nothing task part (bodies.Ask position) none = refl
 hears_nothing task part (bodies.Nack position ballot bound) none = refl
 hears_nothing task part (bodies.Reply number reply) none = absurd cc
 hears_nothing task part (bodies.Report first applied actions) none = refl
+hears_nothing task part (bodies.PrepareRange range ballot) none = refl
+hears_nothing task part (bodies.PromiseRange range ballot votes) none = refl
 
 hears_reply : (task : ℕ) (part : TaskPart) (body : Body) (number : ℕ) (reply : Reply) → reply_told body ≡ Some (number, reply) → task_hears task part body ≡ takes_reply task part number reply
 hears_reply task part (bodies.Call action) number reply is = absurd cc
@@ -157,6 +159,8 @@ hears_reply task part (bodies.Reply n r) number reply is =
     let pair : (n, r) ≡ (number, reply) = some_is (n, r) (number, reply) is in
     ap (λ (p : ℕ × Reply). takes_reply task part p.0 p.1) pair
 hears_reply task part (bodies.Report first applied actions) number reply is = absurd cc
+hears_reply task part (bodies.PrepareRange range ballot) number reply is = absurd cc
+hears_reply task part (bodies.PromiseRange range ballot votes) number reply is = absurd cc
 
 record IsQuiet (done : Done TaskPart) : Type 0 where
   pub sends : done.sends ≡ []

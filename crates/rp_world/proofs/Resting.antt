@@ -10,12 +10,13 @@ use Rattle.rp_base.specs.declared.action.Action.{Action}
 use Rattle.rp_base.specs.declared.action.Action.TheVariants as actions
 use Rattle.rp_base.specs.declared.action.Operation.{Operation}
 use Rattle.rp_base.specs.declared.action.Operation.TheVariants as operations
+use Rattle.rp_base.specs.Ranges.{Range, IsRange}
 use Rattle.rp_base.specs.declared.record.Rec.{Rec}
-use Rattle.rp_base.specs.declared.record.Rec.TheVariants.{Started, Promised, Voted, Learned}
+use Rattle.rp_base.specs.declared.record.Rec.TheVariants.{Started, Promised, Voted, Learned, PromisedRange}
 use Rattle.rp_codec.specs.declared.version.Version.{Version}
 use Rattle.rp_codec.specs.declared.version.Version.TheVariants.{V1, V2}
 use Rattle.rp_codec.specs.Version.{version_number}
-use Rattle.rp_codec.specs.Text.{number_text, entry_byte, operation_text_at, action_text_at}
+use Rattle.rp_codec.specs.Text.{number_text, range_text, entry_byte, operation_text_at, action_text_at}
 use Rattle.rp_codec.specs.Reading.{Read}
 use Rattle.rp_codec.specs.Record.{record_text_at, IsRecord, BeginsWithRecord}
 use Rattle.rp_codec.specs.RecordReading.{record_at}
@@ -91,6 +92,11 @@ version_small V2 = omega arith
 kind_passes : (v : Version) (kind : ℕ) → kind < 256 → Passes (version_number v ∷ kind ∷ [])
 kind_passes v kind small = byte_passes (version_number v) (kind ∷ []) (version_small v) (byte_passes kind [] small none_pass)
 
+range_passes : (range : Range) → IsRange range → Passes (range_text range)
+range_passes range is =
+    both_pass (number_text w16 range.first) (range.count ∷ []) (text_passes w16 range.first)
+    (byte_passes range.count [] (omega (arith, is.count.1)) none_pass)
+
 record_passes : (v : Version) (r : Rec) → IsRecord r → Passes (record_text_at v r)
 record_passes v (Started ballot) is = both_pass (version_number v ∷ 1 ∷ []) (number_text w64 ballot) (kind_passes v 1 (omega arith)) (text_passes w64 ballot)
 record_passes v (Promised position ballot) is =
@@ -105,6 +111,9 @@ record_passes v (Learned position action) is =
     both_pass ((version_number v ∷ 4 ∷ []) ++ number_text w16 position) (action_text_at v action)
     (both_pass (version_number v ∷ 4 ∷ []) (number_text w16 position) (kind_passes v 4 (omega arith)) (text_passes w16 position))
     (action_passes v action is.right)
+record_passes v (PromisedRange range ballot) is =
+    both_pass ((version_number v ∷ 5 ∷ []) ++ range_text range) (number_text w64 ballot)
+    (both_pass (version_number v ∷ 5 ∷ []) (range_text range) (kind_passes v 5 (omega arith)) (range_passes range is.ranges.0)) (text_passes w64 ballot)
 
 texts_pass : (rs : List Rec) (bytes : List ℕ) → AllByRecursion IsRecord rs → AreTextsOf rs bytes → Passes bytes
 texts_pass [] bytes all none = subst Passes (sym none) none_pass

@@ -13,6 +13,7 @@ use Rattle.rp_model.specs.World.{World, part_at}
 use Rattle.rp_model.specs.Parts.{NodePart}
 use Rattle.rp_model.specs.Parts.{TaskPart}
 use Rattle.rp_agreement.specs.Answered.{named, calls_so_far, AreItsCalls}
+use Rattle.rp_agreement.specs.Founded as founded
 use Rattle.rp_agreement.specs.Order.{Begins, AreAlike}
 
 -- a node now and one later
@@ -27,6 +28,10 @@ AreLevel one other = length (applied_of one.records) ≡ length (applied_of othe
 -- the node of this number has written the record
 abbrev pub HasWritten : World → ℕ → Rec → Type 0
 HasWritten w x rec = (part : NodePart) × (part_at w.nodes x ≡ Some part) × Has rec part.records
+
+-- the node of this number has written a promise of the ballot for the position, alone or for a range
+abbrev pub HasWrittenPromise : World → ℕ → ℕ → ℕ → Type 0
+HasWrittenPromise w x i b = (part : NodePart) × (part_at w.nodes x ≡ Some part) × founded.HasWritten part.records i b
 
 -- Of what two nodes have applied, the one now and the other later, one begins the other; and where they
 -- have applied equally many actions they are in one state, with the same answers given, and show the same.

@@ -1,12 +1,24 @@
 -- Which node makes a step, and what that node is given (no public clause names it).
-use Rattle.std.specs.Prelude.{◌≡◌, ◌≢◌, ◌≤◌, ℕ, Some, Result, Ok, Err, length}
+use Rattle.std.specs.Prelude.{◌≡◌, ◌≢◌, ◌≤◌, ℕ, Some, Result, Ok, Err, List, length, map}
+use Rattle.rp_base.specs.declared.config.Config.{Config}
 use Rattle.rp_base.specs.declared.fault.Fault.{Fault}
 use Rattle.rp_base.specs.declared.fault.Fault.TheVariants.{Device}
 use Rattle.rp_model.specs.Effect.{Setting, NodeInput}
 use Rattle.rp_model.specs.Events.{Step}
-use Rattle.rp_model.specs.World.{World, part_at, cut_step, node_is_cut, node_writes, step_writes, stepping}
+use Rattle.rp_model.specs.World.{World, part_at, cut_step, node_is_cut, node_writes, step_effect, step_writes, stepping}
 use Rattle.rp_replica.specs.Inputs.{given_by}
 use Rattle.rp_replica.specs.declared.input.Input.{Input}
+use Rattle.rp_store.specs.Disk.{Disk}
+use Rattle.rp_world.specs.Callers.{Caller}
+use Rattle.rp_world.specs.Shape.{IsWorld, part_by}
+use Rattle.rp_world.specs.declared.node.Node.{Node}
+
+-- the nodes are those of the world, in a cluster whose machine starts so
+pub record AreNodesOf {S D P : Type 0} (disk : D → Disk) (begin : S) (nodes : List (Node S D P)) (w : World) : Type 0 where
+  pub config : Config
+  pub tasks : List Caller
+  pub kept : IsWorld disk config begin nodes tasks
+  pub parts : w.nodes ≡ map (part_by disk config.max_positions) nodes
 
 module _ {S : Type 0} (s : Setting S) (w : World) (step : Step) where
   -- the step is one of this node, which is given this
@@ -22,6 +34,11 @@ module _ {S : Type 0} (s : Setting S) (w : World) (step : Step) where
   pub record IsOfNone (fault : Fault) : Type 0 where
     pub cut : (kept : ℕ) → cut_step s w step kept ≡ Err fault
     pub reason : fault ≢ Device
+
+  -- the step is refused so, whole or cut
+  pub record IsRefused (fault : Fault) : Type 0 where
+    pub whole : step_effect s w step ≡ Err fault
+    pub none : IsOfNone fault
 
   -- the node that makes the step, and what it is given; or why there is none
   abbrev pub Chosen : Result (ℕ × Input) Fault → Type 0

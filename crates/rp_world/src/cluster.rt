@@ -17,7 +17,7 @@ ghost use Rattle.rp_agreement.specs.Decided.{IsCast};
 ghost use Rattle.rp_agreement.specs.Order.{AllSent, Begins};
 ghost use Rattle.rp_agreement.specs.Told.{Says};
 ghost use Rattle.rp_agreement.specs.Worlds.{node_in};
-ghost use Rattle.rp_world.specs.Agreeing.{Agree, HasWritten, IsOrdered};
+ghost use Rattle.rp_world.specs.Agreeing.{Agree, HasWritten, HasWrittenPromise, IsOrdered};
 ghost use Rattle.rp_world.specs.Failures.{SomeHasFailed};
 ghost use Rattle.rp_world.specs.Runs.{IsRun};
 ghost use Rattle.rp_world.specs.Shape.{IsCluster};
@@ -104,8 +104,8 @@ impl<M: Machine, D: CutDevice> Cluster<M, D> {
     /// One step of one actor, a stop or a restart, told by its effect. Refused, it changes nothing:
     /// `NotRunning` for a stopped node or a cut that meets none, `NoSuchMessage` for a number above the
     /// last, `TaskBusy` while the task's last call has no answer, `LogFull` and `BallotsSpent` for a
-    /// leader, `NumbersSpent` for a task's last number, `BadConfig` for a node above the last or a call
-    /// that is not right, and `OutOfMemory`. `Device` where a node's device fails: the node is stopped
+    /// leader, `NumbersSpent` for a task's last number, `BadConfig` for a node above the last, a call that
+    /// is not right or a range that is not of 1 to 64 positions, and `OutOfMemory`. `Device` where a node's device fails: the node is stopped
     /// then within the step; one that was to start again stays stopped, and some of its torn bytes may
     /// be gone, as they may be after `OutOfMemory`.
     #[inline(never)]
@@ -195,7 +195,7 @@ impl<M: Machine, D: CutDevice> Cluster<M, D> {
             → Begins (applied_of part.records) order }
         ensures promised { (x i b : ℕ) (last : Option Vote)
             → HasPromised self.now.world.sent x i b last
-            → HasWritten self.now.world x (records.Promised i b) }
+            → HasWrittenPromise self.now.world x i b }
         ensures voted { (x i b : ℕ) (v : Action) → HasVoted self.now.world.sent x i b v
             → HasWritten self.now.world x (records.Voted i b v) }
         ensures learned { (x i : ℕ) (v : Action)

@@ -1,6 +1,6 @@
 //! What an event comes to: steps of nodes, and stops within them.
 
-ghost use Rattle.std.specs.Prelude.{◌≡◌, ℕ, Ok, Some, IfOk, IsSome, length, option_map};
+ghost use Rattle.std.specs.Prelude.{◌≡◌, ℕ, Ok, Some, IfOk, IfErr, IsSome, length, option_map};
 ghost use Rattle.std.specs.List.{AllByRecursion};
 ghost use Rattle.rp_base.specs.Config.{IsRightConfig};
 ghost use Rattle.rp_base.specs.Sets.{Has};
@@ -15,15 +15,16 @@ ghost use Rattle.rp_model.specs.World as worlds;
 ghost use Rattle.rp_model.specs.World.{part_at, node_takes, node_is_cut, delivers, delivery_is_cut, step_effect, cut_step, stepping, step_writes, node_writes, delivery_writes, receiver_of};
 ghost use Rattle.rp_agreement.specs.Ranges.{IsRangedWorld};
 ghost use Rattle.rp_replica.specs.Inputs.{IsRightInput, given_by};
-ghost use Rattle.rp_world.specs.Choosing.{Chosen};
+ghost use Rattle.rp_world.specs.Choosing.{AreNodesOf, Chosen, IsRefused};
 ghost use Rattle.rp_world.specs.Going.{Answers, Counts, reply_told, told};
 ghost use Rattle.rp_world.specs.Steps.{IsStep, IsSameSetup, setting_of};
 
 use crate::effect::{nothing, of_step, taken};
 use crate::messages::Messages;
+use crate::node;
 use crate::world::{World, put_back};
 use rp_agreement::events_keep_ranges;
-use rp_base::{Fault, NodeId, Reply, TaskId};
+use rp_base::{Fault, NodeId, Position, PositionRange, Reply, TaskId};
 use rp_codec::{Body, Party, decode};
 use rp_machine::Machine;
 use rp_model::{Effect, Event, Interrupt, Step};
@@ -102,6 +103,12 @@ impl<M: Machine, D: CutDevice> World<M, D> {
         match step {
             Step::Deliver(number) => self.delivered(alloc, number),
             Step::Lead { node, position } => self.gives(alloc, node, &Input::Lead(position)),
+            Step::LeadRange { node, first, count } => {
+                match Self::range_for(&self.nodes, node, first, count) {
+                    Ok(range) => self.gives(alloc, node, &Input::LeadRange(range)),
+                    Err(fault) => Err(fault),
+                }
+            }
             Step::Interrupt { node, interrupt } => { self.gives(alloc, node, &input_of(interrupt)) }
             Step::Tick { node, now } => self.gives(alloc, node, &Input::Tick { now }),
             Step::Report { node, first } => self.gives(alloc, node, &Input::Report(first)),
@@ -123,7 +130,7 @@ impl<M: Machine, D: CutDevice> World<M, D> {
             (stepping self.old.world (step_of step)) self.old.failures self.new.failures result }
     {
         let first = self.messages() + 1;
-        let (node, input) = match Self::chosen(&self.messages, self.nodes.len(), step) {
+        let (node, input) = match Self::chosen(&self.messages, &self.nodes, step) {
             Ok(chosen) => chosen,
             Err(fault) => return Err(fault),
         };
@@ -136,17 +143,18 @@ impl<M: Machine, D: CutDevice> World<M, D> {
         }
     }
 
-    /// Which of so many nodes makes a step, and what it is given. `NoSuchMessage` above the last
-    /// message, `NotRunning` where a message is for no node of these, `BadConfig` above the last node.
+    /// Which of these nodes makes a step, and what it is given. `NoSuchMessage` above the last
+    /// message, `NotRunning` where a message is for no node of these, `BadConfig` above the last node,
+    /// and as `range_for` where there is no range to lead at.
     fn chosen<'a>(
         messages: &'a Messages,
-        nodes: usize,
+        nodes: &[node::Node<M, D>],
         step: Step,
     ) -> Result<(NodeId, Input<'a>), Fault>
         requires packets { (m : Message) → Has m messages.now.sent → IsPacket m }
         ensures right { IfOk result (λ chosen. IsRightInput chosen.1) }
         ensures chosen { (setting : Setting M) (w : worlds.World) → w.sent ≡ messages.now.sent
-            → length w.nodes ≡ nodes → Chosen setting w (step_of step) result }
+            → AreNodesOf D.disk setting.begin nodes.now w → Chosen setting w (step_of step) result }
     {
         let (node, input) = match step {
             Step::Deliver(number) => {
@@ -157,20 +165,53 @@ impl<M: Machine, D: CutDevice> World<M, D> {
                 let Party::Node(node) = receiver(text) else {
                     return Err(Fault::NotRunning);
                 };
-                if usize::from(node.get()) > nodes {
+                if usize::from(node.get()) > nodes.len() {
                     return Err(Fault::NotRunning);
                 }
                 return Ok((node, Input::Receive(text)));
             }
             Step::Lead { node, position } => (node, Input::Lead(position)),
+            Step::LeadRange { node, first, count } => {
+                match Self::range_for(nodes, node, first, count) {
+                    Ok(range) => (node, Input::LeadRange(range)),
+                    Err(fault) => return Err(fault),
+                }
+            }
             Step::Interrupt { node, interrupt } => (node, input_of(interrupt)),
             Step::Tick { node, now } => (node, Input::Tick { now }),
             Step::Report { node, first } => (node, Input::Report(first)),
         };
-        if usize::from(node.get()) > nodes {
+        if usize::from(node.get()) > nodes.len() {
             return Err(Fault::BadConfig);
         }
         Ok((node, input))
+    }
+
+    /// The range at which one of these nodes is to lead. `BadConfig` above the last node, `NotRunning`
+    /// where the node is stopped; then `BadConfig` unless the count is 1 to 64, and `LogFull` where the
+    /// last position would be above 65,535.
+    fn range_for(
+        nodes: &[node::Node<M, D>],
+        node: NodeId,
+        first: Position,
+        count: u8,
+    ) -> Result<PositionRange, Fault>
+        ensures ok { IfOk result (λ range. given_by (Input.LeadRange range)
+            ≡ Ok (NodeInput.LeadRange first count)) }
+        ensures err { IfErr result (λ fault. (setting : Setting M) (w : worlds.World)
+            → AreNodesOf D.disk setting.begin nodes.now w
+            → IsRefused setting w (events.LeadRange node first count) fault) }
+    {
+        match nodes.get(usize::from(node.get()) - 1) {
+            Some(node) => {
+                if node.is_running() {
+                    PositionRange::new(first, count)
+                } else {
+                    Err(Fault::NotRunning)
+                }
+            }
+            None => Err(Fault::BadConfig),
+        }
     }
 
     /// A node is given an input that comes from no message. `BadConfig` above the last node,

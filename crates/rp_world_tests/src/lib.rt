@@ -7,6 +7,8 @@ mod damaged;
 #[cfg(test)]
 mod failing;
 #[cfg(test)]
+mod ranges;
+#[cfg(test)]
 mod replica;
 #[cfg(test)]
 mod world;

@@ -30,7 +30,7 @@ fn call(node: NodeId, arg: i64) -> Event {
     }
 }
 
-fn lead(node: NodeId) -> Event {
+pub(crate) fn lead(node: NodeId) -> Event {
     Event::Node(Step::Lead {
         node,
         position: None,
@@ -74,15 +74,15 @@ fn deliver_in_rounds<M: Machine, D: CutDevice>(
 /// What a run leaves: how many messages there are, what each node stored, applied and shows, and the
 /// replies of task 1.
 #[derive(Drop)]
-struct Left {
-    messages: u64,
-    stored: Vec<u64>,
-    applied: Vec<u16>,
-    images: Vec<Vec<u8>>,
-    replies: Vec<Reply>,
+pub(crate) struct Left {
+    pub(crate) messages: u64,
+    pub(crate) stored: Vec<u64>,
+    pub(crate) applied: Vec<u16>,
+    pub(crate) images: Vec<Vec<u8>>,
+    pub(crate) replies: Vec<Reply>,
 }
 
-fn left_by<M: Machine, D: CutDevice>(
+pub(crate) fn left_by<M: Machine, D: CutDevice>(
     cluster: &Cluster<M, D>,
     alloc: Global,
 ) -> Result<Left, Fault> {
@@ -121,7 +121,7 @@ fn one_call_in_rounds<M: Machine, D: CutDevice>(
 }
 
 /// Three devices that hold nothing.
-fn devices(alloc: Global) -> Result<Vec<MemDevice>, Fail> {
+pub(crate) fn devices(alloc: Global) -> Result<Vec<MemDevice>, Fail> {
     let mut devices = Vec::new(alloc);
     for _ in 0..3 {
         devices.push(MemDevice::new(alloc))?;

@@ -1,8 +1,8 @@
-use Rattle.std.proofs.Common.{◌≡◌, ℕ, ◌++◌, [], ◌∷◌, max, Option, Some, None, List, refl, ap, ◌∙◌, arith}
+use Rattle.std.proofs.Common.{◌≡◌, ◌++◌, [], Option, Some, None, List, refl, ap, ◌∙◌, arith}
 use Rattle.std.specs.Prelude.{option_to_list}
 use Rattle.std.specs.List.{cons_option}
 use Rattle.rp_base.specs.declared.record.Vote.{Vote}
-use Rattle.rp_base.specs.Records.{bound_in, bound_at, highest, vote_in, last_vote_at}
+use Rattle.rp_base.specs.Records.{highest, vote_in, last_vote_at}
 use Rattle.rp_base.proofs.MoreRecords.{started_push, bound_push, last_push, learned_push}
 use Rattle.rp_base.proofs.records.one_more_record.Goals as goal
 

@@ -1,8 +1,8 @@
 use Rattle.std.proofs.Common.{sym, rules, arith}
 use Rattle.rp_codec.specs.Found.{with_body}
-use Rattle.rp_codec.specs.Decoding.{IsReportText}
+use Rattle.rp_codec.specs.Decoding.{IsLongText}
 use Rattle.rp_codec.proofs.Steps.{IsBytes}
-use Rattle.rp_codec.proofs.Decoded.{decoded, decoded_packet, decoded_rules, report_text}
+use Rattle.rp_codec.proofs.Decoded.{decoded, decoded_packet, decoded_rules, long_text}
 use Rattle.rp_codec.proofs.decoding.decode_fields.Goals as goal
 
 pub listed-requires : goal.listed-requires
@@ -15,7 +15,7 @@ pub returns-in_err-packet-in-Ok : goal.returns-in_err-packet-in-Ok
 returns-in_err-packet-in-Ok c =
     let (body, after, stands, read) = c.in-Ok.ensures in
     let bytes : IsBytes c.args.bytes.now = λ i. omega (arith, c.type_inv.bytes i) in
-    let text : IsReportText c.args.bytes.now = report_text c.args.bytes.now c.in-Ok.found body after bytes c.in_err-packet-in-Ok.ensures.memory stands read in
+    let text : IsLongText c.args.bytes.now = long_text c.args.bytes.now c.in-Ok.found body after bytes c.in_err-packet-in-Ok.ensures.memory stands read in
     search rules
 
 pub returns-in_ok-packet-in-Ok : goal.returns-in_ok-packet-in-Ok

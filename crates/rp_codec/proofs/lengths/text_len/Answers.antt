@@ -51,6 +51,9 @@ returns-in-8 c = λ p rest packet text. told 8 c.args.bytes.now c.in-8.is p rest
 pub returns-in-9 : goal.returns-in-9
 returns-in-9 c = λ p rest packet text. ap (λ (n : ℕ). 8 + n) c.reply_len.ensures ∙ told 9 c.args.bytes.now c.in-9.is p rest packet text
 
+pub returns-in-12 : goal.returns-in-12
+returns-in-12 c = λ p rest packet text. told 12 c.args.bytes.now c.in-12.is p rest packet text
+
 pub returns-in_default : goal.returns-in_default
 returns-in_default c = λ p rest packet text.
     let whole = c.packet_len.ensures.value p rest packet text in

@@ -12,3 +12,6 @@ returns-in_ok-read_deliver-in-Deliver-clause-right c = (c.in_ok-read_deliver-in-
 
 pub returns-in_ok-read_tick-in-Tick-clause-right : goal.returns-in_ok-read_tick-in-Tick-clause-right
 returns-in_ok-read_tick-in-Tick-clause-right c = (c.in_ok-read_tick-in-Tick.ensures.within, c.in_ok-read_tick-in-Tick.ensures.declared _)
+
+pub returns-in_ok-read_range-in-Range-clause-right : goal.returns-in_ok-read_range-in-Range-clause-right
+returns-in_ok-read_range-in-Range-clause-right c = (c.in_ok-read_range-in-Range.ensures.within, c.in_ok-read_range-in-Range.ensures.declared _)

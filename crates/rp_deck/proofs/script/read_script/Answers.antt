@@ -1,6 +1,10 @@
-use Rattle.std.proofs.Common.{◌≡◌, ◌∷◌, ◌++◌, [], List, map, rules, ap, sym, ◌∙◌}
+use Rattle.std.proofs.Common.{◌≡◌, ◌∷◌, ◌++◌, [], List, map, ap, sym, subst, ◌∙◌}
+use Rattle.std.specs.Prelude.{All}
+use Rattle.std.proofs.lemmas.List.Elements.{All-push}
 use Rattle.rp_words.specs.Ahead.{ahead, text_of}
 use Rattle.rp_words.specs.Lines.{LineText}
+use Rattle.rp_deck.specs.Live.{IsTaken}
+use Rattle.rp_deck.specs.Script.{IsRightLine}
 use Rattle.rp_deck.specs.ScriptLines.{LineCommand, script_of}
 use Rattle.rp_deck_declarations.specs.DeclaredViews.{names_of}
 use Rattle.rp_deck.specs.DeckViews.{command_text, line_command}
@@ -17,6 +21,7 @@ loop-line-preserved c =
     let lines = ahead c.next.new.self in
     let command = command_text c.in-Ok.command in
     let before : List LineCommand = map line_command c.loop-line.script.items in
+    let taken : Line = record { number = c.in-Some.line.number; command = c.in-Ok.command } in
     let more : LineCommand = record { number = c.in-Some.line.number; command = command } in
     let added : map line_command c.push.new.self.items ≡ before ++ more ∷ [] =
     ap (λ (items : List Line). map line_command items) c.in_ok-push-in-Ok.ensures.items ∙ map_last line_command c.loop-line.script.items (record { number = c.in-Some.line.number; command = c.in-Ok.command }) in
@@ -24,8 +29,10 @@ loop-line-preserved c =
       read = c.loop-line.invariant.read ∙ ap (λ (texts : List LineText). goes_on before (script_of mode d texts)) c.in-Some.ensures.next
           ∙ ap (goes_on before) (script_line_read mode d line lines command c.in-Ok.ensures.read) ∙ goes_on_more before more (script_of mode d lines)
           ∙ ap (λ (commands : List LineCommand). goes_on commands (script_of mode d lines)) (sym added);
-      right = search rules;
-      taken = search rules;
+      right = subst (λ (items : List Line). All (IsRightLine c.args.declared.now) items) (sym c.in_ok-push-in-Ok.ensures.items)
+          (All-push (IsRightLine c.args.declared.now) c.loop-line.script.items taken c.loop-line.invariant.right c.in-Ok.ensures.right);
+      taken = subst (λ (items : List Line). All (λ (l : Line). IsTaken mode l.command) items) (sym c.in_ok-push-in-Ok.ensures.items)
+          (All-push (λ (l : Line). IsTaken mode l.command) c.loop-line.script.items taken c.loop-line.invariant.taken c.in-Ok.ensures.taken);
     }
 
 pub returns-in-Err-clause-read : goal.returns-in-Err-clause-read

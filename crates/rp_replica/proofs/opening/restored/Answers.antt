@@ -1,5 +1,7 @@
-use Rattle.std.proofs.Common.{[], sym, ◌∙◌, arith}
+use Rattle.std.proofs.Common.{[], sym, ap, ◌∙◌, arith}
+use Rattle.rp_acceptor.specs.Noted.{Noted}
 use Rattle.rp_replica.proofs.Applied.{learned_right}
+use Rattle.rp_replica.proofs.Keeping.{all_restored}
 use Rattle.rp_replica.proofs.Learned.{learns_on}
 use Rattle.rp_replica.proofs.Starting.{same_learned}
 use Rattle.rp_replica.proofs.opening.restored.Goals as goal
@@ -14,3 +16,6 @@ returns-clause-learner g c =
     learns_on c.args.config records 0 c.in_ok-learner.learner c.follow.new.learner [] log
     (same_learned records c.in_ok-log.log log c.apply_ready.ensures.places c.in_ok-log.ensures.learned) c.apply_ready.ensures.ordered (omega arith)
     c.follow.ensures c.in_ok-learner.ensures.learner
+
+pub returns-clause-acceptor : goal.returns-clause-acceptor
+returns-clause-acceptor g c = ap (λ (noted : Noted). noted.records) c.in_ok-acceptor.ensures.restored ∙ all_restored c.args.records.now

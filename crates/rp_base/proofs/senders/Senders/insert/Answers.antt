@@ -1,4 +1,4 @@
-use Rattle.std.proofs.Common.{ℕ, ap, subst, sym}
+use Rattle.std.proofs.Common.{ℕ, subst, sym}
 use Rattle.rp_base.specs.Number.{IsNode}
 use Rattle.rp_base.proofs.Masks.{with_node, even_still}
 use Rattle.rp_base.proofs.senders.Senders.insert.Goals as goal

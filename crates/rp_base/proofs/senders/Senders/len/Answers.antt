@@ -1,5 +1,4 @@
-use Rattle.std.proofs.Common.{◌≡◌, ◌*◌, ◌/◌, ◌<◌, sym, subst, ◌∙◌, arith}
-use Rattle.std.specs.Prelude.{count_ones}
+use Rattle.std.proofs.Common.{◌≡◌, ◌*◌, ◌/◌, arith}
 use Rattle.rp_base.proofs.Masks.{counted, are_nodes}
 use Rattle.rp_base.proofs.senders.Senders.len.Goals as goal
 

@@ -32,6 +32,7 @@ returns c =
       position = c.self.inside.position;
       ballot = c.self.inside.ballot;
       own = c.self.inside.own;
+      ranged = c.self.inside.ranged;
       phase = c.self.inside.phase;
       promises = l;
     }) heard)

@@ -1,6 +1,7 @@
 use Rattle.std.proofs.Common.{◌≡◌, suc, ◌+◌, ◌<◌, ◌≤◌, Some, None, length, refl, subst, sym}
 use Rattle.rp_base.specs.Records.{learned_at, first_unlearned}
 use Rattle.rp_proposer.proofs.Windows.{window_has_room}
+use Rattle.rp_proposer.specs.Proposing.{begins}
 use Rattle.rp_base.specs.declared.record.Rec.{Rec}
 use Rattle.rp_base.specs.declared.record.Rec.TheVariants.{Started}
 use Rattle.rp_model.specs.Parts.{Running}
@@ -8,7 +9,7 @@ use Rattle.rp_replica.specs.Cutting.{MayWrite}
 use Rattle.rp_replica.specs.Held.{Held}
 use Rattle.rp_replica.specs.Turning.{Stops}
 use Rattle.rp_replica.proofs.Cuts.{held_with, stops_by, given_on}
-use Rattle.rp_replica.proofs.Beginning.{in_reach, tied_started}
+use Rattle.rp_replica.proofs.Beginning.{in_reach, leads_started, tied_started}
 use Rattle.rp_replica.proofs.replica.Replica.start.Goals as goal
 
 pub begin-requires-clause-room : goal.begin-requires-clause-room
@@ -29,9 +30,11 @@ invariant_of-self-2 g c =
     let unlearned : learned_at r.acceptor.records i ≡ None = subst (λ (h : Held g.row.M.Denot). learned_at h.records i ≡ None) back c.requires.may.unlearned in
     let below : i < first_unlearned r.acceptor.records + 64 = subst (λ (h : Held g.row.M.Denot). i < first_unlearned h.records + 64) back c.requires.may.reach in
     let least : 1 ≤ i = c.get-number.ensures.in_range.0 in
-    tied_started g.D.Device.disk r.me r.config r.learner r.heard r.log r.machine r.store c.write.new.store r.acceptor.records c.write.new.acceptor.records r.proposer c.begin.new.self i c.args.ballot c.args.own.now
-    c.in_ok-write.ensures.put c.in_ok-write.ensures.noted c.begin.ensures c.self.invariant c.requires.may.ballot.ballot c.requires.may.right unlearned
-    (in_reach r.acceptor.records r.log r.machine i c.self.invariant.applies least unlearned below)
+    let inside = in_reach r.acceptor.records r.log r.machine i c.self.invariant.applies least unlearned below in
+    let own = c.args.own.now in
+    tied_started g.D.Device.disk r.me r.config r.learner r.heard r.log r.machine r.store c.write.new.store r.acceptor.records c.write.new.acceptor.records r.proposer c.begin.new.self
+    (begins r.proposer i c.args.ballot (Some own)) c.args.ballot c.in_ok-write.ensures.put c.in_ok-write.ensures.noted c.begin.ensures c.self.invariant c.requires.may.ballot.ballot
+    (leads_started r.me r.config r.acceptor.records (length r.log.taken) r.proposer i c.args.ballot own c.self.invariant.leads c.requires.may.right unlearned inside)
 
 pub returns-in_err-write-clause-err : goal.returns-in_err-write-clause-err
 returns-in_err-write-clause-err g c =

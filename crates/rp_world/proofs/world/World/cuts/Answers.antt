@@ -9,10 +9,12 @@ use Rattle.rp_model.specs.Events.{step_of}
 use Rattle.rp_model.specs.World.{cut_step, node_is_cut, node_writes, step_writes, stepping}
 use Rattle.rp_agreement.specs.Ranges.{IsRangedWorld}
 use Rattle.rp_replica.specs.Inputs.{given_by}
+use Rattle.rp_world.specs.Choosing.{AreNodesOf}
 use Rattle.rp_world.specs.Going.{Answers, Counts}
 use Rattle.rp_world.specs.Nodes.{Member, IsCounted, IsCutBy, NotTaken, failures_in, member_of, node_step, setting_at}
 use Rattle.rp_world.specs.Shape.{part_by, world_of}
 use Rattle.rp_world.specs.Steps.{setting_of}
+use Rattle.rp_world.proofs.Choosing.{nodes_of}
 use Rattle.rp_world.proofs.Moving.{here_of, put_back, part_here, stands_here}
 use Rattle.rp_world.proofs.Failing.{counts, none_counted, same_counts, writes}
 use Rattle.rp_world.proofs.Ending.{still, cut_so, not_cut, left_by_cut}
@@ -30,10 +32,9 @@ returns-in-Err-clause-answer g c =
     let inside = c.self.inside in
     let disk = g.D.Device.disk in
     let nodes = inside.nodes.items in
-    let part = part_by disk inside.config.max_positions in
-    let many : length nodes ≡ c.len.result = omega (arith, c.len.ensures, inside.nodes.ok.0) in
+    let are = nodes_of disk inside.config (m.begin inside.program) nodes inside.tasks.items inside.messages c.deref.result.now c.deref.ensures.value c.self.invariant in
     let none = c.in-Err.ensures.chosen (setting_of m.next m.answers m.begin c.args.self.now) c.args.self.now.world (ap (λ v. v.world.sent) (sym c.self.view_is))
-    (ap (λ v. length v.world.nodes) (sym c.self.view_is) ∙ length-map nodes part ∙ many) in
+    (subst (λ v. AreNodesOf disk (m.begin v.program) c.deref.result.now v.world) c.self.view_is are) in
     inl (record { came = none.cut c.args.kept; unchanged = refl })
 
 pub returns-in-Err-clause-failures : goal.returns-in-Err-clause-failures
@@ -42,10 +43,9 @@ returns-in-Err-clause-failures g c =
     let inside = c.self.inside in
     let disk = g.D.Device.disk in
     let nodes = inside.nodes.items in
-    let part = part_by disk inside.config.max_positions in
-    let many : length nodes ≡ c.len.result = omega (arith, c.len.ensures, inside.nodes.ok.0) in
+    let are = nodes_of disk inside.config (m.begin inside.program) nodes inside.tasks.items inside.messages c.deref.result.now c.deref.ensures.value c.self.invariant in
     let none = c.in-Err.ensures.chosen (setting_of m.next m.answers m.begin c.args.self.now) c.args.self.now.world (ap (λ v. v.world.sent) (sym c.self.view_is))
-    (ap (λ v. length v.world.nodes) (sym c.self.view_is) ∙ length-map nodes part ∙ many) in
+    (subst (λ v. AreNodesOf disk (m.begin v.program) c.deref.result.now v.world) c.self.view_is are) in
     none_counted _ _ c.args.self.now.failures c.in-Err.fault none.reason
 
 pub remove-requires : goal.remove-requires
@@ -59,8 +59,8 @@ remove-requires g c =
     let w = world_of disk inside.config.max_positions nodes inside.tasks.items inside.messages in
     let s = setting_at m.next m.answers (member_of me inside.config begin) in
     let count = length-map nodes (part_by disk inside.config.max_positions) in
-    let many : length nodes ≡ c.len.result = omega (arith, c.len.ensures, inside.nodes.ok.0) in
-    let is = c.in-Ok.ensures.chosen s w refl (count ∙ many) in
+    let are = nodes_of disk inside.config begin nodes inside.tasks.items inside.messages c.deref.result.now c.deref.ensures.value c.self.invariant in
+    let is = c.in-Ok.ensures.chosen s w refl are in
     omega (arith, is.within, count, c.get.ensures.value, c.get.ensures.in_range.0, c.from-place.ensures, inside.nodes.ok.0)
 
 pub invariant_of-self : goal.invariant_of-self
@@ -76,8 +76,8 @@ invariant_of-self g c =
     let w = world_of disk inside.config.max_positions nodes inside.tasks.items inside.messages in
     let s = setting_at m.next m.answers (member_of me inside.config begin) in
     let count = length-map nodes (part_by disk inside.config.max_positions) in
-    let many : length nodes ≡ c.len.result = omega (arith, c.len.ensures, inside.nodes.ok.0) in
-    let is = c.in-Ok.ensures.chosen s w refl (count ∙ many) in
+    let are = nodes_of disk inside.config begin nodes inside.tasks.items inside.messages c.deref.result.now c.deref.ensures.value c.self.invariant in
+    let is = c.in-Ok.ensures.chosen s w refl are in
     let within : i < length nodes = omega (arith, is.within, count, placed) in
     let n = c.remove.result in
     let new = c.cut-node.result.0 in
@@ -99,8 +99,8 @@ returns-clause-answer g c =
     let w = world_of disk inside.config.max_positions nodes inside.tasks.items inside.messages in
     let s = setting_at m.next m.answers (member_of me inside.config begin) in
     let count = length-map nodes (part_by disk inside.config.max_positions) in
-    let many : length nodes ≡ c.len.result = omega (arith, c.len.ensures, inside.nodes.ok.0) in
-    let is = c.in-Ok.ensures.chosen s w refl (count ∙ many) in
+    let are = nodes_of disk inside.config begin nodes inside.tasks.items inside.messages c.deref.result.now c.deref.ensures.value c.self.invariant in
+    let is = c.in-Ok.ensures.chosen s w refl are in
     let within : i < length nodes = omega (arith, is.within, count, placed) in
     let n = c.remove.result in
     let new = c.cut-node.result.0 in
@@ -142,8 +142,8 @@ returns-clause-failures g c =
     let count = length-map nodes (part_by disk inside.config.max_positions) in
     let member = member_of me inside.config begin in
     let s = setting_at m.next m.answers member in
-    let many : length nodes ≡ c.len.result = omega (arith, c.len.ensures, inside.nodes.ok.0) in
-    let is = c.in-Ok.ensures.chosen s w refl (count ∙ many) in
+    let are = nodes_of disk inside.config begin nodes inside.tasks.items inside.messages c.deref.result.now c.deref.ensures.value c.self.invariant in
+    let is = c.in-Ok.ensures.chosen s w refl are in
     let within : i < length nodes = omega (arith, is.within, count, placed) in
     let n = c.remove.result in
     let new = c.cut-node.result.0 in

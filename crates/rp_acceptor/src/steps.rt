@@ -1,0 +1,193 @@
+//! The ballots that an acceptor promised, as steps: each holds from its position up to the next
+//! one.
+
+ghost use Rattle.std.specs.Prelude.{◌≡◌, ℕ, ◌+◌, ◌<◌, ◌≤◌, ◌^◌, [], max, map, length, OnOk, OnErr, slice_get};
+ghost use Rattle.std.specs.List.{AllWithin};
+ghost use Rattle.rp_base.specs.Ballot.{number_of};
+ghost use Rattle.rp_acceptor.specs.Steps.{Level, IsRising, held_at, ballot_before, begins_at, HasStep, raised_at, raised_step};
+ghost use Rattle.rp_acceptor.specs.Slots.{stretch_in, promise_at, HasEnds};
+
+use crate::slot::stretch_in;
+use rp_base::{Ballot, Rec};
+use std::alloc::{AllocError, Global};
+use std::marker::Model;
+
+/// From a position on the ballot is promised, or nothing is.
+#[derive(Drop)]
+struct Step {
+    from: usize,
+    ballot: Option<Ballot>,
+}
+
+impl Model for Step {
+    ghost use Rattle.rp_base.specs.Ballot.{number_of};
+    ghost use Rattle.rp_acceptor.specs.Steps.{Level};
+
+    ghost Value = { Level };
+
+    ghost view = { λ s. record { from = s.from; ballot = number_of s.ballot } };
+}
+
+impl Step {
+    /// Where it begins.
+    fn from(&self) -> usize
+        ensures { result ≡ self.now.from }
+    {
+        self.from
+    }
+
+    /// Raises its ballot to at least this one.
+    fn raise(&mut self, ballot: Ballot)
+        ensures { self.new ≡ record self.old { ballot = max self.old.ballot ballot } }
+    {
+        self.ballot = Ballot::greater(self.ballot, Some(ballot));
+    }
+}
+
+/// The steps of all positions, in order.
+#[derive(Drop)]
+pub struct Steps {
+    steps: Vec<Step>,
+}
+
+impl Model for Steps {
+    ghost use Rattle.std.specs.Prelude.{List};
+    ghost use Rattle.rp_acceptor.specs.Steps.{Level, IsRising};
+
+    ghost Value = { List Level };
+
+    ghost view = { λ s. s.steps.items };
+
+    ghost invariant = { λ s. IsRising s.steps.items };
+}
+
+impl Steps {
+    /// No step: nothing is promised.
+    pub fn new(alloc: Global) -> Steps
+        ensures { result ≡ [] }
+    {
+        Steps {
+            steps: Vec::new(alloc),
+        }
+    }
+
+    /// The ballot that holds at a position.
+    pub fn ballot(&self, position: usize) -> Option<Ballot>
+        requires { position < 2 ^ 32 }
+        ensures { number_of result ≡ held_at self.now position }
+    {
+        let count = count_below(&self.steps, position + 1);
+        ballot_before(&self.steps, count)
+    }
+
+    /// Has a step begin at a position. No ballot changes, and no step is gone.
+    pub fn split(&mut self, position: usize) -> Result<(), AllocError>
+        ensures same { (i : ℕ) → held_at self.new i ≡ held_at self.old i }
+        ensures keeps { (i : ℕ) → HasStep self.old i → HasStep self.new i }
+        ensures begins { OnOk result (HasStep self.new position) }
+        ensures full { OnErr result (¬ HasStep self.old position) }
+    {
+        split(&mut self.steps, position)
+    }
+
+    /// Raises each ballot from a position on and below another to at least this one. A step begins
+    /// at each end.
+    pub fn raise(&mut self, first: usize, end: usize, ballot: Ballot)
+        requires ends { HasStep self.old first × HasStep self.old end }
+        requires rises { first < end }
+        ensures raised { (i : ℕ) → held_at self.new i
+            ≡ raised_at first end ballot i (held_at self.old i) }
+        ensures keeps { (i : ℕ) → HasStep self.old i → HasStep self.new i }
+    {
+        raise(&mut self.steps, first, end, ballot);
+    }
+}
+
+/// How many steps begin below a position.
+fn count_below(steps: &[Step], position: usize) -> usize
+    requires { IsRising steps.now }
+    ensures bound { result ≤ length steps.now }
+    ensures below { AllWithin (λ s. s.from < position) steps.now 0 result }
+    ensures not_below { AllWithin (λ s. position ≤ s.from) steps.now result (length steps.now) }
+{
+    steps.partition_point(|step| step.from() < position)
+}
+
+/// The ballot that holds after this many steps.
+fn ballot_before(steps: &[Step], count: usize) -> Option<Ballot>
+    requires { count ≤ length steps.now }
+    ensures { number_of result ≡ ballot_before 0 steps.now count }
+{
+    if count == 0 {
+        None
+    } else {
+        let step = &steps[count - 1];
+        step.ballot
+    }
+}
+
+/// Whether the step of an index begins at a position.
+fn begins_at(steps: &[Step], index: usize, position: usize) -> bool
+    ensures { result ≡ begins_at position (slice_get steps.now index) }
+{
+    match steps.get(index) {
+        Some(step) => step.from() == position,
+        None => false,
+    }
+}
+
+/// Has a step begin at a position.
+fn split(steps: &mut Vec<Step>, position: usize) -> Result<(), AllocError>
+    requires { IsRising steps.old.items }
+    ensures rising { IsRising steps.new.items }
+    ensures same { (i : ℕ) → held_at steps.new.items i ≡ held_at steps.old.items i }
+    ensures keeps { (i : ℕ) → HasStep steps.old.items i → HasStep steps.new.items i }
+    ensures begins { OnOk result (HasStep steps.new.items position) }
+    ensures full { OnErr result (¬ HasStep steps.old.items position) }
+{
+    let count = count_below(steps, position);
+    if !begins_at(steps, count, position) {
+        let ballot = ballot_before(steps, count);
+        let step = Step {
+            from: position,
+            ballot,
+        };
+        steps.insert(count, step)?;
+    }
+    Ok(())
+}
+
+/// Raises the ballots of the steps that begin from a position on and below another.
+fn raise(steps: &mut Vec<Step>, first: usize, end: usize, ballot: Ballot)
+    requires { IsRising steps.old.items }
+    ensures { steps.new.items ≡ map (raised_step first end ballot) steps.old.items }
+{
+    let mut index = count_below(steps, first);
+    while index < steps.len() && steps[index].from() < end {
+        steps[index].raise(ballot);
+        index += 1;
+    }
+}
+
+/// Has a step begin at two positions, if there is memory. No ballot changes, and no step is gone.
+pub fn split_ends(steps: &mut Steps, first: usize, end: usize) -> Result<(), AllocError>
+    ensures same { (i : ℕ) → held_at steps.new i ≡ held_at steps.old i }
+    ensures keeps { (i : ℕ) → HasStep steps.old i → HasStep steps.new i }
+    ensures ends { OnOk result (HasStep steps.new first × HasStep steps.new end) }
+    ensures full { OnErr result (¬ (HasStep steps.old first × HasStep steps.old end)) }
+{
+    steps.split(first)?;
+    steps.split(end)
+}
+
+/// Notes the promise that a record is, if it is one. A step begins at each of its ends.
+pub fn raise_promised(steps: &mut Steps, rec: &Rec)
+    requires { HasEnds steps.old (stretch_in rec.now) }
+    ensures raised { (i : ℕ) → held_at steps.new i
+        ≡ max (held_at steps.old i) (promise_at i (stretch_in rec.now)) }
+    ensures keeps { (i : ℕ) → HasStep steps.old i → HasStep steps.new i }
+{
+    if let Some(stretch) = stretch_in(rec) {
+        steps.raise(stretch.first, stretch.end, stretch.ballot);
+    }
+}

@@ -1,0 +1,33 @@
+use Rattle.std.proofs.Common.{◌≡◌, Some, None, Option, List, length, set, refl, sym, ap, ◌∙◌, arith}
+use Rattle.std.specs.Prelude.{slice_get, unwrap_or}
+use Rattle.std.proofs.lemmas.Option.{slice_get_read}
+use Rattle.rp_base.specs.Ballot.{number_of}
+use Rattle.rp_base.specs.Proposals.{Proposal, proposal_at}
+use Rattle.rp_proposer.specs.Proposing.{ProposerPart, once_offered}
+use Rattle.rp_proposer.proofs.Places.{index_at, index_none, offered_there}
+use Rattle.rp_proposer.proofs.proposer.Proposer.offer.Goals as goal
+
+pub index_mut-requires : goal.index_mut-requires
+index_mut-requires c =
+    let found = index_at c.self.inside.proposals.items c.in-Some.index c.args.position (rw (← c.deref.ensures.value, ← c.index_of.ensures) c.in-Some.is) in
+    omega (arith, found.1.within, c.deref.ensures.len)
+
+pub returns-in-Some-clause-offered : goal.returns-in-Some-clause-offered
+returns-in-Some-clause-offered c =
+    let found = index_at c.self.inside.proposals.items c.in-Some.index c.args.position (rw (← c.deref.ensures.value, ← c.index_of.ensures) c.in-Some.is) in
+    let at : slice_get c.self.inside.proposals.items c.in-Some.index ≡ Some c.index_mut.result.now =
+    slice_get_read c.self.inside.proposals.items (length c.self.inside.proposals.items) c.in-Some.index c.index_mut.result.now refl found.1.within c.index_mut.ensures.value in
+    let same : c.index_mut.result.now ≡ found.0 = ap (λ (o : Option Proposal). unwrap_or o found.0) (sym at ∙ found.1.at) in
+    let noted : c.offer.new.self ≡ once_offered c.self.inside.nodes c.args.own found.0 =
+    c.offer.ensures ∙ ap (λ (p : Proposal). once_offered c.self.inside.nodes c.args.own p) same in
+    rw (← c.self.view_is, found.1.runs)
+    (ap (λ (l : List Proposal). record { node = c.self.inside.node; nodes = c.self.inside.nodes; proposals = l; started = number_of c.self.inside.started; refused = c.self.inside.refused })
+    (ap (λ (p : Proposal). set c.self.inside.proposals.items c.in-Some.index p) noted
+    ∙ sym (found.1.put (once_offered c.self.inside.nodes c.args.own found.0)
+    (offered_there c.self.inside.nodes c.args.own found.0 ∙ found.1.place))))
+
+pub returns-in_default-clause-offered : goal.returns-in_default-clause-offered
+returns-in_default-clause-offered c =
+    let absent = index_none c.self.inside.proposals.items 0 c.args.position (rw (← c.deref.ensures.value, ← c.index_of.ensures) c.in_default.is) in
+    let none : proposal_at c.args.self.now.proposals c.args.position ≡ None = ap (λ (part : ProposerPart). proposal_at part.proposals c.args.position) (sym c.self.view_is) ∙ absent.none in
+    rw none

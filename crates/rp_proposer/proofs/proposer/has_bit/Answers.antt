@@ -1,0 +1,6 @@
+use Rattle.std.proofs.Common.{ℕ, nat_eq, ap}
+use Rattle.std.proofs.lemmas.Nat.Bits.{shr_and_one}
+use Rattle.rp_proposer.proofs.proposer.has_bit.Goals as goal
+
+pub returns : goal.returns
+returns c = ap (λ (n : ℕ). nat_eq n 1) (shr_and_one c.args.mask c.args.index)

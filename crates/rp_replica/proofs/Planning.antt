@@ -1,0 +1,57 @@
+-- What a plan writes, and what is left where it is not committed.
+use Rattle.std.proofs.Common.{◌≡◌, Bool, true, false, cond, Option, None, List, refl, sym, subst}
+use Rattle.std.specs.Prelude.{Result, Ok, Err, IfErr, IfOk, filter, not}
+use Rattle.rp_base.specs.declared.action.Action.{Action}
+use Rattle.rp_base.specs.declared.fault.Fault.{Fault}
+use Rattle.rp_base.specs.declared.record.Rec.{Rec}
+use Rattle.rp_base.specs.declared.reply.Answer.{Answer}
+use Rattle.rp_base.specs.Ballot.{greatest_with}
+use Rattle.rp_base.specs.Proposals.{proposal_at, is_in, is_given_up}
+use Rattle.rp_model.specs.Parts.{Turn}
+use Rattle.rp_model.specs.Says.{notes}
+use Rattle.rp_replica.specs.declared.plan.Plan.{Plan}
+use Rattle.rp_replica.specs.declared.plan.Plan.TheVariants.{Pass, Promise, PromiseRange, Vote, Repeat, Refuse, Inform, Answer as Reply, Await, Lead, LeadRange, OfferPrepared, Count, CountRange, Offer, Yield, Hear, Learn, Follow, Report}
+use Rattle.rp_replica.specs.Held.{Held}
+use Rattle.rp_replica.specs.Plans.{turn_of, written_by}
+use Rattle.rp_replica.specs.Turning.{Stops, StopsIf}
+
+module _ {S : Type 0} (next : S → Action → S) (answers : S → Action → List Answer) (held : Held S) where
+  plan_writes : (plan : Plan) → (turn_of next answers held plan).written ≡ written_by plan
+  plan_writes (Pass dropped) = refl
+  plan_writes (Promise to i b last) = refl
+  plan_writes (PromiseRange p) = refl
+  plan_writes (Vote to i b v) = refl
+  plan_writes (Repeat to i b v) = refl
+  plan_writes (Refuse to i b bound) = refl
+  plan_writes (Inform to i v) = refl
+  plan_writes (Reply task number reply) = refl
+  plan_writes (Await item) = refl
+  plan_writes (Lead i b own) = refl
+  plan_writes (LeadRange range b) = refl
+  plan_writes (OfferPrepared i b v) = refl
+  plan_writes (Count promise) = refl
+  plan_writes (CountRange promise) = refl
+  plan_writes (Offer promise v) = refl
+  plan_writes (Yield i b bound) = by (is_in b (proposal_at held.running.proposals i))
+    where
+      by : (t : Bool)
+          → (cond t (notes (record held.running { proposals = filter (λ p. not (is_given_up held.config.nodes i b p)) held.running.proposals; refused = greatest_with held.running.refused bound }))
+          (notes held.running)).written ≡ None
+      by true = refl
+      by false = refl
+  plan_writes (Hear from i vote) = refl
+  plan_writes (Learn i v) = refl
+  plan_writes (Follow from i v) = refl
+  plan_writes (Report first) = refl
+
+  -- a plan that is not committed
+  pub stops_plan : (effect : Result Turn Fault) (decided : Result Plan Fault) (plan : Plan) (new : Held S) (fault : Fault) → decided ≡ Ok plan
+      → IfOk decided (λ plan. Ok (turn_of next answers held plan) ≡ effect) → Stops (written_by plan) held new fault → StopsIf effect held new fault
+  stops_plan effect decided plan new fault is gives stops =
+      let same : Ok (turn_of next answers held plan) ≡ effect = subst (λ (r : Result Plan Fault). IfOk r (λ plan. Ok (turn_of next answers held plan) ≡ effect)) is gives in
+      subst (λ (e : Result Turn Fault). StopsIf e held new fault) same (subst (λ (w : Option Rec). Stops w held new fault) (sym (plan_writes plan)) stops)
+
+  -- nothing was decided
+  pub stops_undecided : (effect : Result Turn Fault) (decided : Result Plan Fault) (fault : Fault) → decided ≡ Err fault → IfErr decided (λ fault. StopsIf effect held held fault)
+      → StopsIf effect held held fault
+  stops_undecided effect decided fault is why = subst (λ (r : Result Plan Fault). IfErr r (λ fault. StopsIf effect held held fault)) is why

@@ -5,6 +5,7 @@ use Rattle.std.specs.List.{insert, AllWithin}
 use Rattle.std.proofs.lemmas.Bool.{both_ways, cases_lt, eq-eqb, eqb-true}
 use Rattle.std.proofs.lemmas.Bool.Decides.{leb_tells}
 use Rattle.std.proofs.lemmas.Option.{slice_get-get_or}
+use Rattle.std.proofs.lemmas.List.{get_or_default}
 use Rattle.std.proofs.lemmas.List.Sorted.{IsNonDecreasingBy-insert}
 use Rattle.rp_acceptor.specs.Steps.{Level, IsRising, held_after, ballot_before, begins_at, HasStep}
 
@@ -14,6 +15,13 @@ none = record { from = 0; ballot = 0 }
 -- the steps behind the first one have what all have
 later : (P : Level → Type 0) (step : Level) (rest : List Level) (low high : ℕ) → AllWithin P (step ∷ rest) (suc low) (suc high) → AllWithin P rest low high
 later P step rest low high all = λ k d from below. all (suc k) d (omega (arith, from)) (omega (arith, below))
+
+-- where the last of some steps begins below a position, all of them do
+pub all_below : (steps : List Level) (i last : ℕ) (d : Level) → IsRising steps → last < length steps → (slice_index_or steps last d).from < i → AllWithin (λ s. s.from < i) steps 0 (suc last)
+all_below steps i last d rising within low = λ k e from below.
+    let order = rising k last e (omega (arith, below)) within in
+    let same = ap (λ (s : Level). s.from) (get_or_default steps last e d within) in
+    omega (arith, order, same, low)
 
 -- before the first step what held before holds
 pub none_yet : (before : ℕ) (steps : List Level) (i : ℕ) → AllWithin (λ s. i < s.from) steps 0 (length steps) → held_after before steps i ≡ before

@@ -1,3 +1,4 @@
 pub mod Noted
+pub mod Refusing
 pub mod Slots
 pub mod Steps

@@ -1,6 +1,7 @@
 -- The ballots that an acceptor promised, as steps: each holds from its position up to the next one (this
 -- project's own; callers see none of it).
-use Rattle.std.specs.Prelude.{◌≡◌, ◌⊎◌, ℕ, zero, suc, max, Bool, false, ◌&&◌, nat_eq, Option, Some, None, nat_le, nat_lt, List, [], ◌∷◌, if◌then◌else◌}
+use Rattle.std.specs.Prelude.{◌≡◌, ◌<◌, ◌≤◌, ◌⊎◌, ℕ, zero, suc, max, Bool, false, ◌&&◌, nat_eq, Option, Some, None, nat_le, nat_lt, List, [], ◌∷◌, length, if◌then◌else◌}
+use Rattle.std.specs.List.{AllWithin}
 use Rattle.std.specs.List.Sorted.{IsNonDecreasingBy}
 
 -- a step: the position from which its ballot holds, and the ballot, or 0 where nothing is promised
@@ -11,6 +12,12 @@ pub record Level : Type 0 where
 -- the steps are in the order of their positions
 abbrev pub IsRising : List Level → Type 0
 IsRising steps = IsNonDecreasingBy (λ s. s.from) steps
+
+-- this many of the first steps begin below a position, and the others do not
+pub record IsCountBelow (steps : List Level) (i count : ℕ) : Type 0 where
+  pub bound : count ≤ length steps
+  pub below : AllWithin (λ s. s.from < i) steps 0 count
+  pub not_below : AllWithin (λ s. i ≤ s.from) steps count (length steps)
 
 -- the ballot that holds at a position, where another holds before the first step
 abbrev pub held_after : ℕ → List Level → ℕ → ℕ

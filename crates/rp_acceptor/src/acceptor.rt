@@ -175,8 +175,15 @@ impl Acceptor {
         ensures bound { number_of result.bound ≡ bound_at self.now.records position }
         ensures last { result.last ≡ last_vote_at self.now.records position }
     {
-        let last = vote_at(&self.pages, index_of(position));
-        slot_of(self.steps.ballot(usize::from(position.get())), last)
+        let promised = self.steps.ballot(usize::from(position.get()));
+        slot_of(promised, self.last_vote(position))
+    }
+
+    /// The last vote at a position.
+    pub(crate) fn last_vote(&self, position: Position) -> Option<Vote>
+        ensures { result ≡ last_vote_at self.now.records position }
+    {
+        vote_at(&self.pages, index_of(position))
     }
 
     /// What is answered to a `Prepare` of the ballot at the position (section 2.2, phase 1b). The

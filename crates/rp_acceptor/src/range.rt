@@ -4,7 +4,8 @@ ghost use Rattle.std.specs.Prelude.{◌≡◌, ◌+◌, ◌<◌, ◌≤◌, ◌+
 ghost use Rattle.rp_base.specs.Ballot.{number_of};
 ghost use Rattle.rp_base.specs.PlacedVotes.{last_votes};
 ghost use Rattle.rp_acceptor.specs.Slots.{placed_if};
-ghost use Rattle.rp_base.specs.Voting.{is_above_bounds, refusing_position, range_refusal, range_answer};
+ghost use Rattle.rp_base.specs.Voting.{is_above_bounds, range_answer};
+ghost use Rattle.rp_acceptor.specs.Refusing.{refusing_bound};
 
 use crate::acceptor::{Acceptor, refusing};
 use rp_base::{Ballot, PlacedVote, Position, PositionRange, RangeAnswer, RangeVotes, Rec, Vote};
@@ -17,18 +18,20 @@ impl Acceptor {
         ensures answer { result ≡ range_answer self.now.records range ballot }
     {
         if self.is_above_bounds(range, ballot) {
-            RangeAnswer::Promise {
+            return RangeAnswer::Promise {
                 votes: self.last_votes(range),
                 rec: Rec::PromisedRange(range, ballot),
-            }
-        } else {
-            self.range_refusal(range, ballot)
+            };
+        }
+        match self.refusing_bound(range, ballot) {
+            Some((position, bound)) => RangeAnswer::Nack(position, bound),
+            None => RangeAnswer::Silent,
         }
     }
 
     /// Whether the ballot lies above the bound at each position of the range.
     #[tactic(auto, using(crate::proofs::Covering::range_next))]
-    fn is_above_bounds(&self, range: PositionRange, ballot: Ballot) -> bool
+    pub fn is_above_bounds(&self, range: PositionRange, ballot: Ballot) -> bool
         ensures { result ≡ is_above_bounds self.now.records range ballot }
     {
         for index in 0..range.count() {
@@ -40,21 +43,20 @@ impl Acceptor {
         true
     }
 
-    /// The refusal by the least position of the range whose bound lies above the ballot, if one
-    /// does.
+    /// The least position of the range whose bound lies above the ballot, with that bound, if there
+    /// is one.
     #[tactic(auto, using(crate::proofs::Covering::range_next))]
-    fn range_refusal(&self, range: PositionRange, ballot: Ballot) -> RangeAnswer
-        ensures { result
-            ≡ range_refusal self.now.records (refusing_position self.now.records range ballot) }
+    pub fn refusing_bound(&self, range: PositionRange, ballot: Ballot) -> Option<(Position, Ballot)>
+        ensures { result ≡ refusing_bound self.now.records range ballot }
     {
         for index in 0..range.count() {
             let position = range.at(index);
             let slot = self.slot(position);
             if let Some(bound) = refusing(slot.bound, ballot) {
-                return RangeAnswer::Nack(position, bound);
+                return Some((position, bound));
             }
         }
-        RangeAnswer::Silent
+        None
     }
 
     /// The last votes at the positions of the range.
@@ -65,7 +67,7 @@ impl Acceptor {
         let mut votes = RangeVotes::new();
         for index in 0..range.count() {
             let position = range.at(index);
-            push_last(&mut votes, position, self.slot(position).last);
+            push_last(&mut votes, position, self.last_vote(position));
         }
         votes
     }

@@ -1,16 +1,19 @@
 //! The ballots that an acceptor promised, as steps: each holds from its position up to the next
 //! one.
 
-ghost use Rattle.std.specs.Prelude.{◌≡◌, ℕ, ◌+◌, ◌<◌, ◌≤◌, ◌^◌, [], max, map, length, OnOk, OnErr, slice_get};
-ghost use Rattle.std.specs.List.{AllWithin};
+ghost use Rattle.std.specs.Prelude.{◌≡◌, ℕ, ◌+◌, ◌<◌, ◌≤◌, ◌^◌, [], max, map, length, IfSome, OnOk, OnErr, slice_get};
 ghost use Rattle.rp_base.specs.Ballot.{number_of};
-ghost use Rattle.rp_acceptor.specs.Steps.{Level, IsRising, held_at, ballot_before, begins_at, HasStep, raised_at, raised_step};
+ghost use Rattle.rp_acceptor.specs.Steps.{Level, IsRising, IsCountBelow, held_at, ballot_before, begins_at, HasStep, raised_at, raised_step};
 ghost use Rattle.rp_acceptor.specs.Slots.{stretch_in, promise_at, HasEnds};
 
 use crate::slot::stretch_in;
 use rp_base::{Ballot, Rec};
 use std::alloc::{AllocError, Global};
 use std::marker::Model;
+
+/// How many of the last steps are looked at before all are searched: a promise for one position
+/// adds two.
+const NEAR_END: usize = 4;
 
 /// From a position on the ballot is promised, or nothing is.
 #[derive(Drop)]
@@ -106,11 +109,28 @@ impl Steps {
 /// How many steps begin below a position.
 fn count_below(steps: &[Step], position: usize) -> usize
     requires { IsRising steps.now }
-    ensures bound { result ≤ length steps.now }
-    ensures below { AllWithin (λ s. s.from < position) steps.now 0 result }
-    ensures not_below { AllWithin (λ s. position ≤ s.from) steps.now result (length steps.now) }
+    ensures { IsCountBelow steps.now position result }
 {
-    steps.partition_point(|step| step.from() < position)
+    match count_near_end(steps, position) {
+        Some(count) => count,
+        None => steps.partition_point(|step| step.from() < position),
+    }
+}
+
+/// How many steps begin below a position, if it is all but a few of the last: most questions are
+/// about the newest positions.
+fn count_near_end(steps: &[Step], position: usize) -> Option<usize>
+    requires { IsRising steps.now }
+    ensures { IfSome result (λ count. IsCountBelow steps.now position count) }
+{
+    let mut count = steps.len();
+    for _ in 0..NEAR_END {
+        if count == 0 || steps[count - 1].from() < position {
+            return Some(count);
+        }
+        count -= 1;
+    }
+    None
 }
 
 /// The ballot that holds after this many steps.

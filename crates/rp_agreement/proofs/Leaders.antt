@@ -38,7 +38,8 @@ use Rattle.rp_agreement.specs.Sound.{IsSo, IsProposal, IsRunning, IsSound}
 use Rattle.rp_agreement.proofs.Lists.{some_same, found_has}
 use Rattle.rp_agreement.proofs.RecordGrowth.{started_below}
 use Rattle.rp_agreement.proofs.Turns.{IsSoundTurn, said_plain, plain, quiet, either, runs_written}
-use Rattle.rp_agreement.proofs.Proposing.{positions_of, member_or_new, proposal_or_new, with_apart, passing_apart}
+use Rattle.rp_agreement.proofs.Proposing.{member_or_new, proposal_or_new}
+use Rattle.rp_base.proofs.Apart.{positions_of, with_apart, passing_apart, positions_stay, promised_there}
 use Rattle.rp_agreement.proofs.Offering.{noop_asked, offer_is_asked, founds}
 
 -- a node that puts a proposal in its place knows what it knew
@@ -203,16 +204,6 @@ nack_sound nodes x records sent running i b bound runs =
     (λ _. quiet nodes x records sent running runs)
 
 -- ---- PromiseRange
-
--- a proposal once a promise for a range is noted is where it was
-pub promised_there : (nodes from : ℕ) (range : Range) (b : ℕ) (votes : List PlacedVote) (p : Proposal) → (once_promised nodes from range b votes p).position ≡ p.position
-promised_there nodes from range b votes p =
-    elim (is_covered range p.position && takes_range_promise nodes b p)
-    as (λ t. (let q : Proposal = if t then with_promise p (from, placed_at votes p.position) else p in q).position ≡ p.position) [ true ↦ refl | false ↦ refl ]
-
-positions_stay : (f : Proposal → Proposal) → ((p : Proposal) → (f p).position ≡ p.position) → (proposals : List Proposal) → positions_of (map f proposals) ≡ positions_of proposals
-positions_stay f there [] = refl
-positions_stay f there (p ∷ rest) = ap (λ (n : ℕ). n ∷ positions_of (map f rest)) (there p) ∙ ap (λ (l : List ℕ). p.position ∷ l) (positions_stay f there rest)
 
 once_noted_is : (nodes : ℕ) (sent : List Message) (records : List Rec) (from : ℕ) (range : Range) (b : ℕ) (votes : List PlacedVote) (p : Proposal)
     → ((i : ℕ) → is_covered range i ≡ true → HasPromised sent from i b (placed_at votes i)) → IsProposal sent records p

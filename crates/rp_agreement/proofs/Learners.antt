@@ -25,7 +25,8 @@ use Rattle.rp_agreement.specs.Sound.{IsRunning}
 use Rattle.rp_agreement.proofs.RecordGrowth.{learned_has}
 use Rattle.rp_agreement.proofs.Turns.{IsSoundTurn, ArePlain, none_plain, one_plain, both_plain, mapped_plain, said_plain, plain, quiet, sending, either, runs_written}
 use Rattle.rp_agreement.proofs.Counting.{majority_decides}
-use Rattle.rp_agreement.proofs.Proposing.{member_or_new, without_apart, stays_there}
+use Rattle.rp_agreement.proofs.Proposing.{member_or_new, stays_there}
+use Rattle.rp_base.proofs.Apart.{without_apart}
 
 -- each vote of the list was told
 abbrev AreCast : List Message → List HeardVote → Type 0

@@ -43,7 +43,7 @@ use Rattle.rp_model.specs.Receiving.{is_for_node, party_number, on_body}
 use Rattle.rp_model.specs.Effect.{Setting, NodeInput, Receive, Lead, LeadRange, Interrupt, Tick, Report, report_of, running_effect}
 use Rattle.rp_agreement.proofs.Lists.{found_has}
 use Rattle.rp_agreement.proofs.RangedParts.{with_or_old}
-use Rattle.rp_agreement.proofs.Leaders.{promised_there}
+use Rattle.rp_base.proofs.Apart.{promised_there}
 
 -- the position is less than 64 above the first that the records do not learn
 abbrev pub IsNear : List Rec → ℕ → Type 0

@@ -5,6 +5,7 @@ use Rattle.std.specs.List.{list_any}
 use Rattle.std.proofs.lemmas.Bool.{cases_Bool, cond-true, cond-false, eqb-true, eqb-false}
 use Rattle.rp_base.specs.Sets.{Has, IsSet, with_member}
 use Rattle.rp_base.specs.Proposals.{Proposal, with_proposal, without_proposal}
+use Rattle.rp_base.proofs.Apart.{positions_of}
 use Rattle.rp_base.proofs.Members.{has_split, has_passing, has_mapped}
 
 -- a member of a list with one more is an old one or that one
@@ -17,9 +18,6 @@ member_or_new {A} same x y xs h =
         | inr last ↦ elim last [ inl e ↦ inr e | inr none ↦ absurd none ]
       ]
     ]
-
-abbrev pub positions_of : List Proposal → List ℕ
-positions_of proposals = map (λ p. p.position) proposals
 
 has_position : (p : Proposal) (proposals : List Proposal) → Has p proposals → Has p.position (positions_of proposals)
 has_position p proposals h = has_mapped (λ q. q.position) p proposals h
@@ -42,56 +40,6 @@ proposal_or_new q p (r ∷ rest) apart h =
         ]
       ]
     ]
-
-position_or_new : (i : ℕ) (p : Proposal) (proposals : List Proposal) → Has i (positions_of (with_proposal proposals p)) → Has i (positions_of proposals) ⊎ (i ≡ p.position)
-position_or_new i p [] h = elim h [ inl e ↦ inr e | inr none ↦ absurd none ]
-position_or_new i p (r ∷ rest) h =
-    elim (cases_Bool (nat_eq r.position p.position)) [
-      | inl here ↦ elim (subst (λ (ps : List Proposal). Has i (positions_of ps)) (cond-true (nat_eq r.position p.position) (p ∷ rest) (r ∷ with_proposal rest p) here) h) [
-        | inl e ↦ inr e
-        | inr later ↦ inl (inr later)
-      ]
-      | inr elsewhere ↦ elim (subst (λ (ps : List Proposal). Has i (positions_of ps)) (cond-false (nat_eq r.position p.position) (p ∷ rest) (r ∷ with_proposal rest p) elsewhere) h) [
-        | inl e ↦ inl (inl e)
-        | inr later ↦ elim (position_or_new i p rest later) [ inl old ↦ inl (inr old) | inr new ↦ inr new ]
-      ]
-    ]
-
--- they stay apart
-pub with_apart : (p : Proposal) (proposals : List Proposal) → IsSet (positions_of proposals) → IsSet (positions_of (with_proposal proposals p))
-with_apart p [] apart = (λ h. h, tt)
-with_apart p (r ∷ rest) apart =
-    elim (cases_Bool (nat_eq r.position p.position)) [
-      | inl here ↦ subst (λ (ps : List Proposal). IsSet (positions_of ps)) (sym (cond-true (nat_eq r.position p.position) (p ∷ rest) (r ∷ with_proposal rest p) here))
-          (λ h. apart.0 (subst (λ (i : ℕ). Has i (positions_of rest)) (sym (eqb-true r.position p.position here)) h), apart.1)
-      | inr elsewhere ↦ subst (λ (ps : List Proposal). IsSet (positions_of ps)) (sym (cond-false (nat_eq r.position p.position) (p ∷ rest) (r ∷ with_proposal rest p) elsewhere)) (
-        λ h. elim (position_or_new r.position p rest h) [ inl old ↦ apart.0 old | inr same ↦ eqb-false r.position p.position elsewhere same ],
-        with_apart p rest apart.1,
-      )
-    ]
-
-position_passing : (test : Proposal → Bool) (i : ℕ) (proposals : List Proposal) → Has i (positions_of (filter test proposals)) → Has i (positions_of proposals)
-position_passing test i [] h = h
-position_passing test i (r ∷ rest) h =
-    elim (cases_Bool (test r)) [
-      | inl hit ↦ elim (subst (λ (ps : List Proposal). Has i (positions_of ps)) (cond-true (test r) (r ∷ filter test rest) (filter test rest) hit) h) [
-        | inl e ↦ inl e
-        | inr later ↦ inr (position_passing test i rest later)
-      ]
-      | inr miss ↦ inr (position_passing test i rest (subst (λ (ps : List Proposal). Has i (positions_of ps)) (cond-false (test r) (r ∷ filter test rest) (filter test rest) miss) h))
-    ]
-
-pub passing_apart : (test : Proposal → Bool) (proposals : List Proposal) → IsSet (positions_of proposals) → IsSet (positions_of (filter test proposals))
-passing_apart test [] apart = tt
-passing_apart test (r ∷ rest) apart =
-    elim (cases_Bool (test r)) [
-      | inl hit ↦ subst (λ (ps : List Proposal). IsSet (positions_of ps)) (sym (cond-true (test r) (r ∷ filter test rest) (filter test rest) hit))
-          (λ h. apart.0 (position_passing test r.position rest h), passing_apart test rest apart.1)
-      | inr miss ↦ subst (λ (ps : List Proposal). IsSet (positions_of ps)) (sym (cond-false (test r) (r ∷ filter test rest) (filter test rest) miss)) (passing_apart test rest apart.1)
-    ]
-
-pub without_apart : (i : ℕ) (proposals : List Proposal) → IsSet (positions_of proposals) → IsSet (positions_of (without_proposal proposals i))
-without_apart i proposals apart = passing_apart (λ p. not (nat_eq p.position i)) proposals apart
 
 -- one that stays was there
 pub stays_there : (q : Proposal) (i : ℕ) (proposals : List Proposal) → Has q (without_proposal proposals i) → Has q proposals

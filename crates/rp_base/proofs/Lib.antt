@@ -4,3 +4,5 @@ pub mod Sameness
 pub mod Masks
 pub mod MoreRecords
 pub mod ReportedVotes
+pub mod Apart
+pub mod Stretches

@@ -1,10 +1,11 @@
 -- Where a proposal is, and what a change of it makes of all.
 use Rattle.std.proofs.Common.{◌≡◌, ℕ, suc, ◌+◌, ◌<◌, true, false, Some, None, List, [], ◌∷◌, ◌++◌, length, set, inl, inr, refl, sym, ap, subst, cond, ◌∙◌, arith}
-use Rattle.std.specs.Prelude.{slice_get}
+use Rattle.std.specs.Prelude.{slice_get, remove, take, drop, option_map, nat_eq, not, filter, map}
 use Rattle.std.proofs.lemmas.Bool.{eq-eqb, ne_eqb}
 use Rattle.std.proofs.lemmas.Bool.Decides.{eqb_tells}
 use Rattle.rp_base.specs.declared.action.Action.{Action}
 use Rattle.rp_base.specs.Promises.{Promise}
+use Rattle.rp_base.specs.Sets.{Has, IsSet}
 use Rattle.rp_base.specs.Proposals.{Proposal, proposal_at, without_proposal, with_proposal, after_promise, takes_promise, is_promised, with_promise, is_prepared, as_offered}
 use Rattle.rp_base.specs.declared.proposal.Phase.TheVariants.{Offering}
 use Rattle.rp_proposer.specs.Proposing.{index_from, once_noted, once_offered}
@@ -79,6 +80,67 @@ index_none (p ∷ proposals) k i h =
                 ∙ ap (λ (l : List Proposal). p ∷ l) (rest.put q e);
           }
     ]
+
+-- the index where the first has another number
+shifted : (ps : List Proposal) (d k i : ℕ) → index_from (d + k) i ps ≡ option_map (λ n. d + n) (index_from k i ps)
+shifted [] d k i = refl
+shifted (p ∷ ps) d k i =
+    elim (eqb_tells p.position i) [
+      | inl same ↦ rw same.0
+      | inr other ↦
+          let next : suc (d + k) ≡ d + suc k = omega arith in
+          rw other.0 (ap (λ (n : ℕ). index_from n i ps) next ∙ shifted ps d (suc k) i)
+    ]
+
+-- among the first of two lists, if it is there
+pub index_front : (xs ys : List Proposal) (k j i : ℕ) → index_from k i xs ≡ Some j → index_from k i (xs ++ ys) ≡ Some j
+index_front [] ys k j i h = absurd (cc)
+index_front (p ∷ xs) ys k j i h =
+    elim (eqb_tells p.position i) [
+      | inl same ↦ rw same.0 (rw same.0 at h)
+      | inr other ↦ rw other.0 (index_front xs ys (suc k) j i (rw other.0 at h))
+    ]
+
+index_behind : (xs ys : List Proposal) (k i : ℕ) → index_from k i xs ≡ None → index_from k i (xs ++ ys) ≡ index_from (length xs + k) i ys
+index_behind [] ys k i h = let none : k ≡ length {A = Proposal} [] + k = omega arith in ap (λ (n : ℕ). index_from n i ys) none
+index_behind (p ∷ xs) ys k i h =
+    elim (eqb_tells p.position i) [
+      | inl same ↦ let is : Some k ≡ None = rw same.0 at h in absurd (cc)
+      | inr other ↦
+          let next : length xs + suc k ≡ suc (length xs) + k = omega arith in
+          rw other.0 (index_behind xs ys (suc k) i (rw other.0 at h) ∙ ap (λ (n : ℕ). index_from n i ys) next)
+    ]
+
+-- else where it is among the second, if it is there
+pub index_back : (xs ys : List Proposal) (i : ℕ) → index_from 0 i xs ≡ None → index_from 0 i (xs ++ ys) ≡ option_map (λ n. length xs + n) (index_from 0 i ys)
+index_back xs ys i h = index_behind xs ys 0 i h ∙ shifted ys (length xs) 0 i
+
+none_elsewhere : (ps : List Proposal) (i : ℕ) → ¬ (Has i (map (λ p. p.position) ps)) → without_proposal ps i ≡ ps
+none_elsewhere [] i h = refl
+none_elsewhere (p ∷ ps) i h =
+    let other = ne_eqb p.position i (λ same. h (inl (sym same))) in
+    rw other (ap (λ (l : List Proposal). p ∷ l) (none_elsewhere ps i (λ there. h (inr there))))
+
+removed : (ps : List Proposal) (k j n i : ℕ) → index_from k i ps ≡ Some j → j ≡ k + n → IsSet (map (λ p. p.position) ps) → remove ps n ≡ without_proposal ps i
+removed [] k j n i h e apart = absurd (cc)
+removed (p ∷ ps) k j n i h e apart =
+    elim (eqb_tells p.position i) [
+      | inl same ↦
+          let is : Some k ≡ Some j = rw same.0 at h in
+          let here : k ≡ j = cc in
+          let first : 0 ≡ n = omega (arith, here, e) in
+          let none = none_elsewhere ps i (λ there. apart.0 (subst (λ (m : ℕ). Has m (map (λ (q : Proposal). q.position) ps)) (sym same.1) there)) in
+          rw same.0 (subst (λ (m : ℕ). remove (p ∷ ps) m ≡ without_proposal ps i) first (sym none))
+      | inr other ↦
+          let next = rw other.0 at h in
+          let hit = index_found ps (suc k) j i next in
+          let many : suc hit.0 ≡ n = omega (arith, e, hit.2) in
+          rw other.0 (subst (λ (m : ℕ). remove (p ∷ ps) m ≡ p ∷ without_proposal ps i) many (ap (λ (l : List Proposal). p ∷ l) (removed ps (suc k) j hit.0 i next hit.2 apart.1)))
+    ]
+
+-- with its index taken out, those at other positions are left
+pub left_out : (ps : List Proposal) (n i : ℕ) → index_from 0 i ps ≡ Some n → IsSet (map (λ p. p.position) ps) → remove ps n ≡ without_proposal ps i
+left_out ps n i h apart = let same : n ≡ 0 + n = omega arith in removed ps 0 n n i h same apart
 
 stays_there : (nodes : ℕ) (p : Proposal) (promise : Promise) → (after_promise nodes p promise).position ≡ p.position
 stays_there nodes p promise = elim (is_promised nodes (with_promise p promise)) as (λ t. (cond t (record (with_promise p promise) { phase = Offering }) (with_promise p promise)).position ≡ p.position) [ true ↦ refl | false ↦ refl ]

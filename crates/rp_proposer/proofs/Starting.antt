@@ -4,6 +4,7 @@ use Rattle.std.specs.Prelude.{nat_eq, not, filter}
 use Rattle.std.specs.Int.{bit_at}
 use Rattle.std.specs.List.{range_with_len}
 use Rattle.std.proofs.lemmas.Bool.Decides.{eqb_tells}
+use Rattle.rp_base.proofs.Stretches.{range_next}
 use Rattle.rp_base.specs.Proposals.{Proposal, with_proposal, without_proposal, with_range, range_proposal}
 
 few_pass : (test : Proposal → Bool) (proposals : List Proposal) → length (filter test proposals) ≤ length proposals
@@ -37,16 +38,6 @@ range_no_fewer proposals b (i ∷ rest) =
     let more : length (with_proposal proposals (range_proposal b i)) ≤ length (with_range proposals b (i ∷ rest)) =
     range_no_fewer (with_proposal proposals (range_proposal b i)) b rest in
     omega (arith, one, more)
-
--- the positions from an index on are the one there and those behind it
-pub range_next : (first count index : ℕ) → index < count
-    → range_with_len (first + index) (count - index) ≡ (first + index) ∷ range_with_len (first + (index + 1)) (count - (index + 1))
-range_next first count index within =
-    let rest : ℕ = count - (index + 1) in
-    let many : suc rest ≡ count - index = omega (arith, within) in
-    let next : first + index + 1 ≡ first + (index + 1) = omega arith in
-    subst (λ (n : ℕ). range_with_len (first + index) n ≡ (first + index) ∷ range_with_len (first + (index + 1)) rest) many
-    (subst (λ (a : ℕ). (first + index) ∷ range_with_len (first + index + 1) rest ≡ (first + index) ∷ range_with_len a rest) next refl)
 
 -- the positions that are not skipped, from an index on
 abbrev pub open_from : ℕ → ℕ → ℕ → ℕ → List ℕ

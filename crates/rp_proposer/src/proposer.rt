@@ -1,16 +1,19 @@
 //! A node as a proposer.
 
-ghost use Rattle.std.specs.Prelude.{◌≡◌, ℕ, List, ◌↔◌, ◌+◌, ◌<◌, ◌≤◌, ◌^◌, max, map, filter, nat_eq, not, false, length, vec_capacity, IsTrue, IfOk, IsErrOf, IsOkUnless, option_copied, if◌then◌else◌};
+ghost use Rattle.std.specs.Prelude.{◌≡◌, ℕ, List, ◌↔◌, ◌+◌, ◌<◌, ◌≤◌, ◌^◌, max, map, filter, nat_eq, not, false, length, IsTrue, IfOk, IsErrOf, IsOkUnless, option_copied, if◌then◌else◌};
+ghost use Rattle.std.specs.VecDeque.{deque_capacity};
 ghost use Rattle.std.specs.Int.{bit_at};
 ghost use Rattle.rp_base.specs.Ballot.{number_of, round_of, next_ballot, IsAbove, IsNext};
 ghost use Rattle.rp_base.specs.Records.{started_of};
 ghost use Rattle.rp_base.specs.Proposals.{Proposal as RunningProposal, is_in, proposal_at, without_proposal, with_proposal, with_range, once_promised, is_given_up};
+ghost use Rattle.rp_base.specs.Sets.{IsSet};
 ghost use Rattle.rp_proposer.specs.Proposing.{counted_by, restored, ballot_at, HasRoom, begins, is_own_elsewhere, index_from, AreInWindow, IsInWindow, progress_in, notes_promise, notes_refusal, settles, most_running, unskipped, begins_range, notes_range, prepared_by, offers};
 
 use crate::promise::{HeardPromise, HeardRange};
 use crate::proposal::{Progress, Proposal};
 use rp_base::{Action, Ballot, Fault, NodeId, PlacedVote, Position, PositionRange, Rec, Vote};
 use std::alloc::Global;
+use std::collections::VecDeque;
 use std::marker::Model;
 
 /// How many proposals may run.
@@ -24,13 +27,13 @@ const MOST_RUNNING: usize = 64;
 pub struct Proposer {
     node: NodeId,
     nodes: u8,
-    proposals: Vec<Proposal>,
+    proposals: VecDeque<Proposal>,
     started: Option<Ballot>,
     refused: Option<Ballot>,
 }
 
 impl Model for Proposer {
-    ghost use Rattle.std.specs.Prelude.{length, vec_capacity};
+    ghost use Rattle.std.specs.VecDeque.{deque_capacity};
     ghost use Rattle.rp_base.specs.Ballot.{number_of};
     ghost use Rattle.rp_proposer.specs.Proposing.{ProposerPart};
 
@@ -47,7 +50,7 @@ impl Model for Proposer {
     ghost use Rattle.rp_proposer.specs.Room.{IsWithin};
 
     ghost invariant = { λ p.
-        IsWithin p.nodes (length p.proposals.items) (vec_capacity p.proposals) };
+        IsWithin p.nodes p.proposals.items (deque_capacity p.proposals) };
 }
 
 impl Proposer {
@@ -63,7 +66,7 @@ impl Proposer {
         Ok(Proposer {
             node,
             nodes,
-            proposals: Vec::with_capacity(alloc, MOST_RUNNING)?,
+            proposals: VecDeque::with_capacity(alloc, MOST_RUNNING)?,
             started: started_of(records),
             refused: None,
         })
@@ -171,10 +174,8 @@ impl Proposer {
     pub fn is_own_elsewhere(&self, position: Position, item: &Action) -> bool
         ensures { result ≡ is_own_elsewhere self.now.proposals position item.now }
     {
-        self.proposals
-            .iter()
-            .filter(|proposal| proposal.position() != position)
-            .any(|proposal| proposal.is_own(item))
+        let (front, back) = self.proposals.as_slices();
+        is_own_elsewhere(front, position, item) || is_own_elsewhere(back, position, item)
     }
 
     /// What a promise of one of the nodes makes of the proposal at the position, were it noted: its
@@ -252,20 +253,18 @@ fn started_of(records: &[Rec]) -> Option<Ballot>
 }
 
 /// The proposal that runs at a position.
-fn proposal_at(proposals: &[Proposal], position: Position) -> Option<&Proposal>
-    ensures { option_copied result ≡ proposal_at proposals.now position }
+fn proposal_at(proposals: &VecDeque<Proposal>, position: Position) -> Option<&Proposal>
+    ensures { option_copied result ≡ proposal_at proposals.now.items position }
 {
-    for proposal in proposals {
-        if proposal.position() == position {
-            return Some(proposal);
-        }
+    match index_of(proposals, position) {
+        Some(index) => Some(&proposals[index]),
+        None => None,
     }
-    None
 }
 
 /// Whether a proposal runs at a position in a ballot.
-fn is_in(proposals: &[Proposal], position: Position, ballot: Ballot) -> bool
-    ensures { result ≡ is_in ballot (proposal_at proposals.now position) }
+fn is_in(proposals: &VecDeque<Proposal>, position: Position, ballot: Ballot) -> bool
+    ensures { result ≡ is_in ballot (proposal_at proposals.now.items position) }
 {
     match proposal_at(proposals, position) {
         Some(proposal) => proposal.ballot() == ballot,
@@ -274,8 +273,8 @@ fn is_in(proposals: &[Proposal], position: Position, ballot: Ballot) -> bool
 }
 
 /// How many proposals run at other positions.
-fn count_elsewhere(proposals: &[Proposal], position: Position) -> usize
-    ensures { result ≡ length (without_proposal proposals.now position) }
+fn count_elsewhere(proposals: &VecDeque<Proposal>, position: Position) -> usize
+    ensures { result ≡ length (without_proposal proposals.now.items position) }
 {
     proposals
         .iter()
@@ -283,28 +282,55 @@ fn count_elsewhere(proposals: &[Proposal], position: Position) -> usize
         .count()
 }
 
+/// Whether the item is the own action of one of these at another position.
+fn is_own_elsewhere(proposals: &[Proposal], position: Position, item: &Action) -> bool
+    ensures { result ≡ is_own_elsewhere proposals.now position item.now }
+{
+    proposals
+        .iter()
+        .filter(|proposal| proposal.position() != position)
+        .any(|proposal| proposal.is_own(item))
+}
+
 /// Ends the proposal at a position.
-fn leave_out(proposals: &mut Vec<Proposal>, position: Position)
+fn leave_out(proposals: &mut VecDeque<Proposal>, position: Position)
+    requires { IsSet (map (λ p. p.position) proposals.old.items) }
     ensures items { proposals.new.items ≡ without_proposal proposals.old.items position }
     ensures fewer { length proposals.new.items ≤ length proposals.old.items }
-    ensures capacity { vec_capacity proposals.new ≡ vec_capacity proposals.old }
+    ensures capacity { deque_capacity proposals.new ≡ deque_capacity proposals.old }
 {
-    proposals.retain(|proposal| proposal.position() != position);
+    if let Some(index) = index_of(proposals, position) {
+        proposals.remove(index);
+    }
 }
 
 /// Ends the proposals that a refusal at a position in a ballot ends.
-fn give_up(proposals: &mut Vec<Proposal>, nodes: u8, position: Position, ballot: Ballot)
+fn give_up(proposals: &mut VecDeque<Proposal>, nodes: u8, position: Position, ballot: Ballot)
     requires { nodes ≤ 7 }
     ensures items { proposals.new.items
         ≡ filter (λ p. not (is_given_up nodes position ballot p)) proposals.old.items }
     ensures fewer { length proposals.new.items ≤ length proposals.old.items }
-    ensures capacity { vec_capacity proposals.new ≡ vec_capacity proposals.old }
+    ensures capacity { deque_capacity proposals.new ≡ deque_capacity proposals.old }
 {
     proposals.retain(|proposal| !proposal.is_given_up(nodes, position, ballot));
 }
 
 /// Where the proposal at a position is.
-fn index_of(proposals: &[Proposal], position: Position) -> Option<usize>
+fn index_of(proposals: &VecDeque<Proposal>, position: Position) -> Option<usize>
+    ensures { result ≡ index_from 0 position proposals.now.items }
+{
+    let (front, back) = proposals.as_slices();
+    match index_in(front, position) {
+        Some(index) => Some(index),
+        None => match index_in(back, position) {
+            Some(index) => Some(front.len() + index),
+            None => None,
+        },
+    }
+}
+
+/// Where the proposal at a position is among these.
+fn index_in(proposals: &[Proposal], position: Position) -> Option<usize>
     ensures { result ≡ index_from 0 position proposals.now }
 {
     let mut index = 0;
@@ -318,27 +344,27 @@ fn index_of(proposals: &[Proposal], position: Position) -> Option<usize>
 }
 
 /// Puts a proposal in place of the one at its position, or behind the others.
-fn put(proposals: &mut Vec<Proposal>, proposal: Proposal)
+fn put(proposals: &mut VecDeque<Proposal>, proposal: Proposal)
     requires { length (without_proposal proposals.old.items proposal.position)
-        < vec_capacity proposals.old }
+        < deque_capacity proposals.old }
     ensures items { proposals.new.items ≡ with_proposal proposals.old.items proposal }
     ensures length { length proposals.new.items ≤ max (length proposals.old.items) (length
         (without_proposal proposals.old.items proposal.position) + 1) }
-    ensures capacity { vec_capacity proposals.new ≡ vec_capacity proposals.old }
+    ensures capacity { deque_capacity proposals.new ≡ deque_capacity proposals.old }
 {
     match index_of(proposals, proposal.position()) {
         Some(index) => proposals[index] = proposal,
-        None => proposals.push_reserved(proposal),
+        None => proposals.push_back_reserved(proposal),
     }
 }
 
 /// Puts a new proposal at each position of a range that is not skipped.
-fn put_range(proposals: &mut Vec<Proposal>, range: PositionRange, skip: u64, ballot: Ballot)
+fn put_range(proposals: &mut VecDeque<Proposal>, range: PositionRange, skip: u64, ballot: Ballot)
     requires { length (with_range proposals.old.items ballot (unskipped range skip))
-        ≤ vec_capacity proposals.old }
+        ≤ deque_capacity proposals.old }
     ensures items { proposals.new.items
         ≡ with_range proposals.old.items ballot (unskipped range skip) }
-    ensures capacity { vec_capacity proposals.new ≡ vec_capacity proposals.old }
+    ensures capacity { deque_capacity proposals.new ≡ deque_capacity proposals.old }
 {
     for index in 0..range.count() {
         let proposal = Proposal::of_range(range.at(index), ballot);
@@ -347,12 +373,12 @@ fn put_range(proposals: &mut Vec<Proposal>, range: PositionRange, skip: u64, bal
 }
 
 /// Puts a proposal in place of the one at its position, or behind the others, unless it is skipped.
-fn put_unless(proposals: &mut Vec<Proposal>, skipped: bool, proposal: Proposal)
+fn put_unless(proposals: &mut VecDeque<Proposal>, skipped: bool, proposal: Proposal)
     requires { skipped ≡ false → length (without_proposal proposals.old.items proposal.position)
-        < vec_capacity proposals.old }
+        < deque_capacity proposals.old }
     ensures items { proposals.new.items ≡ (if skipped then proposals.old.items
         else with_proposal proposals.old.items proposal) }
-    ensures capacity { vec_capacity proposals.new ≡ vec_capacity proposals.old }
+    ensures capacity { deque_capacity proposals.new ≡ deque_capacity proposals.old }
 {
     if !skipped {
         put(proposals, proposal);
@@ -368,11 +394,11 @@ fn has_bit(mask: u64, index: u8) -> bool
 }
 
 /// Notes a promise for a range at each proposal that takes it.
-fn note_range(proposals: &mut Vec<Proposal>, nodes: u8, heard: &HeardRange)
+fn note_range(proposals: &mut VecDeque<Proposal>, nodes: u8, heard: &HeardRange)
     requires { nodes ≤ 7 }
     ensures items { proposals.new.items ≡ map (once_promised nodes heard.now.from heard.now.range
         heard.now.ballot heard.now.votes.now) proposals.old.items }
-    ensures capacity { vec_capacity proposals.new ≡ vec_capacity proposals.old }
+    ensures capacity { deque_capacity proposals.new ≡ deque_capacity proposals.old }
 {
     let mut index = 0;
     while index < proposals.len() {

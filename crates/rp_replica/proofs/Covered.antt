@@ -26,7 +26,7 @@ use Rattle.rp_machine.specs.Numbered.{Applied}
 use Rattle.rp_model.specs.Leader.{is_out_of_reach, starts_above, unlearned_in, begins_range as begins_at, on_lead_range}
 use Rattle.rp_model.specs.Parts.{Running, Turn}
 use Rattle.rp_model.specs.Says.{notes}
-use Rattle.rp_proposer.proofs.Starting.{range_next}
+use Rattle.rp_base.proofs.Stretches.{range_next}
 use Rattle.rp_proposer.specs.Proposing.{ProposerPart, AreInWindow, IsInWindow, begins_range, unskipped}
 use Rattle.rp_replica.specs.Tied.{IsProposer, IsRightProposal, IsApplied}
 use Rattle.rp_replica.proofs.Beginning.{window_more, place_of_more, learned_same, in_reach}

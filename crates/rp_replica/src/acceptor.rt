@@ -10,7 +10,7 @@ ghost use Rattle.rp_replica.specs.Plans.{turn_of, MayCommit};
 use crate::plan::{Plan, RangePromise};
 use crate::replica::Replica;
 use rp_base::{
-    AcceptAnswer, Action, Ballot, NodeId, Position, PositionRange, PrepareAnswer, RangeAnswer,
+    AcceptAnswer, Action, Ballot, NodeId, Position, PositionRange, PrepareAnswer,
     last_votes_lie_below, range_votes_are_reported,
 };
 use rp_machine::Machine;
@@ -48,14 +48,16 @@ impl<M: Machine, D: Device> Replica<M, D> {
         ensures may { MayCommit self.now result }
     {
         range_votes_are_reported();
-        match self.acceptor.prepare_range(range, ballot) {
-            RangeAnswer::Promise { .. } => Plan::PromiseRange(RangePromise {
+        if self.acceptor.is_above_bounds(range, ballot) {
+            return Plan::PromiseRange(RangePromise {
                 to: from,
                 range,
                 ballot,
-            }),
-            RangeAnswer::Nack(position, bound) => Plan::Refuse(from, position, ballot, bound),
-            RangeAnswer::Silent => Plan::Pass(Dropped::No),
+            });
+        }
+        match self.acceptor.refusing_bound(range, ballot) {
+            Some((position, bound)) => Plan::Refuse(from, position, ballot, bound),
+            None => Plan::Pass(Dropped::No),
         }
     }
 

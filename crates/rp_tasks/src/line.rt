@@ -1,8 +1,8 @@
 //! A line that loses packets, doubles them and changes their order.
 
-ghost use Rattle.std.specs.Prelude.{◌≡◌, ◌≢◌, ◌⊎◌, ℕ, List, [], ◌∷◌, ◌++◌, take, Some, option_map, IfOk, OnOk, OnErr, IsOkUnless};
+ghost use Rattle.std.specs.Prelude.{◌≡◌, ◌≢◌, ◌⊎◌, ℕ, List, [], ◌∷◌, ◌++◌, length, take, Some, option_map, IfOk, OnOk, OnErr, IsOkUnless};
 ghost use Rattle.rp_base.specs.Sets.{Has};
-ghost use Rattle.rp_tasks.specs.Line.{Line, line_of, word_of, drawn, accepted, picked, released};
+ghost use Rattle.rp_tasks.specs.Line.{Line, IsRoomFor, line_of, word_of, drawn, accepted, picked, released};
 
 use rand_chacha::ChaCha20Rng;
 use rand_chacha::rand_core::SeedableRng;
@@ -83,8 +83,8 @@ impl FaultLine {
         ensures only { IsOkUnless result Fault.OutOfMemory }
     {
         let packet = Vec::from_slice(alloc, packet)?;
-        let copy = self.copy_of(alloc, &packet)?;
-        self.spare = self.hold(alloc, word, packet, copy);
+        let room = self.room_for(alloc, packet.len())?;
+        self.spare = self.hold(alloc, word, packet, room);
         Ok(())
     }
 
@@ -108,22 +108,22 @@ impl FaultLine {
         ensures err { OnErr result (self.new ≡ self.old) }
         ensures only { IsOkUnless result Fault.OutOfMemory }
     {
-        let copy = self.copy_of(alloc, &packet)?;
-        let next = self.next_word();
-        self.spare = self.hold(alloc, next, packet, copy);
+        let room = self.room_for(alloc, packet.len())?;
+        let word = self.next_word();
+        self.spare = self.hold(alloc, word, packet, room);
         Ok(())
     }
 
-    /// A copy of a packet, in the room that the line keeps for it.
-    fn copy_of(&mut self, alloc: Global, packet: &Vec<u8>) -> Result<Vec<u8>, Fault>
-        ensures copy { IfOk result (λ copy. copy.items ≡ packet.now.items) }
+    /// The room that the line keeps for a second copy, enough for a packet of this length.
+    fn room_for(&mut self, alloc: Global, len: usize) -> Result<Vec<u8>, Fault>
+        ensures room { IfOk result (λ room. IsRoomFor len room) }
         ensures same { self.new ≡ self.old }
         ensures only { IsOkUnless result Fault.OutOfMemory }
     {
-        let mut copy = mem::replace(&mut self.spare, Vec::new(alloc));
-        copy.clear();
-        copy.extend_from_slice(packet.as_slice())?;
-        Ok(copy)
+        let mut room = mem::replace(&mut self.spare, Vec::new(alloc));
+        room.clear();
+        room.reserve(len)?;
+        Ok(room)
     }
 
     /// Gives on the packet whose place, counted from 0 in the order of acceptance, is the word
@@ -157,26 +157,27 @@ impl FaultLine {
         }
     }
 
-    /// Holds as many of the two copies as the word asks for. The room of the second, where it is not
-    /// held.
-    fn hold(&mut self, alloc: Global, word: u32, first: Vec<u8>, second: Vec<u8>) -> Vec<u8>
-        requires { first.items ≡ second.items }
-        ensures { self.new ≡ accepted word first.items self.old }
+    /// Holds as many copies of a packet as the word asks for, the second in this room. The room,
+    /// where it is not held.
+    fn hold(&mut self, alloc: Global, word: u32, packet: Vec<u8>, mut room: Vec<u8>) -> Vec<u8>
+        requires room { IsRoomFor (length packet.items) room }
+        ensures { self.new ≡ accepted word packet.items self.old }
     {
         prove!(self.held.len() <= ROOM);
         match word % CASES {
             0 | 1 => {
                 self.lose();
-                second
+                room
             }
             2 | 3 => {
-                self.hold_one(first);
-                self.hold_one(second);
+                room.extend_from_slice(packet.as_slice()).unwrap();
+                self.hold_one(packet);
+                self.hold_one(room);
                 Vec::new(alloc)
             }
             _ => {
-                self.hold_one(first);
-                second
+                self.hold_one(packet);
+                room
             }
         }
     }

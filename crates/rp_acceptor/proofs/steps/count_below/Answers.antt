@@ -4,17 +4,12 @@ use Rattle.std.proofs.lemmas.List.Sorted.{IsPartitionPoint-from_clause, IsPartit
 use Rattle.rp_acceptor.specs.Steps.{Level}
 use Rattle.rp_acceptor.proofs.steps.count_below.Goals as goal
 
-parted : goal.returns-clause-below
-parted c =
+pub returns-in-None : goal.returns-in-None
+returns-in-None c =
     let point = IsPartitionPoint-from_clause (λ (s : Level). nat_lt s.from c.args.position) c.args.steps.now c.partition_point.result c.partition_point.ensures.partitioned
     (IsPartitionedBy-ltb (λ (s : Level). s.from) c.args.steps.now c.args.position c.requires) (λ a r f' k. search rules) in
-    λ k d from below. ltb-true _ _ (point.0 k d from below)
-
-pub returns-clause-below : goal.returns-clause-below
-returns-clause-below c = parted c
-
-pub returns-clause-not_below : goal.returns-clause-not_below
-returns-clause-not_below c =
-    let point = IsPartitionPoint-from_clause (λ (s : Level). nat_lt s.from c.args.position) c.args.steps.now c.partition_point.result c.partition_point.ensures.partitioned
-    (IsPartitionedBy-ltb (λ (s : Level). s.from) c.args.steps.now c.args.position c.requires) (λ a r f' k. search rules) in
-    λ k d from below. ltb-false _ _ (point.1 k d from below)
+    record {
+      bound = search rules;
+      below = λ k d from below. ltb-true _ _ (point.0 k d from below);
+      not_below = λ k d from below. ltb-false _ _ (point.1 k d from below);
+    }

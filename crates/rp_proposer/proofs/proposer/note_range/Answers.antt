@@ -9,7 +9,7 @@ loop-index-preserved c =
     let old : List Proposal = c.args.proposals.now.items in
     let index : ℕ = c.loop-index.index in
     let is = c.loop-index.invariant in
-    let within : index < length old = omega (arith, c.loop-index-test.true, c.len.ensures, c.loop-index.proposals.ok, is.long) in
+    let within : index < length old = omega (arith, c.loop-index-test.true, c.len.ensures, c.loop-index.proposals.ok.0, is.long) in
     let noted : Proposal → Proposal = once_promised c.args.nodes c.args.heard.now.from c.args.heard.now.range c.args.heard.now.ballot c.args.heard.now.votes.now in
     record {
       noted = ap (λ (p : Proposal). set c.loop-index.proposals.items index p) c.note_range.ensures

@@ -1,5 +1,4 @@
-use Rattle.std.proofs.Common.{◌≡◌, ◌≤◌, ◌-◌, ◌++◌, length, map, take, drop}
-use Rattle.std.specs.Prelude.{vec_capacity}
+use Rattle.std.proofs.Common.{◌≡◌, ◌≤◌, ◌-◌, ◌++◌, length, map, take, drop, deque_capacity}
 use Rattle.rp_base.specs.Proposals.{once_promised}
 use Rattle.rp_proposer.proofs.proposer.note_range.Given as goal
 
@@ -9,7 +8,7 @@ invariant-loop-index l = record {
   noted : l.proposals.items ≡ map (once_promised l.nodes l.heard.from l.heard.range l.heard.ballot l.heard.votes.now) (take l.index l.fn.proposals.items) ++ drop l.index l.fn.proposals.items;
   long : length l.proposals.items ≡ length l.fn.proposals.items;
   bound : l.index ≤ length l.fn.proposals.items;
-  room : vec_capacity l.proposals ≡ vec_capacity l.fn.proposals;
+  room : deque_capacity l.proposals ≡ deque_capacity l.fn.proposals;
 }
 
 abbrev pub decreases-loop-index : goal.decreases-loop-index

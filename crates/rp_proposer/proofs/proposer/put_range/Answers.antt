@@ -1,5 +1,5 @@
-use Rattle.std.proofs.Common.{◌≡◌, ◌+◌, ◌<◌, ◌≤◌, ℕ, Bool, List, cond, length, sym, ap, subst, ◌∙◌, arith}
-use Rattle.std.specs.Prelude.{nat_eq, vec_capacity}
+use Rattle.std.proofs.Common.{◌≡◌, ◌+◌, ◌<◌, ◌≤◌, ℕ, Bool, List, cond, length, sym, ap, subst, ◌∙◌, arith, deque_capacity}
+use Rattle.std.specs.Prelude.{nat_eq}
 use Rattle.std.specs.Int.{bit_at}
 use Rattle.rp_base.specs.Proposals.{Proposal, with_proposal, without_proposal, with_range, range_proposal}
 use Rattle.rp_proposer.proofs.Starting.{open_from, begins_next, room_next}
@@ -13,10 +13,10 @@ put_unless-requires c = λ unskipped.
     let within : index < c.args.range.count = omega (arith, c.loop-index-test.true, c.count-index-end.ensures.value) in
     let here : c.of_range-proposal.result.position ≡ first + index = ap (λ (p : Proposal). p.position) c.of_range-proposal.ensures ∙ c.at.ensures in
     let long = ap length c.loop-index.invariant.rest in
-    let most : length (with_range items c.args.ballot (open_from c.args.skip first c.args.range.count index)) ≤ vec_capacity c.loop-index.proposals =
+    let most : length (with_range items c.args.ballot (open_from c.args.skip first c.args.range.count index)) ≤ deque_capacity c.loop-index.proposals =
     omega (arith, long, c.requires, c.loop-index.invariant.room) in
-    subst (λ (n : ℕ). length (without_proposal items n) < vec_capacity c.loop-index.proposals) (sym here)
-    (room_next items c.args.ballot c.args.skip first c.args.range.count index (vec_capacity c.loop-index.proposals) within (sym c.has_bit.ensures ∙ unskipped) most)
+    subst (λ (n : ℕ). length (without_proposal items n) < deque_capacity c.loop-index.proposals) (sym here)
+    (room_next items c.args.ballot c.args.skip first c.args.range.count index (deque_capacity c.loop-index.proposals) within (sym c.has_bit.ensures ∙ unskipped) most)
 
 pub loop-index-preserved : goal.loop-index-preserved
 loop-index-preserved c =

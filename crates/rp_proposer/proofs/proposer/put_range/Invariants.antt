@@ -1,5 +1,5 @@
-use Rattle.std.proofs.Common.{◌≡◌, ◌+◌, ◌-◌, nat_eq}
-use Rattle.std.specs.Prelude.{filter, not, vec_capacity}
+use Rattle.std.proofs.Common.{◌≡◌, ◌+◌, ◌-◌, nat_eq, deque_capacity}
+use Rattle.std.specs.Prelude.{filter, not}
 use Rattle.std.specs.Int.{bit_at}
 use Rattle.std.specs.List.{range_with_len}
 use Rattle.rp_base.specs.Proposals.{with_range}
@@ -11,5 +11,5 @@ abbrev pub invariant-loop-index : goal.invariant-loop-index
 invariant-loop-index l = record {
   rest : with_range l.proposals.items l.ballot (filter (λ i. not (nat_eq (bit_at l.skip (i - l.range.first)) 1)) (range_with_len (l.range.first + l.index) (l.range.count - l.index)))
       ≡ with_range l.fn.proposals.items l.ballot (unskipped l.range l.skip);
-  room : vec_capacity l.proposals ≡ vec_capacity l.fn.proposals;
+  room : deque_capacity l.proposals ≡ deque_capacity l.fn.proposals;
 }

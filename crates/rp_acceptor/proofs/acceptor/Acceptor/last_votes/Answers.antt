@@ -15,8 +15,8 @@ loop-index-preserved c =
     let index : ℕ = c.loop-index.index in
     let rest : List PlacedVote = filter_map (placed_last records) (range_with_len (c.args.range.first + (index + 1)) (c.args.range.count - (index + 1))) in
     let within : index < c.args.range.count = omega (arith, c.loop-index-test.true, c.count-index-end.ensures.value) in
-    let last : placed_if c.at-position.result c.slot.result.last ≡ placed_last records (c.args.range.first + index) =
-    ap (placed_if c.at-position.result) c.slot.ensures.last ∙ ap (placed_last records) c.at-position.ensures in
+    let last : placed_if c.at-position.result c.last_vote.result ≡ placed_last records (c.args.range.first + index) =
+    ap (placed_if c.at-position.result) c.last_vote.ensures ∙ ap (placed_last records) c.at-position.ensures in
     record {
       all = ap (λ (l : List PlacedVote). l ++ rest) (c.push_last.ensures.items ∙ ap (λ (o : Option PlacedVote). votes ++ option_to_list o) last)
           ∙ votes_next records votes c.args.range.first c.args.range.count index within ∙ c.loop-index.invariant.all;

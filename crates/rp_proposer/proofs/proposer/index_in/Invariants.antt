@@ -1,6 +1,6 @@
 use Rattle.std.proofs.Common.{◌≡◌, drop}
 use Rattle.rp_proposer.specs.Proposing.{index_from}
-use Rattle.rp_proposer.proofs.proposer.index_of.Given as goal
+use Rattle.rp_proposer.proofs.proposer.index_in.Given as goal
 
 -- none was found so far, so what the rest has is what all have
 abbrev pub invariant-loop-proposal : goal.invariant-loop-proposal

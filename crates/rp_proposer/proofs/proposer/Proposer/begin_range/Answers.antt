@@ -1,0 +1,22 @@
+use Rattle.std.proofs.Common.{◌≡◌, ◌≤◌, ◌<◌, ◌+◌, ℕ, List, length, map, max, sym, ap, subst, ◌∙◌, arith}
+use Rattle.rp_base.specs.Sets.{IsSet}
+use Rattle.rp_base.specs.Proposals.{Proposal, without_proposal, with_proposal, new_proposal}
+use Rattle.rp_proposer.specs.Proposing.{ProposerPart, HasRoom, most_running}
+use Rattle.rp_base.specs.Proposals.{with_range}
+use Rattle.rp_proposer.specs.Proposing.{unskipped}
+use Rattle.rp_base.proofs.Apart.{positions_of, range_apart}
+use Rattle.rp_proposer.proofs.proposer.Proposer.begin_range.Goals as goal
+
+pub invariant_of-self : goal.invariant_of-self
+invariant_of-self c =
+    let items : List Proposal = c.self.inside.proposals.items in
+    let is = c.self.invariant in
+    let begun : List ℕ = unskipped c.args.range c.args.skip in
+    let room : length (with_range items c.args.ballot begun) ≤ most_running =
+    subst (λ (part : ProposerPart). length (with_range part.proposals c.args.ballot begun) ≤ most_running) (sym c.self.view_is) c.requires.room in
+    record {
+      size = is.size;
+      apart = subst (λ (l : List Proposal). IsSet (positions_of l)) (sym c.put_range.ensures.items) (range_apart items c.args.ballot begun is.apart);
+      few = subst (λ (l : List Proposal). length l ≤ most_running) (sym c.put_range.ensures.items) room;
+      room = subst (λ (n : ℕ). most_running ≤ n) (sym c.put_range.ensures.capacity) is.room;
+    }

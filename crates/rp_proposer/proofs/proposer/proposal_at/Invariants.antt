@@ -1,7 +1,0 @@
-use Rattle.std.proofs.Common.{◌≡◌, drop}
-use Rattle.rp_base.specs.Proposals.{proposal_at}
-use Rattle.rp_proposer.proofs.proposer.proposal_at.Given as goal
-
--- none was found so far, so what the rest has is what all have
-abbrev pub invariant-loop-proposal : goal.invariant-loop-proposal
-invariant-loop-proposal l = proposal_at (drop l.proposal-index l.proposals) l.position ≡ proposal_at l.proposals l.position

@@ -186,7 +186,7 @@ impl<M: Machine> Unseated<M> {
                     replica: opening.replica,
                     place,
                     board,
-                    spare: Vec::new(alloc),
+                    spares: Vec::new(alloc),
                     lost: 0,
                 })
             }

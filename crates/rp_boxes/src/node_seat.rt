@@ -1,6 +1,6 @@
 //! The seat of a node.
 
-ghost use Rattle.std.specs.Prelude.{◌≡◌, ◌⊎◌, nat_lt, length, false, IfOk, IfErr, IfSome, IfNone, OnOk, IsOkUnless};
+ghost use Rattle.std.specs.Prelude.{◌≡◌, ◌⊎◌, [], nat_lt, length, false, IfOk, IfErr, IfSome, IfNone, OnOk, IsOkUnless};
 ghost use Rattle.rp_base.specs.Sets.{Has};
 ghost use Rattle.rp_base.specs.declared.fault.Fault.TheVariants as faults;
 ghost use Rattle.rp_codec.specs.Message.{Message, IsPacket};
@@ -24,8 +24,10 @@ use rp_replica::{Input, Replica, Sent, texts_are_packets};
 use rp_store::{Device, InfallibleDevice};
 use std::alloc::Global;
 use std::marker::{Brand, Model};
-use std::mem;
 use std::sync::Arc;
+
+/// How many buffers a seat keeps: a step sends seven packets at most.
+const MOST_SPARES: usize = 8;
 
 /// The seat of a node: the node itself, and its place at the table that all seats share. It crosses
 /// to another thread, and none of its calls waits.
@@ -35,8 +37,8 @@ pub struct NodeSeat<M: Machine, D: Device> {
     pub(crate) replica: Replica<M, D>,
     pub(crate) place: Place,
     pub(crate) board: Arc<Board<M>, Global>,
-    /// Room for the packets of the next step.
-    pub(crate) spare: Vec<u8>,
+    /// Buffers for packets to come.
+    pub(crate) spares: Vec<Vec<u8>>,
     /// How many packets were given back and let go.
     pub(crate) lost: u64,
 }
@@ -80,7 +82,7 @@ impl<M: Machine, D: Device> NodeSeat<M, D> {
         if self.replica.has_failed() {
             return Err(Fault::Failed);
         }
-        let buffer = mem::replace(&mut self.spare, Vec::new(alloc));
+        let buffer = spare_buffer(&mut self.spares, alloc);
         match self.replica.turn_into(alloc, buffer, input) {
             Ok(sent) => {
                 note_turn::<M, D, Brand>(
@@ -109,12 +111,23 @@ impl<M: Machine, D: Device> NodeSeat<M, D> {
         }
     }
 
-    /// Lends the seat a buffer for the packets of its next step, so that this step need not take
-    /// memory for them. What the buffer holds is let go.
+    /// Lends the seat a buffer for packets to come, so that they need not take memory. What the
+    /// buffer holds is let go. A seat keeps eight at most.
     pub fn lend(&mut self, buffer: Vec<u8>)
         ensures { self.new ≡ self.old }
     {
-        self.spare = buffer;
+        if self.spares.len() < MOST_SPARES {
+            // Where there is no memory to keep it the buffer is let go as well.
+            let _kept = self.spares.push(buffer);
+        }
+    }
+
+    /// An empty buffer: one that was lent, or else one that has no memory yet.
+    pub fn buffer(&mut self, alloc: Global) -> Vec<u8>
+        ensures empty { result.items ≡ [] }
+        ensures unchanged { self.new ≡ self.old }
+    {
+        spare_buffer(&mut self.spares, alloc)
     }
 
     /// Puts a packet that a step of this seat sent, as its text, into the box to its receiver. It is
@@ -217,5 +230,18 @@ impl<M: Machine, D: InfallibleDevice> NodeSeat<M, D> {
         ensures { self.now.failures ≡ 0 }
     {
         self.replica.never_failed();
+    }
+}
+
+/// The last of these buffers, emptied, or else one that has no memory yet.
+fn spare_buffer(spares: &mut Vec<Vec<u8>>, alloc: Global) -> Vec<u8>
+    ensures { result.items ≡ [] }
+{
+    match spares.pop() {
+        Some(mut buffer) => {
+            buffer.clear();
+            buffer
+        }
+        None => Vec::new(alloc),
     }
 }

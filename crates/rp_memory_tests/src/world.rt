@@ -1,4 +1,4 @@
-use rp_base::{Config, Fault, NodeId, Operation, Reply, TaskId};
+use rp_base::{Config, Fault, NodeId, Operation, Position, Reply, TaskId};
 use rp_machine::{Machine, Tally, TallyProgram};
 use rp_model::{Effect, Event, Step};
 use rp_store::{CutDevice, MemDevice};
@@ -36,12 +36,13 @@ fn deliver_all<M: Machine, D: CutDevice>(
     Ok(last)
 }
 
-/// Task 1 calls node 1, which leads; node 2 stops and starts again. It tells how many messages there are and
-/// the last reply, or why the cluster does not open.
+/// Task 1 calls node 1, which leads, first at a range if this is asked for; node 2 stops and starts again. It
+/// tells how many messages there are and the last reply, or why the cluster does not open.
 fn one_call<M: Machine, D: CutDevice>(
     alloc: Global,
     program: M::Program,
     devices: Vec<D>,
+    ranged: bool,
 ) -> Result<(u64, Option<Reply>), Fault> {
     let config = Config {
         nodes: 3,
@@ -63,7 +64,16 @@ fn one_call<M: Machine, D: CutDevice>(
         position: None,
     });
     step(&mut cluster, alloc, &call)?;
-    let delivered = deliver_all(&mut cluster, alloc, 0)?;
+    let mut delivered = deliver_all(&mut cluster, alloc, 0)?;
+    if ranged {
+        let range = Event::Node(Step::LeadRange {
+            node,
+            first: Position::first(),
+            count: 1,
+        });
+        step(&mut cluster, alloc, &range)?;
+        delivered = deliver_all(&mut cluster, alloc, delivered)?;
+    }
     step(&mut cluster, alloc, &lead)?;
     step(&mut cluster, alloc, &Event::Stop(second))?;
     step(&mut cluster, alloc, &Event::Restart(second))?;
@@ -89,11 +99,15 @@ fn devices(alloc: Global) -> Result<Vec<MemDevice>, Fail> {
 #[test]
 fn a_cluster_whose_memory_is_refused_once_answers_the_same(rt: HostRuntime) -> Result<(), Fail> {
     let alloc = rt.alloc();
-    let program = TallyProgram::new(1).ok_or("one object")?;
-    let told = match one_call::<Tally, MemDevice>(alloc, program, devices(alloc)?) {
-        Err(Fault::OutOfMemory) => one_call::<Tally, MemDevice>(alloc, program, devices(alloc)?),
-        told => told,
-    };
-    assert_eq!(rt; told?, (16, Some(Reply::Value(5))));
+    for ranged in [false, true] {
+        let program = TallyProgram::new(1).ok_or("one object")?;
+        let told = match one_call::<Tally, MemDevice>(alloc, program, devices(alloc)?, ranged) {
+            Err(Fault::OutOfMemory) => {
+                one_call::<Tally, MemDevice>(alloc, program, devices(alloc)?, ranged)
+            }
+            told => told,
+        };
+        assert_eq!(rt; told?, (16, Some(Reply::Value(5))));
+    }
     Ok(())
 }

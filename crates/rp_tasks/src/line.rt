@@ -109,8 +109,8 @@ impl FaultLine {
         ensures only { IsOkUnless result Fault.OutOfMemory }
     {
         let room = self.room_for(alloc, packet.len())?;
-        let word = self.next_word();
-        self.spare = self.hold(alloc, word, packet, room);
+        let next = self.next_word();
+        self.spare = self.hold(alloc, next, packet, room);
         Ok(())
     }
 

@@ -12,7 +12,8 @@ use rp_replica::Sent;
 use rp_store::Device;
 use std::alloc::{AllocError, Global};
 
-/// Puts a packet that the node sent into its box. Where the box is not empty it is lost, and counted.
+/// Puts a packet that the node sent into its box. Where the box is not empty it is lost and
+/// counted, and the seat keeps its buffer.
 fn put_text<M: Machine, D: Device>(seat: &mut NodeSeat<M, D>, packet: Vec<u8>)
     requires { IsSentText seat.old.part packet.items }
     ensures unchanged { seat.new ≡ seat.old }
@@ -21,7 +22,10 @@ fn put_text<M: Machine, D: Device>(seat: &mut NodeSeat<M, D>, packet: Vec<u8>)
 {
     match seat.put(packet) {
         Ok(()) => {}
-        Err(_) => seat.lose(),
+        Err(packet) => {
+            seat.lose();
+            seat.lend(packet);
+        }
     }
 }
 
@@ -36,7 +40,8 @@ fn put_copy<M: Machine, D: Device>(
     ensures offered { OnOk result (IsOffered M.next M.answers M.begin (Node seat.new.number)
         seat.new text.now) }
 {
-    let packet = Vec::from_slice(alloc, text)?;
+    let mut packet = seat.buffer(alloc);
+    packet.extend_from_slice(text)?;
     put_text(seat, packet);
     Ok(())
 }

@@ -1,5 +1,5 @@
 ghost use Rattle.std.specs.Prelude.{◌≡◌, ◌∷◌, []};
-ghost use Rattle.rp_acceptor.specs.Noted.{places_in};
+ghost use Rattle.rp_acceptor.specs.Noted.{places_in, ranges_in};
 
 use rp_acceptor::*;
 use rp_base::{Action, Ballot, Fault, Operation, Position, Rec, TaskId, Vote};
@@ -31,9 +31,10 @@ fn promised(alloc: Global) -> Result<Acceptor, Fail> {
     Ok(Acceptor::restore(alloc, &records)?)
 }
 
-/// Makes room for a record at a position, and notes it.
+/// Makes room for a record at a position, which is a promise or a vote there, and notes it.
 fn write(acceptor: &mut Acceptor, position: Position, rec: &Rec) -> Result<(), Fail>
-    requires { places_in rec.now ≡ position ∷ [] }
+    requires place { places_in rec.now ≡ position ∷ [] }
+    requires no_range { ranges_in rec.now ≡ [] }
 {
     acceptor.reserve(position)?;
     acceptor.note(rec);

@@ -363,6 +363,10 @@ fn placed(position: u16, number: u64, action: Action) -> Result<PlacedVote, Fail
     })
 }
 
+fn no_op_at(position: u16, number: u64) -> Result<PlacedVote, Fail> {
+    placed(position, number, Action::Noop)
+}
+
 fn promise_range(
     alloc: Global,
     range: PositionRange,
@@ -418,32 +422,25 @@ fn a_promise_for_a_range_reports_at_most_64_votes(rt: HostRuntime) -> Result<(),
 
 #[test]
 fn no_wrong_promise_for_a_range_is_made(rt: HostRuntime) -> Result<(), Fail> {
-    let first = placed(1, 9, Action::Noop)?;
-    let second = placed(2, 9, Action::Noop)?;
+    let interrupt = Action::Interrupt {
+        source: 0,
+        occurrence: 1,
+    };
     let cases = [
-        [second, first],
-        [first, first],
-        [first, placed(5, 9, Action::Noop)?],
-        [first, placed(2, 10, Action::Noop)?],
-        [
-            first,
-            placed(
-                2,
-                9,
-                Action::Interrupt {
-                    source: 0,
-                    occurrence: 1,
-                },
-            )?,
-        ],
+        [no_op_at(2, 9)?, no_op_at(1, 9)?],
+        [no_op_at(1, 9)?, no_op_at(1, 9)?],
+        [no_op_at(1, 9)?, no_op_at(5, 9)?],
+        [no_op_at(1, 9)?, no_op_at(2, 10)?],
+        [no_op_at(1, 9)?, placed(2, 9, interrupt)?],
     ];
-    for votes in cases {
-        let promise = promise_range(rt.alloc(), range(1, 4)?, 10, &votes)?;
+    for votes in &cases {
+        let promise = promise_range(rt.alloc(), range(1, 4)?, 10, votes)?;
         assert_eq!(rt; Packet::checked(node(1)?, node(2)?, promise), None);
     }
-    let promise = promise_range(rt.alloc(), range(2, 4)?, 10, &[first])?;
+    let promise = promise_range(rt.alloc(), range(2, 4)?, 10, &[no_op_at(1, 9)?])?;
     assert_eq!(rt; Packet::checked(node(1)?, node(2)?, promise), None);
-    let promise = promise_range(rt.alloc(), range(1, 4)?, 10, &[first, second])?;
+    let votes = [no_op_at(1, 9)?, no_op_at(2, 9)?];
+    let promise = promise_range(rt.alloc(), range(1, 4)?, 10, &votes)?;
     let task = Party::Task(TaskId::first());
     assert_eq!(rt; Packet::checked(task, node(2)?, promise), None);
     Ok(())
@@ -510,7 +507,8 @@ fn each_spoiled_promise_for_a_range_has_its_reason(rt: HostRuntime) -> Result<()
         assert_eq!(rt; decode(rt.alloc(), &bytes)?, Err(reason));
     }
     let bytes = two_votes(2, 1, 2, 9);
-    assert_eq!(rt; decode(rt.alloc(), &bytes[..37])?, Err(PacketReason::Short));
+    let short = bytes.get(..37).ok_or("all bytes but the last")?;
+    assert_eq!(rt; decode(rt.alloc(), short)?, Err(PacketReason::Short));
     Ok(())
 }
 
@@ -529,6 +527,7 @@ fn a_range_has_1_to_64_positions_up_to_the_last(rt: HostRuntime) -> Result<(), F
     );
     assert_eq!(rt; whole.end(), 65536);
     let range = range(1, 64)?;
+    assert!(rt; range.count() == 64);
     assert_eq!(rt; range.at(63).get(), 64);
     assert!(rt; range.covers(range.last()));
     assert!(rt; !range.covers(Position::new(65).ok_or("a position")?));

@@ -1,6 +1,6 @@
 -- Where a proposal is, and what a change of it makes of all.
 use Rattle.std.proofs.Common.{◌≡◌, ℕ, suc, ◌+◌, ◌<◌, true, false, Some, None, List, [], ◌∷◌, ◌++◌, length, set, inl, inr, refl, sym, ap, subst, cond, ◌∙◌, arith}
-use Rattle.std.specs.Prelude.{slice_get, remove, take, drop, option_map, nat_eq, not, filter, map}
+use Rattle.std.specs.Prelude.{slice_get, remove, option_map, map}
 use Rattle.std.proofs.lemmas.Bool.{eq-eqb, ne_eqb}
 use Rattle.std.proofs.lemmas.Bool.Decides.{eqb_tells}
 use Rattle.rp_base.specs.declared.action.Action.{Action}

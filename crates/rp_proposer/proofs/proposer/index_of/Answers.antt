@@ -1,4 +1,4 @@
-use Rattle.std.proofs.Common.{◌≡◌, ℕ, ◌+◌, Some, None, List, ◌++◌, length, sym, ap, subst, ◌∙◌, arith}
+use Rattle.std.proofs.Common.{◌+◌, List, length, sym, ap, ◌∙◌, arith}
 use Rattle.std.specs.Prelude.{option_map}
 use Rattle.rp_base.specs.Proposals.{Proposal}
 use Rattle.rp_proposer.specs.Proposing.{index_from}

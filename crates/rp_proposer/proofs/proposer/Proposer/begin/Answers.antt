@@ -1,6 +1,6 @@
-use Rattle.std.proofs.Common.{◌≡◌, ◌≤◌, ◌<◌, ◌+◌, ℕ, List, length, map, max, sym, ap, subst, ◌∙◌, arith}
+use Rattle.std.proofs.Common.{◌≡◌, ◌≤◌, ℕ, List, length, sym, ap, subst, arith}
 use Rattle.rp_base.specs.Sets.{IsSet}
-use Rattle.rp_base.specs.Proposals.{Proposal, without_proposal, with_proposal, new_proposal}
+use Rattle.rp_base.specs.Proposals.{Proposal, without_proposal}
 use Rattle.rp_proposer.specs.Proposing.{ProposerPart, HasRoom, most_running}
 use Rattle.rp_base.proofs.Apart.{positions_of, with_apart}
 use Rattle.rp_proposer.proofs.proposer.Proposer.begin.Goals as goal

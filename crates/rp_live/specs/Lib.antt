@@ -5,4 +5,5 @@ pub mod Faults
 pub mod Seats
 pub mod Noted
 pub mod Calls
+pub mod Figures
 pub mod Lived

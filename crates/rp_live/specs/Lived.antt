@@ -19,6 +19,7 @@ use Rattle.rp_threads.specs.declared.loops.NodeEnd.{NodeEnd}
 use Rattle.rp_threads.specs.declared.tasks.TaskEnd.{TaskEnd}
 use Rattle.rp_live.specs.Calls.{CountsCalls}
 use Rattle.rp_live.specs.Events.{call_by}
+use Rattle.rp_live.specs.Figures.{figures_of}
 use Rattle.rp_live.specs.Lines.{party_line}
 use Rattle.rp_live.specs.Noted.{AreNoted}
 use Rattle.rp_live.specs.Pace.{paced, heard, heard_task}
@@ -52,7 +53,7 @@ module _ {S P : Type 0} (next : S → Action → S) (answers : S → Action → 
 
   -- What was told of the nodes and tasks of these ends: the audit, which knew nothing of a node at first, read its log by
   -- reports that the node sent to it; then all looked at the table as one. So many actions each node has applied, and these
-  -- are the replies of all tasks. The nodes agree where of each all is known that it has applied.
+  -- are the replies of all tasks. The nodes agree where of each all is known that it has applied. The figures are theirs.
   pub record IsTold {D : Type 0} (audit : Chair P) (nodes : List (NodeEnd S D P)) (tasks : List (TaskEnd S P)) (lived : Lived) : Type 0 where
     pub last : List (Chair P)
     pub reported : AllZip (λ end seat. HasOnlyReported end.seat seat) nodes last
@@ -63,6 +64,7 @@ module _ {S P : Type 0} (next : S → Action → S) (answers : S → Action → 
     pub together : AreTogether next answers begin known last (map (λ end. end.seat) tasks)
     pub replies : lived.replies.items ≡ flat_map replies_at tasks
     pub agree : (lived.agree ≡ true) ↔ KnowsAll known.known lived.applied.items
+    pub figures : lived.figures ≡ figures_of nodes tasks
 
   -- A whole run. In the one order the counted calls of each task are the calls among the events, in order, that it made.
   pub record IsLived (config : Config) (program : P) (events : List Event) (seed turns : ℕ) (lived : Lived) : Type 0 where

@@ -1,10 +1,14 @@
 //! How a run went, in numbers for a person to read.
 
+ghost use Rattle.std.specs.Prelude.{◌≡◌, map, length};
+ghost use Rattle.rp_boxes.specs.Parts.{task_of};
+ghost use Rattle.rp_live.specs.Figures.{figures_of, sum_from, greatest_from};
+
 use rp_machine::Machine;
 use rp_store::Device;
 use rp_threads::{NodeEnd, TaskEnd};
 
-/// How a run went, in numbers. No contract speaks of them.
+/// How a run went, in numbers: a sum that 64 bits do not hold is the greatest that they hold.
 #[derive(Clone, Copy, Debug)]
 pub struct Figures {
     /// How many calls the tasks made.
@@ -24,35 +28,82 @@ impl Figures {
     pub(crate) fn of<M: Machine, D: Device>(
         nodes: &[NodeEnd<M, D>],
         tasks: &[TaskEnd<M>],
-    ) -> Figures {
-        let mut figures = Figures {
-            asked: 0,
-            answered: 0,
-            last_reply: 0,
-            lost: 0,
-            led: 0,
-        };
-        for end in nodes {
-            figures.count_node(end);
+    ) -> Figures
+        ensures { result ≡ figures_of nodes.now tasks.now }
+    {
+        Figures {
+            asked: calls_made(tasks),
+            answered: calls_answered(tasks),
+            last_reply: last_reply(tasks),
+            lost: lost_by_tasks(lost_by_nodes(nodes), tasks),
+            led: turns_led(nodes),
         }
-        for end in tasks {
-            figures.count_task(end);
-        }
-        figures
     }
+}
 
-    /// Counts what a node did.
-    fn count_node<M: Machine, D: Device>(&mut self, end: &NodeEnd<M, D>) {
-        self.led = self.led.saturating_add(end.led);
-        self.lost = self.lost.saturating_add(end.lost);
+/// How many calls the tasks made.
+fn calls_made<M: Machine>(tasks: &[TaskEnd<M>]) -> u64
+    ensures { result ≡ sum_from 0 (map (λ end. end.made) tasks.now) }
+{
+    let mut sum: u64 = 0;
+    for end in tasks {
+        sum = sum.saturating_add(end.made as u64);
     }
+    sum
+}
 
-    /// Counts what a task did.
-    fn count_task<M: Machine>(&mut self, end: &TaskEnd<M>) {
-        let answered = end.seat.replies().len() as u64;
-        self.asked = self.asked.saturating_add(end.made as u64);
-        self.answered = self.answered.saturating_add(answered);
-        self.last_reply = self.last_reply.max(end.last_reply);
-        self.lost = self.lost.saturating_add(end.lost);
+/// How many of them have their replies.
+fn calls_answered<M: Machine>(tasks: &[TaskEnd<M>]) -> u64
+    ensures { result ≡ sum_from 0
+        (map (λ end. length (task_of end.seat.part.role).replies) tasks.now) }
+{
+    let mut sum: u64 = 0;
+    for end in tasks {
+        sum = sum.saturating_add(end.seat.replies().len() as u64);
     }
+    sum
+}
+
+/// The turn in which the last reply came, or 0.
+fn last_reply<M: Machine>(tasks: &[TaskEnd<M>]) -> u64
+    ensures { result ≡ greatest_from 0 (map (λ end. end.last_reply) tasks.now) }
+{
+    let mut last: u64 = 0;
+    for end in tasks {
+        last = last.max(end.last_reply);
+    }
+    last
+}
+
+/// How many packets the loops of nodes count as lost.
+fn lost_by_nodes<M: Machine, D: Device>(nodes: &[NodeEnd<M, D>]) -> u64
+    ensures { result ≡ sum_from 0 (map (λ end. end.lost) nodes.now) }
+{
+    let mut sum: u64 = 0;
+    for end in nodes {
+        sum = sum.saturating_add(end.lost);
+    }
+    sum
+}
+
+/// The same of tasks, with so many lost before.
+fn lost_by_tasks<M: Machine>(before: u64, tasks: &[TaskEnd<M>]) -> u64
+    ensures { result ≡ sum_from before (map (λ end. end.lost) tasks.now) }
+{
+    let mut sum = before;
+    for end in tasks {
+        sum = sum.saturating_add(end.lost);
+    }
+    sum
+}
+
+/// In how many turns nodes led.
+fn turns_led<M: Machine, D: Device>(nodes: &[NodeEnd<M, D>]) -> u64
+    ensures { result ≡ sum_from 0 (map (λ end. end.led) nodes.now) }
+{
+    let mut sum: u64 = 0;
+    for end in nodes {
+        sum = sum.saturating_add(end.led);
+    }
+    sum
 }

@@ -4,6 +4,7 @@ use Rattle.rp_boxes.specs.Audits.{Audited}
 use Rattle.rp_boxes.specs.Seats.{Chair, HasApplied}
 use Rattle.rp_boxes.specs.Together.{AreTogether}
 use Rattle.rp_threads.specs.Loops.{IsSameSeat}
+use Rattle.rp_live.specs.Figures.{figures_of}
 use Rattle.rp_live.specs.Lived.{KnowsAll}
 use Rattle.rp_live.specs.Seats.{HasOnlyReported}
 use Rattle.rp_live.proofs.Reading.{nothing_known}
@@ -46,6 +47,7 @@ returns-clause-told g c =
       same = subst (λ (s : Chair g.row.M-Program.Denot). IsSameSeat s audit.seat) (ap (λ (a : Audited g.row.M-Program.Denot). a.seat) c.new-audit.ensures) told.same;
       together = subst (AreTogether m.next m.answers m.begin audit c.in_ok-nodes.nodes.items) c.in_ok-tasks.ensures.seats c.look_together.ensures;
       replies = c.in_ok-tasks.ensures.replies;
+      figures = c.of-figures.ensures ∙ ap (λ ends. figures_of ends c.as_slice-2.result.now) c.as_slice.ensures.value ∙ ap (figures_of c.args.nodes.items) c.as_slice-2.ensures.value;
       agree = subst (λ (l : List ℕ). (c.knows_all-agree.result ≡ true) ↔ KnowsAll audit.known l) c.as_slice-3.ensures.value c.knows_all-agree.ensures;
     }
 

@@ -156,7 +156,7 @@ module _ {S : Type 0} (s : Setting S) (P : World → Type 0) (kept_by : IsKeptBy
   left_keeps w (Again t node) left meets is = same_keeps w left meets is
   left_keeps w (Makes step) left meets is = same_keeps w left meets is
   left_keeps w (Cut step kept) left meets is = same_keeps w left meets is
-  left_keeps w (Stop me) left meets is = same_keeps w left meets is
+  left_keeps w (Stop me) left meets is = absurd is
   left_keeps w (Restart me) left meets is = subst P (sym is.1) (torn_keeps w me is.0 (part_at w.nodes me) meets refl)
 
   -- what an effect leads to

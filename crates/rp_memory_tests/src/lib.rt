@@ -1,5 +1,5 @@
 //! Tests that go on where memory is refused, and see that a call which was refused changed nothing. The
-//! gate runs them also with each one of their allocations refused (tools/refusals).
+//! gate runs them also with each one of their requests for memory refused (tools/memory).
 #![tactic(auto)]
 
 #[cfg(test)]

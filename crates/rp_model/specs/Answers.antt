@@ -26,17 +26,17 @@ untorn kept w me (Some part) = record w { nodes = with_part w.nodes me (untorn_p
 abbrev pub IsStopped : World → ℕ → Type 0
 IsStopped w me = (part : NodePart) × (part_at w.nodes me ≡ Some part) × (part.running ≡ None)
 
--- What a failing event leaves: the world as it was, but that torn bytes of a node may be gone that was
--- stopped and to start again, from the end.
+-- What an event leaves that fails for memory: the world as it was, but that torn bytes of a node may be gone that
+-- was stopped and to start again, from the end. A stop takes no memory, so it never fails for it.
 abbrev pub IsLeft : World → Event → World → Type 0
 IsLeft w (Submit task node object operation arg) left = left ≡ w
 IsLeft w (Again task node) left = left ≡ w
 IsLeft w (Makes step) left = left ≡ w
 IsLeft w (Cut step kept) left = left ≡ w
-IsLeft w (Stop me) left = left ≡ w
+IsLeft w (Stop me) left = ⊥
 IsLeft w (Restart me) left = (kept : ℕ) × (left ≡ untorn kept w me (part_at w.nodes me)) × IsStopped w me
 
--- Where memory is wanting, the event would not have been refused, and nothing happens.
+-- Where memory runs out, the event would not have been refused, and nothing happens.
 pub record IsOutOfMemory {S : Type 0} (s : Setting S) (w : World) (event : Event) (left : World) : Type 0 where
   pub wanted : Happening
   pub effect : event_effect s w event ≡ Ok wanted

@@ -13,7 +13,7 @@ use Rattle.rp_model.specs.Events.{Event, Step, Submit, Again, Makes, Cut, Stop, 
 use Rattle.rp_model.specs.World.{World, Happening, event_effect, cut_step, step_writes}
 use Rattle.rp_model.specs.Answers.{IsLeft, FailsBy, Steps, Happen}
 use Rattle.rp_world.specs.Failures.{RisesOnly, AreCounted}
-use Rattle.rp_world.specs.Going.{Fails, Answers, AnswersRestart, Counts, no_cut}
+use Rattle.rp_world.specs.Going.{Fails, Answers, AnswersRestart, AnswersStop, Counts, no_cut}
 use Rattle.rp_world.specs.Steps.{Setup, IsSameSetup, setting_of}
 
 module _ {S : Type 0} (s : Setting S) (w : World) (event : Event) (new : World) (cut : ℕ → Result Happening Fault)
@@ -60,8 +60,9 @@ module _ {S : Type 0} (s : Setting S) (w new : World) (answer : Result Effect Fa
         stepped s w (Cut step kept) new (λ less. cut_step s w step less) (λ same. same) So
         (λ fault so f. (f.kept, record { happening = f.happening; effect = f.came; world = f.world }, why_so (IsSome (step_writes s w step)) node before after fault f.device so)) answer so is
 
-  pub stopped : (node : ℕ) → Answers w (event_effect s w (Stop node)) no_cut new answer → Steps s w (Stop node) new answer
-  stopped node is = stepped s w (Stop node) new no_cut (λ same. same) (λ r. Unit {0}) none_fails answer tt is
+pub stopped : {S : Type 0} (s : Setting S) (w new : World) (answer : Result Effect Fault) (node : ℕ) → AnswersStop w (event_effect s w (Stop node)) new answer → Steps s w (Stop node) new answer
+stopped s w new (Ok told) node is = record { happening = is.happening; came = is.came; world = is.world; tells = is.tells }
+stopped s w new (Err fault) node is = inl (record { refusal = is.came; unchanged = is.unchanged })
 
 pub restarted : {S : Type 0} (s : Setting S) (w new : World) (answer : Result Effect Fault) (node : ℕ) → AnswersRestart w node (event_effect s w (Restart node)) new answer → Steps s w (Restart node) new answer
 restarted s w new (Ok told) node is = record { happening = is.happening; came = is.came; world = is.world; tells = is.tells }
@@ -99,6 +100,11 @@ no_device w effect new (Err fault) none is =
             | inr failed ↦ absurd (let came = failed.came in cc)
           ]
     ]
+
+-- a stop is answered as what has no device
+pub as_answers : (w : World) (effect : Result Happening Fault) (new : World) (answer : Result Effect Fault) → AnswersStop w effect new answer → Answers w effect no_cut new answer
+as_answers w effect new (Ok told) is = is
+as_answers w effect new (Err fault) is = inl is
 
 -- where no device can fail the counts are as before
 pub none_rose : (node : Option ℕ) (before after : List ℕ) (w : World) (effect : Result Happening Fault) (new : World) (answer : Result Effect Fault) → NoDevice effect → Answers w effect no_cut new answer

@@ -20,7 +20,7 @@ use Rattle.rp_replica.specs.declared.input.Input.{Input}
 use Rattle.rp_replica.specs.Inputs.{given_by}
 use Rattle.rp_world.specs.declared.node.Node.{Node}
 use Rattle.rp_world.specs.Callers.{Caller}
-use Rattle.rp_world.specs.Going.{Goes, Answers, AnswersRestart, no_cut}
+use Rattle.rp_world.specs.Going.{Goes, Answers, AnswersRestart, Refuses}
 use Rattle.rp_world.specs.Messages.{Sending}
 use Rattle.rp_world.specs.Nodes.{Member, member_of, StandsFor, GoesBy, RefusedBy, IsCutBy, IsLeftTorn, IsResting, NotTaken, TellsNothing, TellsOpened, setting_at, node_step}
 use Rattle.rp_world.specs.Shape.{part_by, world_of, IsWorld}
@@ -110,11 +110,14 @@ module _ {S D P : Type 0} (disk : D → Disk) (config : Config) (begin : S) (nod
         }))
 
     -- or it is refused, and changes nothing
+    refused_as : (whole : Result Happening Fault) (fault : Fault) → whole ≡ Err fault → StandsFor disk member new part → Refuses w whole after_world fault
+    refused_as whole fault came so =
+        to_put (λ x. Refuses w whole x fault)
+        (record { came = came; unchanged = stayed disk config begin nodes tasks i me placed n here messages new messages so refl })
+
     refused_so : (whole : Result Happening Fault) (cut : ℕ → Result Happening Fault) (fault : Fault) → whole ≡ Err fault → StandsFor disk member new part
         → Answers w whole cut after_world (let r : Result Effect Fault = Err fault in r)
-    refused_so whole cut fault came so =
-        to_put (λ x. Answers w whole cut x (let r : Result Effect Fault = Err fault in r))
-        (inl (record { came = came; unchanged = stayed disk config begin nodes tasks i me placed n here messages new messages so refl }))
+    refused_so whole cut fault came so = inl (refused_as whole fault came so)
 
     -- ---- stops
 
@@ -128,10 +131,10 @@ module _ {S D P : Type 0} (disk : D → Disk) (config : Config) (begin : S) (nod
     pub stopped_left : GoesBy disk member n new stop_effect TellsNothing tt → Left disk member new
     stopped_left by = let d = by part stands in (d.0.part, d.2)
 
-    pub not_stopped : (fault : Fault) → RefusedBy disk member n new stop_effect fault → Answers w (stops w me (part_at w.nodes me)) no_cut after_world (let r : Result Effect Fault = Err fault in r)
+    pub not_stopped : (fault : Fault) → RefusedBy disk member n new stop_effect fault → Refuses w (stops w me (part_at w.nodes me)) after_world fault
     not_stopped fault by =
         let d = by part stands in
-        refused_so (stops w me (part_at w.nodes me)) no_cut fault (ap (stops w me) part_is_here ∙ ap (node_done_if w me) d.0) d.1
+        refused_as (stops w me (part_at w.nodes me)) fault (ap (stops w me) part_is_here ∙ ap (node_done_if w me) d.0) d.1
 
     pub not_stopped_left : (fault : Fault) → RefusedBy disk member n new stop_effect fault → Left disk member new
     not_stopped_left fault by = let d = by part stands in (part, d.1)

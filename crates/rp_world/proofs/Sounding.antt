@@ -54,7 +54,7 @@ module _ {S : Type 0} (s : Setting S) (grows : (before : World) (event : Event) 
   left_sent w new (Again task node) left = same_sent w new left
   left_sent w new (Makes step) left = same_sent w new left
   left_sent w new (Cut step kept) left = same_sent w new left
-  left_sent w new (Stop me) left = same_sent w new left
+  left_sent w new (Stop me) left = absurd left
   left_sent w new (Restart me) left = torn_sent w new me left
 
   fails_sent : (w new : World) (event : Event) → FailsBy s w event new → AllSent w.sent new.sent

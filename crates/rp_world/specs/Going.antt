@@ -43,6 +43,11 @@ abbrev pub Answers : World → Result Happening Fault → (ℕ → Result Happen
 Answers w effect cut new (Ok told) = Goes w effect new told
 Answers w effect cut new (Err fault) = Refuses w effect new fault ⊎ (Wants w effect new fault ⊎ Fails cut new fault)
 
+-- what a stop answers, which takes no memory and has no device: it happened, or was refused
+abbrev pub AnswersStop : World → Result Happening Fault → World → Result Effect Fault → Type 0
+AnswersStop w effect new (Ok told) = Goes w effect new told
+AnswersStop w effect new (Err fault) = Refuses w effect new fault
+
 -- after an answer the counts of failures are as before; where it is a fault of a device, this is so, and the
 -- count of this node alone rose
 abbrev pub Counts : {A : Type 0} → Type 0 → Option ℕ → List ℕ → List ℕ → Result A Fault → Type 0

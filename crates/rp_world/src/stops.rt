@@ -2,7 +2,7 @@
 
 ghost use Rattle.std.specs.Prelude.{◌≡◌, Some};
 ghost use Rattle.rp_model.specs.World.{part_at, stops, restarts};
-ghost use Rattle.rp_world.specs.Going.{Answers, AnswersRestart, no_cut};
+ghost use Rattle.rp_world.specs.Going.{AnswersRestart, AnswersStop};
 ghost use Rattle.rp_world.specs.Failures.{AreCounted};
 ghost use Rattle.rp_world.specs.Steps.{IsSameSetup};
 
@@ -15,11 +15,12 @@ use rp_store::CutDevice;
 use std::alloc::Global;
 
 impl<M: Machine, D: CutDevice> World<M, D> {
-    /// A node stops. `BadConfig` above the last node, `NotRunning` where it is stopped.
+    /// A node stops, which takes no memory. `BadConfig` above the last node, `NotRunning` where it
+    /// is stopped.
     #[inline(never)]
     pub(crate) fn stop(&mut self, node: NodeId) -> Result<Effect, Fault>
-        ensures answer { Answers self.old.world
-            (stops self.old.world node (part_at self.old.world.nodes node)) no_cut
+        ensures answer { AnswersStop self.old.world
+            (stops self.old.world node (part_at self.old.world.nodes node))
             self.new.world result }
         ensures setup { IsSameSetup self.old self.new }
         ensures failures { self.new.failures ≡ self.old.failures }

@@ -8,7 +8,7 @@ use Rattle.rp_model.specs.World.{event_effect, stepping, step_writes}
 use Rattle.rp_model.proofs.Devices.{event_is}
 use Rattle.rp_world.specs.Going.{Answers, no_cut}
 use Rattle.rp_world.specs.Steps.{IsStep, setting_of}
-use Rattle.rp_world.proofs.Answering.{submitted, asked, made, was_cut, stopped, restarted, rose, none_rose}
+use Rattle.rp_world.proofs.Answering.{submitted, asked, made, was_cut, stopped, restarted, rose, as_answers, none_rose}
 use Rattle.rp_world.proofs.world.World.step.Goals as goal
 
 pub returns-in-Submit : goal.returns-in-Submit
@@ -95,7 +95,7 @@ returns-in-Stop g c =
           (record {
             world = stopped s old.world new.world c.stop.result v.node c.stop.ensures.answer;
             setup = c.stop.ensures.setup;
-            failures = none_rose (Some v.node) old.failures new.failures old.world (event_effect s old.world event) new.world c.stop.result (event_is s old.world event) c.stop.ensures.answer c.stop.ensures.failures;
+            failures = none_rose (Some v.node) old.failures new.failures old.world (event_effect s old.world event) new.world c.stop.result (event_is s old.world event) (as_answers old.world (event_effect s old.world event) new.world c.stop.result c.stop.ensures.answer) c.stop.ensures.failures;
           });
     }
 

@@ -1,10 +1,10 @@
-use Rattle.std.proofs.Common.{◌≡◌, ℕ, suc, ◌+◌, ◌-◌, ◌<◌, None, length, map, slice_set, inl, refl, sym, ap, subst, ◌∙◌, arith}
+use Rattle.std.proofs.Common.{◌≡◌, ℕ, suc, ◌+◌, ◌-◌, ◌<◌, None, length, map, slice_set, refl, sym, ap, subst, ◌∙◌, arith}
 use Rattle.std.specs.Prelude.{IfOk, IfErr, insert}
 use Rattle.rp_model.specs.declared.effect.Dropped.TheVariants.{No}
 use Rattle.rp_model.specs.Effect.{stop_effect}
 use Rattle.rp_model.specs.World.{stops, part_at}
 use Rattle.rp_model.specs.declared.effect.Effect.{Effect}
-use Rattle.rp_world.specs.Going.{Answers, no_cut}
+use Rattle.rp_world.specs.Going.{AnswersStop}
 use Rattle.rp_world.specs.Nodes.{Member, GoesBy, RefusedBy, TellsNothing, failures_in, member_of}
 use Rattle.rp_world.specs.Shape.{world_of}
 use Rattle.rp_world.proofs.Moving.{here_of, put_back}
@@ -20,7 +20,7 @@ returns-then-place-len-clause-answer g c =
     let none = none_here g.D.Device.disk inside.config (g.M.Machine.begin inside.program) inside.nodes.items inside.tasks.items inside.messages (c.from-place.result - 1) c.args.node placed
     (omega (arith, c.if-place-len.true, c.len.ensures, inside.nodes.ok.0)) in
     let here : part_at c.args.self.now.world.nodes c.args.node ≡ None = ap (λ v. part_at v.world.nodes c.args.node) (sym c.self.view_is) ∙ none in
-    inl (record { came = ap (stops c.args.self.now.world c.args.node) here; unchanged = refl })
+    record { came = ap (stops c.args.self.now.world c.args.node) here; unchanged = refl }
 
 pub invariant_of-self : goal.invariant_of-self
 invariant_of-self g c =
@@ -55,16 +55,16 @@ returns-clause-answer g c =
     let member = member_of c.args.node inside.config begin in
     let after = world_of disk inside.config.max_positions c.put_back.new.nodes.items inside.tasks.items inside.messages in
     let first : c.messages-first.result + 1 ≡ length inside.messages.sent + 1 = ap (λ k. k + 1) (c.messages-first.ensures.value ∙ ap (λ v. length v.world.sent) (sym c.self.view_is)) in
-    subst (λ v. Answers v.world (stops v.world c.args.node (part_at v.world.nodes c.args.node)) no_cut after c.match-answer.result) c.self.view_is
+    subst (λ v. AnswersStop v.world (stops v.world c.args.node (part_at v.world.nodes c.args.node)) after c.match-answer.result) c.self.view_is
     (elim c.match-answer.branch [
       | in-Ok b ↦
           let told = b.nothing.ensures ∙ ap (λ (k : ℕ). let e : Effect = record { first = k; sent = 0; dropped = No; taken = None; opened = None } in e) first in
           let ok = subst (λ r. IfOk r (λ done. (m : Member g.row.M.Denot) → GoesBy disk m n new stop_effect TellsNothing done)) b.in-Ok.is c.stop-node.ensures.ok in
-          subst (Answers _ _ no_cut after) (sym b.result-is)
+          subst (AnswersStop _ _ after) (sym b.result-is)
           (stopped disk inside.config begin nodes inside.tasks.items inside.messages c.self.invariant i c.args.node placed n here new c.put_back.new.nodes.items put (ok member) b.nothing.result told)
       | in-Err b ↦
           let err = subst (λ r. IfErr r (λ fault. (m : Member g.row.M.Denot) → RefusedBy disk m n new stop_effect fault)) b.in-Err.is c.stop-node.ensures.err in
-          subst (Answers _ _ no_cut after) (sym b.result-is)
+          subst (AnswersStop _ _ after) (sym b.result-is)
           (not_stopped disk inside.config begin nodes inside.tasks.items inside.messages c.self.invariant i c.args.node placed n here new c.put_back.new.nodes.items put b.in-Err.fault (err member))
     ])
 

@@ -1,6 +1,7 @@
 -- What tasks are told: each reply that a node sent is an answer that its applied list leads to, and each
 -- reply that a task took is an answer that the order leads to (this project's own).
-use Rattle.std.specs.Prelude.{◌≡◌, ◌⊎◌, ◌↔◌, ℕ, suc, ◌≤◌, Some, is_some, unwrap_or, List, [], ◌∷◌, ◌++◌, length, map, filter, if◌then◌else◌}
+use Rattle.std.specs.Prelude.{◌≡◌, ◌⊎◌, ◌↔◌, ℕ, suc, ◌≤◌, Some, is_some, unwrap_or, List, [], ◌∷◌, ◌++◌, length, map}
+use Rattle.std.specs.Prelude.{filter, if◌then◌else◌}
 use Rattle.rp_base.specs.Sets.{Has}
 use Rattle.rp_base.specs.Records.{applied_of}
 use Rattle.rp_base.specs.declared.action.Action.{Action}
@@ -11,7 +12,8 @@ use Rattle.rp_codec.specs.Message.{Message}
 use Rattle.rp_codec.specs.declared.packet.Party.{Party}
 use Rattle.rp_codec.specs.declared.packet.Party.TheVariants.{Node, Task, Audit}
 use Rattle.rp_codec.specs.declared.packet.Body.{Body}
-use Rattle.rp_codec.specs.declared.packet.Body.TheVariants.{Call, Prepare, Promise, Accept, Accepted, Decided, Ask, Nack, Reply, Report, PrepareRange, PromiseRange}
+use Rattle.rp_codec.specs.declared.packet.Body.TheVariants.{Call, Prepare, Promise, Accept, Accepted, Decided, Ask}
+use Rattle.rp_codec.specs.declared.packet.Body.TheVariants.{Nack, Reply, Report, PrepareRange, PromiseRange}
 use Rattle.rp_machine.specs.Calls.{CallName, calls_of, call_of}
 use Rattle.rp_machine.specs.Replay.{number_for, one_to, replay_answers}
 use Rattle.rp_model.specs.Effect.{Setting}
@@ -52,8 +54,10 @@ abbrev pub answers_of : {S : Type 0} → Setting S → List Action → List Answ
 answers_of s actions = replay_answers s.next s.answers s.begin actions
 
 -- where the nodes run this program of a machine
-abbrev pub setting_for : {S P : Type 0} → (S → Action → S) → (S → Action → List Answer) → (P → S) → Config → P → Setting S
-setting_for next answers begin config program = record { config = config; next = next; answers = answers; begin = begin program }
+abbrev pub setting_for : {S P : Type 0} → (S → Action → S) → (S → Action → List Answer) → (P → S) → Config → P
+    → Setting S
+setting_for next answers begin config program =
+    record { config = config; next = next; answers = answers; begin = begin program }
 
 -- each reply that a node sent is an answer that its applied list leads to
 abbrev pub RepliesAre : {S : Type 0} → Setting S → (ℕ → NodePart) → List Message → Type 0
@@ -91,7 +95,8 @@ calls_by t actions = filter (λ action. is_some (number_for t action)) actions
 pub record AreItsCalls (sent : List Message) (t : ℕ) (part : TaskPart) (actions : List Action) : Type 0 where
   pub made : List Action
   pub are_made : AreMade sent t part made
-  pub all_but_last : (made ≡ calls_by t actions) ⊎ ((call : Action) × (part.outstanding ≡ Some call) × (made ≡ calls_by t actions ++ call ∷ []))
+  pub all_but_last : (made ≡ calls_by t actions)
+      ⊎ ((call : Action) × (part.outstanding ≡ Some call) × (made ≡ calls_by t actions ++ call ∷ []))
 
 -- the call stands among the actions
 abbrev pub Stands : CallName → List Action → Type 0
@@ -106,7 +111,8 @@ pub record IsReady {S : Type 0} (s : Setting S) (order : List Action) (t n : ℕ
   pub answered : (n ≡ 0) ⊎ Has (named t n) (map call_of (answers_of s before))
 
 -- The invariant with what tasks are told, over the parts of nodes and tasks and the packets ever sent.
-pub record IsKept {S : Type 0} (s : Setting S) (node : ℕ → NodePart) (task : ℕ → TaskPart) (sent : List Message) : Type 0 where
+pub record IsKept {S : Type 0} (s : Setting S) (node : ℕ → NodePart) (task : ℕ → TaskPart) (sent : List Message)
+    : Type 0 where
   pub sound : IsSound s.config.nodes node sent
   pub own : (t : ℕ) → WaitsForOwn t (task t)
   pub replies : RepliesAre s node sent

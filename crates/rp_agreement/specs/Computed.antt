@@ -8,7 +8,8 @@ use Rattle.rp_codec.specs.Message.{Message}
 use Rattle.rp_codec.specs.declared.packet.Party.{Party}
 use Rattle.rp_codec.specs.declared.packet.Party.TheVariants.{Node, Task, Audit}
 use Rattle.rp_codec.specs.declared.packet.Body.{Body}
-use Rattle.rp_codec.specs.declared.packet.Body.TheVariants.{Call, Prepare, Promise, Accept, Accepted, Decided, Ask, Nack, Reply, Report, PrepareRange, PromiseRange}
+use Rattle.rp_codec.specs.declared.packet.Body.TheVariants.{Call, Prepare, Promise, Accept, Accepted, Decided, Ask}
+use Rattle.rp_codec.specs.declared.packet.Body.TheVariants.{Nack, Reply, Report, PrepareRange, PromiseRange}
 
 -- the vote of this node that a body tells, if it tells one
 abbrev pub vote_by : ℕ → Body → Option HeardVote
@@ -40,7 +41,8 @@ votes_told sent = filter_map (λ m. vote_between m.from m.to m.body) sent
 -- the action decided at a position: that of a vote which a majority told
 abbrev pub decided_at : ℕ → List Message → ℕ → Option Action
 decided_at nodes sent i =
-    option_map (λ h. h.2.action) (find (λ h. nat_eq h.1 i && makes_majority nodes i h.2 (votes_told sent)) (votes_told sent))
+    option_map (λ h. h.2.action)
+    (find (λ h. nat_eq h.1 i && makes_majority nodes i h.2 (votes_told sent)) (votes_told sent))
 
 -- the actions decided from a position on without a gap, so many at most
 abbrev pub decided_run : ℕ → List Message → ℕ → ℕ → List Action

@@ -24,4 +24,5 @@ pub record AreMoments {S : Type 0} (s : Setting S) (now later : World) : Type 0 
 
 -- three nodes, a log of one position, and this machine
 abbrev pub three_nodes : {S : Type 0} → (S → Action → S) → (S → Action → List Answer) → S → Setting S
-three_nodes next answers begin = record { config = record { nodes = 3; max_positions = 1 }; next = next; answers = answers; begin = begin }
+three_nodes next answers begin =
+    record { config = record { nodes = 3; max_positions = 1 }; next = next; answers = answers; begin = begin }

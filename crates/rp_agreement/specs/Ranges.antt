@@ -55,5 +55,6 @@ pub record IsRangedStep (x : ℕ) (done : Done NodePart) : Type 0 where
 
 -- Every vote that was sent to a node is for a position less than 64 above the first that the node has not learned.
 abbrev pub AreVotesNear : World → Type 0
-AreVotesNear w = (from : Party) (x i b : ℕ) (v : Action) → Has (record { from = from; to = Node x; body = Accepted i b v }) w.sent
+AreVotesNear w =
+    (from : Party) (x i b : ℕ) (v : Action) → Has (record { from = from; to = Node x; body = Accepted i b v }) w.sent
     → (part : NodePart) → part_at w.nodes x ≡ Some part → is_beyond part.records i ≡ false

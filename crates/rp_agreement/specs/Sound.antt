@@ -18,7 +18,8 @@ use Rattle.rp_codec.specs.Message.{Message, IsCallBy, report_len}
 use Rattle.rp_codec.specs.declared.packet.Party.{Party}
 use Rattle.rp_codec.specs.declared.packet.Party.TheVariants.{Node, Task, Audit}
 use Rattle.rp_codec.specs.declared.packet.Body.{Body}
-use Rattle.rp_codec.specs.declared.packet.Body.TheVariants.{Call, Prepare, Promise, Accept, Accepted, Decided, Ask, Nack, Reply, Report, PrepareRange, PromiseRange}
+use Rattle.rp_codec.specs.declared.packet.Body.TheVariants.{Call, Prepare, Promise, Accept, Accepted, Decided, Ask}
+use Rattle.rp_codec.specs.declared.packet.Body.TheVariants.{Nack, Reply, Report, PrepareRange, PromiseRange}
 use Rattle.rp_model.specs.Facts.{HasPromised, HasVoted, IsOffered, IsDecided}
 use Rattle.rp_model.specs.Parts.{Running}
 use Rattle.rp_model.specs.Parts.{NodePart}
@@ -48,7 +49,8 @@ IsSo nodes sent records (Reply number reply) = Unit {0}
 IsSo nodes sent records (Report first applied actions) = IsReported (applied_of records) first applied actions
 IsSo nodes sent records (PrepareRange range b) = Has (Started b) records
 IsSo nodes sent records (PromiseRange range b votes) =
-    Has (PromisedRange range b) records × ((i : ℕ) → is_covered range i ≡ true → Reports records i b (placed_at votes i))
+    Has (PromisedRange range b) records
+    × ((i : ℕ) → is_covered range i ≡ true → Reports records i b (placed_at votes i))
 
 -- a task says nothing but calls of its own, which are right
 abbrev pub IsCall : ℕ → Body → Type 0

@@ -17,7 +17,8 @@ use Rattle.rp_model.specs.Says.{says, sends, notes, writes}
 
 -- the answer to a Prepare is told: a promise once it is written, a refusal, or nothing
 abbrev pub tells_promise : ℕ → Running → ℕ → ℕ → ℕ → PrepareAnswer → Turn
-tells_promise me running from i b (prepares.Promise last rec) = writes rec running (says me (bodies.Promise i b last) from ∷ [])
+tells_promise me running from i b (prepares.Promise last rec) =
+    writes rec running (says me (bodies.Promise i b last) from ∷ [])
 tells_promise me running from i b (prepares.Nack bound) = sends running (says me (bodies.Nack i b bound) from ∷ [])
 tells_promise me running from i b prepares.Silent = notes running
 
@@ -29,7 +30,8 @@ on_prepare me records running from i b = tells_promise me running from i b (prep
 abbrev pub tells_range : ℕ → Running → ℕ → Range → ℕ → RangeAnswer → Turn
 tells_range me running from range b (range_prepares.Promise votes rec) =
     writes rec running (says me (bodies.PromiseRange range b votes) from ∷ [])
-tells_range me running from range b (range_prepares.Nack i bound) = sends running (says me (bodies.Nack i b bound) from ∷ [])
+tells_range me running from range b (range_prepares.Nack i bound) =
+    sends running (says me (bodies.Nack i b bound) from ∷ [])
 tells_range me running from range b range_prepares.Silent = notes running
 
 -- PrepareRange: a node asks for a promise at each position of a range in a ballot

@@ -1,5 +1,6 @@
 -- What a step of a world answers, and events one after another (this project's own).
-use Rattle.std.specs.Prelude.{◌≡◌, ◌⊎◌, ℕ, ◌+◌, ◌-◌, ◌^◌, min, Option, Some, None, IsSome, Result, Ok, Err, List, [], ◌∷◌, length}
+use Rattle.std.specs.Prelude.{◌≡◌, ◌⊎◌, ℕ, ◌+◌, ◌-◌, ◌^◌, min, Option, Some, None, IsSome, Result, Ok, Err, List, []}
+use Rattle.std.specs.Prelude.{◌∷◌, length}
 use Rattle.rp_base.specs.declared.fault.Fault.{Fault}
 use Rattle.rp_base.specs.declared.fault.Fault.TheVariants.{OutOfMemory, Device}
 use Rattle.rp_model.specs.declared.effect.Effect.{Effect}
@@ -59,7 +60,8 @@ FailsBy s w (Stop me) left = ⊥
 FailsBy s w (Restart me) left = IsLeft w (Restart me) left
 
 -- A refusal changes nothing.
-pub record IsRefused {S : Type 0} (s : Setting S) (w : World) (event : Event) (left : World) (fault : Fault) : Type 0 where
+pub record IsRefused {S : Type 0} (s : Setting S) (w : World) (event : Event) (left : World) (fault : Fault)
+    : Type 0 where
   pub refusal : event_effect s w event ≡ Err fault
   pub unchanged : left ≡ w
 
@@ -70,7 +72,8 @@ IsFaulted s w event left fault =
     ⊎ (((fault ≡ OutOfMemory) × IsOutOfMemory s w event left) ⊎ ((fault ≡ Device) × FailsBy s w event left))
 
 -- An event happened: this is what it came to, and it was told so.
-pub record IsDone {S : Type 0} (s : Setting S) (w : World) (event : Event) (after : World) (effect : Effect) : Type 0 where
+pub record IsDone {S : Type 0} (s : Setting S) (w : World) (event : Event) (after : World) (effect : Effect)
+    : Type 0 where
   pub happening : Happening
   pub came : event_effect s w event ≡ Ok happening
   pub world : after ≡ happening.world
@@ -84,4 +87,5 @@ Steps s w event left (Err fault) = IsFaulted s w event left fault
 -- Events happen one after another, each from the world that the one before led to.
 abbrev pub Happen : {S : Type 0} → Setting S → World → List Event → World → Type 0
 Happen s w [] after = after ≡ w
-Happen s w (event ∷ rest) after = (happening : Happening) × (event_effect s w event ≡ Ok happening) × Happen s happening.world rest after
+Happen s w (event ∷ rest) after =
+    (happening : Happening) × (event_effect s w event ≡ Ok happening) × Happen s happening.world rest after

@@ -1,6 +1,7 @@
 -- What an input comes to for one node, and what a stop, a cut and a restart leave of it (this project's
 -- own). Nothing here looks at another actor.
-use Rattle.std.specs.Prelude.{ℕ, ◌-◌, min, nat_le, Option, Some, None, Result, Ok, Err, List, [], ◌∷◌, ◌++◌, length, take, drop, if◌then◌else◌}
+use Rattle.std.specs.Prelude.{ℕ, ◌-◌, min, nat_le, Option, Some, None, Result, Ok, Err, List, [], ◌∷◌, ◌++◌, length}
+use Rattle.std.specs.Prelude.{take, drop, if◌then◌else◌}
 use Rattle.rp_base.specs.declared.action.Action.{Action}
 use Rattle.rp_base.specs.declared.config.Config.{Config}
 use Rattle.rp_base.specs.declared.fault.Fault.{Fault}
@@ -65,9 +66,11 @@ report_of me first applied =
 
 -- the turn of a node that runs
 abbrev pub running_effect : {S : Type 0} → Setting S → ℕ → List Rec → Running → NodeInput → Result Turn Fault
-running_effect s me records running (Receive message) = Ok (receives s.next s.answers s.begin s.config me records running message)
+running_effect s me records running (Receive message) =
+    Ok (receives s.next s.answers s.begin s.config me records running message)
 running_effect s me records running (Lead choice) = on_lead s.next s.answers s.begin s.config me records running choice
-running_effect s me records running (LeadRange first count) = on_lead_range s.config me records running (range_of first count)
+running_effect s me records running (LeadRange first count) =
+    on_lead_range s.config me records running (range_of first count)
 running_effect s me records running (Interrupt source occurrence) =
     Ok (on_interrupt (kept_of s.next s.answers s.begin (applied_of records)) running source occurrence)
 running_effect s me records running (Tick now) = Ok (on_tick running now)
@@ -88,7 +91,8 @@ abbrev pub turned_if : NodePart → Result Turn Fault → Result (Done NodePart)
 turned_if part (Ok turn) = Ok (turned part turn)
 turned_if part (Err fault) = Err fault
 
-abbrev pub effect_while : {S : Type 0} → Setting S → ℕ → NodePart → NodeInput → Option Running → Result (Done NodePart) Fault
+abbrev pub effect_while : {S : Type 0} → Setting S → ℕ → NodePart → NodeInput → Option Running
+    → Result (Done NodePart) Fault
 effect_while s me part input None = Err NotRunning
 effect_while s me part input (Some running) = turned_if part (running_effect s me part.records running input)
 
@@ -136,7 +140,9 @@ cut_effect s me part input kept = cut_if kept part (node_effect s me part input)
 -- numbers of both. One that runs goes on.
 abbrev pub restart_while : NodePart → Option Running → Done NodePart
 restart_while part None =
-    record (goes_on_as (record part { torn = 0; running = Some fresh_running })) { opened = Some (length part.records, part.torn) }
+    record (goes_on_as (record part { torn = 0; running = Some fresh_running })) {
+      opened = Some (length part.records, part.torn);
+    }
 restart_while part (Some running) = goes_on_as part
 
 abbrev pub restart_part : NodePart → Done NodePart

@@ -11,8 +11,8 @@ use Rattle.rp_model.specs.declared.event.Event.{Event as TakenEvent}
 use Rattle.rp_model.specs.declared.event.Event.TheVariants as taken_events
 
 -- A node's step: a packet that was sent, by its number from 1, is delivered to whom it is for; or the node
--- of a number leads, at a position or the least free one or at so many from a position on, notes an interrupt of a source, notes a
--- tick, or reports from a position on.
+-- of a number leads, at a position or the least free one or at so many from a position on, notes an interrupt of a
+-- source, notes a tick, or reports from a position on.
 pub data Step : Type 0 where
   Deliver : ℕ → Step
   Lead : ℕ → Option ℕ → Step

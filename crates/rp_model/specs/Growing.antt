@@ -11,7 +11,9 @@ use Rattle.rp_model.specs.World.{World, Happening, part_at}
 pub record Grows (before : World) (happening : Happening) : Type 0 where
   pub sent : happening.world.sent ≡ before.sent ++ happening.sends
   pub nodes : length happening.world.nodes ≡ length before.nodes
-  pub records : (node : ℕ) (old new : NodePart) → part_at before.nodes node ≡ Some old → part_at happening.world.nodes node ≡ Some new
+  pub records : (node : ℕ) (old new : NodePart) → part_at before.nodes node ≡ Some old
+      → part_at happening.world.nodes node ≡ Some new
       → (more : List Rec) × (new.records ≡ old.records ++ more)
-  pub applied : (node : ℕ) (old new : NodePart) → part_at before.nodes node ≡ Some old → part_at happening.world.nodes node ≡ Some new
+  pub applied : (node : ℕ) (old new : NodePart) → part_at before.nodes node ≡ Some old
+      → part_at happening.world.nodes node ≡ Some new
       → (further : List Action) × (applied_of new.records ≡ applied_of old.records ++ further)

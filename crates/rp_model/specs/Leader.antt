@@ -1,6 +1,8 @@
 -- What a node does to lead. Lamport, "Paxos Made Simple", sections 2.2 and 3; which position, which
 -- ballot and which action of its own it takes is this project's own.
-use Rattle.std.specs.Prelude.{ℕ, zero, suc, ◌+◌, ◌^◌, Bool, true, not, ◌&&◌, ◌||◌, max, nat_eq, nat_lt, nat_le, is_some, is_none, Option, Some, None, unwrap_or, Result, Ok, Err, List, length, map, filter, if◌then◌else◌}
+use Rattle.std.specs.Prelude.{ℕ, zero, suc, ◌+◌, ◌^◌, Bool, true, not, ◌&&◌, ◌||◌, max, nat_eq, nat_lt, nat_le, is_some}
+use Rattle.std.specs.Prelude.{is_none, Option, Some, None, unwrap_or, Result, Ok, Err, List, length, map, filter}
+use Rattle.std.specs.Prelude.{if◌then◌else◌}
 use Rattle.std.specs.List.{list_any}
 use Rattle.rp_base.specs.declared.action.Action.{Action}
 use Rattle.rp_base.specs.declared.reply.Answer.{Answer}
@@ -15,7 +17,9 @@ use Rattle.rp_base.specs.Records.{started_of, learned_at, applied_of, first_unle
 use Rattle.rp_base.specs.Promises.{Promise, offer_of}
 use Rattle.rp_base.specs.declared.placed.PlacedVote.{PlacedVote}
 use Rattle.rp_base.specs.Ranges.{Range, positions_of}
-use Rattle.rp_base.specs.Proposals.{Proposal, new_proposal, proposal_at, without_proposal, with_proposal, is_in, takes_promise, with_promise, is_promised, after_promise, is_prepared, with_range, once_promised, as_offered, is_given_up}
+use Rattle.rp_base.specs.Proposals.{Proposal, new_proposal, proposal_at, without_proposal, with_proposal, is_in}
+use Rattle.rp_base.specs.Proposals.{takes_promise, with_promise, is_promised, after_promise, is_prepared, with_range}
+use Rattle.rp_base.specs.Proposals.{once_promised, as_offered, is_given_up}
 use Rattle.rp_codec.specs.declared.packet.Body.TheVariants as bodies
 use Rattle.rp_machine.specs.Replay.{kept_of}
 use Rattle.rp_model.specs.Parts.{Running}
@@ -155,12 +159,16 @@ on_promise_to nodes me running b promise (Some p) =
 
 -- Promise: a node promised, and told its last vote
 abbrev pub on_promise : ℕ → ℕ → Running → ℕ → ℕ → ℕ → Option Vote → Turn
-on_promise nodes me running from i b last = on_promise_to nodes me running b (from, last) (proposal_at running.proposals i)
+on_promise nodes me running from i b last =
+    on_promise_to nodes me running b (from, last) (proposal_at running.proposals i)
 
 -- Nack: a refusal of the proposal that runs at the position, in its ballot, ends it and each other of the
 -- ballot that gathers promises, and the bound counts for the next ballot
 abbrev pub on_nack : ℕ → Running → ℕ → ℕ → ℕ → Turn
 on_nack nodes running i b bound =
     if is_in b (proposal_at running.proposals i)
-    then notes (record running { proposals = filter (λ p. not (is_given_up nodes i b p)) running.proposals; refused = greatest_with running.refused bound })
+    then notes (record running {
+      proposals = filter (λ p. not (is_given_up nodes i b p)) running.proposals;
+      refused = greatest_with running.refused bound;
+    })
     else notes running

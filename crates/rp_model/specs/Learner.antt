@@ -1,6 +1,7 @@
 -- What a node does as a learner, and what comes of it for tasks. Lamport, "Paxos Made Simple", section
 -- 2.3; the replies are this project's own.
-use Rattle.std.specs.Prelude.{ℕ, Bool, false, nat_lt, Option, Some, None, List, [], ◌∷◌, ◌++◌, length, drop, filter, if◌then◌else◌}
+use Rattle.std.specs.Prelude.{ℕ, Bool, false, nat_lt, Option, Some, None, List, [], ◌∷◌, ◌++◌, length, drop, filter}
+use Rattle.std.specs.Prelude.{if◌then◌else◌}
 use Rattle.std.specs.List.{list_any}
 use Rattle.rp_base.specs.declared.action.Action.{Action}
 use Rattle.rp_base.specs.declared.reply.Answer.{Answer}
@@ -60,7 +61,8 @@ module _ {S : Type 0} (next : S → Action → S) (answers : S → Action → Li
         heard = heard_elsewhere running.heard i;
         pending = filter (stays (kept_of next answers begin after) given (drop (length before) after)) running.pending;
       })
-      (packets ++ replies_to me running.pending (drop (length (replay_answers next answers begin before)) given) ++ behind)
+      (packets ++ replies_to me running.pending (drop (length (replay_answers next answers begin before)) given)
+      ++ behind)
 
   -- a vote where the position is learned, or not: where it makes a majority of one ballot and action the
   -- action is learned and the others are told, else it is noted

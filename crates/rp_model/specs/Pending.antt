@@ -1,5 +1,6 @@
 -- Calls, interrupts and ticks that wait at a node to be proposed (this project's own).
-use Rattle.std.specs.Prelude.{ℕ, Bool, false, true, not, ◌&&◌, nat_eq, nat_lt, nat_le, is_none, Option, Some, None, unwrap_or, List, [], ◌∷◌, ◌++◌, length, map, filter, find, if◌then◌else◌}
+use Rattle.std.specs.Prelude.{ℕ, Bool, false, true, not, ◌&&◌, nat_eq, nat_lt, nat_le, is_none, Option, Some, None}
+use Rattle.std.specs.Prelude.{unwrap_or, List, [], ◌∷◌, ◌++◌, length, map, filter, find, if◌then◌else◌}
 use Rattle.std.specs.List.{list_any}
 use Rattle.rp_base.specs.declared.action.Action.{Action}
 use Rattle.rp_base.specs.declared.action.Action.TheVariants.{Noop, Call, Interrupt, Tick}
@@ -27,7 +28,8 @@ is_same_call item other = false
 abbrev pub adds_pending : Running → Action → Turn
 adds_pending running item =
     if list_any (is_same_call item) running.pending then notes running
-    else if nat_lt (length running.pending) most_pending then notes (record running { pending = running.pending ++ item ∷ [] })
+    else if nat_lt (length running.pending) most_pending
+    then notes (record running { pending = running.pending ++ item ∷ [] })
     else drops_full running
 
 -- ---- what comes, by what counted and was answered so far
@@ -35,7 +37,8 @@ adds_pending running item =
 -- a call of which a reply is kept, or none: that reply again; nothing for a call below the task's last one
 -- that counted; else the call becomes pending
 abbrev pub on_numbered : ℕ → List Action → Running → ℕ → ℕ → Action → Option Reply → Turn
-on_numbered me kept running task number call (Some reply) = sends running (says_to_task me (bodies.Reply number reply) task ∷ [])
+on_numbered me kept running task number call (Some reply) =
+    sends running (says_to_task me (bodies.Reply number reply) task ∷ [])
 on_numbered me kept running task number call None =
     if nat_lt number (last_number task kept) then notes running else adds_pending running call
 
@@ -50,7 +53,8 @@ on_call me kept given running (Tick now) = notes running
 -- an interrupt is noted: it becomes pending unless it or a higher one of its source counted
 abbrev pub on_interrupt : List Action → Running → ℕ → ℕ → Turn
 on_interrupt kept running source occurrence =
-    if nat_lt (last_occurrence source kept) occurrence then adds_pending running (Interrupt source occurrence) else notes running
+    if nat_lt (last_occurrence source kept) occurrence then adds_pending running (Interrupt source occurrence)
+    else notes running
 
 -- a tick is noted: it becomes pending
 abbrev pub on_tick : Running → ℕ → Turn
@@ -98,6 +102,7 @@ replies_to me pending given =
 -- interrupt until it or a higher one of its source counted, a tick until an equal one is applied.
 abbrev pub stays : List Action → List Answer → List Action → Action → Bool
 stays kept given applied Noop = false
-stays kept given applied (Call task number object operation arg) = is_none (answer_to task number given) && nat_le (last_number task kept) number
+stays kept given applied (Call task number object operation arg) =
+    is_none (answer_to task number given) && nat_le (last_number task kept) number
 stays kept given applied (Interrupt source occurrence) = nat_lt (last_occurrence source kept) occurrence
 stays kept given applied (Tick now) = not (list_any (same_action (Tick now)) applied)

@@ -11,7 +11,8 @@ use Rattle.rp_codec.specs.Message.{Message}
 use Rattle.rp_codec.specs.declared.packet.Party.{Party}
 use Rattle.rp_codec.specs.declared.packet.Party.TheVariants.{Node, Task, Audit}
 use Rattle.rp_codec.specs.declared.packet.Body.{Body}
-use Rattle.rp_codec.specs.declared.packet.Body.TheVariants.{Call, Prepare, Promise, Accept, Accepted, Decided, Ask, Nack, Reply, Report, PrepareRange, PromiseRange}
+use Rattle.rp_codec.specs.declared.packet.Body.TheVariants.{Call, Prepare, Promise, Accept, Accepted, Decided, Ask}
+use Rattle.rp_codec.specs.declared.packet.Body.TheVariants.{Nack, Reply, Report, PrepareRange, PromiseRange}
 use Rattle.rp_machine.specs.Replay.{kept_of, replay_answers}
 use Rattle.rp_model.specs.Parts.{Running}
 use Rattle.rp_model.specs.Parts.{Turn}
@@ -61,7 +62,8 @@ is_allowed most from (PromiseRange range ballot votes) = is_range_within most ra
 -- the packet is for this node, and keeps to the configuration
 abbrev pub is_for_node : Config → ℕ → Message → Bool
 is_for_node config me message =
-    is_node me message.to && is_no_node_above config.nodes message.from && is_allowed config.max_positions (party_number message.from) message.body
+    is_node me message.to && is_no_node_above config.nodes message.from
+    && is_allowed config.max_positions (party_number message.from) message.body
 
 module _ {S : Type 0} (next : S → Action → S) (answers : S → Action → List Answer) (begin : S) where
   -- by what the packet says
@@ -70,17 +72,23 @@ module _ {S : Type 0} (next : S → Action → S) (answers : S → Action → Li
       let applied = applied_of records in
       on_call me (kept_of next answers begin applied) (replay_answers next answers begin applied) running action
   on_body nodes me records running from (Prepare position ballot) = on_prepare me records running from position ballot
-  on_body nodes me records running from (Promise position ballot last) = on_promise nodes me running from position ballot last
-  on_body nodes me records running from (Accept position ballot action) = on_accept me records running from position ballot action
+  on_body nodes me records running from (Promise position ballot last) =
+      on_promise nodes me running from position ballot last
+  on_body nodes me records running from (Accept position ballot action) =
+      on_accept me records running from position ballot action
   on_body nodes me records running from (Accepted position ballot action) =
-      on_accepted next answers begin nodes me records running from position (record { ballot = ballot; action = action })
-  on_body nodes me records running from (Decided position action) = on_decided next answers begin me records running from position action
+      on_accepted next answers begin nodes me records running from position
+      (record { ballot = ballot; action = action })
+  on_body nodes me records running from (Decided position action) =
+      on_decided next answers begin me records running from position action
   on_body nodes me records running from (Ask position) = on_ask me records running from position
   on_body nodes me records running from (Nack position ballot bound) = on_nack nodes running position ballot bound
   on_body nodes me records running from (Reply number reply) = notes running
   on_body nodes me records running from (Report first applied actions) = notes running
-  on_body nodes me records running from (PrepareRange range ballot) = on_prepare_range me records running from range ballot
-  on_body nodes me records running from (PromiseRange range ballot votes) = on_promise_range nodes running from range ballot votes
+  on_body nodes me records running from (PrepareRange range ballot) =
+      on_prepare_range me records running from range ballot
+  on_body nodes me records running from (PromiseRange range ballot votes) =
+      on_promise_range nodes running from range ballot votes
 
   -- a packet comes to a node
   abbrev pub receives : Config → ℕ → List Rec → Running → Message → Turn

@@ -1,6 +1,7 @@
 -- What an input comes to for one task. Its calls are numbered from 1, and the next one is made once the
 -- last one has its reply (this project's own).
-use Rattle.std.specs.Prelude.{ℕ, Bool, not, ◌||◌, nat_lt, ℤ, Option, Some, None, Result, Ok, Err, [], ◌∷◌, ◌++◌, length, if◌then◌else◌}
+use Rattle.std.specs.Prelude.{ℕ, Bool, not, ◌||◌, nat_lt, ℤ, Option, Some, None, Result, Ok, Err, [], ◌∷◌, ◌++◌, length}
+use Rattle.std.specs.Prelude.{if◌then◌else◌}
 use Rattle.rp_base.specs.declared.action.Action.{Action}
 use Rattle.rp_base.specs.declared.action.Operation.{Operation}
 use Rattle.rp_base.specs.declared.reply.Reply.{Reply}
@@ -60,7 +61,10 @@ abbrev pub takes_reply : ℕ → TaskPart → ℕ → Reply → Done TaskPart
 takes_reply task part number reply =
     let answer : Answer = record { task = task; number = number; reply = reply } in
     if takes part number
-    then record (goes_on_as (let after : TaskPart = record { outstanding = None; replies = part.replies ++ answer ∷ [] } in after)) { taken = Some answer }
+    then record (goes_on_as (let after : TaskPart = record {
+      outstanding = None;
+      replies = part.replies ++ answer ∷ [];
+    } in after)) { taken = Some answer }
     else goes_on_as part
 
 -- a body comes to a task: only a reply means something to it

@@ -1,6 +1,7 @@
 -- A world, and what an event does to it: the event picks one actor's part, and puts the part after back
 -- (this project's own).
-use Rattle.std.specs.Prelude.{ℕ, zero, suc, Option, Some, None, Result, Ok, Err, List, [], ◌++◌, replicate, slice_get, slice_set}
+use Rattle.std.specs.Prelude.{ℕ, zero, suc, Option, Some, None, Result, Ok, Err, List, [], ◌++◌, replicate, slice_get}
+use Rattle.std.specs.Prelude.{slice_set}
 use Rattle.rp_base.specs.declared.reply.Answer.{Answer}
 use Rattle.rp_base.specs.declared.config.Config.{Config}
 use Rattle.rp_base.specs.declared.fault.Fault.{Fault}
@@ -19,7 +20,8 @@ use Rattle.rp_model.specs.Effect as nodes
 use Rattle.rp_model.specs.Effect.{Setting, Done, NodeInput, node_effect, stop_effect, cut_effect, restart_part}
 use Rattle.rp_model.specs.Tasks as tasks
 use Rattle.rp_model.specs.Tasks.{TaskInput, task_effect}
-use Rattle.rp_model.specs.Events.{Step, Deliver, Lead, LeadRange, Interrupt, Tick, Report, Event, Submit, Again, Makes, Cut, Stop, Restart}
+use Rattle.rp_model.specs.Events.{Step, Deliver, Lead, LeadRange, Interrupt, Tick, Report, Event, Submit, Again, Makes}
+use Rattle.rp_model.specs.Events.{Cut, Stop, Restart}
 
 -- the nodes and the tasks, each from number 1, and the packets ever sent, in order
 pub record World : Type 0 where
@@ -97,7 +99,8 @@ node_takes s w me input None = Err BadConfig
 node_takes s w me input (Some part) = node_done_if w me (node_effect s me part input)
 
 -- a packet comes to a node that runs; one that is stopped loses it
-abbrev pub node_hears : {S : Type 0} → Setting S → World → ℕ → Message → NodePart → Option Running → Result Happening Fault
+abbrev pub node_hears : {S : Type 0} → Setting S → World → ℕ → Message → NodePart → Option Running
+    → Result Happening Fault
 node_hears s w me message part None = Ok (nothing_happens w)
 node_hears s w me message part (Some running) = node_done_if w me (node_effect s me part (nodes.Receive message))
 
@@ -122,7 +125,8 @@ abbrev pub step_effect : {S : Type 0} → Setting S → World → Step → Resul
 step_effect s w (Deliver number) = delivers s w (part_at w.sent number)
 step_effect s w (Lead me choice) = node_takes s w me (nodes.Lead choice) (part_at w.nodes me)
 step_effect s w (LeadRange me first count) = node_takes s w me (nodes.LeadRange first count) (part_at w.nodes me)
-step_effect s w (Interrupt me source occurrence) = node_takes s w me (nodes.Interrupt source occurrence) (part_at w.nodes me)
+step_effect s w (Interrupt me source occurrence) =
+    node_takes s w me (nodes.Interrupt source occurrence) (part_at w.nodes me)
 step_effect s w (Tick me now) = node_takes s w me (nodes.Tick now) (part_at w.nodes me)
 step_effect s w (Report me first) = node_takes s w me (nodes.Report first) (part_at w.nodes me)
 
@@ -134,7 +138,8 @@ node_is_cut s w me input kept None = Err BadConfig
 node_is_cut s w me input kept (Some part) = node_done_if w me (cut_effect s me part input kept)
 
 -- a packet that goes to a node; one that goes to no node of these is no step to be cut
-abbrev pub hearing_is_cut : {S : Type 0} → Setting S → World → Message → ℕ → Option NodePart → ℕ → Result Happening Fault
+abbrev pub hearing_is_cut : {S : Type 0} → Setting S → World → Message → ℕ → Option NodePart → ℕ
+    → Result Happening Fault
 hearing_is_cut s w message me None kept = Err NotRunning
 hearing_is_cut s w message me (Some part) kept = node_done_if w me (cut_effect s me part (nodes.Receive message) kept)
 
@@ -151,8 +156,10 @@ delivery_is_cut s w (Some message) kept = arrival_is_cut s w message message.to 
 abbrev pub cut_step : {S : Type 0} → Setting S → World → Step → ℕ → Result Happening Fault
 cut_step s w (Deliver number) kept = delivery_is_cut s w (part_at w.sent number) kept
 cut_step s w (Lead me choice) kept = node_is_cut s w me (nodes.Lead choice) kept (part_at w.nodes me)
-cut_step s w (LeadRange me first count) kept = node_is_cut s w me (nodes.LeadRange first count) kept (part_at w.nodes me)
-cut_step s w (Interrupt me source occurrence) kept = node_is_cut s w me (nodes.Interrupt source occurrence) kept (part_at w.nodes me)
+cut_step s w (LeadRange me first count) kept =
+    node_is_cut s w me (nodes.LeadRange first count) kept (part_at w.nodes me)
+cut_step s w (Interrupt me source occurrence) kept =
+    node_is_cut s w me (nodes.Interrupt source occurrence) kept (part_at w.nodes me)
 cut_step s w (Tick me now) kept = node_is_cut s w me (nodes.Tick now) kept (part_at w.nodes me)
 cut_step s w (Report me first) kept = node_is_cut s w me (nodes.Report first) kept (part_at w.nodes me)
 
@@ -230,6 +237,7 @@ abbrev pub step_writes : {S : Type 0} → Setting S → World → Step → Optio
 step_writes s w (Deliver number) = delivery_writes s w (part_at w.sent number)
 step_writes s w (Lead me choice) = node_writes s me (nodes.Lead choice) (part_at w.nodes me)
 step_writes s w (LeadRange me first count) = node_writes s me (nodes.LeadRange first count) (part_at w.nodes me)
-step_writes s w (Interrupt me source occurrence) = node_writes s me (nodes.Interrupt source occurrence) (part_at w.nodes me)
+step_writes s w (Interrupt me source occurrence) =
+    node_writes s me (nodes.Interrupt source occurrence) (part_at w.nodes me)
 step_writes s w (Tick me now) = node_writes s me (nodes.Tick now) (part_at w.nodes me)
 step_writes s w (Report me first) = node_writes s me (nodes.Report first) (part_at w.nodes me)

@@ -3,4 +3,7 @@ mod Raising
 mod Noting
 mod Pages
 mod Keeping
+mod Comparing
+mod Placing
 mod Covering
+pub mod Answering

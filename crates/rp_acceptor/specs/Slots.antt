@@ -1,5 +1,6 @@
 -- How an acceptor keeps what its records say (this project's own; callers see none of it).
-use Rattle.std.specs.Prelude.{max, ◌≡◌, ◌⊎◌, ℕ, ◌+◌, ◌/◌, ◌%◌, ◌<◌, ◌≤◌, Option, Some, None, option_map, List, [], length, slice_index_or, if◌then◌else◌}
+use Rattle.std.specs.Prelude.{max, ◌≡◌, ◌⊎◌, ℕ, ◌+◌, ◌/◌, ◌%◌, ◌<◌, ◌≤◌, Option, Some, None, option_map, List, [], ◌∷◌, length, slice_index_or, if◌then◌else◌}
+use Rattle.std.specs.List.{cons_option}
 use Rattle.rp_base.specs.declared.record.Rec.{Rec}
 use Rattle.rp_base.specs.declared.record.Rec.TheVariants.{Started, Promised, Voted, Learned, PromisedRange}
 use Rattle.rp_base.specs.declared.placed.PlacedVote.{PlacedVote}
@@ -74,6 +75,11 @@ IsWhole page = (length page ≡ 0) ⊎ (length page ≡ 64)
 -- each place has the last vote of the position after its index
 abbrev pub AreVotes : (ℕ → Option Vote) → List Rec → Type 0
 AreVotes vote records = (index : ℕ) → vote index ≡ last_vote_at records (index + 1)
+
+-- the votes at places in a row, the first of them that of a position
+abbrev pub placed_from : ℕ → List (Option Vote) → List PlacedVote
+placed_from i [] = []
+placed_from i (last ∷ rest) = cons_option (placed_if i last) (placed_from (i + 1) rest)
 
 -- with more pages each vote is as before, and no place is gone
 pub record HasMore (before after : List (List (Option Vote))) : Type 0 where

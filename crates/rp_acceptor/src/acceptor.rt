@@ -25,8 +25,8 @@ use std::marker::Model;
 #[derive(Drop)]
 pub struct Acceptor {
     alloc: Global,
-    steps: Steps,
-    pages: Vec<Page>,
+    pub(crate) steps: Steps,
+    pub(crate) pages: Vec<Page>,
     reserved: History<Position>,
     votes: History<Position>,
     ranges: History<PositionRange>,
@@ -171,7 +171,7 @@ impl Acceptor {
     }
 
     /// What is kept for a position.
-    pub(crate) fn slot(&self, position: Position) -> Slot
+    fn slot(&self, position: Position) -> Slot
         ensures bound { number_of result.bound ≡ bound_at self.now.records position }
         ensures last { result.last ≡ last_vote_at self.now.records position }
     {
@@ -180,7 +180,7 @@ impl Acceptor {
     }
 
     /// The last vote at a position.
-    pub(crate) fn last_vote(&self, position: Position) -> Option<Vote>
+    fn last_vote(&self, position: Position) -> Option<Vote>
         ensures { result ≡ last_vote_at self.now.records position }
     {
         vote_at(&self.pages, index_of(position))
@@ -217,7 +217,7 @@ impl Acceptor {
 }
 
 /// The bound, where the ballot lies below it.
-pub(crate) fn refusing(bound: Option<Ballot>, ballot: Ballot) -> Option<Ballot>
+fn refusing(bound: Option<Ballot>, ballot: Ballot) -> Option<Ballot>
     ensures below { IfSome result (λ found. (found ≡ number_of bound) × (ballot < found)) }
     ensures not_below { IfNone result (number_of bound ≤ ballot) }
 {

@@ -3,15 +3,22 @@
 //!
 //! In reading order:
 //! - `acceptor`: the acceptor's questions and notes
+//! - `range`: its questions for a range of positions
+//! - `comparison`: how a ballot compares with the bounds at positions
 //! - `slot`: what an acceptor keeps for a position
-//! - `page`: the slots of an acceptor in pages, each made when a position of it is first reserved
+//! - `steps`: the ballots that it promised
+//! - `page`: the last votes in pages, each made when a position of it is first reserved
+//! - `places`: the last votes at the positions of a range
 #![tactic(auto)]
 
 mod acceptor;
+mod comparison;
 mod page;
+mod places;
 mod range;
 mod slot;
 mod steps;
 
 pub use acceptor::Acceptor;
+pub use comparison::Comparison;
 pub use rp_base::{AcceptAnswer, PrepareAnswer};

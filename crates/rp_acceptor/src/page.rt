@@ -1,6 +1,6 @@
 //! The last votes of an acceptor in pages, each made when a position of it is first reserved.
 
-ghost use Rattle.std.specs.Prelude.{Option, option_to_list, ◌≡◌, ◌+◌, ◌<◌, ◌≤◌, ◌∷◌, [], ℕ, length, slice_set, nat_eq, ◌/◌, OnOk, OnErr, IfOk, List, None, ◌++◌};
+ghost use Rattle.std.specs.Prelude.{Option, option_to_list, ◌≡◌, ◌+◌, ◌<◌, ◌≤◌, ◌∷◌, [], ℕ, length, slice_set, nat_eq, ◌/◌, ◌%◌, OnOk, OnErr, IfOk, List, None, ◌++◌};
 ghost use Rattle.rp_base.specs.Sets.{Has};
 ghost use Rattle.rp_base.specs.Records.{highest};
 ghost use Rattle.rp_base.specs.declared.record.Rec.{Rec};
@@ -13,7 +13,7 @@ use std::alloc::{AllocError, Global};
 use std::marker::Model;
 
 /// How many positions a page has.
-const PAGE: usize = 64;
+pub const PAGE: usize = 64;
 
 /// The last votes at 64 positions in a row, or nothing where no position of them was reserved.
 #[derive(Drop)]
@@ -84,6 +84,22 @@ pub fn vote_at(pages: &[Page], index: usize) -> Option<Vote>
     match pages.get(index / PAGE) {
         Some(page) => page.vote(index % PAGE),
         None => None,
+    }
+}
+
+/// The places at indices of one page, this many from the first on; none in a page that is absent.
+pub fn places_at(pages: &[Page], index: usize, count: usize) -> &[Option<Vote>]
+    requires whole { (n : ℕ) → IsWhole (page_at pages.now n) }
+    requires within { index % 64 + count ≤ 64 }
+    ensures few { length result.now ≤ count }
+    ensures votes { (k : ℕ) → k < count → vote_in_page result.now k ≡ vote_of pages.now (index + k) }
+{
+    match pages.get(index / PAGE) {
+        Some(page) if !page.is_absent() => {
+            let offset = index % PAGE;
+            &page.votes[offset..offset + count]
+        }
+        _ => &[],
     }
 }
 

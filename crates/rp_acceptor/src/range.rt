@@ -1,95 +1,67 @@
 //! The acceptor's questions for a range of positions.
 
-ghost use Rattle.std.specs.Prelude.{◌≡◌, ◌+◌, ◌<◌, ◌≤◌, ◌++◌, length, nat_lt, option_to_list};
-ghost use Rattle.rp_base.specs.Ballot.{number_of};
+ghost use Rattle.std.specs.Prelude.{◌≡◌, IfOk};
 ghost use Rattle.rp_base.specs.PlacedVotes.{last_votes};
-ghost use Rattle.rp_acceptor.specs.Slots.{placed_if};
-ghost use Rattle.rp_base.specs.Voting.{is_above_bounds, range_answer};
-ghost use Rattle.rp_acceptor.specs.Refusing.{refusing_bound};
+ghost use Rattle.rp_base.specs.Ranges.{positions_of};
+ghost use Rattle.rp_base.specs.Records.{bound_at};
+ghost use Rattle.rp_base.specs.Voting.{range_answer};
+ghost use Rattle.rp_acceptor.specs.Comparing.{compared};
 
-use crate::acceptor::{Acceptor, refusing};
-use rp_base::{Ballot, PlacedVote, Position, PositionRange, RangeAnswer, RangeVotes, Rec, Vote};
+use crate::acceptor::Acceptor;
+use crate::comparison::Comparison;
+use crate::places::Places;
+use rp_base::{Ballot, PlacedVote, PositionRange, RangeAnswer, RangeVotes, Rec};
+use std::alloc::{AllocError, Global};
 
 impl Acceptor {
     /// What is answered to a `PrepareRange` of the ballot for the range (sections 2.2 and 3, phase
     /// 1b for many instances). The promise counts once the record that it comes with is written and
     /// noted.
+    #[tactic(auto, using(crate::proofs::Answering::answered))]
     pub fn prepare_range(&self, range: PositionRange, ballot: Ballot) -> RangeAnswer
         ensures answer { result ≡ range_answer self.now.records range ballot }
     {
-        if self.is_above_bounds(range, ballot) {
-            return RangeAnswer::Promise {
+        match self.compare(range, ballot) {
+            Comparison::Above => RangeAnswer::Promise {
                 votes: self.last_votes(range),
                 rec: Rec::PromisedRange(range, ballot),
-            };
-        }
-        match self.refusing_bound(range, ballot) {
-            Some((position, bound)) => RangeAnswer::Nack(position, bound),
-            None => RangeAnswer::Silent,
+            },
+            Comparison::Below(position, bound) => RangeAnswer::Nack(position, bound),
+            Comparison::Equal => RangeAnswer::Silent,
         }
     }
 
-    /// Whether the ballot lies above the bound at each position of the range.
-    #[tactic(auto, using(crate::proofs::Covering::range_next))]
-    pub fn is_above_bounds(&self, range: PositionRange, ballot: Ballot) -> bool
-        ensures { result ≡ is_above_bounds self.now.records range ballot }
+    /// How the ballot compares with the bounds at the positions of the range. Each step and each
+    /// page of votes is looked at once.
+    pub fn compare(&self, range: PositionRange, ballot: Ballot) -> Comparison
+        ensures { result ≡ compared (bound_at self.now.records) ballot (positions_of range) }
     {
-        for index in 0..range.count() {
-            let slot = self.slot(range.at(index));
-            if !is_above(slot.bound, ballot) {
-                return false;
-            }
-        }
-        true
+        let votes = self.places(range).compare(ballot);
+        self.steps.compare(range, ballot).combined(votes)
     }
 
-    /// The least position of the range whose bound lies above the ballot, with that bound, if there
-    /// is one.
-    #[tactic(auto, using(crate::proofs::Covering::range_next))]
-    pub fn refusing_bound(&self, range: PositionRange, ballot: Ballot) -> Option<(Position, Ballot)>
-        ensures { result ≡ refusing_bound self.now.records range ballot }
+    /// The last votes at the positions of the range, in a vector.
+    pub fn list_last_votes(
+        &self,
+        alloc: Global,
+        range: PositionRange,
+    ) -> Result<Vec<PlacedVote>, AllocError>
+        ensures { IfOk result (λ votes. votes.items ≡ last_votes self.now.records range) }
     {
-        for index in 0..range.count() {
-            let position = range.at(index);
-            let slot = self.slot(position);
-            if let Some(bound) = refusing(slot.bound, ballot) {
-                return Some((position, bound));
-            }
-        }
-        None
+        self.places(range).to_vec(alloc)
     }
 
     /// The last votes at the positions of the range.
-    #[tactic(auto, using(crate::proofs::Covering::range_next))]
-    pub fn last_votes(&self, range: PositionRange) -> RangeVotes
+    fn last_votes(&self, range: PositionRange) -> RangeVotes
         ensures { result ≡ last_votes self.now.records range }
     {
-        let mut votes = RangeVotes::new();
-        for index in 0..range.count() {
-            let position = range.at(index);
-            push_last(&mut votes, position, self.last_vote(position));
-        }
-        votes
+        self.places(range).votes()
     }
-}
 
-/// Whether the ballot lies above the bound, if there is one.
-fn is_above(bound: Option<Ballot>, ballot: Ballot) -> bool
-    ensures { result ≡ nat_lt (number_of bound) ballot }
-{
-    match bound {
-        Some(bound) => bound < ballot,
-        None => true,
-    }
-}
-
-/// Adds the last vote at a position to the others, if there is one.
-fn push_last(votes: &mut RangeVotes, position: Position, last: Option<Vote>)
-    requires { length votes.old < 64 }
-    ensures items { votes.new ≡ votes.old ++ option_to_list (placed_if position last) }
-    ensures few { length votes.new ≤ length votes.old + 1 }
-{
-    if let Some(vote) = last {
-        votes.push(PlacedVote { position, vote });
+    /// The places of the last votes at the positions of the range.
+    fn places(&self, range: PositionRange) -> Places<'_>
+        ensures { result ≡ last_votes self.now.records range }
+    {
+        Places::of(&self.pages, range)
     }
 }

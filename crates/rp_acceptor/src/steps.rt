@@ -1,13 +1,17 @@
 //! The ballots that an acceptor promised, as steps: each holds from its position up to the next
 //! one.
 
-ghost use Rattle.std.specs.Prelude.{◌≡◌, ℕ, ◌+◌, ◌<◌, ◌≤◌, ◌^◌, [], max, map, length, IfSome, OnOk, OnErr, slice_get};
+ghost use Rattle.std.specs.Prelude.{◌≡◌, ℕ, ◌+◌, ◌-◌, ◌<◌, ◌≤◌, ◌^◌, [], max, map, length, IfSome, OnOk, OnErr, slice_get};
+ghost use Rattle.std.specs.List.{range_with_len};
 ghost use Rattle.rp_base.specs.Ballot.{number_of};
+ghost use Rattle.rp_base.specs.Ranges.{end_of, positions_of};
+ghost use Rattle.rp_acceptor.specs.Comparing.{compared};
 ghost use Rattle.rp_acceptor.specs.Steps.{Level, IsRising, IsCountBelow, held_at, ballot_before, begins_at, HasStep, raised_at, raised_step};
 ghost use Rattle.rp_acceptor.specs.Slots.{stretch_in, promise_at, HasEnds};
 
+use crate::comparison::Comparison;
 use crate::slot::stretch_in;
-use rp_base::{Ballot, Rec};
+use rp_base::{Ballot, PositionRange, Rec};
 use std::alloc::{AllocError, Global};
 use std::marker::Model;
 
@@ -83,6 +87,13 @@ impl Steps {
         ballot_before(&self.steps, count)
     }
 
+    /// How the ballot compares with those that hold at the positions of a range.
+    pub fn compare(&self, range: PositionRange, ballot: Ballot) -> Comparison
+        ensures { result ≡ compared (held_at self.now) ballot (positions_of range) }
+    {
+        compare(&self.steps, range, ballot)
+    }
+
     /// Has a step begin at a position. No ballot changes, and no step is gone.
     pub fn split(&mut self, position: usize) -> Result<(), AllocError>
         ensures same { (i : ℕ) → held_at self.new i ≡ held_at self.old i }
@@ -144,6 +155,46 @@ fn ballot_before(steps: &[Step], count: usize) -> Option<Ballot>
         let step = &steps[count - 1];
         step.ballot
     }
+}
+
+/// How the ballot compares with those that hold at the positions of a range. After one search for
+/// the first position it looks at each step once.
+fn compare(steps: &[Step], range: PositionRange, ballot: Ballot) -> Comparison
+    requires { IsRising steps.now }
+    ensures { result ≡ compared (held_at steps.now) ballot (positions_of range) }
+{
+    let end = range.end() as usize;
+    let mut position = usize::from(range.first().get());
+    let mut count = count_below(steps, position + 1);
+    let mut found = Comparison::Above;
+    while count < steps.len() && steps[count].from() < end {
+        let next = steps[count].from();
+        let held = ballot_before(steps, count);
+        found = found.followed_by(compare_stretch(range, position, next, held, ballot));
+        position = next;
+        count += 1;
+    }
+    let held = ballot_before(steps, count);
+    found.followed_by(compare_stretch(range, position, end, held, ballot))
+}
+
+/// How the ballot compares with the one that holds from a position of the range on and below
+/// another.
+fn compare_stretch(
+    range: PositionRange,
+    from: usize,
+    end: usize,
+    held: Option<Ballot>,
+    ballot: Ballot,
+) -> Comparison
+    requires within { (range.first ≤ from) × (end ≤ end_of range) }
+    ensures { result ≡ compared (λ i. number_of held) ballot (range_with_len from (end - from)) }
+{
+    if end <= from {
+        return Comparison::Above;
+    }
+    let index = from - usize::from(range.first().get());
+    Comparison::at(range, index as u8, held, ballot)
 }
 
 /// Whether the step of an index begins at a position.

@@ -1,0 +1,8 @@
+use Rattle.std.proofs.Common.{◌≡◌, ◌+◌, ◌++◌, drop}
+use Rattle.rp_acceptor.specs.Slots.{placed_from}
+use Rattle.rp_acceptor.proofs.places.append.Given as goal
+
+-- the votes so far with those of the rest are all
+abbrev pub invariant-loop-offset : goal.invariant-loop-offset
+invariant-loop-offset l =
+    l.votes.items ++ placed_from (l.range.first + l.first + l.offset) (drop l.offset l.places) ≡ l.fn.votes.items ++ placed_from (l.range.first + l.first) l.places

@@ -1,0 +1,141 @@
+//! The last votes at the positions of a range, where an acceptor keeps them.
+
+ghost use Rattle.std.specs.Prelude.{◌≡◌, ◌+◌, ◌-◌, ◌<◌, ◌≤◌, ◌++◌, ℕ, List, length, IfOk, OnOk};
+ghost use Rattle.rp_base.specs.declared.record.Rec.{Rec};
+ghost use Rattle.rp_base.specs.PlacedVotes.{last_votes};
+ghost use Rattle.rp_acceptor.specs.Comparing.{compared_votes};
+ghost use Rattle.rp_acceptor.specs.Slots.{placed_from, page_at, vote_of, IsWhole, AreVotes};
+
+use crate::comparison::Comparison;
+use crate::page::{PAGE, Page, places_at};
+use crate::slot::index_of;
+use rp_base::{Ballot, PlacedVote, PositionRange, RangeVotes, Vote};
+use std::alloc::{AllocError, Global};
+use std::marker::Model;
+
+/// The places of the last votes at the positions of a range, in the page of its first position and
+/// in the next page, which it may reach into. A page that is absent has no places.
+#[derive(Drop)]
+pub struct Places<'a> {
+    range: PositionRange,
+    /// How many positions of the range have their places in the first page.
+    split: u8,
+    near: &'a [Option<Vote>],
+    far: &'a [Option<Vote>],
+}
+
+impl<'a> Model for Places<'a> {
+    ghost use Rattle.std.specs.Prelude.{List, length, ◌+◌, ◌≤◌, ◌++◌};
+    ghost use Rattle.rp_base.specs.declared.placed.PlacedVote.{PlacedVote};
+    ghost use Rattle.rp_acceptor.specs.Slots.{placed_from};
+
+    ghost Value = { List PlacedVote };
+
+    ghost view = { λ p. placed_from p.range.first p.near.now
+        ++ placed_from (p.range.first + p.split) p.far.now };
+
+    ghost invariant = { λ p. (length p.near.now ≤ p.split)
+        × (p.split + length p.far.now ≤ p.range.count) };
+}
+
+impl<'a> Places<'a> {
+    /// The places of a range.
+    pub fn of(pages: &'a [Page], range: PositionRange) -> Self
+        requires { (n : ℕ) → IsWhole (page_at pages.now n) }
+        ensures { (records : List Rec) → AreVotes (vote_of pages.now) records
+            → result ≡ last_votes records range }
+    {
+        let index = index_of(range.first());
+        let count = usize::from(range.count());
+        let split = count.min(PAGE - index % PAGE);
+        Places {
+            range,
+            split: split as u8,
+            near: places_at(pages, index, split),
+            far: places_at(pages, index + split, count - split),
+        }
+    }
+
+    /// How the ballot compares with those of the votes.
+    pub fn compare(&self, ballot: Ballot) -> Comparison
+        ensures { result ≡ compared_votes ballot self.now }
+    {
+        let near = compare(self.near, self.range, 0, ballot);
+        near.followed_by(compare(self.far, self.range, self.split, ballot))
+    }
+
+    /// The votes, in place.
+    pub fn votes(&self) -> RangeVotes
+        ensures { result ≡ self.now }
+    {
+        let mut votes = RangeVotes::new();
+        push(&mut votes, self.near, self.range, 0);
+        push(&mut votes, self.far, self.range, self.split);
+        votes
+    }
+
+    /// The votes in a vector, which takes no memory where there are none.
+    pub fn to_vec(&self, alloc: Global) -> Result<Vec<PlacedVote>, AllocError>
+        ensures { IfOk result (λ votes. votes.items ≡ self.now) }
+    {
+        let mut votes = Vec::new(alloc);
+        append(&mut votes, self.near, self.range, 0)?;
+        append(&mut votes, self.far, self.range, self.split)?;
+        Ok(votes)
+    }
+}
+
+/// How the ballot compares with those of the votes at places, the first of them that of an index of
+/// the range.
+fn compare(places: &[Option<Vote>], range: PositionRange, first: u8, ballot: Ballot) -> Comparison
+    requires { first + length places.now ≤ range.count }
+    ensures { result ≡ compared_votes ballot (placed_from (range.first + first) places.now) }
+{
+    let mut found = Comparison::Above;
+    for offset in 0..places.len() {
+        if let Some(vote) = &places[offset] {
+            let index = first + offset as u8;
+            found = found.followed_by(Comparison::at(range, index, Some(vote.ballot), ballot));
+        }
+    }
+    found
+}
+
+/// Adds the votes at places to others, the first place that of an index of the range.
+fn push(votes: &mut RangeVotes, places: &[Option<Vote>], range: PositionRange, first: u8)
+    requires within { first + length places.now ≤ range.count }
+    requires room { length votes.old ≤ first }
+    ensures added { votes.new ≡ votes.old ++ placed_from (range.first + first) places.now }
+    ensures few { length votes.new ≤ length votes.old + length places.now }
+{
+    for offset in 0..places.len() {
+        if let Some(vote) = &places[offset] {
+            votes.push(PlacedVote {
+                position: range.at(first + offset as u8),
+                vote: *vote,
+            });
+        }
+    }
+}
+
+/// Adds the votes at places to those of a vector, the first place that of an index of the range.
+fn append(
+    votes: &mut Vec<PlacedVote>,
+    places: &[Option<Vote>],
+    range: PositionRange,
+    first: u8,
+) -> Result<(), AllocError>
+    requires { first + length places.now ≤ range.count }
+    ensures { OnOk result (votes.new.items
+        ≡ votes.old.items ++ placed_from (range.first + first) places.now) }
+{
+    for offset in 0..places.len() {
+        if let Some(vote) = &places[offset] {
+            votes.push(PlacedVote {
+                position: range.at(first + offset as u8),
+                vote: *vote,
+            })?;
+        }
+    }
+    Ok(())
+}

@@ -4,3 +4,5 @@ pub mod Promised
 pub mod Places
 pub mod Windows
 pub mod Starting
+pub mod Owning
+pub mod Within

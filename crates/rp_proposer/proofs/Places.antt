@@ -1,6 +1,7 @@
 -- Where a proposal is, and what a change of it makes of all.
-use Rattle.std.proofs.Common.{◌≡◌, ℕ, suc, ◌+◌, ◌<◌, true, false, Some, None, List, [], ◌∷◌, ◌++◌, length, set, inl, inr, refl, sym, ap, subst, cond, ◌∙◌, arith}
-use Rattle.std.specs.Prelude.{slice_get, remove, option_map, map}
+use Rattle.std.proofs.Common.{◌≡◌, ℕ, suc, ◌+◌, ◌<◌, true, false, Option, Some, None, List, [], ◌∷◌, ◌++◌, length, set, inl, inr, refl, sym, ap, subst, cond, ◌∙◌, arith}
+use Rattle.std.specs.Prelude.{slice_get, slice_index_or, remove, drop, option_map, map, unwrap_or}
+use Rattle.std.proofs.lemmas.Option.{slice_get_read}
 use Rattle.std.proofs.lemmas.Bool.{eq-eqb, ne_eqb}
 use Rattle.std.proofs.lemmas.Bool.Decides.{eqb_tells}
 use Rattle.rp_base.specs.declared.action.Action.{Action}
@@ -59,7 +60,15 @@ index_at proposals j i h =
     let same : hit.0 ≡ j = omega (arith, hit.2) in
     (hit.1, subst (λ (n : ℕ). IsFound proposals i n hit.1) same hit.3)
 
--- no proposal is there, and one that is put there stands behind the others
+-- what is read at the index is the proposal there
+pub read_at : (proposals : List Proposal) (j i : ℕ) (now : Proposal) → index_from 0 i proposals ≡ Some j → now ≡ slice_index_or proposals j now → IsFound proposals i j now
+read_at proposals j i now h is =
+    let found = index_at proposals j i h in
+    let at : slice_get proposals j ≡ Some now = slice_get_read proposals (length proposals) j now refl found.1.within is in
+    let same : now ≡ found.0 = ap (λ (o : Option Proposal). unwrap_or o found.0) (sym at ∙ found.1.at) in
+    subst (λ (p : Proposal). IsFound proposals i j p) (sym same) found.1
+
+-- no proposal is there, and one that is put there is after the others
 pub record IsAbsent (proposals : List Proposal) (i : ℕ) : Type 0 where
   pub none : proposal_at proposals i ≡ None
   pub others : without_proposal proposals i ≡ proposals
@@ -141,6 +150,11 @@ removed (p ∷ ps) k j n i h e apart =
 -- with its index taken out, those at other positions are left
 pub left_out : (ps : List Proposal) (n i : ℕ) → index_from 0 i ps ≡ Some n → IsSet (map (λ p. p.position) ps) → remove ps n ≡ without_proposal ps i
 left_out ps n i h apart = let same : n ≡ 0 + n = omega arith in removed ps 0 n n i h same apart
+
+-- the first is taken out where the others are left
+pub first_out : (ps : List Proposal) → remove ps 0 ≡ drop 1 ps
+first_out [] = refl
+first_out (p ∷ ps) = refl
 
 stays_there : (nodes : ℕ) (p : Proposal) (promise : Promise) → (after_promise nodes p promise).position ≡ p.position
 stays_there nodes p promise = elim (is_promised nodes (with_promise p promise)) as (λ t. (cond t (record (with_promise p promise) { phase = Offering }) (with_promise p promise)).position ≡ p.position) [ true ↦ refl | false ↦ refl ]

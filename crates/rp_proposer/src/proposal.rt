@@ -1,16 +1,19 @@
 //! A proposal that runs.
 
-ghost use Rattle.std.specs.Prelude.{◌≡◌, ℕ, ◌≤◌, List, option_map};
+ghost use Rattle.std.specs.Prelude.{◌≡◌, ℕ, ◌≤◌, ◌++◌, ◌&&◌, List, option_map, option_to_list, nat_eq, not};
+ghost use Rattle.rp_base.specs.Records.{highest};
 ghost use Rattle.rp_base.specs.Action.{equal_items};
 ghost use Rattle.rp_base.specs.Promises.{Promise, highest_vote, offer_of};
 ghost use Rattle.rp_base.specs.Proposals.{Proposal as RunningProposal, new_proposal, range_proposal, is_preparing, with_promise, is_promised, is_prepared, is_gathering, takes_range_promise, once_promised, own_unless, is_given_up};
 ghost use Rattle.rp_proposer.specs.Proposing.{progress_of, once_noted, once_offered, offers_made, is_own};
+ghost use Rattle.rp_proposer.specs.Room.{has_own, own_count};
 
 use crate::promise::{HeardPromise, HeardRange};
 use rp_base::{
     Action, Ballot, History, NodeId, Phase, PlacedVote, Position, Senders, Vote, majority,
 };
 use std::marker::Model;
+use std::snapshot::Snapshot;
 
 /// What a promise makes of a proposal.
 #[derive(Clone, Copy, Debug, PartialEq, Eq)]
@@ -34,7 +37,7 @@ pub(crate) struct Proposal {
     phase: Phase,
     senders: Senders,
     last: Option<Vote>,
-    heard: History<HeardPromise>,
+    heard: History<Snapshot<HeardPromise>>,
 }
 
 impl Model for Proposal {
@@ -154,9 +157,35 @@ impl Proposal {
         }
     }
 
+    /// Whether it has an action of its own.
+    pub(crate) fn has_own(&self) -> bool
+        ensures { result ≡ has_own self.now }
+    {
+        self.own.is_some()
+    }
+
+    /// How many actions of its own it has: one or none.
+    pub(crate) fn own_count(&self) -> usize
+        ensures { result ≡ own_count self.now }
+    {
+        if self.has_own() { 1 } else { 0 }
+    }
+
     /// Begins its second phase, if it is prepared, with this own action where no promise reports a
-    /// vote.
-    pub(crate) fn offer(&mut self, nodes: u8, own: Action)
+    /// vote. It returns how many actions of its own it had, and how many it has.
+    pub(crate) fn offer(&mut self, nodes: u8, own: Action) -> (usize, usize)
+        requires { nodes ≤ 7 }
+        ensures offered { self.new ≡ once_offered nodes own self.old }
+        ensures had { result.0 ≡ own_count self.old }
+        ensures has { result.1 ≡ own_count self.new }
+    {
+        let had = self.own_count();
+        self.begin_offer(nodes, own);
+        (had, self.own_count())
+    }
+
+    /// Begins its second phase, if it is prepared.
+    fn begin_offer(&mut self, nodes: u8, own: Action)
         requires { nodes ≤ 7 }
         ensures { self.new ≡ once_offered nodes own self.old }
     {
@@ -189,12 +218,12 @@ impl Proposal {
         self.ballot == ballot && (self.ranged && self.is_gathering(nodes))
     }
 
-    /// Whether the item is its own action.
-    pub(crate) fn is_own(&self, item: &Action) -> bool
-        ensures { result ≡ is_own item.now self.now }
+    /// Whether it runs at another position and the item is its own action.
+    pub(crate) fn is_own_elsewhere(&self, position: Position, item: &Action) -> bool
+        ensures { result ≡ (is_own item.now self.now && not (nat_eq self.now.position position)) }
     {
         match &self.own {
-            Some(own) => equal_items(item, own),
+            Some(own) => self.position != position && equal_items(item, own),
             None => false,
         }
     }
@@ -242,8 +271,8 @@ impl Proposal {
         ensures { self.new ≡ with_promise self.old promise }
     {
         self.senders.insert(promise.from);
-        self.last = Vote::higher(self.last, promise.last);
-        self.heard.push(promise);
+        raise(&mut self.last, promise.last);
+        self.heard.push(Snapshot::of(&promise));
     }
 
     /// Notes a promise in a ballot, if it counts: with a majority the second phase begins.
@@ -267,6 +296,15 @@ fn own_unless(own: Action, vote: Option<Vote>) -> Option<Action>
     match vote {
         Some(_) => None,
         None => Some(own),
+    }
+}
+
+/// Notes a vote: the higher of it and the one before.
+fn raise(last: &mut Option<Vote>, vote: Option<Vote>)
+    ensures { last.new ≡ highest (option_to_list last.old ++ option_to_list vote) }
+{
+    if vote.is_some() {
+        *last = Vote::higher(*last, vote);
     }
 }
 

@@ -1,12 +1,15 @@
 //! A node as a proposer.
 
-ghost use Rattle.std.specs.Prelude.{◌≡◌, ℕ, List, ◌↔◌, ◌+◌, ◌<◌, ◌≤◌, ◌^◌, max, map, filter, nat_eq, not, false, length, IsTrue, IfOk, IsErrOf, IsOkUnless, option_copied, if◌then◌else◌};
+ghost use Rattle.std.specs.Prelude.{◌≡◌, ℕ, List, [], ◌∷◌, ◌++◌, ◌||◌, is_none, is_some, remove, ◌↔◌, ◌+◌, ◌<◌, ◌≤◌, ◌^◌, max, map, filter, nat_eq, not, false, length, IsTrue, IfOk, IsErrOf, IsOkUnless, option_copied, if◌then◌else◌};
 ghost use Rattle.std.specs.VecDeque.{deque_capacity};
 ghost use Rattle.std.specs.Int.{bit_at};
+ghost use Rattle.std.specs.List.{list_any};
 ghost use Rattle.rp_base.specs.Ballot.{number_of, round_of, next_ballot, IsAbove, IsNext};
 ghost use Rattle.rp_base.specs.Records.{started_of};
-ghost use Rattle.rp_base.specs.Proposals.{Proposal as RunningProposal, is_in, proposal_at, without_proposal, with_proposal, with_range, once_promised, is_given_up};
+ghost use Rattle.rp_base.specs.Proposals.{Proposal as RunningProposal, is_in, proposal_at, without_proposal, with_proposal, with_range, range_proposal, once_promised, is_given_up};
+ghost use Rattle.rp_base.specs.Ranges.{is_covered};
 ghost use Rattle.rp_base.specs.Sets.{IsSet};
+ghost use Rattle.rp_proposer.specs.Room.{own_count, own_actions_of};
 ghost use Rattle.rp_proposer.specs.Proposing.{counted_by, restored, ballot_at, HasRoom, begins, is_own_elsewhere, index_from, AreInWindow, IsInWindow, progress_in, notes_promise, notes_refusal, settles, most_running, unskipped, begins_range, notes_range, prepared_by, offers};
 
 use crate::promise::{HeardPromise, HeardRange};
@@ -21,13 +24,14 @@ const MOST_RUNNING: usize = 64;
 
 /// A node as a proposer (Lamport, "Paxos Made Simple", section 2.2). A proposal runs from `begin`
 /// until its position is settled, a refusal comes in its ballot, or another begins at its position.
-/// At most 64 run. Questions take `&self`; what takes effect is noted, after the record that goes
-/// before it.
+/// At most 64 run, and it counts those that have an action of their own. Questions take `&self`;
+/// what takes effect is noted, after the record that goes before it.
 #[derive(Drop)]
 pub struct Proposer {
     node: NodeId,
     nodes: u8,
     proposals: VecDeque<Proposal>,
+    own_actions: usize,
     started: Option<Ballot>,
     refused: Option<Ballot>,
 }
@@ -50,7 +54,7 @@ impl Model for Proposer {
     ghost use Rattle.rp_proposer.specs.Room.{IsWithin};
 
     ghost invariant = { λ p.
-        IsWithin p.nodes p.proposals.items (deque_capacity p.proposals) };
+        IsWithin p.nodes p.proposals.items (deque_capacity p.proposals) p.own_actions };
 }
 
 impl Proposer {
@@ -67,6 +71,7 @@ impl Proposer {
             node,
             nodes,
             proposals: VecDeque::with_capacity(alloc, MOST_RUNNING)?,
+            own_actions: 0,
             started: started_of(records),
             refused: None,
         })
@@ -107,7 +112,10 @@ impl Proposer {
         requires ballot { IsAbove self.old.node (counted_by self.old) ballot }
         ensures { self.new ≡ begins self.old position ballot own }
     {
-        put(&mut self.proposals, Proposal::new(position, ballot, own));
+        let proposal = Proposal::new(position, ballot, own);
+        let has = proposal.own_count();
+        let had = put(&mut self.proposals, proposal);
+        self.own_actions = self.own_actions + has - had;
         self.started = Ballot::greater(self.started, Some(ballot));
     }
 
@@ -120,8 +128,19 @@ impl Proposer {
         requires ballot { IsAbove self.old.node (counted_by self.old) ballot }
         ensures { self.new ≡ begins_range self.old (unskipped range skip) ballot }
     {
-        put_range(&mut self.proposals, range, skip, ballot);
+        self.own_actions = put_range(&mut self.proposals, self.own_actions, range, skip, ballot);
         self.started = Ballot::greater(self.started, Some(ballot));
+    }
+
+    /// Whether no proposal runs at a position, or one that is prepared.
+    pub fn is_ready(&self, position: Position) -> bool
+        ensures { result ≡ (is_none (proposal_at self.now.proposals position)
+            || is_some (prepared_by self.now.nodes (proposal_at self.now.proposals position))) }
+    {
+        match proposal_at(&self.proposals, position) {
+            Some(proposal) => proposal.is_prepared(self.nodes),
+            None => true,
+        }
     }
 
     /// The ballot of the prepared proposal at a position, one that a majority promised though it
@@ -144,7 +163,8 @@ impl Proposer {
         ensures nodes { self.new.nodes ≡ self.old.nodes }
     {
         if let Some(index) = index_of(&self.proposals, position) {
-            self.proposals[index].offer(self.nodes, own);
+            let (had, has) = self.proposals[index].offer(self.nodes, own);
+            self.own_actions = self.own_actions + has - had;
         }
     }
 
@@ -174,6 +194,9 @@ impl Proposer {
     pub fn is_own_elsewhere(&self, position: Position, item: &Action) -> bool
         ensures { result ≡ is_own_elsewhere self.now.proposals position item.now }
     {
+        if self.own_actions == 0 {
+            return false;
+        }
         let (front, back) = self.proposals.as_slices();
         is_own_elsewhere(front, position, item) || is_own_elsewhere(back, position, item)
     }
@@ -227,6 +250,7 @@ impl Proposer {
     {
         if is_in(&self.proposals, position, ballot) {
             give_up(&mut self.proposals, self.nodes, position, ballot);
+            self.own_actions = count_own(&self.proposals);
             self.refused = Ballot::greater(self.refused, Some(promised));
         }
     }
@@ -235,7 +259,7 @@ impl Proposer {
     pub fn settled(&mut self, position: Position)
         ensures { self.new ≡ settles self.old position }
     {
-        leave_out(&mut self.proposals, position);
+        self.own_actions -= leave_out(&mut self.proposals, position);
     }
 }
 
@@ -286,20 +310,51 @@ fn count_elsewhere(proposals: &VecDeque<Proposal>, position: Position) -> usize
 fn is_own_elsewhere(proposals: &[Proposal], position: Position, item: &Action) -> bool
     ensures { result ≡ is_own_elsewhere proposals.now position item.now }
 {
-    proposals
-        .iter()
-        .filter(|proposal| proposal.position() != position)
-        .any(|proposal| proposal.is_own(item))
+    for proposal in proposals {
+        if proposal.is_own_elsewhere(position, item) {
+            return true;
+        }
+    }
+    false
 }
 
-/// Ends the proposal at a position.
-fn leave_out(proposals: &mut VecDeque<Proposal>, position: Position)
+/// How many of these have an action of their own.
+fn count_own(proposals: &VecDeque<Proposal>) -> usize
+    ensures { result ≡ own_actions_of proposals.now.items }
+{
+    proposals
+        .iter()
+        .filter(|proposal| proposal.has_own())
+        .count()
+}
+
+/// Ends the proposal at a position. It returns how many actions of its own that had.
+fn leave_out(proposals: &mut VecDeque<Proposal>, position: Position) -> usize
     requires { IsSet (map (λ p. p.position) proposals.old.items) }
     ensures items { proposals.new.items ≡ without_proposal proposals.old.items position }
     ensures fewer { length proposals.new.items ≤ length proposals.old.items }
+    ensures own { own_actions_of proposals.new.items + result ≡ own_actions_of proposals.old.items }
     ensures capacity { deque_capacity proposals.new ≡ deque_capacity proposals.old }
 {
-    if let Some(index) = index_of(proposals, position) {
+    match index_of(proposals, position) {
+        Some(index) => {
+            let had = proposals[index].own_count();
+            take_out(proposals, index);
+            had
+        }
+        None => 0,
+    }
+}
+
+/// Takes out the proposal at an index. To take out the first moves no other.
+fn take_out(proposals: &mut VecDeque<Proposal>, index: usize)
+    requires { index < length proposals.old.items }
+    ensures items { proposals.new.items ≡ remove proposals.old.items index }
+    ensures capacity { deque_capacity proposals.new ≡ deque_capacity proposals.old }
+{
+    if index == 0 {
+        proposals.pop_front();
+    } else {
         proposals.remove(index);
     }
 }
@@ -343,23 +398,69 @@ fn index_in(proposals: &[Proposal], position: Position) -> Option<usize>
     None
 }
 
-/// Puts a proposal in place of the one at its position, or behind the others.
-fn put(proposals: &mut VecDeque<Proposal>, proposal: Proposal)
+/// Puts a proposal in place of the one at its position, or after the others. It returns how many
+/// actions of its own the one there had.
+fn put(proposals: &mut VecDeque<Proposal>, proposal: Proposal) -> usize
     requires { length (without_proposal proposals.old.items proposal.position)
         < deque_capacity proposals.old }
     ensures items { proposals.new.items ≡ with_proposal proposals.old.items proposal }
     ensures length { length proposals.new.items ≤ max (length proposals.old.items) (length
         (without_proposal proposals.old.items proposal.position) + 1) }
+    ensures own { own_actions_of proposals.new.items + result
+        ≡ own_actions_of proposals.old.items + own_count proposal }
     ensures capacity { deque_capacity proposals.new ≡ deque_capacity proposals.old }
 {
     match index_of(proposals, proposal.position()) {
-        Some(index) => proposals[index] = proposal,
-        None => proposals.push_back_reserved(proposal),
+        Some(index) => {
+            let had = proposals[index].own_count();
+            proposals[index] = proposal;
+            had
+        }
+        None => {
+            proposals.push_back_reserved(proposal);
+            0
+        }
     }
 }
 
+/// Puts a new proposal at each position of a range that is not skipped. Where none runs at any of
+/// them, all are pushed without a search. Given how many proposals have an action of their own, it
+/// returns how many have one then.
+fn put_range(
+    proposals: &mut VecDeque<Proposal>,
+    own_actions: usize,
+    range: PositionRange,
+    skip: u64,
+    ballot: Ballot,
+) -> usize
+    requires own { own_actions ≡ own_actions_of proposals.old.items }
+    requires room { length (with_range proposals.old.items ballot (unskipped range skip))
+        ≤ deque_capacity proposals.old }
+    ensures items { proposals.new.items
+        ≡ with_range proposals.old.items ballot (unskipped range skip) }
+    ensures own { result ≡ own_actions_of proposals.new.items }
+    ensures capacity { deque_capacity proposals.new ≡ deque_capacity proposals.old }
+{
+    if runs_in(proposals, range) {
+        put_each(proposals, range, skip, ballot);
+        count_own(proposals)
+    } else {
+        push_each(proposals, range, skip, ballot);
+        own_actions
+    }
+}
+
+/// Whether a proposal runs at a position of the range.
+fn runs_in(proposals: &VecDeque<Proposal>, range: PositionRange) -> bool
+    ensures { result ≡ list_any (λ p. is_covered range p.position) proposals.now.items }
+{
+    proposals
+        .iter()
+        .any(|proposal| range.covers(proposal.position()))
+}
+
 /// Puts a new proposal at each position of a range that is not skipped.
-fn put_range(proposals: &mut VecDeque<Proposal>, range: PositionRange, skip: u64, ballot: Ballot)
+fn put_each(proposals: &mut VecDeque<Proposal>, range: PositionRange, skip: u64, ballot: Ballot)
     requires { length (with_range proposals.old.items ballot (unskipped range skip))
         ≤ deque_capacity proposals.old }
     ensures items { proposals.new.items
@@ -372,7 +473,37 @@ fn put_range(proposals: &mut VecDeque<Proposal>, range: PositionRange, skip: u64
     }
 }
 
-/// Puts a proposal in place of the one at its position, or behind the others, unless it is skipped.
+/// Pushes a new proposal for each position of a range that is not skipped.
+fn push_each(proposals: &mut VecDeque<Proposal>, range: PositionRange, skip: u64, ballot: Ballot)
+    requires { length proposals.old.items + length (unskipped range skip)
+        ≤ deque_capacity proposals.old }
+    ensures items { proposals.new.items
+        ≡ proposals.old.items ++ map (range_proposal ballot) (unskipped range skip) }
+    ensures capacity { deque_capacity proposals.new ≡ deque_capacity proposals.old }
+{
+    for index in 0..range.count() {
+        push_unless(proposals, has_bit(skip, index), range.at(index), ballot);
+    }
+}
+
+/// Pushes a new proposal of a range, unless its position is skipped.
+fn push_unless(
+    proposals: &mut VecDeque<Proposal>,
+    skipped: bool,
+    position: Position,
+    ballot: Ballot,
+)
+    requires { skipped ≡ false → length proposals.old.items < deque_capacity proposals.old }
+    ensures items { proposals.new.items ≡ (if skipped then proposals.old.items
+        else proposals.old.items ++ range_proposal ballot position ∷ []) }
+    ensures capacity { deque_capacity proposals.new ≡ deque_capacity proposals.old }
+{
+    if !skipped {
+        proposals.push_back_reserved(Proposal::of_range(position, ballot));
+    }
+}
+
+/// Puts a proposal in place of the one at its position, or after the others, unless it is skipped.
 fn put_unless(proposals: &mut VecDeque<Proposal>, skipped: bool, proposal: Proposal)
     requires { skipped ≡ false → length (without_proposal proposals.old.items proposal.position)
         < deque_capacity proposals.old }
@@ -381,7 +512,7 @@ fn put_unless(proposals: &mut VecDeque<Proposal>, skipped: bool, proposal: Propo
     ensures capacity { deque_capacity proposals.new ≡ deque_capacity proposals.old }
 {
     if !skipped {
-        put(proposals, proposal);
+        let _ = put(proposals, proposal);
     }
 }
 

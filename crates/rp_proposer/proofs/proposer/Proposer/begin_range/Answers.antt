@@ -1,10 +1,8 @@
 use Rattle.std.proofs.Common.{◌≤◌, ℕ, List, length, sym, subst}
-use Rattle.rp_base.specs.Sets.{IsSet}
-use Rattle.rp_base.specs.Proposals.{Proposal}
-use Rattle.rp_proposer.specs.Proposing.{ProposerPart, most_running}
-use Rattle.rp_base.specs.Proposals.{with_range}
-use Rattle.rp_proposer.specs.Proposing.{unskipped}
-use Rattle.rp_base.proofs.Apart.{positions_of, range_apart}
+use Rattle.rp_base.specs.Proposals.{Proposal, with_range}
+use Rattle.rp_base.proofs.Apart.{range_apart}
+use Rattle.rp_proposer.specs.Proposing.{ProposerPart, most_running, unskipped}
+use Rattle.rp_proposer.proofs.Within.{kept}
 use Rattle.rp_proposer.proofs.proposer.Proposer.begin_range.Goals as goal
 
 pub invariant_of-self : goal.invariant_of-self
@@ -14,9 +12,6 @@ invariant_of-self c =
     let begun : List ℕ = unskipped c.args.range c.args.skip in
     let room : length (with_range items c.args.ballot begun) ≤ most_running =
     subst (λ (part : ProposerPart). length (with_range part.proposals c.args.ballot begun) ≤ most_running) (sym c.self.view_is) c.requires.room in
-    record {
-      size = is.size;
-      apart = subst (λ (l : List Proposal). IsSet (positions_of l)) (sym c.put_range.ensures.items) (range_apart items c.args.ballot begun is.apart);
-      few = subst (λ (l : List Proposal). length l ≤ most_running) (sym c.put_range.ensures.items) room;
-      room = subst (λ (n : ℕ). most_running ≤ n) (sym c.put_range.ensures.capacity) is.room;
-    }
+    kept _ _ _ _ _ _ _ _ is c.put_range-self-inside.ensures.items c.put_range-self-inside.ensures.capacity (range_apart items c.args.ballot begun is.apart)
+    (subst (λ (l : List Proposal). length l ≤ most_running) (sym c.put_range-self-inside.ensures.items) room)
+    c.put_range-self-inside.ensures.own

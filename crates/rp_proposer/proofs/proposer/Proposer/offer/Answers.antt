@@ -1,51 +1,52 @@
-use Rattle.std.proofs.Common.{◌≡◌, Some, None, Option, List, length, set, refl, sym, ap, ◌∙◌, arith, subst}
-use Rattle.std.specs.Prelude.{slice_get, unwrap_or}
-use Rattle.std.proofs.lemmas.Option.{slice_get_read}
+use Rattle.std.proofs.Common.{◌≡◌, None, List, set, refl, sym, ap, ◌∙◌, arith}
 use Rattle.std.proofs.lemmas.List.{length-set}
 use Rattle.rp_base.specs.Ballot.{number_of}
-use Rattle.rp_base.specs.Sets.{IsSet}
-use Rattle.rp_base.proofs.Apart.{positions_of, with_apart}
 use Rattle.rp_base.specs.Proposals.{Proposal, proposal_at}
+use Rattle.rp_base.proofs.Apart.{with_apart}
 use Rattle.rp_proposer.specs.Proposing.{ProposerPart, once_offered}
-use Rattle.rp_proposer.proofs.Places.{index_at, index_none, offered_there}
+use Rattle.rp_proposer.proofs.Owning.{own_set, own_few, own_one}
+use Rattle.rp_proposer.proofs.Places.{index_at, index_none, read_at, offered_there}
+use Rattle.rp_proposer.proofs.Within.{kept}
 use Rattle.rp_proposer.proofs.proposer.Proposer.offer.Goals as goal
 
 pub index_mut-requires : goal.index_mut-requires
 index_mut-requires c =
-    let found = index_at c.self.inside.proposals.items c.in-Some.index c.args.position (rw (← c.index_of.ensures) c.in-Some.is) in
+    let found = index_at c.self.inside.proposals.items c.in-Some.index c.args.position (sym c.index_of.ensures ∙ c.in-Some.is) in
     omega (arith, found.1.within, c.self.inside.proposals.ok.0)
+
+pub overflow_add-self : goal.overflow_add-self
+overflow_add-self c =
+    let is = c.self.invariant in
+    omega (arith, is.own, is.few, own_few c.self.inside.proposals.items, own_one c.offer-had.new.self, c.offer-had.ensures.has)
+
+pub overflow_sub-self : goal.overflow_sub-self
+overflow_sub-self c =
+    let items : List Proposal = c.self.inside.proposals.items in
+    let found = read_at items c.in-Some.index c.args.position c.index_mut.result.now (sym c.index_of.ensures ∙ c.in-Some.is) c.index_mut.ensures.value in
+    omega (arith, own_set items c.in-Some.index c.index_mut.result.now c.offer-had.new.self found.at, c.offer-had.ensures.had, c.offer-had.ensures.has, c.self.invariant.own)
 
 pub invariant_of-self : goal.invariant_of-self
 invariant_of-self c =
     let items : List Proposal = c.self.inside.proposals.items in
+    let p : Proposal = c.index_mut.result.now in
     let is = c.self.invariant in
-    let found = index_at items c.in-Some.index c.args.position (sym c.index_of.ensures ∙ c.in-Some.is) in
-    let at : slice_get items c.in-Some.index ≡ Some c.index_mut.result.now =
-    slice_get_read items (length items) c.in-Some.index c.index_mut.result.now refl found.1.within c.index_mut.ensures.value in
-    let same : c.index_mut.result.now ≡ found.0 = ap (λ (o : Option Proposal). unwrap_or o found.0) (sym at ∙ found.1.at) in
-    let here : c.offer.new.self.position ≡ c.args.position =
-    ap (λ (p : Proposal). p.position) c.offer.ensures ∙ offered_there c.self.inside.nodes c.args.own c.index_mut.result.now ∙ ap (λ (p : Proposal). p.position) same ∙ found.1.place in
-    let long = length-set items c.in-Some.index c.offer.new.self in
-    record {
-      size = is.size;
-      apart = subst (λ (l : List Proposal). IsSet (positions_of l)) (found.1.put c.offer.new.self here) (with_apart c.offer.new.self items is.apart);
-      few = omega (arith, long, is.few);
-      room = is.room;
-    }
+    let found = read_at items c.in-Some.index c.args.position p (sym c.index_of.ensures ∙ c.in-Some.is) c.index_mut.ensures.value in
+    let here : c.offer-had.new.self.position ≡ c.args.position =
+    ap (λ (q : Proposal). q.position) c.offer-had.ensures.offered ∙ offered_there c.self.inside.nodes c.args.own p ∙ found.place in
+    let long = length-set items c.in-Some.index c.offer-had.new.self in
+    kept _ _ _ _ _ _ _ _ is (sym (found.put c.offer-had.new.self here)) refl (with_apart c.offer-had.new.self items is.apart)
+    (omega (arith, long, is.few))
+    (omega (arith, own_set items c.in-Some.index p c.offer-had.new.self found.at, c.offer-had.ensures.had, c.offer-had.ensures.has, is.own))
 
 pub returns-in-Some-clause-offered : goal.returns-in-Some-clause-offered
 returns-in-Some-clause-offered c =
-    let found = index_at c.self.inside.proposals.items c.in-Some.index c.args.position (rw (← c.index_of.ensures) c.in-Some.is) in
-    let at : slice_get c.self.inside.proposals.items c.in-Some.index ≡ Some c.index_mut.result.now =
-    slice_get_read c.self.inside.proposals.items (length c.self.inside.proposals.items) c.in-Some.index c.index_mut.result.now refl found.1.within c.index_mut.ensures.value in
-    let same : c.index_mut.result.now ≡ found.0 = ap (λ (o : Option Proposal). unwrap_or o found.0) (sym at ∙ found.1.at) in
-    let noted : c.offer.new.self ≡ once_offered c.self.inside.nodes c.args.own found.0 =
-    c.offer.ensures ∙ ap (λ (p : Proposal). once_offered c.self.inside.nodes c.args.own p) same in
-    rw (← c.self.view_is, found.1.runs)
+    let items : List Proposal = c.self.inside.proposals.items in
+    let p : Proposal = c.index_mut.result.now in
+    let found = read_at items c.in-Some.index c.args.position p (sym c.index_of.ensures ∙ c.in-Some.is) c.index_mut.ensures.value in
+    rw (← c.self.view_is, found.runs)
     (ap (λ (l : List Proposal). record { node = c.self.inside.node; nodes = c.self.inside.nodes; proposals = l; started = number_of c.self.inside.started; refused = c.self.inside.refused })
-    (ap (λ (p : Proposal). set c.self.inside.proposals.items c.in-Some.index p) noted
-    ∙ sym (found.1.put (once_offered c.self.inside.nodes c.args.own found.0)
-    (offered_there c.self.inside.nodes c.args.own found.0 ∙ found.1.place))))
+    (ap (λ (r : Proposal). set items c.in-Some.index r) c.offer-had.ensures.offered
+    ∙ sym (found.put (once_offered c.self.inside.nodes c.args.own p) (offered_there c.self.inside.nodes c.args.own p ∙ found.place))))
 
 pub returns-in_default-clause-offered : goal.returns-in_default-clause-offered
 returns-in_default-clause-offered c =

@@ -4,7 +4,7 @@ use Rattle.std.specs.Int.{bit_at}
 use Rattle.std.specs.List.{range_with_len}
 use Rattle.rp_base.specs.Proposals.{with_range}
 use Rattle.rp_proposer.specs.Proposing.{unskipped}
-use Rattle.rp_proposer.proofs.proposer.put_range.Given as goal
+use Rattle.rp_proposer.proofs.proposer.put_each.Given as goal
 
 -- with the rest of the positions the proposals are those with all
 abbrev pub invariant-loop-index : goal.invariant-loop-index

@@ -1,5 +1,6 @@
 -- How a ballot compares with the bounds at positions (this project's own).
-use Rattle.std.specs.Prelude.{ℕ, nat_eq, nat_le, nat_lt, ◌&&◌, ◌||◌, Option, Some, None, List, [], ◌∷◌, find, if◌then◌else◌}
+use Rattle.std.specs.Prelude.{ℕ, nat_eq, nat_le, nat_lt, ◌&&◌, ◌||◌, Option, Some, None, List, [], ◌∷◌, find}
+use Rattle.std.specs.Prelude.{if◌then◌else◌}
 use Rattle.std.specs.List.{list_all}
 use Rattle.rp_base.specs.declared.placed.PlacedVote.{PlacedVote}
 use Rattle.rp_acceptor.specs.declared.comparison.Comparison.{Comparison}
@@ -43,4 +44,5 @@ combined Equal Equal = Equal
 -- the ballot against the ballots of votes, in order
 abbrev pub compared_votes : ℕ → List PlacedVote → Comparison
 compared_votes b [] = Above
-compared_votes b (placed ∷ rest) = followed_by (compared_at placed.position placed.vote.ballot b) (compared_votes b rest)
+compared_votes b (placed ∷ rest) =
+    followed_by (compared_at placed.position placed.vote.ballot b) (compared_votes b rest)

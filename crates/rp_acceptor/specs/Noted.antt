@@ -38,7 +38,8 @@ promised_in (PromisedRange range ballot) = []
 abbrev pub placed_in : Rec → Option PlacedVote
 placed_in (Started ballot) = None
 placed_in (Promised position ballot) = None
-placed_in (Voted position ballot action) = Some (record { position = position; vote = record { ballot = ballot; action = action } })
+placed_in (Voted position ballot action) =
+    Some (record { position = position; vote = record { ballot = ballot; action = action } })
 placed_in (Learned position action) = None
 placed_in (PromisedRange range ballot) = None
 

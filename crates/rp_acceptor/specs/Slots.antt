@@ -1,5 +1,6 @@
 -- How an acceptor keeps what its records say (this project's own; callers see none of it).
-use Rattle.std.specs.Prelude.{max, ◌≡◌, ◌⊎◌, ℕ, ◌+◌, ◌/◌, ◌%◌, ◌<◌, ◌≤◌, Option, Some, None, option_map, List, [], ◌∷◌, length, slice_index_or, if◌then◌else◌}
+use Rattle.std.specs.Prelude.{max, ◌≡◌, ◌⊎◌, ℕ, ◌+◌, ◌/◌, ◌%◌, ◌<◌, ◌≤◌, Option, Some, None, option_map, List, [], ◌∷◌}
+use Rattle.std.specs.Prelude.{length, slice_index_or, if◌then◌else◌}
 use Rattle.std.specs.List.{cons_option}
 use Rattle.rp_base.specs.declared.record.Rec.{Rec}
 use Rattle.rp_base.specs.declared.record.Rec.TheVariants.{Started, Promised, Voted, Learned, PromisedRange}
@@ -85,7 +86,8 @@ placed_from i (last ∷ rest) = cons_option (placed_if i last) (placed_from (i +
 pub record HasMore (before after : List (List (Option Vote))) : Type 0 where
   pub same : (index : ℕ) → vote_of after index ≡ vote_of before index
   pub longer : (number : ℕ) → length (page_at before number) ≤ length (page_at after number)
-  pub whole : (number : ℕ) → (length (page_at after number) ≡ length (page_at before number)) ⊎ (length (page_at after number) ≡ 64)
+  pub whole : (number : ℕ) → (length (page_at after number) ≡ length (page_at before number))
+      ⊎ (length (page_at after number) ≡ 64)
 
 -- ---- both
 

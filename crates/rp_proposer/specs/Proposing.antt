@@ -1,6 +1,7 @@
 -- What a node knows as a proposer, and what it does with promises and refusals. Lamport, "Paxos Made
 -- Simple", section 2.2; one proposal for each position as in section 3.
-use Rattle.std.specs.Prelude.{ℕ, suc, ◌+◌, ◌-◌, ◌<◌, ◌≤◌, Bool, true, false, not, ◌&&◌, nat_eq, max, Option, Some, None, option_map, List, [], ◌∷◌, map, filter, length, if◌then◌else◌}
+use Rattle.std.specs.Prelude.{ℕ, suc, ◌+◌, ◌-◌, ◌<◌, ◌≤◌, Bool, true, false, not, ◌&&◌, nat_eq, max, Option, Some, None}
+use Rattle.std.specs.Prelude.{option_map, List, [], ◌∷◌, map, filter, length, if◌then◌else◌}
 use Rattle.std.specs.Int.{bit_at}
 use Rattle.std.specs.List.{list_any}
 use Rattle.rp_base.specs.declared.action.Action.{Action}
@@ -12,7 +13,9 @@ use Rattle.rp_base.specs.Records.{started_of}
 use Rattle.rp_base.specs.declared.placed.PlacedVote.{PlacedVote}
 use Rattle.rp_base.specs.Ranges.{Range, positions_of}
 use Rattle.rp_base.specs.Promises.{Promise, highest_vote, offer_of}
-use Rattle.rp_base.specs.Proposals.{Proposal, new_proposal, proposal_at, without_proposal, with_proposal, is_in, is_preparing, takes_promise, with_promise, is_promised, after_promise, is_prepared, with_range, once_promised, as_offered, is_given_up}
+use Rattle.rp_base.specs.Proposals.{Proposal, new_proposal, proposal_at, without_proposal, with_proposal, is_in}
+use Rattle.rp_base.specs.Proposals.{is_preparing, takes_promise, with_promise, is_promised, after_promise, is_prepared}
+use Rattle.rp_base.specs.Proposals.{with_range, once_promised, as_offered, is_given_up}
 use Rattle.rp_proposer.specs.declared.proposal.Progress.{Progress}
 use Rattle.rp_proposer.specs.declared.proposal.Progress.TheVariants.{Waiting, Offer, Stale}
 
@@ -31,7 +34,8 @@ counted_by part = max part.started (number_of part.refused)
 
 -- a proposer whose node wrote these records: no proposal runs
 abbrev pub restored : ℕ → ℕ → List Rec → ProposerPart
-restored node nodes records = record { node = node; nodes = nodes; proposals = []; started = started_of records; refused = None }
+restored node nodes records =
+    record { node = node; nodes = nodes; proposals = []; started = started_of records; refused = None }
 
 -- how many proposals may run
 abbrev pub most_running : ℕ
@@ -151,7 +155,10 @@ offers part own (Some p) = record part { proposals = with_proposal part.proposal
 abbrev pub notes_refusal : ProposerPart → ℕ → ℕ → ℕ → ProposerPart
 notes_refusal part i b bound =
     if is_in b (proposal_at part.proposals i)
-    then record part { proposals = filter (λ p. not (is_given_up part.nodes i b p)) part.proposals; refused = greatest_with part.refused bound }
+    then record part {
+      proposals = filter (λ p. not (is_given_up part.nodes i b p)) part.proposals;
+      refused = greatest_with part.refused bound;
+    }
     else part
 
 -- the position is settled: a proposal there ends

@@ -31,7 +31,8 @@ module _ {S : Type 0} (next : S → Action → S) (answers : S → Action → Li
     pub given : (outcome next answers new).given ≡ (outcome next answers old).given ++ more
 
   -- the answers whose call is pending are among the packets, one for each pending item at most
-  pub record HasReplied (me : ℕ) (pending : List Action) (before after : Contents) (old new : Applied S) (out said : RoomyRun) : Type 0 where
+  pub record HasReplied (me : ℕ) (pending : List Action) (before after : Contents) (old new : Applied S)
+      (out said : RoomyRun) : Type 0 where
     pub more : List Answer
     pub applies : AppliesMore before after old new more
     pub run : said.run ≡ with_packets out.run (replies_to me pending more)

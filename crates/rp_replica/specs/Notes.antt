@@ -7,7 +7,8 @@ use Rattle.rp_replica.specs.declared.heard.Note.TheVariants.{Heard, Settled}
 
 -- one note more: a vote is heard, each once; the votes at a settled position are let go
 abbrev pub noted : List HeardVote → Note → List HeardVote
-noted heard (Heard from i ballot action) = with_member same_heard heard (from, i, record { ballot = ballot; action = action })
+noted heard (Heard from i ballot action) =
+    with_member same_heard heard (from, i, record { ballot = ballot; action = action })
 noted heard (Settled i action) = heard_elsewhere heard i
 
 -- the notes one after another

@@ -11,7 +11,8 @@ use Rattle.rp_replica.specs.Held.{Held}
 
 -- The replica runs by the records of the device that count, and by them alone; it tells how many records the
 -- device holds, those above the log too, and how many torn bytes were cut off.
-pub record Opens {S : Type 0} (me : ℕ) (config : Config) (begin : S) (old : Disk) (held : Held S) (count cut_bytes : ℕ) : Type 0 where
+pub record Opens {S : Type 0} (me : ℕ) (config : Config) (begin : S) (old : Disk) (held : Held S)
+    (count cut_bytes : ℕ) : Type 0 where
   pub all : List Rec
   pub opened : IsOpened old all cut_bytes held.disk
   pub starts : held ≡ record {
@@ -28,6 +29,7 @@ pub record Opens {S : Type 0} (me : ℕ) (config : Config) (begin : S) (old : Di
 -- Why it is not opened, and what that leaves: where memory ran out, the device as it was, but for a read, or
 -- read, cut and synced; where the device failed, each whole record. There is no other reason.
 abbrev pub IsRefusedOpening : Disk → Fault → Disk → Type 0
-IsRefusedOpening old OutOfMemory new = IsNotOpened old OutOfMemory new ⊎ ((all : List Rec) × (cut_bytes : ℕ) × IsOpened old all cut_bytes new)
+IsRefusedOpening old OutOfMemory new =
+    IsNotOpened old OutOfMemory new ⊎ ((all : List Rec) × (cut_bytes : ℕ) × IsOpened old all cut_bytes new)
 IsRefusedOpening old Device new = IsNotOpened old Device new
 IsRefusedOpening old _ new = ⊥

@@ -30,7 +30,10 @@ use Rattle.rp_replica.specs.declared.plan.CountedPromise.{CountedPromise}
 use Rattle.rp_replica.specs.declared.plan.CountedRange.{CountedRange}
 use Rattle.rp_replica.specs.declared.plan.RangePromise.{RangePromise}
 use Rattle.rp_replica.specs.declared.plan.Plan.{Plan}
-use Rattle.rp_replica.specs.declared.plan.Plan.TheVariants.{Pass, Promise, PromiseRange, Vote, Repeat, Refuse, Inform, Answer as Reply, Await, Lead, LeadRange, OfferPrepared, Count, CountRange, Offer, Yield, Hear, Learn, Follow, Report}
+use Rattle.rp_replica.specs.declared.plan.Plan.TheVariants.{Pass, Promise, PromiseRange, Vote, Repeat, Refuse, Inform}
+use Rattle.rp_replica.specs.declared.plan.Plan.TheVariants.{Answer as Reply, Await, Lead, LeadRange, OfferPrepared}
+use Rattle.rp_replica.specs.declared.plan.Plan.TheVariants.{Count, CountRange, Offer, Yield, Hear, Learn, Follow}
+use Rattle.rp_replica.specs.declared.plan.Plan.TheVariants.{Report}
 use Rattle.rp_replica.specs.Held.{Held}
 use Rattle.rp_replica.specs.Proposed.{promised_running, started_running, offered_running}
 use Rattle.rp_replica.specs.Standing.{standing_of}
@@ -49,7 +52,9 @@ written_by _ = None
 module _ {S : Type 0} (held : Held S) where
   -- what is known once a promise is noted
   abbrev pub once_promised : CountedPromise → Running
-  once_promised p = promised_running held.config.nodes held.running p.ballot (p.from, p.last) (proposal_at held.running.proposals p.position)
+  once_promised p =
+      promised_running held.config.nodes held.running p.ballot (p.from, p.last)
+      (proposal_at held.running.proposals p.position)
 
   -- what is known once a vote is noted
   abbrev pub once_heard : ℕ → ℕ → CastVote → Running
@@ -69,18 +74,26 @@ module _ {S : Type 0} (next : S → Action → S) (answers : S → Action → Li
   turn_of (Inform to i v) = sends held.running (says held.me (bodies.Decided i v) to ∷ [])
   turn_of (Reply task number reply) = sends held.running (says_to_task held.me (bodies.Reply number reply) task ∷ [])
   turn_of (Await item) = notes (record held.running { pending = held.running.pending ++ item ∷ [] })
-  turn_of (Lead i b own) = writes (Started b) (started_running held.running i b own) (says_to_all held.config.nodes held.me (bodies.Prepare i b))
+  turn_of (Lead i b own) =
+      writes (Started b) (started_running held.running i b own)
+      (says_to_all held.config.nodes held.me (bodies.Prepare i b))
   turn_of (LeadRange range b) = begins_range held.config.nodes held.me held.records held.running range b
   turn_of (OfferPrepared i b v) =
-      sends (offered_running held.config.nodes held.running v (proposal_at held.running.proposals i)) (says_to_all held.config.nodes held.me (bodies.Accept i b v))
+      sends (offered_running held.config.nodes held.running v (proposal_at held.running.proposals i))
+      (says_to_all held.config.nodes held.me (bodies.Accept i b v))
   turn_of (Count promise) = notes (once_promised held promise)
   turn_of (CountRange p) = on_promise_range held.config.nodes held.running p.from p.range p.ballot p.votes
-  turn_of (Offer promise v) = sends (once_promised held promise) (says_to_all held.config.nodes held.me (bodies.Accept promise.position promise.ballot v))
+  turn_of (Offer promise v) =
+      sends (once_promised held promise)
+      (says_to_all held.config.nodes held.me (bodies.Accept promise.position promise.ballot v))
   turn_of (Yield i b bound) = on_nack held.config.nodes held.running i b bound
   turn_of (Hear from i vote) = notes (once_heard held from i vote)
-  turn_of (Learn i v) = learns next answers held.begin held.me held.records held.running i v (says_to_others held.config.nodes held.me (bodies.Decided i v)) []
+  turn_of (Learn i v) =
+      learns next answers held.begin held.me held.records held.running i v
+      (says_to_others held.config.nodes held.me (bodies.Decided i v)) []
   turn_of (Follow from i v) =
-      learns next answers held.begin held.me held.records held.running i v [] (asks_for held.me from (missing_position (held.records ++ Learned i v ∷ [])))
+      learns next answers held.begin held.me held.records held.running i v []
+      (asks_for held.me from (missing_position (held.records ++ Learned i v ∷ [])))
   turn_of (Report first) = sends held.running (report_of held.me first (applied_of held.records) ∷ [])
 
 -- ---- what the rules saw, so that a plan may be committed
@@ -98,7 +111,8 @@ pub record MayBegin {S : Type 0} (held : Held S) (i b : ℕ) (own : Action) : Ty
 
 -- the range begins within the log, and the last votes there may be reported for the ballot
 abbrev pub MayPromiseRange : {S : Type 0} → Held S → RangePromise → Type 0
-MayPromiseRange held p = (p.range.first ≤ held.config.max_positions) × AreReported p.range p.ballot (last_votes held.records p.range)
+MayPromiseRange held p =
+    (p.range.first ≤ held.config.max_positions) × AreReported p.range p.ballot (last_votes held.records p.range)
 
 -- proposals may begin at a range: the ballot is the next one, and the range ends within reach
 pub record MayBeginRange {S : Type 0} (held : Held S) (range : Range) (b : ℕ) : Type 0 where

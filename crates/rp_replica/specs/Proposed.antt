@@ -9,9 +9,11 @@ use Rattle.rp_model.specs.Parts.{Running}
 -- the proposal at its position, if one runs there, takes the promise where it counts
 abbrev pub promised_running : ℕ → Running → ℕ → Promise → Option Proposal → Running
 promised_running nodes running b promise None = running
-promised_running nodes running b promise (Some p) = record running { proposals = with_proposal running.proposals (once_noted nodes b p promise) }
+promised_running nodes running b promise (Some p) =
+    record running { proposals = with_proposal running.proposals (once_noted nodes b p promise) }
 
--- the proposal at its position, if a prepared one runs there, offers: this is its own action where no promise reports a vote
+-- the proposal at its position, if a prepared one runs there, offers: this is its own action where no promise reports
+-- a vote
 abbrev pub offered_running : ℕ → Running → Action → Option Proposal → Running
 offered_running nodes running own None = running
 offered_running nodes running own (Some p) =
@@ -19,4 +21,5 @@ offered_running nodes running own (Some p) =
 
 -- a proposal begins at the position in the ballot, with this action of its own
 abbrev pub started_running : Running → ℕ → ℕ → Action → Running
-started_running running i b own = record running { proposals = with_proposal running.proposals (new_proposal i b (Some own)) }
+started_running running i b own =
+    record running { proposals = with_proposal running.proposals (new_proposal i b (Some own)) }

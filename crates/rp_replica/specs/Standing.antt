@@ -9,7 +9,8 @@ use Rattle.rp_learner.specs.declared.learner.Standing.{Standing}
 use Rattle.rp_learner.specs.declared.learner.Standing.TheVariants.{Counting, Learned, Known, Beyond}
 use Rattle.rp_model.specs.Leader.{is_beyond}
 
--- beyond where the position is too far above the first unlearned one, known where it is learned, learned where those who cast this vote are a majority, else counted
+-- beyond where the position is too far above the first unlearned one, known where it is learned, learned where those
+-- who cast this vote are a majority, else counted
 abbrev pub standing_of : ℕ → List Rec → List HeardVote → ℕ → ℕ → Vote → Standing
 standing_of nodes records heard from i vote =
     if is_beyond records i then Beyond

@@ -1,5 +1,6 @@
 -- How a replica's parts hang together (no public clause names it).
-use Rattle.std.specs.Prelude.{◌≡◌, ℕ, suc, ◌+◌, ◌<◌, ◌≤◌, Bool, true, false, is_some, nat_le, None, IfSome, List, [], ◌++◌, length, map, filter}
+use Rattle.std.specs.Prelude.{◌≡◌, ℕ, suc, ◌+◌, ◌<◌, ◌≤◌, Bool, true, false, is_some, nat_le, None, IfSome, List, []}
+use Rattle.std.specs.Prelude.{◌++◌, length, map, filter}
 use Rattle.std.specs.List.{AllByRecursion}
 use Rattle.rp_base.specs.declared.config.Config.{Config}
 use Rattle.rp_base.specs.declared.record.Rec.{Rec}
@@ -46,7 +47,8 @@ pub record IsRightProposal (p : Proposal) : Type 0 where
 
 -- The proposer is that of the node and its records. Its proposals run at different unlearned positions of the
 -- window above the applied list.
-pub record IsProposer (me : ℕ) (config : Config) (records : List Rec) (taken : ℕ) (proposer : ProposerPart) : Type 0 where
+pub record IsProposer (me : ℕ) (config : Config) (records : List Rec) (taken : ℕ) (proposer : ProposerPart)
+    : Type 0 where
   pub node : proposer.node ≡ me
   pub nodes : proposer.nodes ≡ config.nodes
   pub started : proposer.started ≡ started_of records
@@ -62,7 +64,8 @@ pub record IsOpenVote (records : List Rec) (learner : Learning) (vote : HeardVot
 
 -- The learner's window is above the applied list. It heard these votes, as a set, each at an unlearned
 -- position of the window, and up to the window's end it settled what the records learn.
-pub record IsLearner (config : Config) (records : List Rec) (taken : ℕ) (learner : Learning) (votes : List HeardVote) : Type 0 where
+pub record IsLearner (config : Config) (records : List Rec) (taken : ℕ) (learner : Learning)
+    (votes : List HeardVote) : Type 0 where
   pub nodes : learner.nodes ≡ config.nodes
   pub positions : learner.max_positions ≡ config.max_positions
   pub first : learner.first ≡ suc taken
@@ -72,7 +75,8 @@ pub record IsLearner (config : Config) (records : List Rec) (taken : ℕ) (learn
 
 -- up to the end of its window the learner settled what the log learned
 abbrev pub IsSettledAlike : Learning → Contents → Type 0
-IsSettledAlike learner log = (i : ℕ) → 1 ≤ i → i < learner.first + window → is_settled learner i ≡ is_some (action_at log i)
+IsSettledAlike learner log =
+    (i : ℕ) → 1 ≤ i → i < learner.first + window → is_settled learner i ≡ is_some (action_at log i)
 
 -- The learner's window moved on to the position behind those that the log took; the votes heard within it stay.
 pub record Follows (before : Learning) (log : Contents) (after : Learning) : Type 0 where
@@ -90,7 +94,9 @@ pub record IsApplied {S : Type 0} (records : List Rec) (log : Contents) (applied
   pub taken : applied.actions ≡ log.taken
 
 -- what holds of a replica's parts between its calls
-pub record Tied {S : Type 0} (me : ℕ) (config : Config) (disk : Disk) (failed : Bool) (records : List Rec) (proposer : ProposerPart) (learner : Learning) (votes : List HeardVote) (log : Contents) (applied : Applied S) : Type 0 where
+pub record Tied {S : Type 0} (me : ℕ) (config : Config) (disk : Disk) (failed : Bool) (records : List Rec)
+    (proposer : ProposerPart) (learner : Learning) (votes : List HeardVote) (log : Contents) (applied : Applied S)
+    : Type 0 where
   pub sizes : IsRightConfig config
   pub member : me ≤ config.nodes
   pub stands : IsOnDisk config.max_positions disk failed records

@@ -39,7 +39,8 @@ Stops written old new _ = ⊥
 
 -- a refusal changes nothing; after a failure it is told in its place
 abbrev pub IsRefused : {S : Type 0} → Fault → Held S → Held S → Fault → Type 0
-IsRefused refusal old new fault = (new ≡ old) × (((fault ≡ refusal) × (old.failed ≡ false)) ⊎ ((fault ≡ Failed) × (old.failed ≡ true)))
+IsRefused refusal old new fault =
+    (new ≡ old) × (((fault ≡ refusal) × (old.failed ≡ false)) ⊎ ((fault ≡ Failed) × (old.failed ≡ true)))
 
 -- why what an input comes to did not take effect
 abbrev pub StopsIf : {S : Type 0} → Result Turn Fault → Held S → Held S → Fault → Type 0
@@ -58,5 +59,7 @@ Answers effect old new (Ok sent) = TurnsIf effect old new sent
 Answers effect old new (Err fault) = StopsIf effect old new fault
 
 -- what an input comes to for a replica, or its refusal
-abbrev pub effect_of : {S : Type 0} → (S → Action → S) → (S → Action → List Answer) → Held S → NodeInput → Result Turn Fault
-effect_of next answers held input = running_effect (setting_of next answers held) held.me held.records held.running input
+abbrev pub effect_of : {S : Type 0} → (S → Action → S) → (S → Action → List Answer) → Held S → NodeInput
+    → Result Turn Fault
+effect_of next answers held input =
+    running_effect (setting_of next answers held) held.me held.records held.running input

@@ -35,19 +35,22 @@ HasWrittenPromise w x i b = (part : NodePart) × (part_at w.nodes x ≡ Some par
 
 -- Of what two nodes have applied, the one now and the other later, one begins the other; and where they
 -- have applied equally many actions they are in one state, with the same answers given, and show the same.
-pub record Agree {S : Type 0} (next : S → Action → S) (answers : S → Action → List Answer) (image : S → List ℕ) (begin : S) (now later : World) : Type 0 where
+pub record Agree {S : Type 0} (next : S → Action → S) (answers : S → Action → List Answer) (image : S → List ℕ)
+    (begin : S) (now later : World) : Type 0 where
   pub applied : EachTwo now later (λ one other. AreAlike (applied_of one.records) (applied_of other.records))
   pub states : EachTwo now later (λ one other. AreLevel one other
       → replay_of next answers begin (applied_of one.records) ≡ replay_of next answers begin (applied_of other.records))
   pub images : EachTwo now later (λ one other. AreLevel one other
-      → image (replay_state next answers begin (applied_of one.records)) ≡ image (replay_state next answers begin (applied_of other.records)))
+      → image (replay_state next answers begin (applied_of one.records))
+      ≡ image (replay_state next answers begin (applied_of other.records)))
 
 module _ {S : Type 0} (next : S → Action → S) (answers : S → Action → List Answer) (begin : S) where
   -- A call takes effect at exactly one place of the actions, if it is answered; else at one place at most.
   abbrev pub TakesEffectOnce : List Action → CallName → Bool → Type 0
   TakesEffectOnce actions call true = (place : ℕ) × IsOnlyPlace next answers begin actions call place
   TakesEffectOnce actions call false =
-      (one other : ℕ) → IsPlace next answers begin actions call one → IsPlace next answers begin actions call other → one ≡ other
+      (one other : ℕ) → IsPlace next answers begin actions call one
+      → IsPlace next answers begin actions call other → one ≡ other
 
   -- There is one order in which all happens: what each node has applied begins it; the calls of each task that
   -- count in it are those that the task made, in order, with their objects, operations and arguments, all of
@@ -58,9 +61,13 @@ module _ {S : Type 0} (next : S → Action → S) (answers : S → Action → Li
     pub order : List Action
     pub decided : IsOrder nodes w.sent order
     pub applied : (x : ℕ) (part : NodePart) → part_at w.nodes x ≡ Some part → Begins (applied_of part.records) order
-    pub calls : (t : ℕ) (part : TaskPart) → part_at w.tasks t ≡ Some part → AreItsCalls w.sent t part (kept_of next answers begin order)
-    pub replies : (t k : ℕ) (part : TaskPart) (answer : Answer) → part_at w.tasks t ≡ Some part → slice_get part.replies k ≡ Some answer
+    pub calls : (t : ℕ) (part : TaskPart) → part_at w.tasks t ≡ Some part
+        → AreItsCalls w.sent t part (kept_of next answers begin order)
+    pub replies : (t k : ℕ) (part : TaskPart) (answer : Answer) → part_at w.tasks t ≡ Some part
+        → slice_get part.replies k ≡ Some answer
         → HasReply next answers begin order (named t (suc k)) answer
-    pub once : (t k : ℕ) (part : TaskPart) → part_at w.tasks t ≡ Some part → TakesEffectOnce order (named t (suc k)) (nat_lt k (length part.replies))
-    pub made : (t n place : ℕ) (part : TaskPart) → part_at w.tasks t ≡ Some part → IsPlace next answers begin order (named t n) place
+    pub once : (t k : ℕ) (part : TaskPart) → part_at w.tasks t ≡ Some part
+        → TakesEffectOnce order (named t (suc k)) (nat_lt k (length part.replies))
+    pub made : (t n place : ℕ) (part : TaskPart) → part_at w.tasks t ≡ Some part
+        → IsPlace next answers begin order (named t n) place
         → (1 ≤ n) × (n ≤ calls_so_far part)

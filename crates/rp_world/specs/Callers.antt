@@ -12,7 +12,8 @@ pub record Caller : Type 0 where
 
 -- the part of a task that has made these calls and taken these replies
 abbrev pub caller_of : ℕ → Calls → List Answer → Caller
-caller_of task calls replies = record { task = task; part = record { outstanding = calls.outstanding; replies = replies } }
+caller_of task calls replies =
+    record { task = task; part = record { outstanding = calls.outstanding; replies = replies } }
 
 -- The stub is the task's own, and has made the calls that have replies and the one that waits.
 pub record IsInStep (task : ℕ) (calls : Calls) (replies : List Answer) : Type 0 where

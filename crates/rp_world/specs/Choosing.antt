@@ -14,7 +14,8 @@ use Rattle.rp_world.specs.Shape.{IsWorld, part_by}
 use Rattle.rp_world.specs.declared.node.Node.{Node}
 
 -- the nodes are those of the world, in a cluster whose machine starts so
-pub record AreNodesOf {S D P : Type 0} (disk : D → Disk) (begin : S) (nodes : List (Node S D P)) (w : World) : Type 0 where
+pub record AreNodesOf {S D P : Type 0} (disk : D → Disk) (begin : S) (nodes : List (Node S D P)) (w : World)
+    : Type 0 where
   pub config : Config
   pub tasks : List Caller
   pub kept : IsWorld disk config begin nodes tasks

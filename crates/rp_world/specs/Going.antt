@@ -2,7 +2,8 @@
 use Rattle.std.specs.Prelude.{◌≡◌, ◌⊎◌, ℕ, Option, None, Some, Result, Ok, Err, List, length}
 use Rattle.rp_base.specs.declared.reply.Reply.{Reply}
 use Rattle.rp_codec.specs.declared.packet.Body.{Body}
-use Rattle.rp_codec.specs.declared.packet.Body.TheVariants.{Call, Prepare, Promise, Accept, Accepted, Decided, Ask, Nack, Reply as Answer, Report, PrepareRange, PromiseRange}
+use Rattle.rp_codec.specs.declared.packet.Body.TheVariants.{Call, Prepare, Promise, Accept, Accepted, Decided, Ask}
+use Rattle.rp_codec.specs.declared.packet.Body.TheVariants.{Nack, Reply as Answer, Report, PrepareRange, PromiseRange}
 use Rattle.rp_base.specs.declared.fault.Fault.{Fault}
 use Rattle.rp_base.specs.declared.fault.Fault.TheVariants.{OutOfMemory, Device, NotRunning}
 use Rattle.rp_model.specs.Answers.{Tells, IsLeft}
@@ -39,7 +40,8 @@ pub record Refuses (w : World) (effect : Result Happening Fault) (new : World) (
   pub unchanged : new ≡ w
 
 -- what a call that comes to an effect answers, where a failing device cuts it so
-abbrev pub Answers : World → Result Happening Fault → (ℕ → Result Happening Fault) → World → Result Effect Fault → Type 0
+abbrev pub Answers : World → Result Happening Fault → (ℕ → Result Happening Fault) → World → Result Effect Fault
+    → Type 0
 Answers w effect cut new (Ok told) = Goes w effect new told
 Answers w effect cut new (Err fault) = Refuses w effect new fault ⊎ (Wants w effect new fault ⊎ Fails cut new fault)
 

@@ -35,7 +35,8 @@ pub record Sending : Type 0 where
 
 -- what was sent: texts whose ends are known, and behind them those of the last step
 abbrev pub sending_of : List ℕ → List ℕ → List ℕ → ℕ → Sending
-sending_of bytes ends last count = record { sent = packets_in (length ends) bytes ++ packets_in count last; apart = count }
+sending_of bytes ends last count =
+    record { sent = packets_in (length ends) bytes ++ packets_in count last; apart = count }
 
 -- how the messages lie
 pub record AreMessages (bytes ends last : List ℕ) (count : ℕ) : Type 0 where

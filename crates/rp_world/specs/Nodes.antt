@@ -1,6 +1,7 @@
 -- A node of a cluster: a replica that runs, or a device that rests. A replica whose device failed rests too
 -- (this project's own).
-use Rattle.std.specs.Prelude.{◌≡◌, ◌⊎◌, ℕ, ◌+◌, ◌<◌, min, Bool, true, false, Option, None, IsSome, Result, Ok, Err, List, length}
+use Rattle.std.specs.Prelude.{◌≡◌, ◌⊎◌, ℕ, ◌+◌, ◌<◌, min, Bool, true, false, Option, None, IsSome, Result, Ok, Err}
+use Rattle.std.specs.Prelude.{List, length}
 use Rattle.rp_base.specs.declared.action.Action.{Action}
 use Rattle.rp_base.specs.declared.reply.Answer.{Answer}
 use Rattle.rp_base.specs.declared.fault.Fault.TheVariants.{OutOfMemory, Device}
@@ -47,7 +48,8 @@ abbrev pub setting_at : {S : Type 0} → (S → Action → S) → (S → Action 
 setting_at next answers member = record { config = member.config; next = next; answers = answers; begin = member.begin }
 
 -- what an input comes to for its part
-abbrev pub node_step : {S : Type 0} → (S → Action → S) → (S → Action → List Answer) → Member S → NodeInput → NodePart → Result (Done NodePart) Fault
+abbrev pub node_step : {S : Type 0} → (S → Action → S) → (S → Action → List Answer) → Member S → NodeInput → NodePart
+    → Result (Done NodePart) Fault
 node_step next answers member input part = node_effect (setting_at next answers member) member.me part input
 
 -- what a step comes to is no refusal
@@ -67,7 +69,8 @@ StandsFor disk member (Stopped device) part = RestsAs member.config.max_position
 
 module _ {S D P : Type 0} (disk : D → Disk) (member : Member S) (old new : Node S D P) where
   -- a step of the node is this effect on its part, and is told so
-  abbrev pub GoesBy : {A : Type 0} → (NodePart → Result (Done NodePart) Fault) → (A → Done NodePart → Type 0) → A → Type 0
+  abbrev pub GoesBy : {A : Type 0} → (NodePart → Result (Done NodePart) Fault) → (A → Done NodePart → Type 0) → A
+      → Type 0
   GoesBy effect tells answer =
       (part : NodePart) → StandsFor disk member old part
       → (done : Done NodePart) × (effect part ≡ Ok done) × StandsFor disk member new done.part × tells answer done
@@ -97,7 +100,8 @@ module _ {S D P : Type 0} (disk : D → Disk) (member : Member S) (old new : Nod
       (part : NodePart) → StandsFor disk member old part
       → ((effect part ≡ Err fault) × StandsFor disk member new part)
       ⊎ (((fault ≡ OutOfMemory) × IsComing (effect part) × StandsFor disk member new part)
-      ⊎ ((fault ≡ Device) × (kept : ℕ) × (done : Done NodePart) × (effect part ≡ Ok done) × StandsFor disk member new (cut_part kept part done.written) × IsSome done.written))
+      ⊎ ((fault ≡ Device) × (kept : ℕ) × (done : Done NodePart) × (effect part ≡ Ok done)
+      × StandsFor disk member new (cut_part kept part done.written) × IsSome done.written))
 
 -- how many bytes a device holds that keeps the part: the texts of its records, and the torn bytes
 abbrev pub stored_length : NodePart → ℕ

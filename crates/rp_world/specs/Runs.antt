@@ -31,7 +31,8 @@ module _ {S P : Type 0} (next : S → Action → S) (answers : S → Action → 
 
   -- The counts of failures after a run: as before, but that of one node where its device failed, at the event
   -- where the run stopped.
-  abbrev pub AreCountedBy : (old : Setup P) (events : List Event) (new : Setup P) (answer : Result Unit Refused) → ComesTo old events new.world answer → Type 0
+  abbrev pub AreCountedBy : (old : Setup P) (events : List Event) (new : Setup P) (answer : Result Unit Refused)
+      → ComesTo old events new.world answer → Type 0
   AreCountedBy old events new (Ok all) came = new.failures ≡ old.failures
   AreCountedBy old events new (Err refused) came =
       let fault : Result Unit Fault = Err refused.fault in

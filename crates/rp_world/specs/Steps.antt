@@ -45,7 +45,8 @@ module _ {S P : Type 0} (next : S → Action → S) (answers : S → Action → 
     pub failures : AreCounted (node_of old.world (event_of event)) old.failures new.failures answer
 
 -- the same of a part that runs or is stopped
-abbrev pub IsToldOfRunning : {A : Type 0} → Result A Fault → (A → List Rec → Type 0) → List Rec → Option Running → Type 0
+abbrev pub IsToldOfRunning : {A : Type 0} → Result A Fault → (A → List Rec → Type 0) → List Rec → Option Running
+    → Type 0
 IsToldOfRunning answer tells records None = answer ≡ Err NotRunning
 IsToldOfRunning answer tells records (Some running) = IsOkAnd answer (λ a. tells a records)
 
@@ -71,4 +72,5 @@ IsStored answer (Some part) = answer ≡ Ok (stored_length part)
 
 -- the replica of a node that runs: refused by NotRunning at a stopped one, and by BadConfig where there is none
 abbrev pub IsReplicaOf : {S : Type 0} → Config → S → Result (Bor (Held S)) Fault → Option NodePart → Type 0
-IsReplicaOf config begin answer part = IsToldOf answer (λ held records. (held.now.begin ≡ begin) × (held.now.records ≡ records)) part
+IsReplicaOf config begin answer part =
+    IsToldOf answer (λ held records. (held.now.begin ≡ begin) × (held.now.records ≡ records)) part

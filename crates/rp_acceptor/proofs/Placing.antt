@@ -1,5 +1,5 @@
 -- The last votes at the positions of a range, by the places that hold them.
-use Rattle.std.proofs.Common.{◌≡◌, ℕ, zero, suc, ◌+◌, ◌<◌, ◌≤◌, Option, Some, None, List, [], ◌∷◌, ◌++◌, length, refl, sym, ap, ◌∙◌, arith}
+use Rattle.std.proofs.Common.{◌≡◌, ℕ, zero, suc, ◌+◌, ◌<◌, ◌≤◌, Option, Some, None, List, [], ◌∷◌, ◌++◌, length, refl, sym, ap, ◌∙◌, arith, length-append}
 use Rattle.std.specs.Prelude.{filter_map}
 use Rattle.std.specs.List.{range_with_len, cons_option}
 use Rattle.rp_base.specs.declared.record.Rec.{Rec}
@@ -39,3 +39,9 @@ placed_parts records first (suc m) n next zero all at = absurd (omega (arith, al
 placed_parts records first (suc m) n next (suc k) all at =
     sym (one_then (placed_last records first) (filter_map (placed_last records) (range_with_len (first + 1) m)) (filter_map (placed_last records) (range_with_len next n)))
     ∙ ap (cons_option (placed_last records first)) (placed_parts records (first + 1) m n next k (omega (arith, all)) (omega (arith, at)))
+
+-- where a vote is left, there is one in all
+pub one_left : (old votes all rest : List PlacedVote) (placed : PlacedVote) → votes ++ placed ∷ rest ≡ old ++ all → length old ≤ length votes → ¬ (all ≡ [])
+one_left old votes all rest placed is more none =
+    let long = ap length (is ∙ ap (λ (l : List PlacedVote). old ++ l) none) in
+    omega (arith, long, more, length-append votes (placed ∷ rest), length-append old [])

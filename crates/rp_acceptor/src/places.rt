@@ -1,6 +1,6 @@
 //! The last votes at the positions of a range, where an acceptor keeps them.
 
-ghost use Rattle.std.specs.Prelude.{◌≡◌, ◌+◌, ◌-◌, ◌<◌, ◌≤◌, ◌++◌, ℕ, List, length, IfOk, OnOk};
+ghost use Rattle.std.specs.Prelude.{◌≡◌, ◌+◌, ◌-◌, ◌<◌, ◌≤◌, ◌++◌, ℕ, List, [], length, IfOk, OnOk, OnErr};
 ghost use Rattle.rp_base.specs.declared.record.Rec.{Rec};
 ghost use Rattle.rp_base.specs.PlacedVotes.{last_votes};
 ghost use Rattle.rp_acceptor.specs.Comparing.{compared_votes};
@@ -76,7 +76,8 @@ impl<'a> Places<'a> {
 
     /// The votes in a vector, which takes no memory where there are none.
     pub fn to_vec(&self, alloc: Global) -> Result<Vec<PlacedVote>, AllocError>
-        ensures { IfOk result (λ votes. votes.items ≡ self.now) }
+        ensures votes { IfOk result (λ votes. votes.items ≡ self.now) }
+        ensures full { OnErr result (¬ (self.now ≡ [])) }
     {
         let mut votes = Vec::new(alloc);
         append(&mut votes, self.near, self.range, 0)?;
@@ -118,7 +119,8 @@ fn push(votes: &mut RangeVotes, places: &[Option<Vote>], range: PositionRange, f
     }
 }
 
-/// Adds the votes at places to those of a vector, the first place that of an index of the range.
+/// Adds the votes at places to those of a vector, the first place that of an index of the range. It
+/// takes memory only where there is a vote.
 fn append(
     votes: &mut Vec<PlacedVote>,
     places: &[Option<Vote>],
@@ -126,8 +128,9 @@ fn append(
     first: u8,
 ) -> Result<(), AllocError>
     requires { first + length places.now ≤ range.count }
-    ensures { OnOk result (votes.new.items
+    ensures added { OnOk result (votes.new.items
         ≡ votes.old.items ++ placed_from (range.first + first) places.now) }
+    ensures full { OnErr result (¬ (placed_from (range.first + first) places.now ≡ [])) }
 {
     for offset in 0..places.len() {
         if let Some(vote) = &places[offset] {

@@ -1,6 +1,6 @@
 //! The acceptor's questions for a range of positions.
 
-ghost use Rattle.std.specs.Prelude.{◌≡◌, IfOk};
+ghost use Rattle.std.specs.Prelude.{◌≡◌, [], IfOk, OnErr};
 ghost use Rattle.rp_base.specs.PlacedVotes.{last_votes};
 ghost use Rattle.rp_base.specs.Ranges.{positions_of};
 ghost use Rattle.rp_base.specs.Records.{bound_at};
@@ -40,13 +40,15 @@ impl Acceptor {
         self.steps.compare(range, ballot).combined(votes)
     }
 
-    /// The last votes at the positions of the range, in a vector.
+    /// The last votes at the positions of the range, in a vector, which takes no memory where there
+    /// are none.
     pub fn list_last_votes(
         &self,
         alloc: Global,
         range: PositionRange,
     ) -> Result<Vec<PlacedVote>, AllocError>
-        ensures { IfOk result (λ votes. votes.items ≡ last_votes self.now.records range) }
+        ensures votes { IfOk result (λ votes. votes.items ≡ last_votes self.now.records range) }
+        ensures full { OnErr result (¬ (last_votes self.now.records range ≡ [])) }
     {
         self.places(range).to_vec(alloc)
     }

@@ -60,9 +60,7 @@ impl<M: Machine, D: Device> Replica<M, D> {
             ≡ is_free_position self.now.config.nodes self.now.records
             self.now.running.proposals position }
     {
-        !self.is_learned(position)
-            && (self.proposer.runs(position).is_none()
-                || self.proposer.prepared(position).is_some())
+        !self.is_learned(position) && self.proposer.is_ready(position)
     }
 }
 

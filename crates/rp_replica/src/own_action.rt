@@ -1,6 +1,6 @@
 //! What a proposal takes as its own action.
 
-ghost use Rattle.std.specs.Prelude.{◌≡◌, find};
+ghost use Rattle.std.specs.Prelude.{◌≡◌, find, option_copied};
 ghost use Rattle.rp_base.specs.Proposals.{without_proposal};
 ghost use Rattle.rp_base.specs.Records.{applied_of};
 ghost use Rattle.rp_machine.specs.Replay.{kept_of};
@@ -22,23 +22,27 @@ impl<M: Machine, D: Device> Replica<M, D> {
     {
         let (front, back) = self.pending.as_slices();
         match self.first_free(position, front) {
-            Some(item) => item,
+            Some(item) => *item,
             None => match self.first_free(position, back) {
-                Some(item) => item,
+                Some(item) => *item,
                 None => RightAction::new(Action::Noop),
             },
         }
     }
 
     /// The first of these items that is free.
-    fn first_free(&self, position: Position, items: &[RightAction]) -> Option<RightAction>
-        ensures { result ≡ find (is_free_item
+    fn first_free<'a>(
+        &self,
+        position: Position,
+        items: &'a [RightAction],
+    ) -> Option<&'a RightAction>
+        ensures { option_copied result ≡ find (is_free_item
             (kept_of M.next M.answers self.now.begin (applied_of self.now.records))
             (without_proposal self.now.running.proposals position)) items.now }
     {
         for item in items {
             if self.is_free(position, *item) {
-                return Some(*item);
+                return Some(item);
             }
         }
         None

@@ -1,5 +1,5 @@
 use Rattle.std.proofs.Common.{◌≡◌, Bool, Option, Some, None, List, ◌++◌, find, sym, ap, ◌∙◌}
-use Rattle.std.specs.Prelude.{unwrap_or}
+use Rattle.std.specs.Prelude.{unwrap_or, option_copied}
 use Rattle.rp_base.specs.declared.action.Action.{Action}
 use Rattle.rp_base.specs.declared.action.Action.TheVariants.{Noop}
 use Rattle.rp_base.specs.Proposals.{without_proposal}
@@ -18,8 +18,8 @@ returns-in-Some g c =
     let front : List Action = c.as_slices.result.0.now in
     let back : List Action = c.as_slices.result.1.now in
     let all : front ++ back ≡ h.running.pending = c.as_slices.ensures ∙ ap (λ (k : Held g.row.M.Denot). k.running.pending) c.self.view_is in
-    let first : find test front ≡ Some c.in-Some.item = sym c.first_free.ensures ∙ c.in-Some.is in
-    let found : find test h.running.pending ≡ Some c.in-Some.item = ap (find test) (sym all) ∙ find_before test front back c.in-Some.item first in
+    let first : find test front ≡ Some c.in-Some.item.now = sym c.first_free.ensures ∙ ap option_copied c.in-Some.is in
+    let found : find test h.running.pending ≡ Some c.in-Some.item.now = ap (find test) (sym all) ∙ find_before test front back c.in-Some.item.now first in
     sym (ap (λ (o : Option Action). unwrap_or o Noop) found)
 
 pub returns-in-Some-first_free : goal.returns-in-Some-first_free
@@ -30,9 +30,9 @@ returns-in-Some-first_free g c =
     let front : List Action = c.as_slices.result.0.now in
     let back : List Action = c.as_slices.result.1.now in
     let all : front ++ back ≡ h.running.pending = c.as_slices.ensures ∙ ap (λ (k : Held g.row.M.Denot). k.running.pending) c.self.view_is in
-    let first : find test front ≡ None = sym c.first_free.ensures ∙ c.in-None.is in
-    let second : find test back ≡ Some c.in-Some-first_free.item = sym c.first_free-in-None.ensures ∙ c.in-Some-first_free.is in
-    let found : find test h.running.pending ≡ Some c.in-Some-first_free.item = ap (find test) (sym all) ∙ find_behind test front back first ∙ second in
+    let first : find test front ≡ None = sym c.first_free.ensures ∙ ap option_copied c.in-None.is in
+    let second : find test back ≡ Some c.in-Some-first_free.item.now = sym c.first_free-in-None.ensures ∙ ap option_copied c.in-Some-first_free.is in
+    let found : find test h.running.pending ≡ Some c.in-Some-first_free.item.now = ap (find test) (sym all) ∙ find_behind test front back first ∙ second in
     sym (ap (λ (o : Option Action). unwrap_or o Noop) found)
 
 pub returns-in-None-first_free : goal.returns-in-None-first_free
@@ -43,7 +43,7 @@ returns-in-None-first_free g c =
     let front : List Action = c.as_slices.result.0.now in
     let back : List Action = c.as_slices.result.1.now in
     let all : front ++ back ≡ h.running.pending = c.as_slices.ensures ∙ ap (λ (k : Held g.row.M.Denot). k.running.pending) c.self.view_is in
-    let first : find test front ≡ None = sym c.first_free.ensures ∙ c.in-None.is in
-    let second : find test back ≡ None = sym c.first_free-in-None.ensures ∙ c.in-None-first_free.is in
+    let first : find test front ≡ None = sym c.first_free.ensures ∙ ap option_copied c.in-None.is in
+    let second : find test back ≡ None = sym c.first_free-in-None.ensures ∙ ap option_copied c.in-None-first_free.is in
     let found : find test h.running.pending ≡ None = ap (find test) (sym all) ∙ find_behind test front back first ∙ second in
     c.new.ensures ∙ sym (ap (λ (o : Option Action). unwrap_or o Noop) found)

@@ -55,21 +55,27 @@ fn a_lower_ballot_gets_the_bound(rt: HostRuntime) -> Result<(), Fail> {
 }
 
 #[test]
-fn a_ballot_gets_one_vote_and_later_ones_hear_of_it(rt: HostRuntime) -> Result<(), Fail> {
+fn a_ballot_gets_one_vote(rt: HostRuntime) -> Result<(), Fail> {
     let mut acceptor = promised(rt.alloc())?;
-    let (first, ten, eighteen) = (position(1)?, ballot(10)?, ballot(18)?);
+    let (first, ten) = (position(1)?, ballot(10)?);
     let (a, b) = (call(5), call(2));
-
     let rec = Rec::Voted(first, ten, a);
     assert_eq!(rt; acceptor.accept(first, ten, &a), AcceptAnswer::Vote { rec });
     write(&mut acceptor, first, &rec)?;
     assert_eq!(rt; acceptor.accept(first, ten, &a), AcceptAnswer::Again);
     assert_eq!(rt; acceptor.accept(first, ten, &b), AcceptAnswer::Silent);
+    Ok(())
+}
 
+#[test]
+fn a_higher_ballot_hears_of_a_vote(rt: HostRuntime) -> Result<(), Fail> {
+    let (first, ten, eighteen) = (position(1)?, ballot(10)?, ballot(18)?);
+    let action = call(5);
+    let mut acceptor = Acceptor::restore(rt.alloc(), &[Rec::Voted(first, ten, action)])?;
     let rec = Rec::Promised(first, eighteen);
     let last = Some(Vote {
         ballot: ten,
-        action: a,
+        action,
     });
     assert_eq!(rt;
         acceptor.prepare(first, eighteen),
@@ -77,14 +83,19 @@ fn a_ballot_gets_one_vote_and_later_ones_hear_of_it(rt: HostRuntime) -> Result<(
     );
     write(&mut acceptor, first, &rec)?;
     assert_eq!(rt;
-        acceptor.accept(first, ten, &a),
+        acceptor.accept(first, ten, &action),
         AcceptAnswer::Nack(eighteen)
     );
+    Ok(())
+}
 
-    let (second, nine) = (position(2)?, ballot(9)?);
-    let rec = Rec::Voted(second, nine, b);
+#[test]
+fn a_promise_counts_at_its_position_alone(rt: HostRuntime) -> Result<(), Fail> {
+    let acceptor = promised(rt.alloc())?;
+    let (second, nine, action) = (position(2)?, ballot(9)?, call(2));
+    let rec = Rec::Voted(second, nine, action);
     assert_eq!(rt;
-        acceptor.accept(second, nine, &b),
+        acceptor.accept(second, nine, &action),
         AcceptAnswer::Vote { rec }
     );
     Ok(())

@@ -1,7 +1,6 @@
 pub mod Noting
 pub mod Keeping
 pub mod Answering
-pub mod RangeAnswering
 pub mod Applied
 pub mod Saying
 pub mod Promising

@@ -9,6 +9,7 @@ ghost use Rattle.rp_replica.specs.Plans.{turn_of, MayCommit};
 
 use crate::plan::{Plan, RangePromise};
 use crate::replica::Replica;
+use rp_acceptor::Comparison;
 use rp_base::{
     AcceptAnswer, Action, Ballot, NodeId, Position, PositionRange, PrepareAnswer,
     last_votes_lie_below, range_votes_are_reported,
@@ -48,16 +49,14 @@ impl<M: Machine, D: Device> Replica<M, D> {
         ensures may { MayCommit self.now result }
     {
         range_votes_are_reported();
-        if self.acceptor.is_above_bounds(range, ballot) {
-            return Plan::PromiseRange(RangePromise {
+        match self.acceptor.compare(range, ballot) {
+            Comparison::Above => Plan::PromiseRange(RangePromise {
                 to: from,
                 range,
                 ballot,
-            });
-        }
-        match self.acceptor.refusing_bound(range, ballot) {
-            Some((position, bound)) => Plan::Refuse(from, position, ballot, bound),
-            None => Plan::Pass(Dropped::No),
+            }),
+            Comparison::Below(position, bound) => Plan::Refuse(from, position, ballot, bound),
+            Comparison::Equal => Plan::Pass(Dropped::No),
         }
     }
 

@@ -56,7 +56,7 @@ impl<M: Machine, D: Device> Replica<M, D> {
             (last_votes self.now.records promise.now.range)) promise.now.to)) }
     {
         let RangePromise { to, range, ballot } = *promise;
-        let votes = Votes::from_vec(self.acceptor.last_votes(range).as_slice().to_vec(alloc)?);
+        let votes = Votes::from_vec(self.acceptor.list_last_votes(alloc, range)?);
         let told = Body::PromiseRange {
             range,
             ballot,

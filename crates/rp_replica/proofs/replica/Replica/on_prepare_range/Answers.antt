@@ -1,7 +1,8 @@
-use Rattle.std.proofs.Common.{List, suc, sym, subst, ◌∙◌}
+use Rattle.std.proofs.Common.{List, suc, sym, subst}
 use Rattle.std.specs.Prelude.{nat_le}
 use Rattle.std.specs.List.{AllByRecursion}
 use Rattle.std.proofs.lemmas.Bool.{and_parts, leb-true}
+use Rattle.rp_acceptor.proofs.Answering.{above_all, refused_below}
 use Rattle.rp_base.specs.Ranges.{end_of}
 use Rattle.rp_base.specs.declared.record.Rec.{Rec}
 use Rattle.rp_base.specs.Right.{IsRightRecord}
@@ -9,11 +10,10 @@ use Rattle.rp_base.specs.PlacedVotes.{AreReported, last_votes}
 use Rattle.rp_replica.specs.Held.{Held}
 use Rattle.rp_model.specs.Parts.{is_in_log}
 use Rattle.rp_replica.proofs.Answering.{right_records}
-use Rattle.rp_replica.proofs.RangeAnswering.{refused_below}
 use Rattle.rp_replica.proofs.replica.Replica.on_prepare_range.Goals as goal
 
-pub returns-then-is_above_bounds-clause-may : goal.returns-then-is_above_bounds-clause-may
-returns-then-is_above_bounds-clause-may g c =
+pub returns-in-Above-clause-may : goal.returns-in-Above-clause-may
+returns-in-Above-clause-may g c =
     let r = c.self.inside in
     let range = c.args.range in
     let most = c.args.self.now.config.max_positions in
@@ -21,8 +21,8 @@ returns-then-is_above_bounds-clause-may g c =
     let right : AllByRecursion IsRightRecord r.acceptor.records =
     subst (λ (rs : List Rec). AllByRecursion IsRightRecord rs) (sym stands.counted) (right_records (is_in_log r.config.max_positions) stands.all stands.found.each) in
     let within = and_parts (nat_le range.first most) (nat_le (end_of range) (suc most)) c.requires.place in
-    let above = sym c.is_above_bounds.ensures ∙ c.if-is_above_bounds.true in
+    let above = above_all r.acceptor.records range c.args.ballot c.in-Above.ensures in
     (leb-true range.first most within.0, subst (λ (k : Held g.row.M.Denot). AreReported range c.args.ballot (last_votes k.records range)) c.self.view_is (c.range_votes_are_reported.ensures.reported r.acceptor.records range c.args.ballot right above))
 
-pub returns-in-Some-clause-may : goal.returns-in-Some-clause-may
-returns-in-Some-clause-may g c = refused_below c.self.inside.acceptor.records c.args.range c.args.ballot _ c.in-Some.ensures
+pub returns-in-Below-clause-may : goal.returns-in-Below-clause-may
+returns-in-Below-clause-may g c = refused_below c.self.inside.acceptor.records c.args.range c.args.ballot c.in-Below.position c.in-Below.bound c.in-Below.ensures

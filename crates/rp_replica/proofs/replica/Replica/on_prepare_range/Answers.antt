@@ -1,4 +1,4 @@
-use Rattle.std.proofs.Common.{List, suc, sym, subst, ◌∙◌}
+use Rattle.std.proofs.Common.{List, suc, sym, subst}
 use Rattle.std.specs.Prelude.{nat_le}
 use Rattle.std.specs.List.{AllByRecursion}
 use Rattle.std.proofs.lemmas.Bool.{and_parts, leb-true}

@@ -1,5 +1,5 @@
 -- What the program does with the words of the command line, and how it ends.
-use Rattle.std.specs.Prelude.{◌≡◌, ◌≢◌, ◌⊎◌, ℕ, true, false, Option, Some, None, Result, Ok, Err, List, [], codes, option_map, IsSome, IfOk, OnOk, IfErr, OnErr}
+use Rattle.std.specs.Prelude.{◌≡◌, ◌≢◌, ◌⊎◌, ℕ, true, false, Option, Some, None, Result, Ok, Err, List, [], codes, option_map, IfOk, OnOk, IfErr, OnErr}
 use Rattle.std.specs.Io.KnownBytes.{Appends}
 use Rattle.clap.specs.Kinds.{IsAmong}
 use Rattle.clap.specs.Words.{Text, fault_of, subcommand_of}
@@ -30,10 +30,12 @@ pub record AsksFor (words : List Text) (args : Args) : Type 0 where
   pub quiet : trace_of words ≡ Some (codes "false") → args ≡ Script false
   pub live : (seed turns : ℕ) → ReadsAs (seed_of words) seed → ReadsAs (turns_of words) turns → args ≡ Live seed turns
 
--- what a run without a fault prints, of the deck that the bytes given to it mean
-abbrev pub Prints : Args → Option (List ℕ) → Option (List ℕ) → Option (List ℕ) → Type 0
-Prints (Script traced) given old new = ScriptPrints traced given old new
-Prints (Live seed turns) given old new = LivePrints seed turns given old new
+-- what a run without a fault prints, of the deck that the bytes given to it mean: a script has no figures to report, and a
+-- run in threads has those of the run that it prints
+abbrev pub Prints : Args → Option (List ℕ) → Option (List ℕ) → Option (List ℕ) → Option FiguresLine → Type 0
+Prints (Script traced) given old new figures = ScriptPrints traced given old new × (figures ≡ None)
+Prints (Live seed turns) given old new None = ⊥
+Prints (Live seed turns) given old new (Some line) = LivePrints seed turns given old new line.figures
 
 -- what a run that a fault ends printed: nothing, or a beginning of that
 abbrev pub HasBegun : Args → Option (List ℕ) → Option (List ℕ) → Option (List ℕ) → Type 0
@@ -45,11 +47,6 @@ abbrev pub mode_of : Args → Mode
 mode_of (Script traced) = modes.Script
 mode_of (Live seed turns) = modes.Live
 
--- a run in threads has figures to report, and a script has none
-abbrev pub HasFiguresFor : Args → Option FiguresLine → Type 0
-HasFiguresFor (Script traced) figures = figures ≡ None
-HasFiguresFor (Live seed turns) figures = IsSome figures
-
 -- what is reported of a run: the line of its figures or of its fault, if it has any
 abbrev pub report_of : Result (Option FiguresLine) Fault → List ℕ
 report_of (Ok None) = []
@@ -59,14 +56,13 @@ report_of (Err fault) = with_line_feed (fault_line_of fault)
 -- What the words ask for was run, with the deck that the bytes given to it mean. It printed what such a run prints, or
 -- a fault ended it, after a beginning of that at most. Where the bytes mean no deck, nothing is printed, and the fault has
 -- the first bad line and the first reason on it. The status is 0 where it had no fault, and else that of the fault, which
--- is reported; so are a live run's figures.
+-- is reported; so are the figures of a live run, which are those of the run that it printed.
 pub record RunsAs (args : Args) (given output output_after errors errors_after : Option (List ℕ)) (ending : Ending) : Type 0 where
   pub ran : Result (Option FiguresLine) Fault
-  pub printed : OnOk ran (Prints args given output output_after)
+  pub printed : IfOk ran (Prints args given output output_after)
   pub begun : OnErr ran (HasBegun args given output output_after)
   pub meant : IfErr ran (IsMeant (mode_of args) given)
   pub bad : IfErr ran (λ fault. IsBadDeck fault → output_after ≡ output)
-  pub figures : IfOk ran (HasFiguresFor args)
   pub fault : IfErr ran IsProgramFault
   pub status : ending.status ≡ status_after ran
   pub reported : OnOk ending.reported (Appends errors errors_after (report_of ran))

@@ -3,7 +3,7 @@
 ghost use Rattle.std.specs.Prelude.{◌≡◌, IfErr, IfOk, OnErr, OnOk, map};
 ghost use Rattle.std.specs.Io.KnownBytes.{Appends};
 ghost use Rattle.clap.specs.Values.{kind_of};
-ghost use Rattle.rp_console.specs.Console.{FollowsWords, HasBegun, HasFiguresFor, IsUnread, Prints, mode_of, RefusesAs, report_of};
+ghost use Rattle.rp_console.specs.Console.{FollowsWords, HasBegun, IsUnread, Prints, mode_of, RefusesAs, report_of};
 ghost use Rattle.rp_script.specs.Faults.{IsBadDeck, IsProgramFault};
 ghost use Rattle.rp_console.specs.Status.{status_after, status_of};
 ghost use Rattle.rp_script.specs.Given.{IsMeant};
@@ -61,7 +61,7 @@ pub fn obey<T: Threads + Wait + Clock, S: AsStr, R: Read + Drop, W: Write + Drop
 }
 
 /// Runs the deck that the reader holds, in its script's order or in threads. A run in threads has
-/// figures to report.
+/// its figures to report.
 fn run_as<T: Threads + Wait + Clock, R: Read, W: Write>(
     rt: &T,
     alloc: Global,
@@ -69,14 +69,13 @@ fn run_as<T: Threads + Wait + Clock, R: Read, W: Write>(
     reader: &mut R,
     writer: &mut W,
 ) -> Result<Option<FiguresLine>, Fault>
-    ensures output { OnOk result (Prints args (R.remaining reader.old)
+    ensures output { IfOk result (Prints args (R.remaining reader.old)
         (W.contents writer.old) (W.contents writer.new)) }
     ensures begun { OnErr result (HasBegun args (R.remaining reader.old)
         (W.contents writer.old) (W.contents writer.new)) }
     ensures meant { IfErr result (IsMeant (mode_of args) (R.remaining reader.old)) }
     ensures bad { IfErr result (λ fault. IsBadDeck fault
         → W.contents writer.new ≡ W.contents writer.old) }
-    ensures figures { IfOk result (HasFiguresFor args) }
     ensures fault { IfErr result IsProgramFault }
 {
     match args {

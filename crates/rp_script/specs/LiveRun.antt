@@ -7,6 +7,7 @@ use Rattle.rp_object.specs.State.{first_state}
 use Rattle.rp_object.specs.Step.{objects_next, objects_answers}
 use Rattle.rp_model.specs.declared.event.Event.{Event}
 use Rattle.rp_live.specs.Lived.{IsLived}
+use Rattle.rp_live.specs.declared.figures.Figures.{Figures}
 use Rattle.rp_live.specs.declared.run.Lived.{Lived}
 use Rattle.rp_script.specs.Given.{MeansDeck}
 use Rattle.rp_script.specs.LiveOutput.{lived_text}
@@ -44,20 +45,23 @@ ComesOf deck (Objects program) seed turns lived =
 abbrev pub MayCome : Deck → ℕ → ℕ → Lived → Type 0
 MayCome deck seed turns lived = ComesOf deck deck.program seed turns lived
 
--- a text of what the deck that the reader's bytes mean may come to, by the seed and for so many turns
-pub record IsLiveText (seed turns : ℕ) (given : Option (List ℕ)) (text : List ℕ) : Type 0 where
+-- a text of what the deck that the reader's bytes mean may come to, by the seed and for so many turns, and the figures of
+-- the same run
+pub record IsLiveText (seed turns : ℕ) (given : Option (List ℕ)) (text : List ℕ) (figures : Figures) : Type 0 where
   pub deck : Deck
   pub means : MeansDeck Live given deck
   pub taken : IsDeckFor Live deck
   pub lived : Lived
   pub came : MayCome deck seed turns lived
   pub text_is : text ≡ lived_text (names_of deck.tasks) lived
+  pub figures_are : figures ≡ lived.figures
 
--- what a run in threads prints: such a text
-abbrev pub LivePrints : ℕ → ℕ → Option (List ℕ) → Option (List ℕ) → Option (List ℕ) → Type 0
-LivePrints seed turns given old new = (text : List ℕ) × IsLiveText seed turns given text × Appends old new text
+-- what a run in threads prints: such a text, whose run has these figures
+abbrev pub LivePrints : ℕ → ℕ → Option (List ℕ) → Option (List ℕ) → Option (List ℕ) → Figures → Type 0
+LivePrints seed turns given old new figures =
+    (text : List ℕ) × IsLiveText seed turns given text figures × Appends old new text
 
 -- where a fault ends it: nothing, or a beginning of such a text
 abbrev pub LiveBegins : ℕ → ℕ → Option (List ℕ) → Option (List ℕ) → Option (List ℕ) → Type 0
 LiveBegins seed turns given old new =
-    (new ≡ old) ⊎ ((text : List ℕ) × IsLiveText seed turns given text × Begins old new text)
+    (new ≡ old) ⊎ ((text : List ℕ) × (figures : Figures) × IsLiveText seed turns given text figures × Begins old new text)

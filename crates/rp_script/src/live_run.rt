@@ -1,6 +1,6 @@
 //! Runs a deck in threads.
 
-ghost use Rattle.std.specs.Prelude.{◌≡◌, All, IfErr, IfOk, OnErr, OnOk};
+ghost use Rattle.std.specs.Prelude.{◌≡◌, All, IfErr, IfOk, OnErr};
 ghost use Rattle.std.specs.Arc.{arc_value};
 ghost use Rattle.rp_script.specs.Faults.{IsBadDeck, IsProgramFault, IsRunFault};
 ghost use Rattle.rp_script.specs.Given.{IsMeant};
@@ -42,8 +42,8 @@ pub fn run_live<T: Threads + Wait + Clock, R: Read, W: Write>(
     turns: u32,
     writer: &mut W,
 ) -> Result<FiguresLine, Fault>
-    ensures output { OnOk result (LivePrints seed turns (R.remaining reader.old)
-        (W.contents writer.old) (W.contents writer.new)) }
+    ensures output { IfOk result (λ line. LivePrints seed turns (R.remaining reader.old)
+        (W.contents writer.old) (W.contents writer.new) line.figures) }
     ensures begun { OnErr result (LiveBegins seed turns (R.remaining reader.old)
         (W.contents writer.old) (W.contents writer.new)) }
     ensures meant { IfErr result (IsMeant Mode.Live (R.remaining reader.old)) }

@@ -104,8 +104,23 @@ impl Settled {
         }
     }
 
-    /// Settles the least number, and passes those that are settled behind it.
+    /// Settles the least number, and passes those that are settled after it.
+    #[inline(always)]
     fn pass(&mut self)
+        requires { least_of self.old + 1 < 2 ^ 64 }
+        ensures { (m : ℕ) → is_settled self.new m
+            ≡ (m == least_of self.old || is_settled self.old m) }
+    {
+        if self.above.is_empty() {
+            self.least += 1;
+        } else {
+            self.pass_settled();
+        }
+    }
+
+    /// The same where others may be settled after it.
+    #[inline(never)]
+    fn pass_settled(&mut self)
         requires { least_of self.old + 1 < 2 ^ 64 }
         ensures { (m : ℕ) → is_settled self.new m
             ≡ (m == least_of self.old || is_settled self.old m) }

@@ -19,6 +19,9 @@ const MOST_READS: u32 = 2_097_152;
 /// How many bytes are asked for at a time.
 const CHUNK: usize = 4096;
 
+/// Most lines have no more bytes than this, with their ends.
+const USUAL_LINE: usize = 80;
+
 /// Reads all that the reader gives. `Io` where a read fails, where there are more than 1,048,576
 /// bytes, and where the end does not come within 2,097,152 reads.
 pub fn read_whole<R: Read>(alloc: Global, reader: &mut R) -> Result<Vec<u8>, Fault>
@@ -81,6 +84,7 @@ pub fn print<W: Write, D: Display + Drop>(
         Writes (W.contents writer.old) (W.contents writer.new) (text ++ 10 ∷ []) result) }
     ensures fault { IfErr result IsReadFault }
 {
-    let text = format!(in alloc; "{line}\n")?;
+    let mut text = String::with_capacity(alloc, USUAL_LINE)?;
+    writeln!(text, "{line}")?;
     write_whole(writer, text.as_bytes())
 }

@@ -15,9 +15,9 @@ use Rattle.rp_script.proofs.Failing.{meant_run}
 use Rattle.rp_script.proofs.live_run.run_live.Goals as goal
 
 live_text : (seed turns : ℕ) (given : Option (List ℕ)) (deck : Deck) (lived : Lived) → MeansDeck Live given deck → IsDeckFor Live deck → MayCome deck seed turns lived
-    → IsLiveText seed turns given (lived_text (names_of deck.tasks) lived)
+    → IsLiveText seed turns given (lived_text (names_of deck.tasks) lived) lived.figures
 live_text seed turns given deck lived means taken came =
-    record { deck = deck; means = means; taken = taken; lived = lived; came = came; text_is = refl }
+    record { deck = deck; means = means; taken = taken; lived = lived; came = came; text_is = refl; figures_are = refl }
 
 pub returns-in-Ok-clause-output : goal.returns-in-Ok-clause-output
 returns-in-Ok-clause-output g c =
@@ -31,7 +31,7 @@ returns-clause-begun g c =
     let deck = c.in_ok-deck.deck in
     let lived = c.in_ok-lived.lived in
     let text = live_text c.args.seed c.args.turns (g.R.Read.remaining c.args.reader.now) deck lived c.in_ok-deck.ensures.deck c.in_ok-deck.ensures.taken c.in_ok-lived.ensures.lived in
-    inr (lived_text (names_of deck.tasks) lived, text, c.in-Err.ensures.told)
+    inr (lived_text (names_of deck.tasks) lived, lived.figures, text, c.in-Err.ensures.told)
 
 -- what is so of a fault is so of an answer that fails by it
 faulted : {A : Type 0} (Q : Fault → Type 0) (fault : Fault) (answer : Result A Fault) → IsErrAnd answer (λ e. e ≡ fault) → Q fault → IfErr answer Q

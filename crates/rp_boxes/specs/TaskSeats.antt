@@ -58,7 +58,8 @@ module _ {P : Type 0} (old : Chair P) (input : TaskInput) (new : Chair P) where
     pub unchanged : new ≡ old
     pub task : TaskPart
     pub was : old.part.role ≡ OfTask task
-    pub why : ((fault ≡ OutOfMemory) × (done : Done TaskPart) × (task_effect old.config old.number task input ≡ Ok done))
+    pub why : ((fault ≡ OutOfMemory) × (done : Done TaskPart)
+        × (task_effect old.config old.number task input ≡ Ok done))
         ⊎ (task_effect old.config old.number task input ≡ Err fault)
 
 -- ---- replies
@@ -69,7 +70,8 @@ told_effect task part None = goes_on_as part
 told_effect task part (Some told) = takes_reply task part told.0 told.1
 
 -- One event: the packet of this text, which the seat got, comes to the task, and this answer is taken.
-pub record IsReplyTurn {P : Type 0} (old : Chair P) (bytes : List ℕ) (new : Chair P) (taken : Option Answer) : Type 0 where
+pub record IsReplyTurn {P : Type 0} (old : Chair P) (bytes : List ℕ) (new : Chair P) (taken : Option Answer)
+    : Type 0 where
   pub packet : Message
   pub got : Has packet old.part.got
   pub text : bytes ≡ text_of packet
@@ -80,9 +82,10 @@ pub record IsReplyTurn {P : Type 0} (old : Chair P) (bytes : List ℕ) (new : Ch
   pub after : new ≡ record old { part = part_after old.part (OfTask done.part) done.sends }
   pub told : taken ≡ done.taken
 
--- There is an order of actions in which each reply of the task answers its call, which takes effect at one place; and its calls that count there are
--- those that it made, in order: all of them, or all but the one that it waits for.
-pub record IsTold {S : Type 0} (next : S → Action → S) (answers : S → Action → List Answer) (begin : S) (number : ℕ) (part : Part) : Type 0 where
+-- There is an order of actions in which each reply of the task answers its call, which takes effect at one place; and
+-- its calls that count there are those that it made, in order: all of them, or all but the one that it waits for.
+pub record IsTold {S : Type 0} (next : S → Action → S) (answers : S → Action → List Answer) (begin : S) (number : ℕ)
+    (part : Part) : Type 0 where
   pub order : List Action
   pub replies : (k : ℕ) (answer : Answer) → slice_get (task_of part.role).replies k ≡ Some answer
       → HasReply next answers begin order (named number (suc k)) answer

@@ -32,7 +32,8 @@ replies_at end = (task_of end.seat.part.role).replies
 
 -- of each node from 1 on as many actions are known as it has applied
 abbrev pub KnowsAll : List (List Action) → List ℕ → Type 0
-KnowsAll known applied = (place : ℕ) → IfSome (slice_get applied place) (λ count. count ≡ length (known_of known (suc place)))
+KnowsAll known applied =
+    (place : ℕ) → IfSome (slice_get applied place) (λ count. count ≡ length (known_of known (suc place)))
 
 module _ {S P : Type 0} (next : S → Action → S) (answers : S → Action → List Answer) (begin : P → S) where
   -- How the nodes and the tasks of a program came to their ends: all had their seats at one table, the nodes noted the
@@ -47,14 +48,18 @@ module _ {S P : Type 0} (next : S → Action → S) (answers : S → Action → 
     pub noted : List (Chair P)
     pub notes : AreNoted next answers begin events (length events) first_nodes noted
     pub node_loops : AllZip (λ seat end.
-        IsLooped next answers begin paced heard config.nodes turns seat (party_line seed (Node seat.number)) end) noted nodes
+        IsLooped next answers begin paced heard config.nodes turns seat
+        (party_line seed (Node seat.number)) end) noted nodes
     pub task_loops : AllZip (λ seat end.
-        IsTaskLooped next answers begin heard_task config.nodes turns (filter_map (call_by seat.number) events) seat (party_line seed (Task seat.number)) end) first_tasks tasks
+        IsTaskLooped next answers begin heard_task config.nodes turns (filter_map (call_by seat.number) events) seat
+        (party_line seed (Task seat.number)) end) first_tasks tasks
 
-  -- What was told of the nodes and tasks of these ends: the audit, which knew nothing of a node at first, read its log by
-  -- reports that the node sent to it; then all looked at the table as one. So many actions each node has applied, and these
-  -- are the replies of all tasks. The nodes agree where of each all is known that it has applied. The figures are theirs.
-  pub record IsTold {D : Type 0} (audit : Chair P) (nodes : List (NodeEnd S D P)) (tasks : List (TaskEnd S P)) (lived : Lived) : Type 0 where
+  -- What was told of the nodes and tasks of these ends: the audit, which knew nothing of a node at first, read its
+  -- log by reports that the node sent to it; then all looked at the table as one. So many actions each node has
+  -- applied, and these are the replies of all tasks. The nodes agree where of each all is known that it has applied.
+  -- The figures are theirs.
+  pub record IsTold {D : Type 0} (audit : Chair P) (nodes : List (NodeEnd S D P)) (tasks : List (TaskEnd S P))
+      (lived : Lived) : Type 0 where
     pub last : List (Chair P)
     pub reported : AllZip (λ end seat. HasOnlyReported end.seat seat) nodes last
     pub applied : AllZip (λ seat count. HasApplied seat.part count) last lived.applied.items
@@ -66,8 +71,10 @@ module _ {S P : Type 0} (next : S → Action → S) (answers : S → Action → 
     pub agree : (lived.agree ≡ true) ↔ KnowsAll known.known lived.applied.items
     pub figures : lived.figures ≡ figures_of nodes tasks
 
-  -- A whole run. In the one order the counted calls of each task are the calls among the events, in order, that it made.
-  pub record IsLived (config : Config) (program : P) (events : List Event) (seed turns : ℕ) (lived : Lived) : Type 0 where
+  -- A whole run. In the one order the counted calls of each task are the calls among the events, in order, that it
+  -- made.
+  pub record IsLived (config : Config) (program : P) (events : List Event) (seed turns : ℕ) (lived : Lived)
+      : Type 0 where
     pub audit : Chair P
     pub nodes : List (NodeEnd S Memory P)
     pub tasks : List (TaskEnd S P)
@@ -75,4 +82,5 @@ module _ {S P : Type 0} (next : S → Action → S) (answers : S → Action → 
     pub told : IsTold audit nodes tasks lived
     pub size : length lived.applied.items ≡ config.nodes
     pub calls : All (λ end.
-        CountsCalls end.seat.number (filter_map (call_by end.seat.number) events) end.made (kept_of next answers (begin program) told.together.order)) tasks
+        CountsCalls end.seat.number (filter_map (call_by end.seat.number) events) end.made
+        (kept_of next answers (begin program) told.together.order)) tasks

@@ -37,16 +37,18 @@ events_of lines = filter_map (λ line. event_of line.command) lines
 -- turns
 abbrev pub ComesOf : Deck → DeckProgram → ℕ → ℕ → Lived → Type 0
 ComesOf deck (Tally objects) seed turns lived =
-    IsLived tally_next tally_answers (λ objects. replicate objects (pos 0)) deck.config objects (events_of deck.script.items) seed turns lived
+    IsLived tally_next tally_answers (λ objects. replicate objects (pos 0)) deck.config objects
+    (events_of deck.script.items) seed turns lived
 ComesOf deck (Objects program) seed turns lived =
-    IsLived objects_next objects_answers (λ program. first_state (arc_value program.declarations)) deck.config program (events_of deck.script.items) seed turns lived
+    IsLived objects_next objects_answers (λ program. first_state (arc_value program.declarations)) deck.config program
+    (events_of deck.script.items) seed turns lived
 
 -- and a run of the deck's own program
 abbrev pub MayCome : Deck → ℕ → ℕ → Lived → Type 0
 MayCome deck seed turns lived = ComesOf deck deck.program seed turns lived
 
--- a text of what the deck that the reader's bytes mean may come to, by the seed and for so many turns, and the figures of
--- the same run
+-- a text of what the deck that the reader's bytes mean may come to, by the seed and for so many turns, and the
+-- figures of the same run
 pub record IsLiveText (seed turns : ℕ) (given : Option (List ℕ)) (text : List ℕ) (figures : Figures) : Type 0 where
   pub deck : Deck
   pub means : MeansDeck Live given deck
@@ -64,4 +66,5 @@ LivePrints seed turns given old new figures =
 -- where a fault ends it: nothing, or a beginning of such a text
 abbrev pub LiveBegins : ℕ → ℕ → Option (List ℕ) → Option (List ℕ) → Option (List ℕ) → Type 0
 LiveBegins seed turns given old new =
-    (new ≡ old) ⊎ ((text : List ℕ) × (figures : Figures) × IsLiveText seed turns given text figures × Begins old new text)
+    (new ≡ old) ⊎ ((text : List ℕ) × (figures : Figures) × IsLiveText seed turns given text figures
+    × Begins old new text)

@@ -1,5 +1,7 @@
 -- What the script of a deck prints (this project's own).
-use Rattle.std.specs.Prelude.{ℕ, zero, suc, ◌+◌, ◌-◌, ◌^◌, ◌&&◌, ℤ, min, not, nat_eq, nat_le, pos, Bool, Option, Some, None, Result, Ok, Err, List, [], ◌∷◌, ◌++◌, length, map, filter, replicate, find, flat_map, if◌then◌else◌, String, string_bytes}
+use Rattle.std.specs.Prelude.{ℕ, zero, suc, ◌+◌, ◌-◌, ◌^◌, ◌&&◌, ℤ, min, not, nat_eq, nat_le, pos, Bool, Option, Some}
+use Rattle.std.specs.Prelude.{None, Result, Ok, Err, List, [], ◌∷◌, ◌++◌, length, map, filter, replicate, find}
+use Rattle.std.specs.Prelude.{flat_map, if◌then◌else◌, String, string_bytes}
 use Rattle.std.specs.Arc.{arc_value}
 use Rattle.std.specs.List.{list_any}
 use Rattle.indexmap.specs.IndexMap.{IndexMap, keys}
@@ -27,7 +29,8 @@ use Rattle.rp_model.specs.Parts.{NodePart, Running}
 use Rattle.rp_model.specs.Effect.{Setting}
 use Rattle.rp_model.specs.Events.{event_of}
 use Rattle.rp_model.specs.World.{World, Happening, opening_world, event_effect, part_at}
-use Rattle.rp_script.specs.Items.{Item, Called, Replied, Shown, Noted, Note, Sent, Opened, AlreadyRunning, PendingFull, Stopped, Refused, DrainLimit, item_text, items_text}
+use Rattle.rp_script.specs.Items.{Item, Called, Replied, Shown, Noted, Note, Sent, Opened, AlreadyRunning, PendingFull}
+use Rattle.rp_script.specs.Items.{Stopped, Refused, DrainLimit, item_text, items_text}
 use Rattle.rp_script.specs.Printed.{opened_line_of, running_line_of, full_line_of, stopped_line_of}
 use Rattle.rp_script.specs.FaultLine.{with_line_feed}
 use Rattle.rp_script.specs.Trace.{task_name, message_line_of, party_text_of}
@@ -125,7 +128,8 @@ message_text names number (Some m) = with_line_feed (message_line_of names numbe
 -- each packet, by its number
 abbrev pub trace_text : List (List ℕ) → ℕ → List Message → List ℕ
 trace_text names number [] = []
-trace_text names number (m ∷ rest) = with_line_feed (message_line_of names number m) ++ trace_text names (suc number) rest
+trace_text names number (m ∷ rest) =
+    with_line_feed (message_line_of names number m) ++ trace_text names (suc number) rest
 
 abbrev pub traced_text : Bool → List (List ℕ) → ℕ → List Message → List ℕ
 traced_text traced names number packets = if traced then trace_text names number packets else []
@@ -264,7 +268,10 @@ module _ {S : Type 0} (s : RunSetting S) where
   -- is.
   abbrev pub effect_said : ℕ → Play → Event → Result Happening Fault → Said
   effect_said line play event (Ok happening) =
-      record { items = happening_items play.world event happening; play = record { world = happening.world; settled = settled_by event ++ play.settled } }
+      record {
+        items = happening_items play.world event happening;
+        play = record { world = happening.world; settled = settled_by event ++ play.settled };
+      }
   effect_said line play event (Err refusal) = note_said play (Refused line refusal)
 
   -- an event of the line of this number
@@ -277,7 +284,8 @@ module _ {S : Type 0} (s : RunSetting S) where
   drain_from line play None most = nothing_said play
   drain_from line play (Some message) zero = note_said play (DrainLimit line)
   drain_from line play (Some message) (suc most) =
-      and_then (event_said line play (Node (Deliver message))) (λ after. drain_from line after (least_unsettled after) most)
+      and_then (event_said line play (Node (Deliver message)))
+      (λ after. drain_from line after (least_unsettled after) most)
 
   -- `drain`, in a line of this number
   abbrev pub drained : ℕ → ℕ → Play → Said
@@ -320,7 +328,8 @@ module _ {S : Type 0} (s : RunSetting S) where
   -- the lines of a script in order
   unfoldable pub script_said : ℕ → Play → List Line → Said
   script_said most play [] = nothing_said play
-  script_said most play (line ∷ rest) = and_then (command_said most line.number play line.command) (λ after. script_said most after rest)
+  script_said most play (line ∷ rest) =
+      and_then (command_said most line.number play line.command) (λ after. script_said most after rest)
 
   -- all nodes run, and nothing was called, sent or settled
   abbrev pub opening_play : Play
@@ -343,7 +352,8 @@ output_at most deck s = text_of (run_said s most deck.script.items)
 -- a run of a tally of so many sums
 abbrev pub tally_run : Bool → Deck → ℕ → RunSetting (List ℤ)
 tally_run traced deck objects = record {
-  setting = record { config = deck.config; next = tally_next; answers = tally_answers; begin = replicate objects (pos 0) };
+  setting =
+      record { config = deck.config; next = tally_next; answers = tally_answers; begin = replicate objects (pos 0) };
   image = tally_image;
   names = names_of deck.tasks;
   traced = traced;
@@ -352,7 +362,13 @@ tally_run traced deck objects = record {
 -- a run of the protected objects of a program
 abbrev pub objects_run : Bool → Deck → Program → RunSetting ObjectsState
 objects_run traced deck program = record {
-  setting = record { config = deck.config; next = objects_next; answers = objects_answers; begin = first_state (arc_value program.declarations) };
+  setting =
+      record {
+        config = deck.config;
+        next = objects_next;
+        answers = objects_answers;
+        begin = first_state (arc_value program.declarations);
+      };
   image = objects_image;
   names = names_of deck.tasks;
   traced = traced;

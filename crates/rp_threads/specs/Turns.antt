@@ -90,7 +90,8 @@ module _ {S P : Type 0} (next : S → Action → S) (answers : S → Action → 
   abbrev pub IsAllOffered : Party → Chair P → Sent → Type 0
   IsAllOffered from seat sent =
       (packets : List Message) → sent.bytes.items ≡ texts_of packets → sent.packets ≡ length packets
-      → ((m : Message) → Has m packets → Has m seat.part.sent) → (m : Message) → Has m packets → IsOffered from seat (text_of m)
+      → ((m : Message) → Has m packets → Has m seat.part.sent) → (m : Message) → Has m packets
+      → IsOffered from seat (text_of m)
 
   -- One event, by such an input; so many packets were sent, each of which was offered to its box.
   pub record IsEventBy (Is : Input → Type 0) (old new : Chair P) (packets : ℕ) : Type 0 where
@@ -128,7 +129,8 @@ module _ {S P : Type 0} (next : S → Action → S) (answers : S → Action → 
 
   -- One event or none: the line takes what is fetched, and what it then gives on is received. Where it holds
   -- nothing, the node leads if it is to, and is else idle.
-  pub record IsNodeTurn (from : Party) (lead : Bool) (old new : Chair P) (line after : Line) (turned : Turned) : Type 0 where
+  pub record IsNodeTurn (from : Party) (lead : Bool) (old new : Chair P) (line after : Line) (turned : Turned)
+      : Type 0 where
     pub between : Chair P
     pub full : Line
     pub brought : IsBrought from (Node old.number) old between line full
@@ -137,7 +139,8 @@ module _ {S P : Type 0} (next : S → Action → S) (answers : S → Action → 
     pub gives : after ≡ line_after full
 
   -- The step after that was cut, or was none; the packet that the line gave on is lost.
-  pub record IsStoppedTurn (from : Party) (lead : Bool) (old new : Chair P) (line after : Line) (fault : Fault) : Type 0 where
+  pub record IsStoppedTurn (from : Party) (lead : Bool) (old new : Chair P) (line after : Line) (fault : Fault)
+      : Type 0 where
     pub between : Chair P
     pub full : Line
     pub brought : IsBrought from (Node old.number) old between line full

@@ -262,7 +262,8 @@ module _ {S : Type 0} (s : RunSetting S) where
   abbrev pub happening_items : World → Event → Happening → List Item
   happening_items before event happening =
       called_by event ++ Noted (traced_notes s.traced s.names (length before.sent + 1) happening.sends
-      ++ changed_notes happening.world.sent event happening.opened happening.dropped) ∷ taken_items s.names happening.taken
+      ++ changed_notes happening.world.sent event happening.opened happening.dropped)
+      ∷ taken_items s.names happening.taken
 
   -- What happened is told, and settles its messages. What was refused prints why, and leaves the play as it
   -- is.

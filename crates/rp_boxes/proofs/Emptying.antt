@@ -1,5 +1,5 @@
 -- The receiver's steps at a box: it takes the packet out of a full one, and clears it.
-use Rattle.std.proofs.Common.{◌≡◌, ◌≢◌, ◌⊎◌, ℕ, ◌<◌, ◌≤◌, eqb, Some, None, Vec, List, [], ◌∷◌, ◌++◌, length, set, slice_index, inl, inr, refl, sym, ap, subst, ◌∙◌, arith}
+use Rattle.std.proofs.Common.{◌≡◌, ◌≢◌, ◌⊎◌, ℕ, ◌<◌, ◌≤◌, eqb, Some, Vec, List, [], ◌∷◌, ◌++◌, length, set, slice_index, inl, inr, refl, sym, ap, subst, ◌∙◌, arith}
 use Rattle.std.specs.declared.alloc.Global.{Global}
 use mathlib.Core.Option.{some, none}
 use lib.ListN.{get_elem?}
@@ -11,7 +11,7 @@ use Rattle.rp_base.proofs.Members.{has_split}
 use Rattle.rp_codec.specs.Message.{Message}
 use Rattle.rp_model.specs.Effect.{Setting}
 use Rattle.rp_boxes.specs.Parts.{Part, View, actor_of, box_of, emptying, emptied}
-use Rattle.rp_boxes.specs.Rule.{Slot, IsBox, IsCarried, Ruled, all_sent}
+use Rattle.rp_boxes.specs.Rule.{Slot, IsBox, IsCarried, IsVacant, Ruled, all_sent}
 use Rattle.rp_boxes.specs.Plays.{alone, Took, Cleared}
 use Rattle.rp_boxes.specs.Moments.{IsMoment}
 use Rattle.rp_boxes.proofs.Worlds.{from_each, sent_by}
@@ -88,10 +88,10 @@ module _ {S : Type 0} (s : Setting S) (slots id x y : ℕ) (p : Part) (less : x 
       (λ miss. ((y, p) ∷ [], keeps, tt, still s t b id ((y, p) ∷ []) here r, (record { hit = λ e. absurd (miss e); miss = λ other. refl }, follows t (record { rule = r; seat = id; sees = here }))))
 
   -- the receiver took the packet out of the box that it claimed
-  cleared : p.takes ≡ b ∷ [] → (t : State Slot View) (r : Ruled s t) → 256 ≤ length t.homes → get_elem? t.views id ≡ some ((y, p) ∷ [])
-      → Ruled s record { words = set t.words b 0; homes = set t.homes b (some None); views = set t.views id ((y, emptied p) ∷ []) }
-  cleared holds t r roomy here =
-      boxed s t r id y p (emptied p) here x y 0 (set t.homes b (some None)) less fewer step (λ other apart. set_else t.homes b other (some None) apart) box
+  cleared : p.takes ≡ b ∷ [] → (slot : Slot) → IsVacant slot → (t : State Slot View) (r : Ruled s t) → 256 ≤ length t.homes → get_elem? t.views id ≡ some ((y, p) ∷ [])
+      → Ruled s record { words = set t.words b 0; homes = set t.homes b (some slot); views = set t.views id ((y, emptied p) ∷ []) }
+  cleared holds slot vacant t r roomy here =
+      boxed s t r id y p (emptied p) here x y 0 (set t.homes b (some slot)) less fewer step (λ other apart. set_else t.homes b other (some slot) apart) box
     where
       step : IsBoxStep r.parts y b p (emptied p)
       step = record {
@@ -121,14 +121,14 @@ module _ {S : Type 0} (s : Setting S) (slots id x y : ℕ) (p : Part) (less : x 
       inside : b < length t.homes
       inside = omega (arith, less, fewer, roomy)
 
-      box : IsBox after x y 0 (λ slot. get_elem? (set t.homes b (some None)) b ≡ some (some slot))
+      box : IsBox after x y 0 (λ held. get_elem? (set t.homes b (some slot)) b ≡ some (some held))
       box = record {
-        empty = λ e. set_here t.homes b (some None) inside;
+        empty = λ e. (slot, set_here t.homes b (some slot) inside, vacant);
         filling = none_both (λ e. omega (arith, e)) (λ h. not_filling (subst (Has b) (same_fills x) h));
         full = λ e. absurd (omega (arith, e));
         emptying = none_both (λ e. omega (arith, e)) (λ h. subst (λ (q : Part). Has b q.takes) (part_now s t r id y p (emptied p) here) h);
       }
 
-  pub clear_allows : 256 ≤ slots → p.takes ≡ b ∷ []
-      → Allows (Ruled s) slots id ((y, p) ∷ [], (b, None) ∷ []) b (λ n. 0) (λ found me. Cleared ((y, p) ∷ [], (b, None) ∷ []) me)
-  clear_allows roomy holds = λ t r size here fits. ((y, emptied p) ∷ [], gives, tt, cleared holds t r (omega (arith, size, roomy)) here, refl)
+  pub clear_allows : 256 ≤ slots → p.takes ≡ b ∷ [] → (slot : Slot) → IsVacant slot
+      → Allows (Ruled s) slots id ((y, p) ∷ [], (b, slot) ∷ []) b (λ n. 0) (λ found me. Cleared ((y, p) ∷ [], (b, slot) ∷ []) me)
+  clear_allows roomy holds slot vacant = λ t r size here fits. ((y, emptied p) ∷ [], gives, tt, cleared holds slot vacant t r (omega (arith, size, roomy)) here, refl)

@@ -1,5 +1,5 @@
 -- The sender's steps at a box: it claims an empty one, and publishes what it put there.
-use Rattle.std.proofs.Common.{◌≡◌, ◌≢◌, ℕ, ◌<◌, ◌≤◌, eqb, Some, None, Vec, List, [], ◌∷◌, length, set, slice_index, inl, refl, sym, subst, arith, get_or-set_same}
+use Rattle.std.proofs.Common.{◌≡◌, ◌≢◌, ℕ, ◌<◌, ◌≤◌, eqb, Some, Vec, List, [], ◌∷◌, length, set, slice_index, inl, refl, sym, subst, arith, get_or-set_same}
 use Rattle.std.specs.declared.alloc.Global.{Global}
 use mathlib.Core.Option.{some, none}
 use lib.ListN.{get_elem?}
@@ -60,7 +60,13 @@ module _ {S : Type 0} (s : Setting S) (slots id x y : ℕ) (p : Part) (less : x 
   claim_allows free says follows = λ t r size here fits.
       exchanged (slice_index t.words b) 0 1
       (λ n. (w : View) × (a : Act Slot) × Valid t.homes [] a × Ruled s (stepped t b n id [] w a) × (Claimed b (alone x p) (slice_index t.words b) (w, carried_after [] a) × (slice_index t.words b ≢ 0 → says)))
-      (λ hit. ((x, filling b p) ∷ [], takes_slot b None, (r.boxes x y less fewer).empty hit, claimed free t r here hit, (record { hit = λ e. refl; miss = λ other. absurd (other hit) }, λ other. absurd (other hit))))
+      (λ hit. let left = (r.boxes x y less fewer).empty hit in (
+        (x, filling b p) ∷ [],
+        takes_slot b left.0,
+        left.1,
+        claimed free t r here hit,
+        (record { hit = λ e. (left.0, left.2, refl); miss = λ other. absurd (other hit) }, λ other. absurd (other hit)),
+      ))
       (λ miss. ((x, p) ∷ [], keeps, tt, still s t b id ((x, p) ∷ []) here r, (record { hit = λ e. absurd (miss e); miss = λ other. refl }, follows t (record { rule = r; seat = id; sees = here }))))
 
   -- the sender put a packet into the box that it claimed

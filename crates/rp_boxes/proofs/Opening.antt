@@ -142,7 +142,7 @@ module _ {S : Type 0} (s : Setting S) (right : IsRightConfig s.config) (world : 
     sends = λ k small m h. absurd h;
     gets = λ k small m h. absurd h;
     boxes = λ x y less fewer. record {
-      empty = λ e. vacant 256 (box_of x y) (omega (arith, less, fewer));
+      empty = λ e. (None, vacant 256 (box_of x y) (omega (arith, less, fewer)), tt);
       filling = (λ e. absurd (omega (arith, e, zeros (box_of x y))), λ h. absurd h);
       full = λ e. absurd (omega (arith, e, zeros (box_of x y)));
       emptying = (λ e. absurd (omega (arith, e, zeros (box_of x y))), λ h. absurd h);

@@ -1,6 +1,6 @@
 -- What a step at a box is for a seat.
-use Rattle.std.proofs.Common.{◌≡◌, ◌≢◌, ℕ, Option, Some, None, Result, Ok, Err, Vec, List, [], ◌∷◌, inl, inr, refl, sym, ap, subst, ◌∙◌, arith}
-use Rattle.std.specs.Prelude.{IfSome, IfNone, IfErr, OnOk}
+use Rattle.std.proofs.Common.{◌≡◌, ◌≢◌, ℕ, Option, Some, None, Vec, List, [], ◌∷◌, inl, inr, refl, sym, ap, subst, ◌∙◌, arith}
+use Rattle.std.specs.Prelude.{IfSome, IfNone}
 use Rattle.std.specs.declared.alloc.Global.{Global}
 use Rattle.atomic_table.specs.Seated.{TableId}
 use Rattle.rp_base.specs.Sets.{Has}
@@ -168,13 +168,11 @@ module _ {P : Type 0} (config : Config) (program : P) (number failures k : ℕ) 
       this_box : box_of k to ≡ box_of (actor_of from) (actor_of m.to)
       this_box = λ i. box_of (sym own i) (named i)
 
-      pub put_chair : {A E : Type 0} (r : Result A E) → OnOk r (WasFull s me'.0 (box_of k to) bytes) → OnOk r (WasPut next answers begin from bytes (chair mine' (part_in me'.0)))
-      put_chair (Ok value) full = record { packet = m; text = text; box = subst (λ (z : View × ℕ). WasFull s z.0 z.1 bytes) (λ i. (seen_by from own i, this_box i)) full }
-      put_chair (Err error) full = tt
+      pub put_chair : WasFull s me'.0 (box_of k to) bytes → WasPut next answers begin from bytes (chair mine' (part_in me'.0))
+      put_chair full = record { packet = m; text = text; box = subst (λ (z : View × ℕ). WasFull s z.0 z.1 bytes) (λ i. (seen_by from own i, this_box i)) full }
 
-      pub used_chair : {A E : Type 0} (r : Result A E) → IfErr r (λ back. WasWord s me'.0 (box_of k to) (λ word. word ≢ 0)) → IfErr r (λ back. WasInUse next answers begin from bytes (chair mine' (part_in me'.0)))
-      used_chair (Ok value) used = tt
-      used_chair (Err error) used = record { packet = m; text = text; box = subst (λ (z : View × ℕ). WasWord s z.0 z.1 (λ word. word ≢ 0)) (λ i. (seen_by from own i, this_box i)) used }
+      pub used_chair : WasWord s me'.0 (box_of k to) (λ word. word ≢ 0) → WasInUse next answers begin from bytes (chair mine' (part_in me'.0))
+      used_chair used = record { packet = m; text = text; box = subst (λ (z : View × ℕ). WasWord s z.0 z.1 (λ word. word ≢ 0)) (λ i. (seen_by from own i, this_box i)) used }
 
   -- the box that was not full
   module _ {S : Type 0} (next : S → Action → S) (answers : S → Action → List Answer) (begin : P → S) (at : me ≡ alone k (part_in me.0)) (from to : Party) (own : actor_of to ≡ k) where

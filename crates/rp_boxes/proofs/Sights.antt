@@ -4,12 +4,14 @@ use Rattle.std.specs.declared.alloc.Global.{Global}
 use Rattle.atomic_table.specs.Table.{rest}
 use Rattle.rp_codec.specs.Message.{Message}
 use Rattle.rp_boxes.specs.Parts.{Part, box_of, on_first, filling, filled, emptying, emptied, with_got}
-use Rattle.rp_boxes.specs.Rule.{Slot, IsCarried}
+use Rattle.rp_boxes.specs.Rule.{Slot, IsCarried, IsVacant}
 use Rattle.rp_boxes.specs.Plays.{Sight, alone, holding, Claimed, Took, Published, Cleared}
 use Rattle.rp_boxes.proofs.BoxSteps.{same_box}
 
-pub sees_claimed : (k b : ℕ) (p : Part) (old new : Sight) (found : ℕ) → old ≡ alone k p → Claimed b old found new → found ≡ 0 → new ≡ holding k (filling b p) b None
-sees_claimed k b p old new found is claimed hit = claimed.hit hit ∙ ap (λ (me : Sight). (on_first (filling b) me.0, (b, None) ∷ me.1)) is
+pub sees_claimed : (k b : ℕ) (p : Part) (old new : Sight) (found : ℕ) → old ≡ alone k p → Claimed b old found new → found ≡ 0
+    → (slot : Slot) × IsVacant slot × (new ≡ holding k (filling b p) b slot)
+sees_claimed k b p old new found is claimed hit =
+    let taken = claimed.hit hit in (taken.0, taken.1, taken.2 ∙ ap (λ (me : Sight). (on_first (filling b) me.0, (b, taken.0) ∷ me.1)) is)
 
 -- the slot that is out is written
 pub sees_written : (k b : ℕ) (p : Part) (slot slot' : Slot) (old new : Sight) → old ≡ holding k p b slot → new ≡ (old.0, (b, slot') ∷ rest old.1) → new ≡ holding k p b slot'
@@ -37,3 +39,12 @@ sees_cleared k b p m slot old new free is cleared =
 
 pub out_with : (k b : ℕ) (p : Part) (slot : Slot) (me : Sight) → me ≡ holding k p b slot → me.1 ≡ (b, slot) ∷ rest me.1
 out_with k b p slot me is = subst (λ (seen : Sight). seen.1 ≡ (b, slot) ∷ rest seen.1) (sym is) refl
+
+-- the first slot that is out
+abbrev first_out : List (ℕ × Slot) → Slot
+first_out [] = None
+first_out (out ∷ others) = out.1
+
+-- it is the one that came out
+pub came_out : (k b at : ℕ) (p : Part) (slot out : Slot) (me : Sight) → me ≡ holding k p b slot → me.1 ≡ (at, out) ∷ rest me.1 → out ≡ slot
+came_out k b at p slot out me is came = ap first_out (sym came ∙ ap (λ (seen : Sight). seen.1) is)

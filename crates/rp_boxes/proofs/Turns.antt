@@ -150,7 +150,7 @@ alike_itself b p = record { fills = (λ h. h, λ h. h); takes = (λ h. h, λ h. 
 pub box_stays : (parts parts' : ℕ → Part) (x y word word' : ℕ) (home home' : Slot → Type 0) → IsSeenAlike (box_of x y) (parts x) (parts' x) → IsSeenAlike (box_of x y) (parts y) (parts' y)
     → word' ≡ word → ((slot : Slot) → home slot → home' slot) → IsBox parts x y word home → IsBox parts' x y word' home'
 box_stays parts parts' x y word word' home home' sender receiver same homes box = record {
-  empty = λ e. homes None (box.empty (sym same ∙ e));
+  empty = λ e. let left = box.empty (sym same ∙ e) in (left.0, homes left.0 left.1, left.2);
   filling = (λ e. sender.fills.0 (box.filling.0 (sym same ∙ e)), λ h. same ∙ box.filling.1 (sender.fills.1 h));
   full = λ e. let has = box.full (sym same ∙ e) in (has.0, has.1, homes (Some has.1) has.2, has.3, sender.sent has.0 has.4);
   emptying = (λ e. receiver.takes.0 (box.emptying.0 (sym same ∙ e)), λ h. same ∙ box.emptying.1 (receiver.takes.1 h));

@@ -1,11 +1,11 @@
 -- What one atomic step tells a seat that knows one actor (this project's own).
-use Rattle.std.specs.Prelude.{◌≡◌, ◌≢◌, ℕ, ◌<◌, Vec, Some, None, [], ◌∷◌}
+use Rattle.std.specs.Prelude.{◌≡◌, ◌≢◌, ℕ, ◌<◌, Vec, Some, [], ◌∷◌}
 use Rattle.std.specs.declared.alloc.Global.{Global}
 use Rattle.atomic_table.specs.Table.{Me, rest}
 use Rattle.atomic_table.specs.Seated.{TableId}
 use Rattle.rp_codec.specs.Message.{Message}
 use Rattle.rp_boxes.specs.Parts.{Part, View, box_of, on_first, filling, filled, emptying, emptied}
-use Rattle.rp_boxes.specs.Rule.{Slot, IsCarried, HasOwnPackets}
+use Rattle.rp_boxes.specs.Rule.{Slot, IsCarried, IsVacant, HasOwnPackets}
 
 -- what a seat knows, and the slots that it has taken out
 abbrev pub Sight : Type 0
@@ -25,7 +25,7 @@ IsSized table = (table.words ≡ 272) × (table.slots ≡ 256)
 
 -- An empty box is claimed with its slot; another is left.
 pub record Claimed (b : ℕ) (old : Sight) (found : ℕ) (new : Sight) : Type 0 where
-  pub hit : found ≡ 0 → new ≡ (on_first (filling b) old.0, (b, None) ∷ old.1)
+  pub hit : found ≡ 0 → (slot : Slot) × IsVacant slot × (new ≡ (on_first (filling b) old.0, (b, slot) ∷ old.1))
   pub miss : found ≢ 0 → new ≡ old
 
 -- The packet was in the box, from one actor to the other, and its text is taken out.

@@ -1,6 +1,6 @@
 -- The rule of the table: between any two atomic steps there is a world, of which each seat's view is a piece
 -- (this project's own).
-use Rattle.std.specs.Prelude.{◌≡◌, ◌↔◌, ℕ, zero, suc, ◌+◌, ◌%◌, ◌^◌, ◌<◌, Vec, Option, Some, None, List, [], ◌++◌, length, map, slice_index}
+use Rattle.std.specs.Prelude.{◌≡◌, ◌↔◌, ℕ, zero, suc, ◌+◌, ◌%◌, ◌^◌, ◌<◌, Vec, Option, Some, IfSome, List, [], ◌++◌, length, map, slice_index}
 use Rattle.std.specs.declared.alloc.Global.{Global}
 use mathlib.Core.Option.{some}
 use lib.ListN.{get_elem?}
@@ -16,9 +16,13 @@ use Rattle.rp_agreement.specs.Answered.{IsKept}
 use Rattle.rp_agreement.specs.Ranges.{IsRangedPart}
 use Rattle.rp_boxes.specs.Parts.{Part, View, actor_of, box_of, node_of, task_of}
 
--- what a box has: a packet's text, or nothing
+-- what a box has: a packet's text, an empty buffer, or nothing
 abbrev pub Slot : Type 0
 Slot = Option (Vec ℕ Global)
+
+-- it has no packet: nothing, or an empty buffer
+abbrev pub IsVacant : Slot → Type 0
+IsVacant slot = IfSome slot (λ buffer. buffer.items ≡ [])
 
 -- the node and the task of a number, by the parts of the actors
 abbrev pub node_among : (ℕ → Part) → ℕ → NodePart
@@ -45,9 +49,10 @@ pub record IsCarried (x y : ℕ) (bytes : List ℕ) (m : Message) : Type 0 where
   pub from : actor_of m.from ≡ x
   pub to : actor_of m.to ≡ y
 
--- The box from x to y: empty (0), being filled (1), full (2), or being emptied (3).
+-- The box from x to y: empty (0), being filled (1), full (2), or being emptied (3). An empty one may have a buffer, which
+-- its receiver left there for the sender.
 pub record IsBox (parts : ℕ → Part) (x y word : ℕ) (home : Slot → Type 0) : Type 0 where
-  pub empty : word ≡ 0 → home None
+  pub empty : word ≡ 0 → (slot : Slot) × home slot × IsVacant slot
   pub filling : (word ≡ 1) ↔ Has (box_of x y) (parts x).fills
   pub full : word ≡ 2 → (m : Message) × (text : Vec ℕ Global) × home (Some text) × IsCarried x y text.items m × Has m (parts x).sent
   pub emptying : (word ≡ 3) ↔ Has (box_of x y) (parts y).takes

@@ -22,6 +22,8 @@ use std::sync::Arc;
 pub struct AuditSeat<M: Machine> {
     pub(crate) place: Place,
     pub(crate) board: Arc<Board<M>, Global>,
+    /// Buffers for packets to come: none, since it sends none.
+    pub(crate) spares: Vec<Vec<u8>>,
 }
 
 impl<M: Machine> Model for AuditSeat<M> {
@@ -58,7 +60,13 @@ impl<M: Machine> AuditSeat<M> {
         ensures none { IfNone result (self.new ≡ self.old) }
         ensures missed { IfNone result (WasNotFull M.next M.answers M.begin from Audit self.new) }
     {
-        empty(&self.board.shared, &mut self.place, actor_of(from), AUDIT)
+        empty(
+            &self.board.shared,
+            &mut self.place,
+            actor_of(from),
+            AUDIT,
+            &mut self.spares,
+        )
     }
 
     /// The packets that the audit got are right ones, to it. It does nothing: what it promises is

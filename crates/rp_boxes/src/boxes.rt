@@ -1,6 +1,6 @@
 //! The steps at a box: its sender fills it, its receiver empties it.
 
-ghost use Rattle.std.specs.Prelude.{◌≡◌, ◌≢◌, ◌<◌, ℕ, ◌∷◌, [], Some, None, Vec, true, false, slice_index, IfErr, IfSome, IfNone, OnOk};
+ghost use Rattle.std.specs.Prelude.{◌≡◌, ◌≢◌, ◌<◌, ℕ, ◌∷◌, [], Some, None, Vec, true, false, slice_index, IfOk, IfErr, IfSome, IfNone, OnOk};
 ghost use Rattle.std.specs.declared.alloc.Global.{Global};
 ghost use mathlib.Core.Option.{some};
 ghost use lib.ListN.{get_elem?};
@@ -12,16 +12,17 @@ ghost use Rattle.rp_boxes.specs.Looks.{IsWorldOf};
 ghost use Rattle.rp_boxes.specs.Moments.{IsMoment, WasFull, WasWord};
 ghost use Rattle.rp_boxes.specs.Parts.{Part, View, box_of, emptying, filled, filling, part_in, with_got};
 ghost use Rattle.rp_boxes.specs.Plays.{IsSized, alone, holding};
-ghost use Rattle.rp_boxes.specs.Rule.{IsCarried, Slot};
+ghost use Rattle.rp_boxes.specs.Rule.{IsCarried, IsVacant, Slot};
 
 use crate::board::{Known, Place, Slots};
 use crate::events::Saying;
 use crate::looking::look;
+use crate::spares::spare;
 use atomic_table::Play;
 use rp_machine::Machine;
 use std::marker::{Brand, PhantomData};
 
-/// The box has nothing.
+/// The box has no packet. It may have a buffer that its receiver left there for the sender.
 const EMPTY: u64 = 0;
 /// Its sender puts a packet there.
 const FILLING: u64 = 1;
@@ -96,28 +97,29 @@ fn claim_empty<M: Machine, J: Saying>(
         slots.now.key.program.value) place.old.me.0 table
         → slice_index table.words (box_of from to) ≢ 0 → J.says (part_in place.old.me.0) }
     ensures table { place.new.table_id ≡ place.old.table_id }
-    ensures hit { result ≡ true → place.new.me ≡ holding from
-        (filling (box_of from to) (part_in place.old.me.0)) (box_of from to) None }
+    ensures hit { result ≡ true → (slot : Slot) × IsVacant slot × (place.new.me ≡ holding from
+        (filling (box_of from to) (part_in place.old.me.0)) (box_of from to) slot) }
     ensures miss { result ≡ false → (place.new.me ≡ place.old.me)
         × J.says (part_in place.old.me.0) }
 {
     slots.compare_exchange::<Claim<J>>(place, 16 * from + to, EMPTY, FILLING) == EMPTY
 }
 
-/// Puts a packet that the actor sent into the box that it claimed, and lets go of it. What its caller
-/// picks is so of the full box.
+/// Puts a packet that the actor sent into the box that it claimed, and lets go of it. The buffer that
+/// was in the box, if there was one. What its caller picks is so of the full box.
 fn deliver<M: Machine, J: Saying>(
     slots: &Slots<M>,
     place: &mut Place,
     from: usize,
     to: usize,
     packet: Vec<u8>,
-)
+) -> Option<Vec<u8>>
     requires table { place.old.table_id ≡ slots.now.table_id }
     requires sized { IsSized slots.now.table_id }
     requires from { from < 16 }
     requires to { to < 16 }
-    requires place { place.old.me ≡ holding from (part_in place.old.me.0) (box_of from to) None }
+    requires place { (slot : Slot) × IsVacant slot
+        × (place.old.me ≡ holding from (part_in place.old.me.0) (box_of from to) slot) }
     requires fills { (part_in place.old.me.0).fills ≡ box_of from to ∷ [] }
     requires packet { (m : Message) × Has m (part_in place.old.me.0).sent
         × IsCarried from to packet.items m }
@@ -130,21 +132,23 @@ fn deliver<M: Machine, J: Saying>(
     ensures table { place.new.table_id ≡ place.old.table_id }
     ensures place { place.new.me ≡ alone from (filled (part_in place.old.me.0)) }
     ensures said { J.says (part_in place.old.me.0) }
+    ensures vacant { IsVacant result }
 {
     let at = 16 * from + to;
-    slots.exchange(place, at, Some(packet));
+    let left = slots.exchange(place, at, Some(packet));
     slots.store::<Publish<J>>(place, at, FULL);
+    left
 }
 
 /// Puts a packet that the actor sent into its box to another, if that is empty, and else gives the
-/// packet back.
+/// packet back. An empty buffer that was in the box comes out of it.
 pub(crate) fn fill<M: Machine>(
     slots: &Slots<M>,
     place: &mut Place,
     from: usize,
     to: usize,
     packet: Vec<u8>,
-) -> Result<(), Vec<u8>>
+) -> Result<Option<Vec<u8>>, Vec<u8>>
     requires table { place.old.table_id ≡ slots.now.table_id }
     requires sized { IsSized slots.now.table_id }
     requires from { from < 16 }
@@ -157,6 +161,7 @@ pub(crate) fn fill<M: Machine>(
     ensures place { place.new.me ≡ place.old.me }
     ensures put { OnOk result (WasFull (setting_for M.next M.answers M.begin slots.now.key.config
         slots.now.key.program.value) place.new.me.0 (box_of from to) packet.items) }
+    ensures vacant { IfOk result IsVacant }
     ensures back { IfErr result (λ back. back ≡ packet) }
     ensures used { IfErr result (λ back. WasWord (setting_for M.next M.answers M.begin slots.now.key.config
         slots.now.key.program.value) place.new.me.0 (box_of from to)
@@ -165,8 +170,7 @@ pub(crate) fn fill<M: Machine>(
     if !claim_empty::<M, Brand>(slots, place, from, to) {
         return Err(packet);
     }
-    deliver::<M, Brand>(slots, place, from, to, packet);
-    Ok(())
+    Ok(deliver::<M, Brand>(slots, place, from, to, packet))
 }
 
 /// Claims the box from another actor, if it is full. Of one that is not, what its caller picks is so.
@@ -196,12 +200,14 @@ fn claim_full<M: Machine, J: Saying>(
 }
 
 /// Takes the packet out of the box from another actor to this one, if it is full, and looks at the
-/// table: there is a world in which that actor has sent it.
+/// table: there is a world in which that actor has sent it. One of these buffers, if there is one, is
+/// left in the box for the sender.
 pub(crate) fn empty<M: Machine>(
     slots: &Slots<M>,
     place: &mut Place,
     from: usize,
     to: usize,
+    spares: &mut Vec<Vec<u8>>,
 ) -> Option<Vec<u8>>
     requires table { place.old.table_id ≡ slots.now.table_id }
     requires sized { IsSized slots.now.table_id }
@@ -224,7 +230,8 @@ pub(crate) fn empty<M: Machine>(
         return None;
     }
     let at = 16 * from + to;
-    let packet = slots.exchange(place, at, None);
+    let left = spare(spares);
+    let packet = slots.exchange(place, at, left);
     slots.store::<Clear>(place, at, EMPTY);
     look::<M, Brand>(slots, place);
     packet

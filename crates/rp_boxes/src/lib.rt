@@ -4,6 +4,7 @@
 //! - `board`: the table that all seats share
 //! - `laws`: what the rule uses of agreement
 //! - `events`: the step by which an actor's event is counted
+//! - `spares`: buffers that a seat keeps for packets to come
 //! - `boxes`: the steps at a box: its sender fills it, its receiver empties it
 //! - `actors`: the numbers by which the table knows actors
 //! - `input`: what a node or a task may be given is within its ranges
@@ -32,6 +33,7 @@ mod making;
 mod meeting;
 mod node_seat;
 mod node_turns;
+mod spares;
 mod task_events;
 mod task_seat;
 mod together;

@@ -149,7 +149,7 @@ impl<M: Machine> Unseated<M> {
     }
 
     /// The seat of the audit, which is the first actor.
-    fn audit(&mut self) -> Result<AuditSeat<M>, AllocError>
+    fn audit(&mut self, alloc: Global) -> Result<AuditSeat<M>, AllocError>
         requires { self.old.next ≡ 0 }
         ensures ok { IfOk result (λ seat. seat
             ≡ first_seat self.old.table self.old.config self.old.program 0 0 0) }
@@ -157,7 +157,11 @@ impl<M: Machine> Unseated<M> {
     {
         let board = Arc::try_clone(&self.board)?;
         let place = self.place();
-        Ok(AuditSeat { place, board })
+        Ok(AuditSeat {
+            place,
+            board,
+            spares: Vec::new(alloc),
+        })
     }
 
     /// The seat of the next actor, which is a node, over an empty device.
@@ -234,6 +238,7 @@ impl<M: Machine> Unseated<M> {
             task: Task::new(alloc, task),
             place,
             board,
+            spares: Vec::new(alloc),
             lost: 0,
         })
     }
@@ -271,7 +276,7 @@ fn made<M: Machine, D: Device>(
     ensures device { IsErrOf result Fault.Device → CanFail D.disk }
 {
     let mut unseated = Unseated::<M>::new(alloc, config, program)?;
-    let audit = unseated.audit()?;
+    let audit = unseated.audit(alloc)?;
     let nodes = unseated.nodes(alloc, program, devices)?;
     unseated.skip_to(FIRST_TASK);
     let tasks = unseated.tasks(alloc)?;

@@ -65,23 +65,33 @@ impl<M: Machine> AuditSeat<M> {
         ensures world { (parts : ℕ → Part) × IsWorldOf (setting_at M.next M.answers M.begin task)
             ((7 + task.number, task.part) ∷ (0, self.part) ∷ []) parts }
     {
-        let AuditSeat { place, board } = self;
+        let AuditSeat {
+            place,
+            board,
+            spares,
+        } = self;
         let TaskSeat {
             number,
             config,
             task,
             place: task_place,
             board: task_board,
+            spares: task_spares,
             lost,
         } = task;
         let (task_place, place) = look_together::<M>(&task_board.shared, task_place, place);
-        let audit = AuditSeat { place, board };
+        let audit = AuditSeat {
+            place,
+            board,
+            spares,
+        };
         let task = TaskSeat {
             number,
             config,
             task,
             place: task_place,
             board: task_board,
+            spares: task_spares,
             lost,
         };
         (audit, task)

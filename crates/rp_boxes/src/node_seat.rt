@@ -17,6 +17,7 @@ use crate::board::{Board, Place};
 use crate::boxes::{empty, fill};
 use crate::input::keeps_ranges;
 use crate::node_turns::{note_stop, note_turn};
+use crate::spares::{keep, keep_left, spare_buffer};
 use rp_base::{Fault, NodeId, Position};
 use rp_codec::Party;
 use rp_machine::Machine;
@@ -25,9 +26,6 @@ use rp_store::{Device, InfallibleDevice};
 use std::alloc::Global;
 use std::marker::{Brand, Model};
 use std::sync::Arc;
-
-/// How many buffers a seat keeps: a step sends seven packets at most.
-const MOST_SPARES: usize = 8;
 
 /// The seat of a node: the node itself, and its place at the table that all seats share. It crosses
 /// to another thread, and none of its calls waits.
@@ -116,10 +114,7 @@ impl<M: Machine, D: Device> NodeSeat<M, D> {
     pub fn lend(&mut self, buffer: Vec<u8>)
         ensures { self.new ≡ self.old }
     {
-        if self.spares.len() < MOST_SPARES {
-            // Where there is no memory to keep it the buffer is let go as well.
-            let _kept = self.spares.push(buffer);
-        }
+        keep(&mut self.spares, buffer);
     }
 
     /// An empty buffer: one that was lent, or else one that has no memory yet.
@@ -131,7 +126,7 @@ impl<M: Machine, D: Device> NodeSeat<M, D> {
     }
 
     /// Puts a packet that a step of this seat sent, as its text, into the box to its receiver. It is
-    /// given back where that box is not empty.
+    /// given back where that box is not empty. The seat keeps the buffer that the receiver left there.
     pub fn put(&mut self, packet: Vec<u8>) -> Result<(), Vec<u8>>
         requires sent { IsSentText self.old.part packet.items }
         ensures unchanged { self.new ≡ self.old }
@@ -143,7 +138,13 @@ impl<M: Machine, D: Device> NodeSeat<M, D> {
     {
         let to = receiver(packet.as_slice());
         let node = usize::from(self.node.get());
-        fill(&self.board.shared, &mut self.place, node, to, packet)
+        match fill(&self.board.shared, &mut self.place, node, to, packet) {
+            Ok(left) => {
+                keep_left(&mut self.spares, left);
+                Ok(())
+            }
+            Err(packet) => Err(packet),
+        }
     }
 
     /// Counts a packet that was given back and is let go.
@@ -159,7 +160,8 @@ impl<M: Machine, D: Device> NodeSeat<M, D> {
     }
 
     /// The packet in the box from that party to this seat, as its text, or `None` where the box is
-    /// not full. That party has sent it.
+    /// not full. That party has sent it. The seat leaves it a buffer there for its next packet, if it
+    /// keeps one.
     pub fn fetch(&mut self, from: Party) -> Option<Vec<u8>>
         ensures some { IfSome result (λ text. IsFetched from (Node self.old.number) text.items
             self.old self.new) }
@@ -170,7 +172,13 @@ impl<M: Machine, D: Device> NodeSeat<M, D> {
             (Node self.new.number) self.new) }
     {
         let node = usize::from(self.node.get());
-        empty(&self.board.shared, &mut self.place, actor_of(from), node)
+        empty(
+            &self.board.shared,
+            &mut self.place,
+            actor_of(from),
+            node,
+            &mut self.spares,
+        )
     }
 
     /// The number of the node.
@@ -230,18 +238,5 @@ impl<M: Machine, D: InfallibleDevice> NodeSeat<M, D> {
         ensures { self.now.failures ≡ 0 }
     {
         self.replica.never_failed();
-    }
-}
-
-/// The last of these buffers, emptied, or else one that has no memory yet.
-fn spare_buffer(spares: &mut Vec<Vec<u8>>, alloc: Global) -> Vec<u8>
-    ensures { result.items ≡ [] }
-{
-    match spares.pop() {
-        Some(mut buffer) => {
-            buffer.clear();
-            buffer
-        }
-        None => Vec::new(alloc),
     }
 }

@@ -1,6 +1,6 @@
 //! The seat of a task.
 
-ghost use Rattle.std.specs.Prelude.{◌≡◌, IfOk, IfErr, IfSome, IfNone, OnOk, OnErr};
+ghost use Rattle.std.specs.Prelude.{◌≡◌, [], IfOk, IfErr, IfSome, IfNone, OnOk, OnErr};
 ghost use Rattle.rp_base.specs.Action.{IsRight};
 ghost use Rattle.rp_base.specs.Sets.{Has};
 ghost use Rattle.rp_base.specs.declared.fault.Fault.TheVariants.{OutOfMemory};
@@ -21,12 +21,13 @@ use crate::board::{Board, Place};
 use crate::boxes::{empty, fill};
 use crate::input::node_keeps_range;
 use crate::looking::look;
+use crate::spares::{keep, keep_left, spare_buffer};
 use crate::task_events::{note_asking, note_telling};
 use rp_agreement::{
     calls_count_in_turn, replies_answer_calls_that_count, tasks_send_right_packets,
 };
 use rp_base::{Action, Answer, Config, Fault, NodeId, Operation, Reply, TaskId};
-use rp_codec::{Body, Party, decode, encode};
+use rp_codec::{Body, Party, decode, encode_onto};
 use rp_machine::Machine;
 use rp_model::Dropped;
 use rp_replica::Sent;
@@ -45,6 +46,8 @@ pub struct TaskSeat<M: Machine> {
     pub(crate) task: Task,
     pub(crate) place: Place,
     pub(crate) board: Arc<Board<M>, Global>,
+    /// Buffers for packets to come.
+    pub(crate) spares: Vec<Vec<u8>>,
     /// How many packets were given back and let go.
     pub(crate) lost: u64,
 }
@@ -91,7 +94,8 @@ impl<M: Machine> TaskSeat<M> {
         tasks_send_right_packets();
         node_keeps_range(node);
         let call = Some(self.task.next(self.config, node, object, operation, arg)?);
-        let sent = asking(alloc, self.number, node, &call)?;
+        let buffer = spare_buffer(&mut self.spares, alloc);
+        let sent = asking(buffer, self.number, node, &call)?;
         self.task.call(object, operation, arg);
         note_asking::<M, Brand>(
             &self.board.shared,
@@ -115,7 +119,8 @@ impl<M: Machine> TaskSeat<M> {
             return Err(Fault::BadConfig);
         }
         let call = self.task.outstanding();
-        let sent = asking(alloc, self.number, node, &call)?;
+        let buffer = spare_buffer(&mut self.spares, alloc);
+        let sent = asking(buffer, self.number, node, &call)?;
         note_asking::<M, Brand>(
             &self.board.shared,
             &mut self.place,
@@ -162,7 +167,8 @@ impl<M: Machine> TaskSeat<M> {
     }
 
     /// Puts a packet that a step of this seat sent, as its text, into the box to its receiver. It
-    /// is given back where that box is not empty.
+    /// is given back where that box is not empty. The seat keeps the buffer that the receiver left
+    /// there.
     pub fn put(&mut self, packet: Vec<u8>) -> Result<(), Vec<u8>>
         requires sent { IsSentText self.old.part packet.items }
         ensures unchanged { self.new ≡ self.old }
@@ -174,7 +180,21 @@ impl<M: Machine> TaskSeat<M> {
     {
         let to = receiver(packet.as_slice());
         let actor = actor_of(Party::Task(self.number));
-        fill(&self.board.shared, &mut self.place, actor, to, packet)
+        match fill(&self.board.shared, &mut self.place, actor, to, packet) {
+            Ok(left) => {
+                keep_left(&mut self.spares, left);
+                Ok(())
+            }
+            Err(packet) => Err(packet),
+        }
+    }
+
+    /// Lends the seat a buffer for packets to come, so that they need not take memory. What the
+    /// buffer holds is let go. A seat keeps eight at most.
+    pub fn lend(&mut self, buffer: Vec<u8>)
+        ensures { self.new ≡ self.old }
+    {
+        keep(&mut self.spares, buffer);
     }
 
     /// Counts a packet that was given back and is let go.
@@ -190,7 +210,8 @@ impl<M: Machine> TaskSeat<M> {
     }
 
     /// The packet in the box from that party to this seat, as its text, or `None` where the box is
-    /// not full. That party has sent it.
+    /// not full. That party has sent it. The seat leaves it a buffer there for its next packet, if it
+    /// keeps one.
     pub fn fetch(&mut self, from: Party) -> Option<Vec<u8>>
         ensures some { IfSome result (λ text. IsFetched from (parties.Task self.old.number)
             text.items self.old self.new) }
@@ -201,24 +222,32 @@ impl<M: Machine> TaskSeat<M> {
             (parties.Task self.new.number) self.new) }
     {
         let actor = actor_of(Party::Task(self.number));
-        empty(&self.board.shared, &mut self.place, actor_of(from), actor)
+        empty(
+            &self.board.shared,
+            &mut self.place,
+            actor_of(from),
+            actor,
+            &mut self.spares,
+        )
     }
 }
 
-/// The packet by which a task asks a node for this call, if there is one, as its text.
+/// The packet by which a task asks a node for this call, if there is one, as its text in this buffer.
 fn asking(
-    alloc: Global,
+    buffer: Vec<u8>,
     task: TaskId,
     node: NodeId,
     call: &Option<Action>,
 ) -> Result<Sent, AllocError>
+    requires empty { buffer.items ≡ [] }
     requires own { IfSome call.now (λ action. IsCallBy task action) }
     requires right { IfSome call.now IsRight }
     ensures { IfOk result (λ sent. TellsPackets sent (asked_of task node call.now)) }
 {
+    let mut bytes = buffer;
     match call {
         Some(action) => {
-            let bytes = encode(alloc, &asks(task, node, *action))?;
+            encode_onto(&asks(task, node, *action), &mut bytes)?;
             Ok(Sent {
                 bytes,
                 packets: 1,
@@ -227,7 +256,7 @@ fn asking(
         }
         None => {
             Ok(Sent {
-                bytes: Vec::new(alloc),
+                bytes,
                 packets: 0,
                 dropped: Dropped::No,
             })

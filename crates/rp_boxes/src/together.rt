@@ -112,7 +112,11 @@ impl<M: Machine> AuditSeat<M> {
         ensures { (parts : ℕ → Part) × IsWorldOf (setting_at M.next M.answers M.begin self)
             (((0, self.part) ∷ map of_node nodes.items) ++ map of_task tasks.items) parts }
     {
-        let AuditSeat { place, board } = self;
+        let AuditSeat {
+            place,
+            board,
+            spares: _spares,
+        } = self;
         look_as_one(&board.shared, place, nodes, tasks);
     }
 }

@@ -1,7 +1,6 @@
 -- A line that loses packets, doubles them and changes their order, as its words say (this project's
 -- own). The words are the stream of ChaCha20 (RFC 8439, with a counter and a nonce of 64 bits each).
-use Rattle.std.specs.Prelude.{ℕ, ◌≡◌, ◌≤◌, Vec, vec_capacity, ◌%◌, nat_lt, Option, List, [], ◌++◌, length, take, replicate, remove, slice_get, if◌then◌else◌}
-use Rattle.std.specs.declared.alloc.Global.{Global}
+use Rattle.std.specs.Prelude.{ℕ, ◌%◌, nat_lt, Option, List, [], ◌++◌, length, take, replicate, remove, slice_get, if◌then◌else◌}
 use Rattle.rand_chacha.specs.ChaCha.{ChaCha, next_word, of_seed}
 
 -- the packets that are held, in the order in which they were accepted, and the generator of the words
@@ -38,7 +37,3 @@ picked word line = slice_get line.held (word % length line.held)
 -- the line without it
 abbrev pub released : ℕ → Line → Line
 released word line = record line { held = remove line.held (word % length line.held) }
-
--- an empty list of bytes with room for so many
-abbrev pub IsRoomFor : ℕ → Vec ℕ Global → Type 0
-IsRoomFor len room = (room.items ≡ []) × (len ≤ vec_capacity room)

@@ -1,8 +1,8 @@
 //! A line that loses packets, doubles them and changes their order.
 
-ghost use Rattle.std.specs.Prelude.{◌≡◌, ◌≢◌, ◌⊎◌, ℕ, List, [], ◌∷◌, ◌++◌, length, take, Some, option_map, IfOk, OnOk, OnErr, IsOkUnless};
+ghost use Rattle.std.specs.Prelude.{◌≡◌, ◌≢◌, ◌⊎◌, ℕ, List, [], ◌∷◌, ◌++◌, take, Some, option_map, IfOk, OnOk, OnErr, IsOkUnless};
 ghost use Rattle.rp_base.specs.Sets.{Has};
-ghost use Rattle.rp_tasks.specs.Line.{Line, IsRoomFor, line_of, word_of, drawn, accepted, picked, released};
+ghost use Rattle.rp_tasks.specs.Line.{Line, line_of, word_of, drawn, accepted, picked, released};
 
 use rand_chacha::ChaCha20Rng;
 use rand_chacha::rand_core::SeedableRng;
@@ -10,7 +10,7 @@ use rand_chacha::rand_core::utils::NextWord;
 use rp_base::Fault;
 use std::alloc::Global;
 use std::marker::Model;
-use std::mem;
+use std::snapshot::Snapshot;
 
 /// How many packets a line holds at most.
 const ROOM: usize = 16;
@@ -18,31 +18,42 @@ const ROOM: usize = 16;
 /// In so many cases of a word a packet is lost in two, and doubled in two.
 const CASES: u32 = 16;
 
+/// How many buffers a line keeps for second copies.
+const MOST_SPARES: usize = 4;
+
 /// A faulty line over the texts of packets. It holds at most 16, and a word of 32 bits says what
 /// becomes of each that it is given, or which it gives on. The words come from a seed, so that
-/// the same faults can be had again.
+/// the same faults can be had again. The next word is computed before it is used, so that memory for
+/// a second copy is asked for only where that word wants one.
 #[derive(Drop)]
 pub struct FaultLine {
     held: Vec<Vec<u8>>,
+    /// The next word of the stream.
+    next: u32,
+    /// The generator after that word.
     words: ChaCha20Rng,
-    /// Room for a second copy of a packet, kept from one packet to the next.
-    spare: Vec<u8>,
+    /// The generator before that word, for contracts alone.
+    before: Snapshot<ChaCha20Rng>,
+    /// Buffers of packets that were lost, for second copies to come.
+    spares: Vec<Vec<u8>>,
     /// How many copies were lost.
     lost: u64,
 }
 
 impl Model for FaultLine {
-    ghost use Rattle.std.specs.Prelude.{◌≤◌, length, map, vec_capacity};
+    ghost use Rattle.std.specs.Prelude.{◌≡◌, ◌≤◌, length, map, vec_capacity};
+    ghost use Rattle.rand_chacha.specs.ChaCha.{next_word};
     ghost use Rattle.rp_tasks.specs.Line.{Line};
 
     ghost Value = { Line };
 
     ghost view = { λ l. record {
       held = map (λ packet. packet.items) l.held.items;
-      words = l.words;
+      words = l.before.value;
     } };
 
-    ghost invariant = { λ l. (length l.held.items ≤ 16) × (16 ≤ vec_capacity l.held) };
+    ghost invariant = { λ l. (length l.held.items ≤ 16) × (16 ≤ vec_capacity l.held)
+        × (next_word 10 l.before.value ≡ (l.next, l.words)) };
 }
 
 impl FaultLine {
@@ -52,10 +63,15 @@ impl FaultLine {
         ensures opened { IfOk result (λ line. line ≡ line_of seed) }
         ensures only { IsOkUnless result Fault.OutOfMemory }
     {
+        let mut words = ChaCha20Rng::from_seed(seed);
+        let before = Snapshot::of(&words);
+        let next = words.next_word();
         Ok(FaultLine {
             held: Vec::with_capacity(alloc, ROOM)?,
-            words: ChaCha20Rng::from_seed(seed),
-            spare: Vec::new(alloc),
+            next,
+            words,
+            before,
+            spares: Vec::new(alloc),
             lost: 0,
         })
     }
@@ -71,7 +87,17 @@ impl FaultLine {
         ensures value { result ≡ word_of self.old }
         ensures after { self.new ≡ drawn self.old }
     {
-        self.words.next_word()
+        let word = self.next;
+        self.before = Snapshot::of(&self.words);
+        self.next = self.words.next_word();
+        word
+    }
+
+    /// The next word of the stream, which is not drawn.
+    fn peek(&self) -> u32
+        ensures { result ≡ word_of self.now }
+    {
+        self.next
     }
 
     /// Takes a packet by a word. Of the word modulo 16, 0 and 1 lose the packet, 2 and 3 hold it
@@ -83,9 +109,7 @@ impl FaultLine {
         ensures only { IsOkUnless result Fault.OutOfMemory }
     {
         let packet = Vec::from_slice(alloc, packet)?;
-        let room = self.room_for(alloc, packet.len())?;
-        self.spare = self.hold(alloc, word, packet, room);
-        Ok(())
+        self.hold(alloc, word, packet)
     }
 
     /// Takes a packet by the next word of the stream, as `accept_by` does. `OutOfMemory` comes
@@ -108,22 +132,25 @@ impl FaultLine {
         ensures err { OnErr result (self.new ≡ self.old) }
         ensures only { IsOkUnless result Fault.OutOfMemory }
     {
-        let room = self.room_for(alloc, packet.len())?;
-        let next = self.next_word();
-        self.spare = self.hold(alloc, next, packet, room);
+        let next = self.peek();
+        self.hold(alloc, next, packet)?;
+        self.next_word();
         Ok(())
     }
 
-    /// The room that the line keeps for a second copy, enough for a packet of this length.
-    fn room_for(&mut self, alloc: Global, len: usize) -> Result<Vec<u8>, Fault>
-        ensures room { IfOk result (λ room. IsRoomFor len room) }
+    /// A second copy of a packet.
+    fn copy_of(&mut self, alloc: Global, packet: &[u8]) -> Result<Vec<u8>, Fault>
+        ensures copy { IfOk result (λ copy. copy.items ≡ packet.now) }
         ensures same { self.new ≡ self.old }
         ensures only { IsOkUnless result Fault.OutOfMemory }
     {
-        let mut room = mem::replace(&mut self.spare, Vec::new(alloc));
-        room.clear();
-        room.reserve(len)?;
-        Ok(room)
+        let mut copy = match self.spares.pop() {
+            Some(spare) => spare,
+            None => Vec::new(alloc),
+        };
+        copy.clear();
+        copy.extend_from_slice(packet)?;
+        Ok(copy)
     }
 
     /// Gives on the packet whose place, counted from 0 in the order of acceptance, is the word
@@ -132,8 +159,8 @@ impl FaultLine {
         ensures packet { option_map (λ packet. packet.items) result ≡ picked word self.old }
         ensures after { self.new ≡ released word self.old }
     {
-        if self.held.is_empty() {
-            return None;
+        if self.held.len() <= 1 {
+            return self.held.pop();
         }
         let place = word as usize % self.held.len();
         Some(self.held.remove(place))
@@ -141,6 +168,7 @@ impl FaultLine {
 
     /// Gives on a packet by the next word of the stream, as `release_by` does. `None` where nothing
     /// is held, and then no word is drawn.
+    #[inline(always)]
     pub fn release(&mut self) -> Option<Vec<u8>>
         ensures packet { option_map (λ packet. packet.items) result
             ≡ picked (word_of self.old) self.old }
@@ -157,36 +185,34 @@ impl FaultLine {
         }
     }
 
-    /// Holds as many copies of a packet as the word asks for, the second in this room. The room,
-    /// where it is not held.
-    fn hold(&mut self, alloc: Global, word: u32, packet: Vec<u8>, mut room: Vec<u8>) -> Vec<u8>
-        requires room { IsRoomFor (length packet.items) room }
-        ensures { self.new ≡ accepted word packet.items self.old }
+    /// Holds as many copies of a packet as the word asks for. Refused for memory, nothing changes.
+    fn hold(&mut self, alloc: Global, word: u32, packet: Vec<u8>) -> Result<(), Fault>
+        ensures ok { OnOk result (self.new ≡ accepted word packet.items self.old) }
+        ensures err { OnErr result (self.new ≡ self.old) }
+        ensures only { IsOkUnless result Fault.OutOfMemory }
     {
         prove!(self.held.len() <= ROOM);
         match word % CASES {
-            0 | 1 => {
-                self.lose();
-                room
-            }
+            0 | 1 => self.lose(packet),
             2 | 3 => {
-                room.extend_from_slice(packet.as_slice()).unwrap();
+                let copy = self.copy_of(alloc, packet.as_slice())?;
                 self.hold_one(packet);
-                self.hold_one(room);
-                Vec::new(alloc)
+                self.hold_one(copy);
             }
-            _ => {
-                self.hold_one(packet);
-                room
-            }
+            _ => self.hold_one(packet),
         }
+        Ok(())
     }
 
-    /// A copy is lost: only its count changes.
-    fn lose(&mut self)
+    /// A copy is lost: it is counted, and the line keeps its buffer if it has few.
+    fn lose(&mut self, packet: Vec<u8>)
         ensures { self.new ≡ self.old }
     {
         self.lost = self.lost.saturating_add(1);
+        if self.spares.len() < MOST_SPARES {
+            // Where there is no memory to keep it the buffer is let go as well.
+            let _kept = self.spares.push(packet);
+        }
     }
 
     /// Holds a packet behind the others, or loses it where there is no place.
@@ -197,7 +223,7 @@ impl FaultLine {
         if self.held.len() < ROOM {
             self.held.push_reserved(packet);
         } else {
-            self.lose();
+            self.lose(packet);
         }
     }
 }

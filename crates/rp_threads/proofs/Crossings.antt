@@ -162,7 +162,7 @@ task_inside M P m s = recorded_send (task_seat.the_field M P m).row _ _ (task_se
         search (crosses, sendable, place.the_send) depth 9,
         (
           search (crosses, sendable, shared.the_send, shared.the_sync, lease.the_send, lease.the_sync) depth 25,
-          (search (crosses, sendable), tt),
+          (search (crosses, sendable), (search (crosses, sendable), tt)),
         ),
       ),
     ),
@@ -175,7 +175,16 @@ task_seat_send M P m s = let i = task_inside M P m s in search (sendable, i)
 -- ---- lines and ends
 
 line_inside : IsSend line.the_row
-line_inside = recorded_send (line.the_field).row _ _ (line.the_type).to_one (struct_send (shape line.the_type) (search (crosses, sendable) depth 20, (search (crosses, sendable) depth 40 fits 20000, (search (crosses, sendable), (search (crosses, sendable), tt)))))
+line_inside = recorded_send (line.the_field).row _ _ (line.the_type).to_one (struct_send (shape line.the_type) (
+  search (crosses, sendable) depth 20,
+  (
+    search (crosses, sendable),
+    (
+      search (crosses, sendable) depth 40 fits 20000,
+      (search (crosses, sendable), (search (crosses, sendable) depth 20, (search (crosses, sendable), tt))),
+    ),
+  ),
+))
 
 pub line_send : IsSend FaultLine.the_row
 line_send = let i = line_inside in search (sendable, i)

@@ -6,10 +6,8 @@ use Rattle.rp_base.specs.Sets.{Has}
 use Rattle.rp_base.specs.declared.action.Action.{Action}
 use Rattle.rp_base.specs.declared.reply.Answer.{Answer}
 use Rattle.rp_base.proofs.Members.{has_split}
-use Rattle.rp_codec.specs.Decoding.{BeginsWithPacket}
 use Rattle.rp_codec.specs.Message.{Message, IsPacket}
 use Rattle.rp_codec.specs.Text.{text_of}
-use Rattle.rp_codec.proofs.VersionLaws.{latest_before}
 use Rattle.rp_codec.specs.declared.packet.Party.{Party}
 use Rattle.rp_replica.specs.Packets.{Run, texts_of, run_of}
 use Rattle.rp_replica.specs.declared.sent.Sent.{Sent}
@@ -89,18 +87,13 @@ module _ {S P : Type 0} (next : S → Action → S) (answers : S → Action → 
     offered = more_offered seat so_far.done (take len left) so_far.offered (offered_alone seat (take len left) text offered);
   }
 
-  begins : (m : Message) (rest : List ℕ) → IsPacket m → BeginsWithPacket (text_of m ++ rest)
-  begins m rest right = (m, rest, right, latest_before m rest (text_of m ++ rest) refl)
+  nothing_left : (left : List ℕ) → length left ≡ 0 → left ≡ []
+  nothing_left [] none = refl
+  nothing_left (x ∷ left) none = absurd (omega (arith, none))
 
-  nothing_left : (left : List ℕ) (packets : List Message) → left ≡ texts_of packets → ((m : Message) → Has m packets → IsPacket m) → (BeginsWithPacket left → ⊥) → left ≡ []
-  nothing_left left [] texts right none = texts
-  nothing_left left (m ∷ packets) texts right none = absurd (none (subst BeginsWithPacket (sym texts) (begins m (texts_of packets) (right m (inl refl)))))
-
-  pub all_offered : (seat : Chair P) (bytes left : List ℕ) → IsPartOffered seat bytes left → AreSentTexts seat.part left → ((m : Message) → Has m seat.part.sent → IsPacket m)
-      → (BeginsWithPacket left → ⊥) → AreOffered next answers begin from seat bytes
-  all_offered seat bytes left so_far are right none =
-      let nothing = nothing_left left are.packets are.texts (λ m has. right m (are.sent m has)) none in
-      subst (AreOffered next answers begin from seat) (sym (so_far.whole ∙ ap (λ (t : List ℕ). so_far.done ++ t) nothing ∙ append-nil so_far.done)) so_far.offered
+  pub all_offered : (seat : Chair P) (bytes left : List ℕ) → IsPartOffered seat bytes left → length left ≡ 0 → AreOffered next answers begin from seat bytes
+  all_offered seat bytes left so_far none =
+      subst (AreOffered next answers begin from seat) (sym (so_far.whole ∙ ap (λ (t : List ℕ). so_far.done ++ t) (nothing_left left none) ∙ append-nil so_far.done)) so_far.offered
 
   -- ---- those of a step
 

@@ -6,7 +6,7 @@ ghost use Rattle.rp_boxes.specs.Seats.{IsSentText};
 ghost use Rattle.rp_threads.specs.Turns.{AreOffered, AreSent, AreSentTexts, IsAllOffered, IsOffered};
 
 use rp_boxes::NodeSeat;
-use rp_codec::{one_text, packet_len};
+use rp_codec::{one_text, text_len};
 use rp_machine::Machine;
 use rp_replica::Sent;
 use rp_store::Device;
@@ -58,6 +58,10 @@ pub(crate) fn put_all<M: Machine, D: Device>(
     ensures offered { OnOk result (IsAllOffered M.next M.answers M.begin (Node seat.new.number)
         seat.new sent) }
 {
+    if sent.packets == 0 {
+        seat.lend(sent.bytes);
+        return Ok(());
+    }
     one_text();
     seat.sends_packets();
     if sent.packets == 1 {
@@ -82,8 +86,8 @@ fn put_each<M: Machine, D: Device>(
 {
     seat.sends_packets();
     let mut rest = texts;
-    while let Some(len) = packet_len(rest) {
-        let (text, others) = rest.split_at(len);
+    'packets: while !rest.is_empty() {
+        let (text, others) = rest.split_at(text_len(rest));
         put_copy(seat, alloc, text)?;
         rest = others;
     }

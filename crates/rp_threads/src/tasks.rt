@@ -120,7 +120,8 @@ fn hear<M: Machine>(
     }
 }
 
-/// Puts a packet that the task sent into its box. Where the box is not empty it is lost, and counted.
+/// Puts a packet that the task sent into its box. Where the box is not empty it is lost and counted,
+/// and the seat keeps its buffer.
 fn put_text<M: Machine>(seat: &mut TaskSeat<M>, packet: Vec<u8>)
     requires { IsSentText seat.old.part packet.items }
     ensures unchanged { seat.new ≡ seat.old }
@@ -129,7 +130,10 @@ fn put_text<M: Machine>(seat: &mut TaskSeat<M>, packet: Vec<u8>)
 {
     match seat.put(packet) {
         Ok(()) => {}
-        Err(_) => seat.lose(),
+        Err(packet) => {
+            seat.lose();
+            seat.lend(packet);
+        }
     }
 }
 

@@ -1,5 +1,6 @@
 -- The box is claimed where it is empty.
-use Rattle.std.proofs.Common.{◌≢◌, ◌<◌, eqb, sym, subst, arith}
+use Rattle.std.proofs.Common.{◌≡◌, ◌≢◌, ◌<◌, eqb, sym, subst, arith}
+use Rattle.std.proofs.lemmas.Bool.{eqb-true}
 use prog.Atomic.{either}
 use Rattle.atomic_table.specs.Table.{Allows}
 use Rattle.rp_agreement.specs.Answered.{setting_for}
@@ -8,6 +9,7 @@ use Rattle.rp_boxes.specs.Parts.{part_in, box_of}
 use Rattle.rp_boxes.specs.Plays.{Sight, Claimed}
 use Rattle.rp_boxes.specs.Rule.{Ruled}
 use Rattle.rp_boxes.proofs.Filling.{claim_allows}
+use Rattle.rp_boxes.proofs.Sights.{sees_claimed}
 use Rattle.rp_boxes.proofs.boxes.claim_empty.Goals as goal
 
 pub compare_exchange-requires : goal.compare_exchange-requires
@@ -27,3 +29,8 @@ compare_exchange-requires g c =
           (claim_allows s table.slots place.id c.args.from c.args.to (part_in place.me.0) c.requires.from c.requires.to c.requires.free (says (part_in place.me.0))
           (λ t moment. c.requires.follows t (subst (λ (me : Sight). IsMoment s me.0 t) (sym c.requires.place) moment))),
     )
+
+pub returns-clause-hit : goal.returns-clause-hit
+returns-clause-hit g c = λ hit.
+    let empty : c.compare_exchange.result ≡ 0 = eqb-true _ _ hit in
+    sees_claimed c.args.from (box_of c.args.from c.args.to) (part_in c.args.place.now.me.0) _ _ _ c.requires.place c.compare_exchange.ensures.2.0 empty

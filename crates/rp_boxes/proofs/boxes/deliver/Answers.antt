@@ -1,13 +1,23 @@
 -- The box is written and published.
-use Rattle.std.proofs.Common.{◌<◌, ◌≤◌, Some, None, sym, subst, ◌∙◌, arith}
+use Rattle.std.proofs.Common.{◌<◌, ◌≤◌, Some, sym, subst, ◌∙◌, arith}
 use Rattle.atomic_table.specs.Table.{Allows}
 use Rattle.rp_agreement.specs.Answered.{setting_for}
 use Rattle.rp_boxes.specs.Parts.{part_in, box_of}
 use Rattle.rp_boxes.specs.Plays.{Sight, Published}
-use Rattle.rp_boxes.specs.Rule.{Ruled}
+use Rattle.rp_boxes.specs.Rule.{IsVacant, Ruled}
 use Rattle.rp_boxes.proofs.Filling.{publish_allows}
-use Rattle.rp_boxes.proofs.Sights.{sees_written}
+use Rattle.rp_boxes.proofs.Sights.{came_out, out_with, sees_written}
 use Rattle.rp_boxes.proofs.boxes.deliver.Goals as goal
+
+pub exchange-left-requires : goal.exchange-left-requires
+exchange-left-requires g c =
+    let was = c.requires.place in
+    (c.requires.table, (was.0, out_with c.args.from (box_of c.args.from c.args.to) _ was.0 _ was.2))
+
+pub returns-clause-vacant : goal.returns-clause-vacant
+returns-clause-vacant g c =
+    let was = c.requires.place in
+    subst IsVacant (sym (came_out c.args.from (box_of c.args.from c.args.to) _ _ was.0 _ _ was.2 c.exchange-left.ensures.2)) was.1
 
 pub store-requires : goal.store-requires
 store-requires g c =
@@ -21,10 +31,11 @@ store-requires g c =
     let inside : b < table.words = rw c.requires.sized.0 (omega (arith, c.requires.from, c.requires.to)) in
     let roomy : 256 ≤ table.slots = rw c.requires.sized.1 (omega arith) in
     let packet = c.requires.packet in
-    let here = sees_written c.args.from b p None (Some c.args.packet) _ _ c.requires.place c.exchange.ensures.3 in (
-      c.exchange.ensures.0 ∙ c.requires.table,
+    let was = c.requires.place in
+    let here = sees_written c.args.from b p was.0 (Some c.args.packet) _ _ was.2 c.exchange-left.ensures.3 in (
+      c.exchange-left.ensures.0 ∙ c.requires.table,
       inside,
-      subst (λ (me : Sight). Allows (Ruled s) table.slots c.exchange.new.seat.id me b (λ n. 2) (λ found new. Published me new × says (part_in me.0)))
+      subst (λ (me : Sight). Allows (Ruled s) table.slots c.exchange-left.new.seat.id me b (λ n. 2) (λ found new. Published me new × says (part_in me.0)))
           (sym here)
-          (publish_allows s table.slots c.exchange.new.seat.id c.args.from c.args.to p c.requires.from c.requires.to roomy c.requires.fills packet.0 c.args.packet packet.1 packet.2 (says p) c.requires.follows),
+          (publish_allows s table.slots c.exchange-left.new.seat.id c.args.from c.args.to p c.requires.from c.requires.to roomy c.requires.fills packet.0 c.args.packet packet.1 packet.2 (says p) c.requires.follows),
     )

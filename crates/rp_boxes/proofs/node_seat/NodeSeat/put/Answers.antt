@@ -1,6 +1,5 @@
 -- The packet is one that the seat sent, so its text names its receiver.
 use Rattle.std.proofs.Common.{◌≡◌, ◌≢◌, ℕ, refl, sym, subst, ◌∙◌}
-use Rattle.std.specs.Prelude.{IfErr, OnOk}
 use Rattle.std.specs.Arc.{arc_value}
 use Rattle.rp_agreement.specs.Answered.{setting_for}
 use Rattle.rp_boxes.specs.Moments.{WasFull, WasWord}
@@ -23,8 +22,8 @@ fill-requires-clause-packet g c =
     subst (λ (k : ℕ). (m : Message) × Has m part.sent × IsCarried k c.receiver-to.result text m) (sym node)
     (carries c.self.inside.node c.receiver-to.result part text c.self.invariant.0.own sent (λ m right is. c.receiver-to.ensures.named m right (c.as_slice.ensures.value ∙ is)))
 
-pub returns-clause-put : goal.returns-clause-put
-returns-clause-put g c =
+pub returns-in-Ok-clause-put : goal.returns-in-Ok-clause-put
+returns-in-Ok-clause-put g c =
     let m = g.M.Machine in
     let key = (arc_value c.self.inside.board).shared.key in
     let number = c.self.inside.node in
@@ -36,13 +35,13 @@ returns-clause-put g c =
     let to = c.receiver-to.ensures.named sent.0 right (c.as_slice.ensures.value ∙ sent.2) in
     let from : c.from-node.result ≡ number = c.from-node.ensures ∙ c.get.ensures.value in
     let sees : new.me ≡ alone (number) (part_in new.me.0) = subst (λ (z : Sight). z ≡ alone (number) (part_in z.0)) (sym c.fill.ensures.place) c.self.invariant.0.place in
-    let here = subst (λ b. OnOk c.fill.result (WasFull (setting_for m.next m.answers m.begin b.shared.key.config b.shared.key.program.value) new.me.0 (box_of c.from-node.result c.receiver-to.result) text)) c.deref.ensures c.fill.ensures.put in
-    let is = subst (λ (j : ℕ). OnOk c.fill.result (WasFull (setting_for m.next m.answers m.begin key.config key.program.value) new.me.0 (box_of j c.receiver-to.result) text)) from here in
+    let here = subst (λ b. WasFull (setting_for m.next m.answers m.begin b.shared.key.config b.shared.key.program.value) new.me.0 (box_of c.from-node.result c.receiver-to.result) text) c.deref.ensures c.in-Ok.ensures.put in
+    let is = subst (λ (j : ℕ). WasFull (setting_for m.next m.answers m.begin key.config key.program.value) new.me.0 (box_of j c.receiver-to.result) text) from here in
     put_chair key.config key.program.value number c.self.inside.replica.disk.failures (number) place.table_id new.table_id place.me new.me c.fill.ensures.table m.next m.answers m.begin sees
-    (Node number) refl text sent.0 sent.2 c.receiver-to.result to c.fill.result is
+    (Node number) refl text sent.0 sent.2 c.receiver-to.result to is
 
-pub returns-clause-used : goal.returns-clause-used
-returns-clause-used g c =
+pub returns-in-Err-clause-used : goal.returns-in-Err-clause-used
+returns-in-Err-clause-used g c =
     let m = g.M.Machine in
     let key = (arc_value c.self.inside.board).shared.key in
     let number = c.self.inside.node in
@@ -54,7 +53,7 @@ returns-clause-used g c =
     let to = c.receiver-to.ensures.named sent.0 right (c.as_slice.ensures.value ∙ sent.2) in
     let from : c.from-node.result ≡ number = c.from-node.ensures ∙ c.get.ensures.value in
     let sees : new.me ≡ alone (number) (part_in new.me.0) = subst (λ (z : Sight). z ≡ alone (number) (part_in z.0)) (sym c.fill.ensures.place) c.self.invariant.0.place in
-    let here = subst (λ b. IfErr c.fill.result (λ back. WasWord (setting_for m.next m.answers m.begin b.shared.key.config b.shared.key.program.value) new.me.0 (box_of c.from-node.result c.receiver-to.result) (λ word. word ≢ 0))) c.deref.ensures c.fill.ensures.used in
-    let is = subst (λ (j : ℕ). IfErr c.fill.result (λ back. WasWord (setting_for m.next m.answers m.begin key.config key.program.value) new.me.0 (box_of j c.receiver-to.result) (λ word. word ≢ 0))) from here in
+    let here = subst (λ b. WasWord (setting_for m.next m.answers m.begin b.shared.key.config b.shared.key.program.value) new.me.0 (box_of c.from-node.result c.receiver-to.result) (λ word. word ≢ 0)) c.deref.ensures c.in-Err.ensures.used in
+    let is = subst (λ (j : ℕ). WasWord (setting_for m.next m.answers m.begin key.config key.program.value) new.me.0 (box_of j c.receiver-to.result) (λ word. word ≢ 0)) from here in
     used_chair key.config key.program.value number c.self.inside.replica.disk.failures (number) place.table_id new.table_id place.me new.me c.fill.ensures.table m.next m.answers m.begin sees
-    (Node number) refl text sent.0 sent.2 c.receiver-to.result to c.fill.result is
+    (Node number) refl text sent.0 sent.2 c.receiver-to.result to is

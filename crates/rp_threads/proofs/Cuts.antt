@@ -1,5 +1,5 @@
 -- Texts of packets that are joined are cut at the length of the first.
-use Rattle.std.proofs.Common.{◌≡◌, ◌≢◌, ℕ, ◌==◌, ◌≤◌, Bool, true, false, not, List, [], ◌∷◌, ◌++◌, length, take, drop, inl, inr, refl, sym, ap, subst, ◌∙◌, arith, length-append}
+use Rattle.std.proofs.Common.{◌≡◌, ◌≢◌, ℕ, ◌==◌, ◌≤◌, Bool, true, false, List, [], ◌∷◌, ◌++◌, length, take, drop, inl, inr, refl, sym, ap, subst, ◌∙◌, arith, length-append}
 use Rattle.std.proofs.lemmas.Bool.{eqb-true}
 use Rattle.std.proofs.Math.Seq.{take-append_seam, drop-append_seam}
 use Rattle.rp_base.specs.Sets.{Has}
@@ -49,12 +49,10 @@ begins part texts right sent some = begins_among part texts sent.packets right s
 
 -- ---- whether bytes are left
 
-pub some_left : (left : List ℕ) (empty : Bool) → empty ≡ (length left == 0) → not empty ≡ true → length left ≢ 0
+pub some_left : (left : List ℕ) (empty : Bool) → empty ≡ (length left == 0) → empty ≡ false → length left ≢ 0
 some_left left empty is some none =
-    let e : empty ≡ true = is ∙ ap (λ (n : ℕ). n == 0) none in
-    let never : false ≡ true = subst (λ (b : Bool). not b ≡ true) e some in
+    let never : false ≡ true = sym some ∙ is ∙ ap (λ (n : ℕ). n == 0) none in
     absurd (cc)
 
-pub none_left : (left : List ℕ) (empty : Bool) → empty ≡ (length left == 0) → not empty ≡ false → length left ≡ 0
-none_left left true is none = eqb-true _ _ (sym is)
-none_left left false is none = absurd (cc)
+pub none_left : (left : List ℕ) (empty : Bool) → empty ≡ (length left == 0) → empty ≡ true → length left ≡ 0
+none_left left empty is none = eqb-true _ _ (sym is ∙ none)

@@ -86,7 +86,7 @@ fn put_each<M: Machine, D: Device>(
 {
     seat.sends_packets();
     let mut rest = texts;
-    'texts: while !rest.is_empty() {
+    'packets: while !rest.is_empty() {
         let (text, others) = rest.split_at(text_len(rest));
         put_copy(seat, alloc, text)?;
         rest = others;

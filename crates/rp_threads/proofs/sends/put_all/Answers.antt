@@ -30,5 +30,5 @@ returns-clause-offered g c =
     let texts = subst (λ (bytes : List ℕ). OnOk result (AreOffered m.next m.answers m.begin (Node c.put_each-put.new.seat.number) c.put_each-put.new.seat bytes)) c.as_slice.ensures.value c.put_each-put.ensures.offered in
     let here = subst (λ (chair : Chair g.row.M-Program.Denot). OnOk result (AreOffered m.next m.answers m.begin (Node chair.number) chair c.args.sent.bytes.items)) c.put_each-put.ensures.unchanged texts in
     let all = all_if_offered m.next m.answers m.begin (Node seat.number) c.one_text.ensures seat c.args.sent c.sends_packets.ensures result here in
-    let same : c.lend.new.self ≡ seat = c.lend.ensures ∙ c.put_each-put.ensures.unchanged in
+    let same : c.lend-2.new.self ≡ seat = c.lend-2.ensures ∙ c.put_each-put.ensures.unchanged in
     subst (λ (chair : Chair g.row.M-Program.Denot). OnOk result (IsAllOffered m.next m.answers m.begin (Node chair.number) chair c.args.sent)) (sym same) all

@@ -8,38 +8,38 @@ use Rattle.rp_threads.proofs.Cuts.{begins, is_first, none_left, some_left}
 use Rattle.rp_threads.proofs.Offers.{IsPartOffered, none_offered, one_more_offered, all_offered}
 use Rattle.rp_threads.proofs.sends.put_each.Goals as goal
 
-pub loop-texts-init : goal.loop-texts-init
-loop-texts-init g c =
+pub packets-init : goal.packets-init
+packets-init g c =
     let m = g.M.Machine in
     let seat = c.args.seat.now in
     record { same = refl; texts = c.requires; offered = none_offered m.next m.answers m.begin (Node seat.number) seat c.args.texts.now }
 
 pub text_len-requires : goal.text_len-requires
 text_len-requires g c =
-    begins c.args.seat.now.part c.loop-texts.rest.now c.sends_packets.ensures c.loop-texts.invariant.texts (some_left c.loop-texts.rest.now c.is_empty.result c.is_empty.ensures c.loop-texts-test.true)
+    begins c.args.seat.now.part c.packets.rest.now c.sends_packets.ensures c.packets.invariant.texts (some_left c.packets.rest.now c.is_empty.result c.is_empty.ensures c.packets-test.true)
 
 pub split_at-requires : goal.split_at-requires
 split_at-requires g c =
-    (is_first c.args.seat.now.part c.loop-texts.rest.now c.text_len.result c.sends_packets.ensures c.loop-texts.invariant.texts (some_left c.loop-texts.rest.now c.is_empty.result c.is_empty.ensures c.loop-texts-test.true) c.text_len.ensures).within
+    (is_first c.args.seat.now.part c.packets.rest.now c.text_len.result c.sends_packets.ensures c.packets.invariant.texts (some_left c.packets.rest.now c.is_empty.result c.is_empty.ensures c.packets-test.true) c.text_len.ensures).within
 
 pub put_copy-requires : goal.put_copy-requires
 put_copy-requires g c =
-    let first = is_first c.args.seat.now.part c.loop-texts.rest.now c.text_len.result c.sends_packets.ensures c.loop-texts.invariant.texts (some_left c.loop-texts.rest.now c.is_empty.result c.is_empty.ensures c.loop-texts-test.true) c.text_len.ensures in
-    subst (λ (part : Part). IsSentText part c.split_at.result.0.now) (sym (ap (λ (chair : Chair g.row.M-Program.Denot). chair.part) c.loop-texts.invariant.same))
+    let first = is_first c.args.seat.now.part c.packets.rest.now c.text_len.result c.sends_packets.ensures c.packets.invariant.texts (some_left c.packets.rest.now c.is_empty.result c.is_empty.ensures c.packets-test.true) c.text_len.ensures in
+    subst (λ (part : Part). IsSentText part c.split_at.result.0.now) (sym (ap (λ (chair : Chair g.row.M-Program.Denot). chair.part) c.packets.invariant.same))
     (subst (IsSentText c.args.seat.now.part) (sym c.split_at.ensures.front) first.text)
 
-pub loop-texts-preserved : goal.loop-texts-preserved
-loop-texts-preserved g c =
+pub packets-preserved : goal.packets-preserved
+packets-preserved g c =
     let m = g.M.Machine in
     let seat = c.args.seat.now in
-    let rest = c.loop-texts.rest.now in
+    let rest = c.packets.rest.now in
     let len = c.text_len.result in
-    let first = is_first seat.part rest len c.sends_packets.ensures c.loop-texts.invariant.texts (some_left rest c.is_empty.result c.is_empty.ensures c.loop-texts-test.true) c.text_len.ensures in
-    let same : c.put_copy.new.seat ≡ seat = c.put_copy.ensures.unchanged ∙ c.loop-texts.invariant.same in
+    let first = is_first seat.part rest len c.sends_packets.ensures c.packets.invariant.texts (some_left rest c.is_empty.result c.is_empty.ensures c.packets-test.true) c.text_len.ensures in
+    let same : c.put_copy.new.seat ≡ seat = c.put_copy.ensures.unchanged ∙ c.packets.invariant.same in
     let offered : IsOffered m.next m.answers m.begin (Node seat.number) seat (take len rest) =
     subst (λ (chair : Chair g.row.M-Program.Denot). IsOffered m.next m.answers m.begin (Node chair.number) chair (take len rest)) same
     (subst (λ (text : List ℕ). IsOffered m.next m.answers m.begin (Node c.put_copy.new.seat.number) c.put_copy.new.seat text) c.split_at.ensures.front c.in_ok-put_copy.ensures.offered) in
-    let more = one_more_offered m.next m.answers m.begin (Node seat.number) seat c.args.texts.now rest len c.loop-texts.invariant.offered first.text offered in
+    let more = one_more_offered m.next m.answers m.begin (Node seat.number) seat c.args.texts.now rest len c.packets.invariant.offered first.text offered in
     record {
       same = same;
       texts = subst (AreSentTexts seat.part) (sym c.split_at.ensures.back) first.others;
@@ -50,7 +50,7 @@ pub returns-clause-offered : goal.returns-clause-offered
 returns-clause-offered g c =
     let m = g.M.Machine in
     let seat = c.args.seat.now in
-    let inv = c.loop-texts.invariant in
-    let none = none_left c.loop-texts.rest.now c.is_empty.result c.is_empty.ensures c.loop-texts-test.false in
-    let all = all_offered m.next m.answers m.begin (Node seat.number) seat c.args.texts.now c.loop-texts.rest.now inv.offered none in
+    let inv = c.packets.invariant in
+    let none = none_left c.packets.rest.now c.is_empty.result c.is_empty.ensures c.packets-test.false in
+    let all = all_offered m.next m.answers m.begin (Node seat.number) seat c.args.texts.now c.packets.rest.now inv.offered none in
     subst (λ (chair : Chair g.row.M-Program.Denot). AreOffered m.next m.answers m.begin (Node chair.number) chair c.args.texts.now) (sym inv.same) all

@@ -5,8 +5,8 @@ use Rattle.rp_threads.specs.Turns.{AreSentTexts}
 use Rattle.rp_threads.proofs.Offers.{IsPartOffered}
 use Rattle.rp_threads.proofs.sends.put_each.Given as goal
 
-abbrev pub invariant-loop-texts : goal.invariant-loop-texts
-invariant-loop-texts g l =
+abbrev pub invariant-packets : goal.invariant-packets
+invariant-packets g l =
     let m = g.M.Machine in
     record {
       same : l.seat ≡ l.fn.seat;
@@ -14,5 +14,5 @@ invariant-loop-texts g l =
       offered : IsPartOffered m.next m.answers m.begin (Node l.fn.seat.number) l.fn.seat l.texts l.rest;
     }
 
-abbrev pub decreases-loop-texts : goal.decreases-loop-texts
-decreases-loop-texts g l = length l.rest
+abbrev pub decreases-packets : goal.decreases-packets
+decreases-packets g l = length l.rest

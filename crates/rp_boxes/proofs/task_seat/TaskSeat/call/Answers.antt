@@ -40,6 +40,29 @@ returns-in_err-next-clause-err g c =
     subst (λ (at : Chair g.row.M-Program.Denot). IfErr c.from_residual.result (λ e. IsNoTaskTurn at input at e)) c.self.view_is
     (at_fault (IsNoTaskTurn chair input chair) fault c.from_residual.result c.from_residual.ensures.1 (refused_chair chair task sits.place.is input fault refused))
 
+pub asking-requires-clause-own : goal.asking-requires-clause-own
+asking-requires-clause-own g c =
+    let m = g.M.Machine in
+    let inside = c.self.inside in
+    let number = inside.number in
+    let task = inside.task in
+    let p = part_in inside.place.me.0 in
+    let shared = (arc_value inside.board).shared in
+    let config = shared.key.config in
+    let sits = c.self.invariant.1 in
+    let fits : FitsSigned w64 c.args.arg = record { sfits = c.ranges.arg.sfits } in
+    let arg = to_z-of_z w64 c.args.arg fits in
+    let input = Submit c.args.node c.args.object c.args.operation c.args.arg in
+    let may = subst (λ (at : Config). may_call at c.args.node task.part (next_call task.task task.part c.args.object c.args.operation c.args.arg) task.part.outstanding ≡ c.next.result) sits.shared
+    (ap (λ (z : ℤ). may_call inside.config c.args.node task.part (next_call task.task task.part c.args.object c.args.operation z) task.part.outstanding) (sym arg) ∙ sym c.next.ensures) in
+    let call = c.in_ok-next.field-0 in
+    let done = asking_done number c.args.node (waiting_for task.part call) (Some call) in
+    let is = may ∙ c.in_ok-next.was in
+    let comes = call_comes config number task sits.named c.args.node c.args.object c.args.operation c.args.arg call is in
+    let given : IsTaskInput p.got number input = (c.node_keeps_range.ensures, fits) in
+    let right = c.tasks_send_right_packets.ensures config number input task.part done p.got sits.waits given comes (asks number c.args.node call) (inl refl) in
+    right.0.rules.2
+
 pub asking-requires-clause-right : goal.asking-requires-clause-right
 asking-requires-clause-right g c =
     let m = g.M.Machine in
@@ -83,8 +106,11 @@ returns-in_err-sent-clause-err g c =
     let is = may ∙ c.in_ok-next.was in
     let comes = call_comes config number task sits.named c.args.node c.args.object c.args.operation c.args.arg call is in
     let chair : Chair g.row.M-Program.Denot = record { table = inside.place.table_id; config = config; program = shared.key.program.value; number = number; failures = 0; part = p } in
-    subst (λ (at : Chair g.row.M-Program.Denot). IfErr c.from_residual-in_err-sent.result (λ e. IsNoTaskTurn at input at e)) c.self.view_is
+    subst (λ (at : Chair g.row.M-Program.Denot). IfErr c.from_residual-in_err-sent.result (λ e. IsNoTaskTurn at input chair e)) c.self.view_is
     (at_fault (IsNoTaskTurn chair input chair) OutOfMemory c.from_residual-in_err-sent.result c.from_residual-in_err-sent.ensures.1 (wanting_chair chair task sits.place.is input OutOfMemory done refl comes))
+
+pub invariant_of-self : goal.invariant_of-self
+invariant_of-self g c = c.self.invariant
 
 pub call-requires-clause-operation : goal.call-requires-clause-operation
 call-requires-clause-operation g c =
@@ -139,8 +165,8 @@ note_asking-requires-clause-event g c =
     × BecomesPart p new.part (asked_of number c.args.node (Some call)) after) (sym c.deref.ensures)
     (task_event s number p task range sits.place.is input given done comes new.part (asked_of number c.args.node (Some call)) now refl)
 
-pub invariant_of-self : goal.invariant_of-self
-invariant_of-self g c =
+pub invariant_of-self-2 : goal.invariant_of-self-2
+invariant_of-self-2 g c =
     let m = g.M.Machine in
     let inside = c.self.inside in
     let number = inside.number in

@@ -47,7 +47,7 @@ returns-in_err-sent-clause-err g c =
     let done = asking_done number c.args.node task.part task.part.outstanding in
     let comes = again_comes config number c.args.node task.part within in
     let chair : Chair g.row.M-Program.Denot = record { table = inside.place.table_id; config = config; program = shared.key.program.value; number = number; failures = 0; part = p } in
-    subst (λ (at : Chair g.row.M-Program.Denot). IfErr c.from_residual.result (λ e. IsNoTaskTurn at input at e)) c.self.view_is
+    subst (λ (at : Chair g.row.M-Program.Denot). IfErr c.from_residual.result (λ e. IsNoTaskTurn at input chair e)) c.self.view_is
     (at_fault (IsNoTaskTurn chair input chair) OutOfMemory c.from_residual.result c.from_residual.ensures.1 (wanting_chair chair task sits.place.is input OutOfMemory done refl comes))
 
 pub note_asking-requires-clause-event : goal.note_asking-requires-clause-event

@@ -4,6 +4,7 @@ ghost use Rattle.std.specs.Prelude.{◌≡◌};
 ghost use Rattle.rp_deck.specs.ScriptLines.{verb_named, is_live, takes};
 
 use crate::deck::Mode;
+use rp_words::is_word;
 
 /// The first word of a line of the script.
 #[derive(Clone, Copy)]
@@ -31,23 +32,38 @@ impl Verb {
     pub fn named(word: &[u8]) -> Option<Verb>
         ensures { result ≡ verb_named word.now }
     {
-        match word {
-            b"call" => Some(Verb::Call),
-            b"arm" => Some(Verb::Arm),
-            b"disarm" => Some(Verb::Disarm),
-            b"again" => Some(Verb::Again),
-            b"lead" => Some(Verb::Lead),
-            b"range" => Some(Verb::Range),
-            b"deliver" => Some(Verb::Deliver),
-            b"lose" => Some(Verb::Lose),
-            b"drain" => Some(Verb::Drain),
-            b"stop" => Some(Verb::Stop),
-            b"restart" => Some(Verb::Restart),
-            b"cut" => Some(Verb::Cut),
-            b"irq" => Some(Verb::Interrupt),
-            b"tick" => Some(Verb::Tick),
-            b"show" => Some(Verb::Show),
-            _ => None,
+        if is_word(word, b"call") {
+            Some(Verb::Call)
+        } else if is_word(word, b"arm") {
+            Some(Verb::Arm)
+        } else if is_word(word, b"disarm") {
+            Some(Verb::Disarm)
+        } else if is_word(word, b"again") {
+            Some(Verb::Again)
+        } else if is_word(word, b"lead") {
+            Some(Verb::Lead)
+        } else if is_word(word, b"range") {
+            Some(Verb::Range)
+        } else if is_word(word, b"deliver") {
+            Some(Verb::Deliver)
+        } else if is_word(word, b"lose") {
+            Some(Verb::Lose)
+        } else if is_word(word, b"drain") {
+            Some(Verb::Drain)
+        } else if is_word(word, b"stop") {
+            Some(Verb::Stop)
+        } else if is_word(word, b"restart") {
+            Some(Verb::Restart)
+        } else if is_word(word, b"cut") {
+            Some(Verb::Cut)
+        } else if is_word(word, b"irq") {
+            Some(Verb::Interrupt)
+        } else if is_word(word, b"tick") {
+            Some(Verb::Tick)
+        } else if is_word(word, b"show") {
+            Some(Verb::Show)
+        } else {
+            None
         }
     }
 

@@ -2,7 +2,7 @@
 
 ghost use Rattle.std.specs.Prelude.{◌≡◌, ◌≤◌, ◌-◌, ◌++◌, Some, drop, IfErr, IfOk};
 ghost use Rattle.rp_model.specs.World.{part_at};
-ghost use Rattle.rp_script.specs.Output.{names_of, message_text, trace_text, traced_text, opened_text, restarted_text, full_text, dropped_text, node_of_event, node_of_step, receiver_of, taken_text, effect_text};
+ghost use Rattle.rp_script.specs.Output.{names_of, message_text, trace_text, traced_text, opened_text, full_text, dropped_text, node_of_event, node_of_step, receiver_of, taken_text, effect_text};
 ghost use Rattle.rp_script.specs.Trace.{task_name, party_text_of, message_line_of};
 ghost use Rattle.rp_script.specs.Telling.{shown_party};
 ghost use Rattle.rp_script.specs.FaultLine.{with_line_feed};
@@ -185,21 +185,6 @@ fn tell_restart<W: Write>(
     let Event::Restart(node) = *event else {
         return Ok(());
     };
-    tell_opened(alloc, node, opened, writer)
-}
-
-/// Prints how the restart of a node went: what it found, or that the node runs.
-#[inline(never)]
-fn tell_opened<W: Write>(
-    alloc: Global,
-    node: NodeId,
-    opened: Option<(u64, u64)>,
-    writer: &mut W,
-) -> Result<(), Fault>
-    ensures told { Writes (W.contents writer.old) (W.contents writer.new)
-        (restarted_text node opened) result }
-    ensures fault { IfErr result IsRunFault }
-{
     match opened {
         Some((records, bytes)) => print(
             alloc,

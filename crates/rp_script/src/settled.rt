@@ -104,23 +104,8 @@ impl Settled {
         }
     }
 
-    /// Settles the least number, and passes those that are settled after it.
-    #[inline(always)]
+    /// Settles the least number, and passes those that are settled behind it.
     fn pass(&mut self)
-        requires { least_of self.old + 1 < 2 ^ 64 }
-        ensures { (m : ℕ) → is_settled self.new m
-            ≡ (m == least_of self.old || is_settled self.old m) }
-    {
-        if self.above.is_empty() {
-            self.least += 1;
-        } else {
-            self.pass_settled();
-        }
-    }
-
-    /// The same where others may be settled after it.
-    #[inline(never)]
-    fn pass_settled(&mut self)
         requires { least_of self.old + 1 < 2 ^ 64 }
         ensures { (m : ℕ) → is_settled self.new m
             ≡ (m == least_of self.old || is_settled self.old m) }

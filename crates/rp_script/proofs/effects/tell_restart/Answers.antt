@@ -1,9 +1,12 @@
-use Rattle.std.proofs.Common.{sym, ap}
-use Rattle.rp_model.specs.declared.event.Event.{Event}
+use Rattle.std.proofs.Common.{sym, ap₂}
 use Rattle.rp_script.specs.Output.{opened_text}
 use Rattle.rp_script.proofs.Writing.{writes_same}
 use Rattle.rp_script.proofs.effects.tell_restart.Goals as goal
 
-pub returns-in-Restart-clause-told : goal.returns-in-Restart-clause-told
-returns-in-Restart-clause-told g c =
-    writes_same _ _ _ _ c.tell_opened.result (sym (ap (λ (e : Event). opened_text e c.args.opened) c.in-Restart.is)) c.tell_opened.ensures.told
+pub returns-in-Some-clause-told : goal.returns-in-Some-clause-told
+returns-in-Some-clause-told g c =
+    writes_same _ _ _ _ c.print.result (sym (ap₂ opened_text c.in-Restart.is c.in-Some.is)) c.print.ensures.printed
+
+pub returns-in-None-clause-told : goal.returns-in-None-clause-told
+returns-in-None-clause-told g c =
+    writes_same _ _ _ _ c.print-in-None.result (sym (ap₂ opened_text c.in-Restart.is c.in-None.is)) c.print-in-None.ensures.printed

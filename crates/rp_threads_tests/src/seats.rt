@@ -34,6 +34,21 @@ struct Boxed {
     second: Option<Vec<u8>>,
 }
 
+/// Puts a packet and its copy: the copy, if it is given back.
+fn put_both<M: Machine>(
+    task: &mut TaskSeat<M>,
+    packet: Vec<u8>,
+    copy: Vec<u8>,
+) -> Result<Option<Vec<u8>>, Fault>
+    requires packet { IsSentText task.old.part packet.items }
+    requires copy { IsSentText task.old.part copy.items }
+{
+    if task.put(packet).is_err() {
+        return Err(Fault::Io);
+    }
+    Ok(task.put(copy).err())
+}
+
 /// A packet is put twice into one box, which is then emptied twice.
 fn put_twice<M: Machine, D: Device>(
     alloc: Global,
@@ -45,10 +60,7 @@ fn put_twice<M: Machine, D: Device>(
     let task = all.tasks.first_mut().ok_or(Fault::BadConfig)?;
     let packet = first_call(task, alloc)?.bytes;
     let copy = packet.clone()?;
-    if task.put(packet).is_err() {
-        return Err(Fault::Io);
-    }
-    let back = task.put(copy).err();
+    let back = put_both(task, packet, copy)?;
     let node = all.nodes.first_mut().ok_or(Fault::BadConfig)?;
     Ok(Boxed {
         back,

@@ -55,15 +55,23 @@ fn a_lower_ballot_gets_the_bound(rt: HostRuntime) -> Result<(), Fail> {
 }
 
 #[test]
+fn a_promised_ballot_gets_a_vote(rt: HostRuntime) -> Result<(), Fail> {
+    let acceptor = promised(rt.alloc())?;
+    let (first, ten, action) = (position(1)?, ballot(10)?, call(5));
+    let rec = Rec::Voted(first, ten, action);
+    assert_eq!(rt;
+        acceptor.accept(first, ten, &action),
+        AcceptAnswer::Vote { rec }
+    );
+    Ok(())
+}
+
+#[test]
 fn a_ballot_gets_one_vote(rt: HostRuntime) -> Result<(), Fail> {
-    let mut acceptor = promised(rt.alloc())?;
     let (first, ten) = (position(1)?, ballot(10)?);
-    let (a, b) = (call(5), call(2));
-    let rec = Rec::Voted(first, ten, a);
-    assert_eq!(rt; acceptor.accept(first, ten, &a), AcceptAnswer::Vote { rec });
-    write(&mut acceptor, first, &rec)?;
-    assert_eq!(rt; acceptor.accept(first, ten, &a), AcceptAnswer::Again);
-    assert_eq!(rt; acceptor.accept(first, ten, &b), AcceptAnswer::Silent);
+    let acceptor = Acceptor::restore(rt.alloc(), &[Rec::Voted(first, ten, call(5))])?;
+    assert_eq!(rt; acceptor.accept(first, ten, &call(5)), AcceptAnswer::Again);
+    assert_eq!(rt; acceptor.accept(first, ten, &call(2)), AcceptAnswer::Silent);
     Ok(())
 }
 

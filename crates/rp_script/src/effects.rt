@@ -111,7 +111,7 @@ fn tell_message<M: Machine, D: CutDevice, W: Write>(
 }
 
 /// The message of this number.
-fn sent_packet<M: Machine, D: CutDevice>(
+pub fn sent_packet<M: Machine, D: CutDevice>(
     alloc: Global,
     cluster: &Cluster<M, D>,
     number: u64,
@@ -237,7 +237,7 @@ fn tell_full<M: Machine, D: CutDevice, W: Write>(
 }
 
 /// The node that takes an event.
-fn node_of_event<M: Machine, D: CutDevice>(
+pub fn node_of_event<M: Machine, D: CutDevice>(
     alloc: Global,
     cluster: &Cluster<M, D>,
     event: &Event,

@@ -1,0 +1,9 @@
+pub mod Arrows
+pub mod Elements
+pub mod Moments
+pub mod Pages
+pub mod Shortness
+pub mod Sketches
+pub mod Views
+pub mod Ways
+pub mod Written

@@ -56,4 +56,5 @@ upright_text u = path_text u.kind.now (codes "M" ++ (place_text u.x u.y ++ (code
 -- a band across the page
 abbrev pub band_text : Band → List ℕ
 band_text b =
-    codes "<rect class='z' y='" ++ (decimal b.y ++ (codes "' width='800' height='" ++ (decimal b.height ++ codes "'/>")))
+    opening_text (codes "rect") (codes "z") ++ (codes " y='" ++ (decimal b.y ++ (codes "' width='800' height='"
+    ++ (decimal b.height ++ codes "'/>"))))

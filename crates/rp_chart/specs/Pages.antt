@@ -22,8 +22,8 @@ most_lines = 2 ^ 29
 abbrev pub lines_before : List Row → ℕ → ℕ
 lines_before rows moment = min (sum (map row_height (take moment rows))) most_lines
 
--- where a line begins, below where the lanes begin; where packets end that are settled in it, above its marks; and where
--- those begin that are sent in it, below its marks
+-- where a line begins, below where the lanes begin; where the ways of packets end in it, above its marks; and where
+-- those of packets begin that are sent in it, below its marks
 abbrev pub top_of : ℕ → ℕ → ℕ
 top_of lanes_top line = lanes_top + 4 + 18 * line
 

@@ -13,15 +13,12 @@ use rp_codec::Party;
 use rp_deck::{Deck, DeckProgram, Mode, read_deck};
 use rp_machine::Tally;
 use rp_object::Objects;
-use rp_script::{RunOptions, read_whole, tell, write_out};
+use rp_script::{DRAIN_LIMIT, RunOptions, devices, read_whole, tell, write_out};
 use rp_store::MemDevice;
 use std::alloc::{AllocError, Global};
 use std::convert::AsStr;
 use std::io;
 use std::io::{Read, Write};
-
-/// The most messages that one `drain` delivers.
-const DRAIN_LIMIT: u32 = 100_000;
 
 /// Where the program reads its deck, prints, and reports its faults.
 #[derive(Drop)]
@@ -85,21 +82,11 @@ fn draw<R: Read, W: Write>(
     let lines = script.as_slice();
     let chart = match program {
         DeckProgram::Tally(program) => {
-            let stage = Stage {
-                program,
-                devices,
-                view,
-                lanes,
-            };
+            let stage = Stage::new(program, devices, view, lanes);
             draw_lines::<Tally, MemDevice>(alloc, &options, stage, lines)?
         }
         DeckProgram::Objects(program) => {
-            let stage = Stage {
-                program,
-                devices,
-                view,
-                lanes,
-            };
+            let stage = Stage::new(program, devices, view, lanes);
             draw_lines::<Objects, MemDevice>(alloc, &options, stage, lines)?
         }
     };
@@ -174,15 +161,6 @@ fn lines_of(alloc: Global, text: &[u8]) -> Result<Vec<&[u8]>, AllocError> {
         };
     }
     Ok(lines)
-}
-
-/// So many empty devices.
-fn devices(alloc: Global, count: u8) -> Result<Vec<MemDevice>, AllocError> {
-    let mut devices = Vec::new(alloc);
-    for place in 0..count {
-        devices.push(MemDevice::new(alloc))?;
-    }
-    Ok(devices)
 }
 
 /// Reports that one of the words is not UTF-8.

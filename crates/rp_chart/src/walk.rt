@@ -3,10 +3,12 @@
 ghost use Rattle.std.specs.Prelude.{◌≡◌, ◌≤◌, ◌<◌, ◌^◌, ◌++◌, [], ◌∷◌, List, length, filter, All, IfOk, OnOk};
 ghost use Rattle.rp_deck.specs.Script.{FitsIn, IsEventWithin};
 ghost use Rattle.rp_world.specs.Steps.{IsSameSetup, setting_of};
-ghost use Rattle.rp_script.specs.Output.{RunSetting, Play, command_said, drained, event_said, least_unsettled, lost, run_said};
+ghost use Rattle.rp_script.specs.Output.{RunSetting, Play, command_said, drained, event_said};
+ghost use Rattle.rp_script.specs.Output.{least_unsettled, lost, run_said};
 ghost use Rattle.rp_script.specs.Runs.{run_setting, opening_setup, HasParts};
 ghost use Rattle.rp_chart.specs.Arrows.{arrows_of};
-ghost use Rattle.rp_chart.specs.Moments.{Moment, event_moment, command_moments, drain_moments, loss, run_moments, still};
+ghost use Rattle.rp_chart.specs.Moments.{Moment, event_moment, command_moments, drain_moments};
+ghost use Rattle.rp_chart.specs.Moments.{loss, run_moments, still};
 ghost use Rattle.rp_chart.specs.Sketches.{IsAt, is_drawn};
 ghost use Rattle.rp_chart.specs.Ways.{IsWay};
 
@@ -31,6 +33,19 @@ pub struct Stage<P: Drop, D: Drop> {
     pub devices: Vec<D>,
     pub view: View,
     pub lanes: Vec<Lane>,
+}
+
+impl<P: Drop, D: Drop> Stage<P, D> {
+    pub fn new(program: P, devices: Vec<D>, view: View, lanes: Vec<Lane>) -> Self
+        ensures { result ≡ record { program = program; devices = devices; view = view; lanes = lanes } }
+    {
+        Stage {
+            program,
+            devices,
+            view,
+            lanes,
+        }
+    }
 }
 
 /// The chart of the lines of a script, over a cluster of new devices that never fail. Its arrows are the ways of

@@ -32,7 +32,7 @@ mod settled;
 mod stream;
 mod trace;
 
-pub use deck_run::{run_deck, run_script};
+pub use deck_run::{DRAIN_LIMIT, devices, run_deck, run_script};
 pub use effects::{node_of_event, sent_packet};
 pub use fault_line::{FaultLine, is_refusal, reason_text, tell};
 pub use figures::FiguresLine;

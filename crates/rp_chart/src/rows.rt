@@ -18,7 +18,7 @@ const LINE_TEXT: usize = 28;
 const IMAGE_TEXT: usize = 110;
 
 /// How far a mark's note is from its lane.
-const BESIDE: u32 = 8;
+const BESIDE: u32 = 10;
 
 impl Drawing<'_> {
     /// Writes a moment: the number of its line where it is the first of it, what happens, and its mark.
@@ -176,7 +176,12 @@ impl Drawing<'_> {
         writer: &mut W,
     ) -> Result<(), Fault> {
         for (place, image) in images.iter().enumerate() {
-            let mut whole = format!(in alloc; "nodes")?;
+            let kind = if image.nodes.len() == 1 {
+                "node"
+            } else {
+                "nodes"
+            };
+            let mut whole = String::from_str(alloc, kind)?;
             for node in &image.nodes {
                 let number = node.get();
                 whole.push_str(format!(in alloc; " {number}")?.as_str())?;

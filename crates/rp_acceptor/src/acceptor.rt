@@ -262,7 +262,7 @@ fn slot_of(promised: Option<Ballot>, last: Option<Vote>) -> Slot
     }
 }
 
-/// Adds a record behind the others.
+/// Adds a record after the others.
 fn remember(records: &mut History<Rec>, rec: &Rec)
     ensures { records.new ≡ records.old ++ rec.now ∷ [] }
 {

@@ -1,4 +1,4 @@
--- Which actions keep the rules of their fields (the limits are this project's own).
+-- Which actions keep the rules of their fields (the limits are ours).
 use Rattle.std.specs.Prelude.{ℕ, ◌<◌, ◌≤◌, ◌^◌, FitsSigned, Bool, true, false, nat_eq, nat_le, ◌&&◌}
 use Rattle.std.specs.Ordering.{int_eq}
 use Rattle.std.specs.Int.{w64}

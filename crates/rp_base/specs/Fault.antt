@@ -1,4 +1,4 @@
--- The number and the name of each fault (this project's own).
+-- The number and the name of each fault.
 use Rattle.std.specs.Prelude.{ℕ, List, codes}
 use Rattle.rp_base.specs.declared.fault.Fault.{Fault}
 use Rattle.rp_base.specs.declared.fault.Fault.TheVariants.{OutOfMemory, Device, Failed, BadPacket, NotRunning, BallotsSpent, LogFull, NoSuchMessage, TaskBusy, NumbersSpent, BadDeck, BadConfig, Io}

@@ -42,7 +42,7 @@ proposal_at proposals i = find (λ p. nat_eq p.position i) proposals
 abbrev pub without_proposal : List Proposal → ℕ → List Proposal
 without_proposal proposals i = filter (λ p. not (nat_eq p.position i)) proposals
 
--- the proposals, this one in place of the one at its position, or behind them where none runs there
+-- the proposals, this one in place of the one at its position, or after them where none runs there
 abbrev pub with_proposal : List Proposal → Proposal → List Proposal
 with_proposal [] p = p ∷ []
 with_proposal (q ∷ rest) p = if nat_eq q.position p.position then p ∷ rest else q ∷ with_proposal rest p

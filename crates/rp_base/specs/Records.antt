@@ -78,7 +78,7 @@ abbrev pub unless_missing : Option Action → List Action → List Action
 unless_missing None rest = []
 unless_missing (Some action) rest = action ∷ rest
 
--- the actions learned from a position on without a gap, so many at most
+-- the actions learned from a position on without a gap, n at most
 abbrev pub learned_run : List Rec → ℕ → ℕ → List Action
 learned_run records zero i = []
 learned_run records (suc most) i = unless_missing (learned_at records i) (learned_run records most (suc i))

@@ -1,4 +1,4 @@
--- The components of a protected object, by name (this project's own).
+-- The components of a protected object, by name.
 use Rattle.std.specs.Prelude.{ℕ, ℤ, pos, Bool, true, false, ◌&&◌, int_le, Option, Some, None, unwrap_or, option_map, List, if◌then◌else◌, refl}
 use Rattle.std.specs.List.{enumerate_from}
 use Rattle.std.specs.Ordering.{nat_cmp}
@@ -42,7 +42,7 @@ is_within low high z = int_le low z && int_le z high
 abbrev pub by_place : {X : Type 0} → List X → FinMap nat_cmp X
 by_place xs = from_entries (enumerate_from 0 xs)
 
--- what `with_int` gives where the name stands for this component, or for none
+-- what `with_int` gives where the name denotes this component, or for none
 abbrev pub with_found : Option Ranged → Store → ℕ → ℤ → Store × Bool
 with_found None store name value = (store, true)
 with_found (Some component) store name value =

@@ -15,7 +15,7 @@ ghost use Rattle.rp_boxes.specs.Plays.{IsSized, alone, holding};
 ghost use Rattle.rp_boxes.specs.Rule.{IsCarried, IsVacant, Slot};
 
 use crate::board::{Known, Place, Slots};
-use crate::events::Saying;
+use crate::events::Fact;
 use crate::looking::look;
 use crate::spares::spare;
 use atomic_table::Play;
@@ -36,7 +36,7 @@ struct Claim<J> {
     of: PhantomData<J>,
 }
 
-impl<J: Saying> Play<Option<Vec<u8>>, Known> for Claim<J> {
+impl<J: Fact> Play<Option<Vec<u8>>, Known> for Claim<J> {
     ghost use Rattle.std.specs.Prelude.{◌≢◌};
     ghost use Rattle.rp_boxes.specs.Parts.{part_in};
     ghost use Rattle.rp_boxes.specs.Plays.{Claimed};
@@ -50,7 +50,7 @@ struct Publish<J> {
     of: PhantomData<J>,
 }
 
-impl<J: Saying> Play<Option<Vec<u8>>, Known> for Publish<J> {
+impl<J: Fact> Play<Option<Vec<u8>>, Known> for Publish<J> {
     ghost use Rattle.rp_boxes.specs.Parts.{part_in};
     ghost use Rattle.rp_boxes.specs.Plays.{Published};
 
@@ -62,7 +62,7 @@ struct Take<J> {
     of: PhantomData<J>,
 }
 
-impl<J: Saying> Play<Option<Vec<u8>>, Known> for Take<J> {
+impl<J: Fact> Play<Option<Vec<u8>>, Known> for Take<J> {
     ghost use Rattle.std.specs.Prelude.{◌≢◌};
     ghost use Rattle.rp_boxes.specs.Parts.{part_in};
     ghost use Rattle.rp_boxes.specs.Plays.{Took};
@@ -81,7 +81,7 @@ impl Play<Option<Vec<u8>>, Known> for Clear {
 }
 
 /// Claims the box to another actor, if it is empty. Of one that is not, what its caller picks is so.
-fn claim_empty<M: Machine, J: Saying>(
+fn claim_empty<M: Machine, J: Fact>(
     slots: &Slots<M>,
     place: &mut Place,
     from: usize,
@@ -107,7 +107,7 @@ fn claim_empty<M: Machine, J: Saying>(
 
 /// Puts a packet that the actor sent into the box that it claimed, and lets go of it. The buffer that
 /// was in the box, if there was one. What its caller picks is so of the full box.
-fn deliver<M: Machine, J: Saying>(
+fn deliver<M: Machine, J: Fact>(
     slots: &Slots<M>,
     place: &mut Place,
     from: usize,
@@ -174,7 +174,7 @@ pub(crate) fn fill<M: Machine>(
 }
 
 /// Claims the box from another actor, if it is full. Of one that is not, what its caller picks is so.
-fn claim_full<M: Machine, J: Saying>(
+fn claim_full<M: Machine, J: Fact>(
     slots: &Slots<M>,
     place: &mut Place,
     from: usize,

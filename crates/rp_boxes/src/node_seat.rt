@@ -44,9 +44,9 @@ pub struct NodeSeat<M: Machine, D: Device> {
 impl<M: Machine, D: Device> Model for NodeSeat<M, D> {
     ghost use Rattle.std.specs.Arc.{arc_value};
     ghost use Rattle.rp_boxes.specs.Parts.{part_in};
-    ghost use Rattle.rp_boxes.specs.Seats.{Chair, IsAtTable, IsNodePlace};
+    ghost use Rattle.rp_boxes.specs.Seats.{SeatState, IsAtTable, IsNodePlace};
 
-    ghost Value = { Chair M.Program };
+    ghost Value = { SeatState M.Program };
 
     ghost view = { λ s. record {
       table = s.place.table_id;

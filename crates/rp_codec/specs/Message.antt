@@ -1,4 +1,4 @@
--- What a packet says, and which of it may be said (the rules are this project's own).
+-- What a packet says, and which of it may be said (the rules are ours).
 use Rattle.std.specs.Prelude.{◌≡◌, ℕ, ◌+◌, ◌-◌, ◌^◌, ◌<◌, min, List, length, All, IfSome}
 use Rattle.rp_base.specs.Number.{IsNode, IsTask, IsPosition}
 use Rattle.rp_base.specs.Ballot.{IsBallot}
@@ -41,7 +41,7 @@ IsBody (Report first applied actions) = IsPosition first × (applied < 2 ^ 16)
 IsBody (PrepareRange range ballot) = IsRange range × IsBallot ballot
 IsBody (PromiseRange range ballot votes) = IsRange range × IsBallot ballot × All (λ placed. IsBallot placed.vote.ballot) votes
 
--- ---- what who makes a packet owes
+-- ---- the obligations of who makes a packet
 
 abbrev pub IsNodeParty : Party → Type 0
 IsNodeParty (Node n) = Unit {0}
@@ -77,11 +77,11 @@ BetweenNodes from to = IsNodeParty from × IsNodeParty to
 abbrev pub IsVoteBelow : ℕ → Vote → Type 0
 IsVoteBelow ballot vote = (vote.ballot < ballot) × IsRight vote.action
 
--- how many actions a report tells: those applied from the first position on, and at most 200
+-- how many actions a report has: those applied from the first position on, and at most 200
 abbrev pub report_len : ℕ → ℕ → ℕ
 report_len first applied = min 200 (applied + 1 - first)
 
--- what a report tells of the actions that were applied
+-- what a report says of the actions that were applied
 pub record IsReport (first applied : ℕ) (actions : List Action) : Type 0 where
   pub len : length actions ≡ report_len first applied
   pub right : All IsRight actions

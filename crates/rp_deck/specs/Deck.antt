@@ -1,4 +1,4 @@
--- What a deck that was read keeps (the limits are this project's own).
+-- What a deck that was read keeps (the limits are ours).
 use Rattle.std.specs.Prelude.{◌≤◌, All, map}
 use Rattle.indexmap.specs.IndexMap.{index_map_len, values}
 use Rattle.indexmap.specs.IndexSet.{index_set_len}

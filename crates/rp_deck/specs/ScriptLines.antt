@@ -1,5 +1,5 @@
--- The lines of a script, and how their words are read. A task, an object, an interrupt and a timing event are
--- named, and stand for their numbers from 1 in declared order.
+-- The lines of a script, and how their words are read. A task, an object, an interrupt and a timing event are named,
+-- and denote their numbers from 1 in declared order.
 use Rattle.std.specs.Prelude.{ℕ, ◌+◌, ◌-◌, ◌^◌, ℤ, pos, Bool, true, false, not, List, [], ◌∷◌, codes, slice_get, Option, Some, None, Result, Ok, Err, if◌then◌else◌}
 use Rattle.std.specs.Str.{bytes_eq}
 use Rattle.rp_base.specs.declared.action.Operation.{Operation}

@@ -35,7 +35,7 @@ expression_words =
     codes "arg" ∷ codes "out" ∷ codes "add" ∷ codes "sub" ∷ codes "true" ∷ codes "false"
     ∷ codes "lt" ∷ codes "le" ∷ codes "eq" ∷ codes "not" ∷ codes "and" ∷ codes "or" ∷ []
 
--- what a component's name stands for, of a kind
+-- what a component's name denotes, of a kind
 abbrev pub int_place : Component → Option ℕ
 int_place (components.Int place) = Some place
 int_place (components.Bool place) = None

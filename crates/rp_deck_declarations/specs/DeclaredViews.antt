@@ -59,7 +59,7 @@ abbrev pub declared_text : Declared → DeclaredText
 declared_text d =
     declared_as d.nodes (unwrap_or d.positions 1000) d.program d.tasks d.objects d.interrupts d.timers
 
--- the program is a tally of so many objects, with these names
+-- the program is a tally of n objects, with these names
 pub record IsTally {Y S : Type 0} (count : ℕ) (program : DeckProgram) (operations : List (IndexMap (String Y) OperationName S)) : Type 0 where
   pub program_is : program_text program ≡ Tally count
   pub no_timers : timer_handlers program ≡ []

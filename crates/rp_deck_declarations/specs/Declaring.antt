@@ -41,7 +41,7 @@ ends_declarations d line = not (is_in_body d) && bytes_eq line.first (codes "scr
 abbrev pub missing : DraftText → DeckReason
 missing d = if is_in_body d then EndExpected else ScriptExpected
 
--- what these lines declare behind what is declared already, and the lines after `script`; the line after the last of
+-- what these lines declare after what is declared already, and the lines after `script`; the line after the last of
 -- the deck has this number
 unfoldable pub declarations_from : ℕ → DraftText → List LineText → Result (DraftText × List LineText) BadLine
 declarations_from last d [] = Err (record { line = last; reason = missing d })

@@ -15,7 +15,7 @@ use Rattle.rp_words.specs.Tables.{place_of, find}
 use Rattle.rp_words.specs.Reading.{room, ◌>>=◌, some_or, unless, word_at, end_at, new_name_at, number_at, dotted_of}
 use Rattle.rp_deck_objects.specs.Objects.{empty_object, ObjectText}
 
--- what is declared so far, each kind in declared order: the names, and what they stand for
+-- what is declared so far, each kind in declared order: the names, and what they denote
 pub record DraftText : Type 0 where
   pub nodes : ℕ
   pub positions : Option ℕ

@@ -31,7 +31,7 @@ DeclaresAll priorities interrupts timers (Tally program) = Unit {0}
 DeclaresAll priorities interrupts timers (Objects program) = Declares priorities interrupts timers (arc_value program.declarations)
 
 module _ {Y S : Type 0} where
-  -- each of the names of each object stands for one of its operations, in order
+  -- each of the names of each object denotes one of its operations, in order
   abbrev pub AreAllNamed : List ObjectDeclaration → List (IndexMap (String Y) OperationName S) → Type 0
   AreAllNamed objects names =
       (k : ℕ) (object : ObjectDeclaration) (own : IndexMap (String Y) OperationName S)

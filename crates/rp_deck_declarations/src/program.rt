@@ -107,7 +107,7 @@ fn make(alloc: Global, draft: &Draft, drafts: Vec<ObjectDraft>) -> Result<Object
     protected_objects(alloc, declarations, operations)
 }
 
-/// A tally of so many objects. The one operation of each is the procedure `add`.
+/// A tally of n objects. The one operation of each is the procedure `add`.
 fn tally(alloc: Global, count: u8) -> Result<Objects, LineError>
     requires { (1 ≤ count) × (count ≤ 8) }
     ensures memory { IfErr result (λ error. error ≡ LineError.OutOfMemory) }

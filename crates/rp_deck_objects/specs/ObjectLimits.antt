@@ -1,4 +1,4 @@
--- The limits that an object keeps whose lines are read (this project's own).
+-- The limits that an object keeps whose lines are read.
 use Rattle.std.specs.Prelude.{ℕ, ◌≡◌, ◌<◌, ◌≤◌, All, true, false, List, Option, Some, None, String, string_bytes, length}
 use Rattle.std.specs.declared.alloc.Global.{Global}
 use Rattle.std.specs.FinMap.{len}
@@ -24,7 +24,7 @@ use Rattle.rp_deck_objects.specs.ObjectViews.{operation_of}
 use Rattle.rp_deck_objects.specs.Objects.{most_entries}
 
 module _ {Y S : Type 0} where
-  -- each name stands for one of these operations
+  -- each name denotes one of these operations
   abbrev pub AreNamed : Operations → IndexMap (String Y) OperationName S → Type 0
   AreNamed declared names = All (λ name. has_operation (operation_of name) declared ≡ true) (values names)
 
@@ -60,8 +60,8 @@ abbrev pub HasOpen : Profile → ObjectDraft → Option OperationDraft → Type 
 HasOpen profile o None = Unit {0}
 HasOpen profile o (Some operation) = IsOpenIn profile o operation
 
--- components, so many names of each kind, and what names stand for: at most 8 of each kind, a name for each, ranges of
--- 64 bits, first values in them, and each name stands for a component
+-- components, n names of each kind, and what names denote: at most 8 of each kind, a name for each, ranges of 64
+-- bits, first values in them, and each name denotes a component
 pub record KeepsComponents (store : Store) (int_count bool_count : ℕ) (declared : List Component) : Type 0 where
   pub few_ints : len store.ints ≤ 8
   pub few_bools : len store.bools ≤ 8

@@ -92,7 +92,7 @@ impl FunctionKind {
 #[derive(Clone, Copy)]
 pub enum Head {
     Procedure,
-    /// Its barrier is the Boolean component at this place, and at most so many calls wait.
+    /// Its barrier is the Boolean component at this place, and at most n calls wait.
     Entry { barrier: u8, longest: u8 },
 }
 
@@ -564,7 +564,7 @@ fn most_entries(profile: Profile) -> usize
     }
 }
 
-/// How many calls wait at an entry at most: under Jorvik the rest of the line may tell.
+/// How many calls wait at an entry at most: under Jorvik the rest of the line may say.
 fn take_longest(profile: Profile, words: &mut Words<'_>) -> Result<u8, DeckReason>
     ensures read { Gives (λ longest. (longest, unread words.new)) result
         (longest_at profile (unread words.old)) }

@@ -21,7 +21,7 @@ module _ (names : List (List ℕ)) (declared : List Component) where
   body_lines (If before condition first second) =
       body_lines before ++ ((codes "if" ∷ cond_words names declared condition) ∷ (body_lines first ++ ((codes "else" ∷ []) ∷ (body_lines second ++ (codes "end" ∷ []) ∷ []))))
 
-  -- each statement is within so many `if`s, of which there are at most 7; its parts are right
+  -- each statement is within n `if`s, of which there are at most 7; its parts are right
   abbrev pub IsBodyOf : ℕ → BodyText → Type 0
   IsBodyOf deep Empty = Unit {0}
   IsBodyOf deep (Set before place value) =

@@ -48,7 +48,7 @@ abbrev pub HasOne : (Component → Bool) → List Component → Type 0
 HasOne test [] = ⊥
 HasOne test (first ∷ rest) = IsTrue (test first) ⊎ HasOne test rest
 
--- names for so many components, none of them a word of the expressions
+-- names for n components, none of them a word of the expressions
 pub record AreComponents (names : List (List ℕ)) (declared : List Component) : Type 0 where
   pub names_are : IsTrue (are_names names)
   pub free : IsTrue (list_all (λ name. not (is_declared name expression_words)) names)

@@ -37,7 +37,7 @@ same_operation (operations.Procedure a) (operations.Procedure b) = nat_eq a b
 same_operation (operations.Entry a) (operations.Entry b) = nat_eq a b
 same_operation _ _ = false
 
--- the name of an operation: that of the first place where it stands
+-- the name of an operation: that of the first place where it is
 abbrev pub operation_name_in : List (List ℕ) → List Operation → Operation → List ℕ
 operation_name_in [] declared operation = []
 operation_name_in names [] operation = []

@@ -26,16 +26,16 @@ pub data Request : Type 0 where
   calls_entry : (index : ℕ) (call : Waiting) → Request
   event : (handler : ℕ) → Request
 
--- A body runs, its caller is told the result, and the queues are serviced before the action ends (section 9.5.3).
--- So it is also where the body raised an exception (this project's own); what it assigned before stays.
+-- A body runs, its caller gets the result, and the queues are serviced before the action ends (section 9.5.3). So it
+-- is also where the body raised an exception; what it assigned before stays.
 pub record Runs (operations : Operations) (body : List Stmt) (arg : ℤ) (before : State) (outcome : CallOutcome) (served : List Answer) (after : State) : Type 0 where
   pub store : Store
   pub ended : Outcome
   pub run : body_effect body arg before.store ≡ (store, ended)
-  pub told : outcome ≡ Reply (reply_of ended)
+  pub replied : outcome ≡ Reply (reply_of ended)
   pub serviced : Services operations (record { store = store; queues = before.queues }) served after
 
--- the state in which the call waits behind the others of the entry of this index, counted from 1
+-- the state in which the call waits after the others of the entry of this index, counted from 1
 abbrev pub with_caller : State → ℕ → Waiting → State
 with_caller before index call =
     record before { queues = slice_set before.queues (index - 1) (queue_at before.queues (index - 1) ++ call ∷ []) }
@@ -58,7 +58,7 @@ pub data Acts (operations : Operations) (before : State) : Request → Option Ca
       → IsOpen entry before.store
       → Runs operations entry.body.items call.arg before outcome served after
       → Acts operations before (calls_entry index call) (Some outcome) served after
-  -- at a closed one it waits behind the others of that entry (9.5.3)
+  -- at a closed one it waits after the others of that entry (9.5.3)
   closed_entry : {index : ℕ} {call : Waiting} {entry : Entry}
       → of_index operations.entries.items index ≡ Some entry
       → ¬ IsOpen entry before.store
@@ -70,12 +70,13 @@ pub data Acts (operations : Operations) (before : State) : Request → Option Ca
       → ¬ IsOpen entry before.store
       → entry.longest ≤ length (queue_at before.queues (index - 1))
       → Acts operations before (calls_entry index call) (Some (Reply ProgramError)) [] before
-  -- a handler runs with no caller, and an exception that it raises has no effect of its own (C.3, D.15); its argument 0 is this project's own
+  -- a handler runs with no caller, and an exception that it raises has no effect of its own (C.3, D.15); its argument
+  -- 0 is ours
   handler : {index : ℕ} {body : Vec Stmt Global} {outcome : CallOutcome} {served : List Answer} {after : State}
       → of_index operations.procedures.items index ≡ Some body
       → Runs operations body.items (pos 0) before outcome served after
       → Acts operations before (event index) None served after
-  -- what the object does not have changes nothing (this project's own)
+  -- what the object does not have changes nothing
   no_function : {index : ℕ} {arg : ℤ}
       → of_index operations.functions.items index ≡ None
       → Acts operations before (calls_function index arg) (Some (Reply NoSuchOperation)) [] before

@@ -1,4 +1,4 @@
--- A protected object as contracts see it (this project's own).
+-- A protected object as contracts see it.
 use Rattle.std.specs.Prelude.{ℕ, ◌≤◌, List, length, refl}
 use Rattle.std.specs.Coded.{Coded, code_by, coded×}
 use Rattle.std.specs.List.{AllZip}

@@ -1,4 +1,4 @@
--- What a caller is told of an operation that ran.
+-- The reply to a caller of an operation that ran.
 use Rattle.std.specs.Prelude.{ℤ, pos, if◌then◌else◌}
 use Rattle.rp_base.specs.declared.reply.Reply.{Reply}
 use Rattle.rp_base.specs.declared.reply.Reply.TheVariants.{Value, Truth, ConstraintError}

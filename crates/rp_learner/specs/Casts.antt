@@ -1,4 +1,4 @@
--- The votes heard at one position, by their tallies (this project's own).
+-- The votes heard at one position, by their tallies.
 use Rattle.std.specs.Prelude.{ℕ, suc, ◌&&◌, Bool, Option, Some, None, nat_eq, List, [], ◌∷◌, ◌++◌, map, filter, if◌then◌else◌}
 use Rattle.rp_base.specs.declared.record.Vote.{Vote}
 use Rattle.rp_base.specs.Sets.{IsSet, with_member, with_members}

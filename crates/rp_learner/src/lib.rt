@@ -10,4 +10,4 @@ mod learner;
 mod place;
 mod tally;
 
-pub use learner::{Decision, Learner, Standing, WINDOW, same_learners_answer_alike};
+pub use learner::{Decision, Learner, VoteStatus, WINDOW, same_learners_answer_alike};

@@ -4,7 +4,7 @@ ghost use Rattle.std.specs.Prelude.{◌≡◌, ◌≤◌, ◌<◌, false, OnOk, 
 ghost use Rattle.rp_base.specs.Sets.{Has};
 ghost use Rattle.rp_learner.specs.Places.{NotesCast, is_settled_in, opened, voters_at, votes_in};
 ghost use Rattle.rp_learner.specs.declared.place.Place.TheVariants.{Settled};
-ghost use Rattle.rp_learner.specs.Standings.{vote_for};
+ghost use Rattle.rp_learner.specs.Status.{vote_for};
 
 use crate::tally::Tallies;
 use rp_base::{Action, Ballot, NodeId, Vote, majority};

@@ -5,7 +5,7 @@ ghost use Rattle.rp_base.specs.Sets.{Has, IsSet, SameMembers, with_member};
 ghost use Rattle.rp_base.specs.Majority.{nodes_among};
 ghost use Rattle.rp_base.specs.Promises.{same_vote};
 ghost use Rattle.rp_learner.specs.Casts.{same_cast, index_from, voters_with};
-ghost use Rattle.rp_learner.specs.Standings.{vote_for};
+ghost use Rattle.rp_learner.specs.Status.{vote_for};
 
 use rp_base::{Action, Ballot, NodeId, Senders, Vote};
 use std::alloc::{AllocError, Global};

@@ -1,5 +1,4 @@
--- What a machine behind a log is asked, from the actions that counted and the answers to them (this
--- project's own).
+-- What a machine after a log is asked, from the actions that counted and the answers to them.
 use Rattle.std.specs.Prelude.{ℕ, Bool, not, ◌&&◌, nat_eq, nat_lt, max, Option, None, List, [], ◌∷◌, find, if◌then◌else◌}
 use Rattle.std.specs.Option.{option_map}
 use Rattle.rp_base.specs.declared.action.Action.{Action}

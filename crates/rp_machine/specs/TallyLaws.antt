@@ -118,8 +118,8 @@ sums_text-injective object (x ∷ xs) (y ∷ ys) long fits fit e =
     let name = codes " o" ++ decimal object ++ codes "=" in
     let left = sums_text (suc object) xs in
     let right = sums_text (suc object) ys in
-    let behind : signed_decimal x ++ left ≡ signed_decimal y ++ right = append_cancel_left name _ _ (sym (append_assoc name (signed_decimal x) left) ∙ e ∙ append_assoc name (signed_decimal y) right) in
-    let both = split_at_blank (signed_decimal x) (signed_decimal y) left right (signed_no_blank x fits.0) (signed_no_blank y fit.0) (sums_text_begins (suc object) xs) (sums_text_begins (suc object) ys) behind in
+    let following : signed_decimal x ++ left ≡ signed_decimal y ++ right = append_cancel_left name _ _ (sym (append_assoc name (signed_decimal x) left) ∙ e ∙ append_assoc name (signed_decimal y) right) in
+    let both = split_at_blank (signed_decimal x) (signed_decimal y) left right (signed_no_blank x fits.0) (signed_no_blank y fit.0) (sums_text_begins (suc object) xs) (sums_text_begins (suc object) ys) following in
     let first : x ≡ y = signed_decimal_injective x y (mag_fits x fits.0) (mag_fits y fit.0) both.0 in
     let others : xs ≡ ys = sums_text-injective (suc object) xs ys (omega arith) fits.1 fit.1 both.1 in
     cc
@@ -156,7 +156,7 @@ call_reply : (adds : Bool) (found : Option ℤ) (arg : ℤ) → IsReply (let rep
 call_reply true found arg = add_reply found arg
 call_reply false found arg = tt
 
--- the sum that a reply tells fits
+-- the sum that a reply reports fits
 pub tally_replies : (objects : ℕ) (sums : List ℤ) (action : Action) → HasSums objects sums → IsRight action → MayApply [] action
     → (answer : Answer) → Has answer (tally_answers sums action) → IsReply answer.reply
 tally_replies objects sums Noop has right may answer h = absurd h

@@ -1,4 +1,4 @@
--- The rule of the tally: one sum for each object, to which a call of `add` adds (this project's own).
+-- The rule of the tally: one sum for each object, to which a call of `add` adds.
 use Rattle.std.specs.Prelude.{◌≡◌, ℕ, zero, suc, ℤ, pos, negsuc, ◌+ℤ◌, ◌-◌, ◌^◌, ◌==◌, nat_lt, Bool, true, false, Option, Some, None, List, [], ◌∷◌, ◌++◌, All, length, slice_get, slice_set, if◌then◌else◌, decimal, codes, option_and_then}
 use Rattle.std.specs.Fmt.{signed_decimal}
 use Rattle.rp_base.specs.declared.action.Action.{Action}

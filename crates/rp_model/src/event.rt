@@ -59,7 +59,7 @@ pub enum Event {
     },
     /// A node makes a step.
     Node(Step),
-    /// A node stops within a step: so many bytes of the step's record are kept, or all if there are no
+    /// A node stops within a step: n bytes of the step's record are kept, or all if there are no
     /// more, and nothing is sent.
     Cut {
         step: Step,

@@ -1,4 +1,4 @@
--- The text that shows the state of a program (this project's own).
+-- The text that shows the state of a program.
 use Rattle.std.specs.Prelude.{ℕ, suc, ℤ, Bool, true, false, Option, Some, None, List, [], ◌∷◌, ◌++◌, String, string_bytes, codes, decimal, flat_map}
 use Rattle.std.specs.declared.alloc.Global.{Global}
 use Rattle.std.specs.Fmt.{signed_decimal}

@@ -1,4 +1,4 @@
--- What is declared, and which declarations are right (the limits are this project's own).
+-- What is declared, and which declarations are right (the limits are ours).
 use Rattle.std.specs.Prelude.{◌≡◌, ℕ, ◌≤◌, nat_le, nat_eq, Bool, true, false, ◌&&◌, Option, Some, None, is_some, option_map, IfSome, FitsSigned, length}
 use Rattle.std.specs.Int.{w64}
 use Rattle.std.specs.List.{All}

@@ -1,5 +1,5 @@
--- The states that a program reaches: what its start has and every action keeps (Ada Reference Manual, section 9.5.3; the limits are
--- this project's own).
+-- The states that a program reaches: what its start has and every action keeps (Ada Reference Manual, section 9.5.3;
+-- the limits are ours).
 use Rattle.std.specs.Prelude.{◌≡◌, ◌<◌, ◌^◌, FitsSigned, IfSome, List, [], ◌∷◌, length}
 use Rattle.std.specs.Int.{w64}
 use Rattle.std.specs.List.{All, AllZip}

@@ -11,7 +11,8 @@ use Rattle.rp_object.specs.declared.program.TimingEvent.{TimingEvent}
 use Rattle.rp_object.specs.declared.program.Declarations.{Declarations}
 use Rattle.rp_object.specs.Program.{operations_of}
 
--- the objects, each with its operations, components and queues, the time for which each timing event is set, if it is, and the clock; objects and timing events stand in order of their numbers from 1
+-- the objects, each with its operations, components and queues, the time for which each timing event is set, if it
+-- is, and the clock; objects and timing events are in order of their numbers from 1
 pub record ProgramState : Type 0 where
   pub objects : List Protected
   pub timers : List (Option ℤ)

@@ -1,4 +1,4 @@
--- Which timing events are due, and in which order (Ada Reference Manual, section D.15; the order is this project's own).
+-- Which timing events are due, and in which order (Ada Reference Manual, section D.15; the order is ours).
 use Rattle.std.specs.Prelude.{◌≡◌, ℕ, suc, ℤ, pos, int_lt, int_le, nat_lt, Bool, false, ◌&&◌, ◌||◌, Option, Some, None, List, [], ◌∷◌, map, if◌then◌else◌}
 use Rattle.std.specs.Ordering.{int_eq}
 
@@ -36,7 +36,7 @@ abbrev pub NoneBefore : Setting → List Setting → Type 0
 NoneBefore setting [] = Unit {0}
 NoneBefore setting (other ∷ rest) = (is_before other setting ≡ false) × NoneBefore setting rest
 
--- none that stands behind a setting is before it
+-- none that is after a setting is before it
 abbrev pub InOrder : List Setting → Type 0
 InOrder [] = Unit {0}
 InOrder (setting ∷ rest) = NoneBefore setting rest × InOrder rest

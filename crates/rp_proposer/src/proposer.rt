@@ -82,7 +82,7 @@ impl Proposer {
     pub fn ballot(&self) -> Result<Ballot, Fault>
         ensures next { IfOk result (IsNext self.now.node (counted_by self.now)) }
         ensures value { IfOk result (λ b. b ≡ next_ballot self.now.node (counted_by self.now)) }
-        ensures spent { IsErrOf result Fault.BallotsSpent ↔ ((b : ℕ)
+        ensures exhausted { IsErrOf result Fault.BallotsSpent ↔ ((b : ℕ)
             → ¬ IsAbove self.now.node (counted_by self.now) b) }
         ensures full { IsErrOf result Fault.BallotsSpent
             ↔ (2 ^ 32 ≤ round_of (next_ballot self.now.node (counted_by self.now))) }

@@ -21,8 +21,8 @@ use rp_store::Device;
 use std::alloc::{AllocError, Global};
 
 impl<M: Machine, D: Device> Replica<M, D> {
-    /// Writes a promise for a range, and tells it to the node that asked, with the last votes of the
-    /// range. The packet takes memory, so its text is made first; it is sent once the record is
+    /// Writes a promise for a range, and sends it to the node that asked, with the last votes of
+    /// the range. The packet takes memory, so its text is made first; it is sent once the record is
     /// written.
     #[inline(never)]
     pub(crate) fn promise_range(
@@ -57,14 +57,14 @@ impl<M: Machine, D: Device> Replica<M, D> {
     {
         let RangePromise { to, range, ballot } = *promise;
         let votes = Votes::from_vec(self.acceptor.list_last_votes(alloc, range)?);
-        let told = Body::PromiseRange {
+        let stated = Body::PromiseRange {
             range,
             ballot,
             votes,
         };
         encode(
             alloc,
-            &Packet::new(Party::Node(self.me), Party::Node(to), told),
+            &Packet::new(Party::Node(self.me), Party::Node(to), stated),
         )
     }
 }

@@ -176,7 +176,7 @@ impl<M: Machine, D: Device> Replica<M, D> {
     }
 
     /// A report to the audit of the actions applied at the positions from `first` on, as many as
-    /// `report_len` says. It copies what it tells and no more. Refused with `OutOfMemory` or
+    /// `report_len` says. It copies what it reports and no more. Refused with `OutOfMemory` or
     /// `Failed`.
     pub fn report(&mut self, alloc: Global, first: Position) -> Result<Sent, Fault>
         ensures { Answers (effect_of M.next M.answers self.old (inputs.NodeInput.Report first))

@@ -11,5 +11,5 @@ pub mod Printed
 pub mod Runs
 pub mod Settled
 pub mod Stream
-pub mod Telling
+pub mod PartyText
 pub mod Trace

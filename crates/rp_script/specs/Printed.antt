@@ -1,4 +1,4 @@
--- The lines that a run prints, without their ends (this project's own).
+-- The lines that a run prints, without their ends.
 use Rattle.std.specs.Prelude.{ℕ, List, ◌++◌, codes, decimal, true, false}
 use Rattle.std.specs.Fmt.{signed_decimal}
 use Rattle.rp_base.specs.Fault.{code_of, name_of}

@@ -1,4 +1,4 @@
-//! What is told of a fault.
+//! What is printed of a fault.
 
 ghost use Rattle.std.specs.Prelude.{◌≡◌, ◌≤◌, ◌↔◌, IsTrue, OnOk, Some};
 ghost use Rattle.rp_base.specs.Fault.{code_of};
@@ -33,7 +33,7 @@ pub fn tell<W: Write>(fault: &Fault, writer: &mut W) -> io::Result<()>
     writeln!(writer, "{line}")
 }
 
-/// The words by which a reason is told.
+/// The words by which a reason is printed.
 pub fn reason_text(reason: DeckReason) -> &'static str
     ensures { result.now ≡ reason_text_of reason }
 {
@@ -55,7 +55,7 @@ pub fn reason_text(reason: DeckReason) -> &'static str
     }
 }
 
-/// The line that tells of a fault.
+/// The line for a fault.
 #[derive(Clone, Copy, Debug, PartialEq, Eq)]
 pub struct FaultLine {
     pub fault: Fault,

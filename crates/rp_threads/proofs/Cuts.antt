@@ -12,7 +12,7 @@ use Rattle.rp_boxes.specs.Parts.{Part}
 use Rattle.rp_boxes.specs.Seats.{IsSentText}
 use Rattle.rp_threads.specs.Turns.{AreSentTexts}
 
--- so many bytes are the text of the first packet, and the others follow
+-- n bytes are the text of the first packet, and the others follow
 pub record IsFirst (part : Part) (texts : List ℕ) (len : ℕ) : Type 0 where
   pub within : len ≤ length texts
   pub text : IsSentText part (take len texts)

@@ -44,8 +44,8 @@ impl Messages {
         }
     }
 
-    /// Puts what the last step sent behind the others, so that nothing lies apart. Refused for memory,
-    /// nothing changes.
+    /// Puts what the last step sent after the others, so that nothing lies apart. Refused for
+    /// memory, nothing changes.
     #[inline(always)]
     pub(crate) fn settle(&mut self) -> Result<(), AllocError>
         ensures settled { OnOk result (self.new.apart ≡ 0) }
@@ -84,7 +84,7 @@ impl Messages {
         replace(&mut self.last, Vec::new(alloc))
     }
 
-    /// A step sent these packets, so many texts that are joined.
+    /// A step sent these packets, n texts that are joined.
     pub(crate) fn put(&mut self, texts: Vec<u8>, count: usize)
         requires settled { self.old.apart ≡ 0 }
         requires texts { AreTexts texts.items count }
@@ -131,7 +131,7 @@ impl Messages {
     }
 }
 
-/// Adds the ends of so many texts, which lie in the bytes from a place on.
+/// Adds the ends of n texts, which lie in the bytes from a place on.
 fn add_ends(ends: &mut Vec<usize>, bytes: &[u8], from: usize, count: usize)
     requires within { from ≤ length bytes.now }
     requires texts { AreTexts (drop from bytes.now) count }
@@ -173,7 +173,7 @@ fn start_between(bytes: &[u8], ends: &[usize], place: usize) -> usize
     if place == 0 { 0 } else { ends[place - 1] }
 }
 
-/// Where the text of a place, from 0, begins among so many texts.
+/// Where the text of a place, from 0, begins among n texts.
 fn start_of(bytes: &[u8], count: usize, place: usize) -> usize
     requires texts { AreTexts bytes.now count }
     requires place { place < count }
@@ -187,7 +187,7 @@ fn start_of(bytes: &[u8], count: usize, place: usize) -> usize
     at
 }
 
-/// The text of a place, from 0, among so many texts, of which it reads those before it.
+/// The text of a place, from 0, among n texts, of which it reads those before it.
 #[inline(never)]
 fn text_apart(bytes: &[u8], count: usize, place: usize) -> Option<&[u8]>
     requires { AreTexts bytes.now count }

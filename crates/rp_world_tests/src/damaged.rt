@@ -22,7 +22,7 @@ fn records_before(place: usize) -> usize {
     ENDS.iter().filter(|end| **end <= place).count()
 }
 
-/// Where the last of so many records ends, 0 where there is none.
+/// Where the last of n records ends, 0 where there is none.
 fn end_of(records: usize) -> usize {
     ENDS.get(records.wrapping_sub(1)).copied().unwrap_or(0)
 }

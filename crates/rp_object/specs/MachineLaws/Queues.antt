@@ -18,12 +18,12 @@ use Rattle.rp_object.specs.Reached.{IsCall}
 
 -- ---- as many queues
 
-services_many : {operations : Operations} {before after : State} {told : List Answer} → Services operations before told after → length after.queues ≡ length before.queues
+services_many : {operations : Operations} {before after : State} {replied : List Answer} → Services operations before replied after → length after.queues ≡ length before.queues
 services_many (ends serviced) = refl
 services_many (goes_on {before = before} step rest) = services_many rest ∙ ap length step.left ∙ length-set before.queues step.place step.ready.rest
 
-pub acts_many : {operations : Operations} {before after : State} {request : Request} {caller : Option CallOutcome} {told : List Answer}
-    → Acts operations before request caller told after → length after.queues ≡ length before.queues
+pub acts_many : {operations : Operations} {before after : State} {request : Request} {caller : Option CallOutcome} {replied : List Answer}
+    → Acts operations before request caller replied after → length after.queues ≡ length before.queues
 acts_many (function there) = refl
 acts_many (procedure there ran) = services_many ran.serviced
 acts_many (open_entry there up ran) = services_many ran.serviced
@@ -41,12 +41,12 @@ abbrev AreShort : Operations → State → Type 0
 AreShort operations state = AllZip IsShort operations.entries.items state.queues
 
 module _ {operations : Operations} where
-  services_short : {before after : State} {told : List Answer} → Services operations before told after → AreShort operations before → AreShort operations after
+  services_short : {before after : State} {replied : List Answer} → Services operations before replied after → AreShort operations before → AreShort operations after
   services_short (ends serviced) short = short
   services_short (goes_on {before = before} step rest) short =
       services_short rest (subst (λ (l : List (List Waiting)). AllZip IsShort operations.entries.items l) (sym step.left) (short_taken operations.entries.items before.queues step.place step.ready.call step.ready.rest short step.ready.waits))
 
-  pub acts_short : {before after : State} {request : Request} {caller : Option CallOutcome} {told : List Answer} → Acts operations before request caller told after → AreShort operations before → AreShort operations after
+  pub acts_short : {before after : State} {request : Request} {caller : Option CallOutcome} {replied : List Answer} → Acts operations before request caller replied after → AreShort operations before → AreShort operations after
   acts_short (function there) short = short
   acts_short (procedure there ran) short = services_short ran.serviced short
   acts_short (open_entry there up ran) short = services_short ran.serviced short
@@ -70,14 +70,14 @@ IsRightRequest (event index) = Unit {0}
 abbrev AreCalls : State → Type 0
 AreCalls state = (call : Waiting) → Has call (all_calls state.queues) → IsCall call
 
-services_calls : {operations : Operations} {before after : State} {told : List Answer} → Services operations before told after → AreCalls before → AreCalls after
+services_calls : {operations : Operations} {before after : State} {replied : List Answer} → Services operations before replied after → AreCalls before → AreCalls after
 services_calls (ends serviced) calls = calls
 services_calls (goes_on {before = before} {between = between} step rest) calls = services_calls rest (λ call has.
     let left : Has call (all_calls (set before.queues step.place step.ready.rest)) = subst (λ (l : List (List Waiting)). Has call (all_calls l)) step.left has in
     calls call (has_permuted call (back (taken before.queues step.place step.ready.call step.ready.rest step.ready.waits)) (inr left)))
 
-pub acts_calls : {operations : Operations} {before after : State} {request : Request} {caller : Option CallOutcome} {told : List Answer}
-    → length before.queues ≡ length operations.entries.items → Acts operations before request caller told after → IsRightRequest request → AreCalls before → AreCalls after
+pub acts_calls : {operations : Operations} {before after : State} {request : Request} {caller : Option CallOutcome} {replied : List Answer}
+    → length before.queues ≡ length operations.entries.items → Acts operations before request caller replied after → IsRightRequest request → AreCalls before → AreCalls after
 acts_calls each (function there) right calls = calls
 acts_calls each (procedure there ran) right calls = services_calls ran.serviced calls
 acts_calls each (open_entry there up ran) right calls = services_calls ran.serviced calls
@@ -94,8 +94,8 @@ acts_calls each (no_handler none) right calls = calls
 
 -- ---- nobody waits at an open barrier
 
-pub acts_serviced : {operations : Operations} {before after : State} {request : Request} {caller : Option CallOutcome} {told : List Answer}
-    → Acts operations before request caller told after → IsServiced operations before → IsServiced operations after
+pub acts_serviced : {operations : Operations} {before after : State} {request : Request} {caller : Option CallOutcome} {replied : List Answer}
+    → Acts operations before request caller replied after → IsServiced operations before → IsServiced operations after
 acts_serviced (function there) serviced = serviced
 acts_serviced (procedure there ran) serviced = is_serviced ran.serviced
 acts_serviced (open_entry there up ran) serviced = is_serviced ran.serviced

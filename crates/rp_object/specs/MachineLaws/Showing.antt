@@ -1,4 +1,4 @@
--- The image shows the state: each part of it can be read off, and what comes behind it.
+-- The image shows the state: each part of it can be read off, and what comes after it.
 use Rattle.std.proofs.Common.{◌≡◌, ◌≢◌, ◌≤◌, ◌<◌, ◌+◌, ◌⊎◌, append_assoc, inl, inr, ℕ, suc, ℤ, Bool, true, false, List, [], ◌∷◌, ◌++◌, length, get_or, codes, decimal, Option, Some, None, String, Global, string_bytes, FitsSigned, w64, refl, sym, ◌∙◌, ap, subst, arith}
 use Rattle.std.specs.Prelude.{IfSome, flat_map}
 use Rattle.std.specs.Fmt.{signed_decimal}
@@ -172,14 +172,14 @@ module _ (profile : Profile) (declared : ObjectDeclaration) (fits : DeclarationF
   abbrev shown : Protected → List ℕ
   shown object = queues_text profile declared.entries.items object.state.queues
 
-  abbrev behind_bools : Protected → List ℕ
-  behind_bools object = shown object ++ codes "\n"
+  abbrev after_bools : Protected → List ℕ
+  after_bools object = shown object ++ codes "\n"
 
-  abbrev behind_ints : Protected → List ℕ
-  behind_ints object = bools_text object.state.store 0 declared.bools.items ++ behind_bools object
+  abbrev after_ints : Protected → List ℕ
+  after_ints object = bools_text object.state.store 0 declared.bools.items ++ after_bools object
 
-  abbrev behind_name : Protected → List ℕ
-  behind_name object = ints_text object.state.store 0 declared.ints.items ++ behind_ints object
+  abbrev after_name : Protected → List ℕ
+  after_name object = ints_text object.state.store 0 declared.ints.items ++ after_ints object
 
   same_object : (one other : Protected) → one.operations ≡ other.operations → one.state.store.ints ≡ other.state.store.ints → one.state.store.bools ≡ other.state.store.bools → one.state.queues ≡ other.state.queues → one ≡ other
   same_object one other operations ints bools queues =
@@ -192,16 +192,16 @@ module _ (profile : Profile) (declared : ObjectDeclaration) (fits : DeclarationF
   read_object : (one other : Protected) (s t : List ℕ) → IsObjectOf declared one → IsObjectOf declared other → object_line profile declared one ++ s ≡ object_line profile declared other ++ t → (one ≡ other) × (s ≡ t)
   read_object one other s t p q e =
       let name = string_bytes declared.name in
-      let first = append_cancel_left (codes "object ") ((name ++ behind_name one) ++ s) ((name ++ behind_name other) ++ t) e in
-      let named = append_cancel_left name (behind_name one ++ s) (behind_name other ++ t) (regroup name (behind_name one) s name (behind_name other) t first) in
+      let first = append_cancel_left (codes "object ") ((name ++ after_name one) ++ s) ((name ++ after_name other) ++ t) e in
+      let named = append_cancel_left name (after_name one ++ s) (after_name other ++ t) (regroup name (after_name one) s name (after_name other) t first) in
       let line : EndsLine (codes "\n") = (inr refl, refl) in
-      let ends : (o : Protected) (r : List ℕ) → EndsWord (behind_ints o ++ r) =
-      λ o r. ends_before (behind_ints o) r (bools_end o.state.store 0 declared.bools.items (behind_bools o) (queues_end profile declared.entries.items o.state.queues (codes "\n") line).0) in
-      let ints = read_ints declared.ints.items one.state.store other.state.store 0 (behind_ints one ++ s) (behind_ints other ++ t)
+      let ends : (o : Protected) (r : List ℕ) → EndsWord (after_ints o ++ r) =
+      λ o r. ends_before (after_ints o) r (bools_end o.state.store 0 declared.bools.items (after_bools o) (queues_end profile declared.entries.items o.state.queues (codes "\n") line).0) in
+      let ints = read_ints declared.ints.items one.state.store other.state.store 0 (after_ints one ++ s) (after_ints other ++ t)
       (values_fit declared.components one.state.store fits.ends p.ranges p.values) (values_fit declared.components other.state.store fits.ends q.ranges q.values) (ends one s) (ends other t)
-      (regroup (ints_text one.state.store 0 declared.ints.items) (behind_ints one) s (ints_text other.state.store 0 declared.ints.items) (behind_ints other) t named) in
-      let bools = read_bools declared.bools.items one.state.store other.state.store 0 (behind_bools one ++ s) (behind_bools other ++ t)
-      (regroup (bools_text one.state.store 0 declared.bools.items) (behind_bools one) s (bools_text other.state.store 0 declared.bools.items) (behind_bools other) t ints.1) in
+      (regroup (ints_text one.state.store 0 declared.ints.items) (after_ints one) s (ints_text other.state.store 0 declared.ints.items) (after_ints other) t named) in
+      let bools = read_bools declared.bools.items one.state.store other.state.store 0 (after_bools one ++ s) (after_bools other ++ t)
+      (regroup (bools_text one.state.store 0 declared.bools.items) (after_bools one) s (bools_text other.state.store 0 declared.bools.items) (after_bools other) t ints.1) in
       let queues = read_queues profile declared.entries.items one.state.queues other.state.queues (codes "\n" ++ s) (codes "\n" ++ t) (many one p) (many other q) p.calls q.calls (inr refl, refl) (inr refl, refl)
       (regroup (shown one) (codes "\n") s (shown other) (codes "\n") t bools.1) in (
         same_object one other (p.operations ∙ sym q.operations)

@@ -2,7 +2,7 @@
 use Rattle.std.proofs.Common.{◌≡◌, ◌∙◌, Some, refl, sym, ap, arith}
 use Rattle.std.specs.Prelude.{slice_get}
 use Rattle.rp_learner.specs.declared.place.Place.TheVariants.{Unheard, Heard, Settled}
-use Rattle.rp_learner.specs.Standings.{vote_for}
+use Rattle.rp_learner.specs.Status.{vote_for}
 use Rattle.rp_learner.proofs.Outcomes.{known_here, learned_here, counting_here, offset_at}
 use Rattle.rp_learner.proofs.Tallies.{alone}
 use Rattle.rp_learner.proofs.learner.Learner.vote.Goals as goal

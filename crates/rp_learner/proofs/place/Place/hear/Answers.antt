@@ -1,7 +1,7 @@
 -- One vote of 3 nodes and more settles nothing, and a vote short of a majority is one more.
 use Rattle.std.proofs.Common.{refl, arith}
 use Rattle.rp_learner.specs.declared.place.Place.TheVariants.{Heard}
-use Rattle.rp_learner.specs.Standings.{vote_for}
+use Rattle.rp_learner.specs.Status.{vote_for}
 use Rattle.rp_learner.proofs.Noting.{counts, first_counts}
 use Rattle.rp_learner.proofs.place.Place.hear.Goals as goal
 

@@ -6,7 +6,7 @@ use Rattle.rp_base.specs.Majority.{nodes_among}
 use Rattle.rp_base.specs.Sets.{with_member}
 use Rattle.rp_base.proofs.Sameness.{vote_equal}
 use Rattle.rp_learner.specs.Casts.{index_from}
-use Rattle.rp_learner.specs.Standings.{vote_for}
+use Rattle.rp_learner.specs.Status.{vote_for}
 use Rattle.rp_learner.proofs.Tallies.{count_at, count_none, index_at, index_none, index_is, no_other, heard_at, still_tallies, heard_first, more_tallies, unheard, alone}
 use Rattle.rp_learner.proofs.Outcomes.{on_err}
 use Rattle.rp_learner.proofs.tally.Tallies.hear.Goals as goal

@@ -31,7 +31,7 @@ def path_patterns():
         if area == "src":
             out.append((crate, old, f"crates/{crate}/src/{new}.rt", re.compile(
                 rf"(\b(?:mod|crate::|use )\s*){module}\b(?=;|::)"), new))
-            out.append(("*", None, None, re.compile(rf"(\bRattle\.{crate}\.(?:specs\.declared|proofs)\.){module}\b"), new))
+            out.append(("*", None, None, re.compile(rf"(\bRattle\.{crate}\.(?:specs\.declared|specs\.contracts|proofs)\.){module}\b"), new))
         else:
             out.append((crate, old, f"crates/{crate}/{area}/{new}.antt", None, new))
             out.append(("*", None, None, re.compile(rf"(\bRattle\.{crate}\.{area}\.){module}\b"), new))
@@ -44,6 +44,8 @@ def rename_paths(top):
         crate, area, module = old.split("/")
         ext = "rt" if area == "src" else "antt"
         a, b = f"crates/{crate}/{area}/{module}.{ext}", f"crates/{crate}/{area}/{new}.{ext}"
+        if area == "src" and os.path.isdir(f"{top}/crates/{crate}/proofs/{module}"):
+            os.rename(f"{top}/crates/{crate}/proofs/{module}", f"{top}/crates/{crate}/proofs/{new}")
         if os.path.exists(f"{top}/{a}"): move(top, a, b); moved += 1
         elif not os.path.exists(f"{top}/{b}"): raise SystemExit(f"FAIL: neither {a} nor {b}")
     for f in listed(top):
@@ -54,7 +56,7 @@ def rename_paths(top):
             ext = "rt" if area == "src" else "antt"
             here = crate_of(f) == crate
             if area == "src":
-                t = re.sub(rf"(\bRattle\.{crate}\.(?:specs\.declared|proofs)\.){module}\b", rf"\g<1>{new}", t)
+                t = re.sub(rf"(\bRattle\.{crate}\.(?:specs\.declared|specs\.contracts|proofs)\.){module}\b", rf"\g<1>{new}", t)
                 if here: t = re.sub(rf"((?:\bmod |\bcrate::|\buse ){module})\b(?=;|::)", lambda m: m.group()[:-len(module)] + new, t)
                 if here and f.endswith("/lib.rt"): t = t.replace(f"`{module}`", f"`{new}`")
             else:

@@ -71,10 +71,10 @@ def capital(t, was):
     return t
 
 
-def main():
-    top = root(); show = "--show" in sys.argv; changed = files = 0
+def comments(top, only=None):
+    show = "--show" in sys.argv; changed = files = 0
     for f in listed(top):
-        if not is_code(f): continue
+        if not is_code(f) or only and crate_of(f) != only: continue
         kind = "rt" if f.endswith(".rt") else "antt"
         s = read(top, f); lines = s.split("\n"); out = list(lines); shift = 0
         for i, j, ind, pre, texts in blocks(kind, lines):
@@ -99,7 +99,12 @@ def main():
         t = "\n".join(out)
         if t != s: write(top, f, t); files += 1
     print(f"prose: {changed} paragraphs in {files} files")
-    return renamed_files(top) + other_texts(top)
+    return 0
+
+
+def main():
+    top = root()
+    return comments(top) + renamed_files(top) + other_texts(top)
 
 
 def pairs(text): return dict(l.split() for l in text.split("\n") if l.strip())

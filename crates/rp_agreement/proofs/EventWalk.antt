@@ -19,8 +19,8 @@ use Rattle.rp_model.specs.Answers.{untorn, IsLeft, FailsBy, Steps, Happen}
 use Rattle.rp_agreement.specs.Inputs.{IsInput, IsTaskInput}
 use Rattle.rp_agreement.proofs.PartPlaces.{part_has}
 
--- Each step of an actor keeps the fact: a node's input, whole or cut, its stop and restart, torn bytes
--- that are cut off, and a task's input.
+-- Each step of an actor keeps the fact: a node's input, whole or cut, its stop and restart, torn bytes that are
+-- truncated, and a task's input.
 pub record IsKeptByAll {S : Type 0} (s : Setting S) (P : World → Type 0) : Type 0 where
   pub input : (w : World) (me : ℕ) (part : NodePart) (input : NodeInput) (done : Done NodePart) → P w → part_at w.nodes me ≡ Some part → IsInput w.sent input
       → node_effect s me part input ≡ Ok done → P (node_done w me done).world

@@ -23,7 +23,7 @@ ghost use Rattle.rp_agreement.specs.Worlds.{IsSoundWorld};
 use rp_machine::Machine;
 
 /// The result of an input at a node keeps the invariant; so do a stop within that step, however
-/// many bytes of its record are kept, a stop, a restart, and torn bytes that are cut off where a
+/// many bytes of its record are kept, a stop, a restart, and torn bytes that are truncated where a
 /// restart fails.
 pub fn node_events_keep<M: Machine>()
     ensures input { (setting : Setting M) (x : ℕ) (input : NodeInput) (done : Done NodePart)

@@ -30,7 +30,7 @@ use rp_machine::{Machine, a_call_has_one_answer, an_answered_call_has_one_place}
 
 /// The result of an input at a node keeps the invariant with the replies to tasks; so do a stop
 /// within that step, however many bytes of its record are kept, a stop, a restart, and torn bytes
-/// that are cut off where a restart fails.
+/// that are truncated where a restart fails.
 pub fn node_events_keep_replies<M: Machine>()
     ensures input { (setting : Setting M) (x : ℕ) (input : NodeInput) (done : Done NodePart)
         (node after : ℕ → NodePart) (task : ℕ → TaskPart) (sent later : List Message)

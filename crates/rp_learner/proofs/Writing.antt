@@ -14,7 +14,7 @@ use Rattle.rp_learner.specs.Status.{SameLearning, with_mark}
 use Rattle.rp_base.proofs.Sameness.{heard_decides}
 use Rattle.rp_base.proofs.Members.{has_passing, passes, has_with, with_has}
 use Rattle.rp_learner.proofs.Placing.{cast_of, votes_of, settled_of, heard_where, heard_there, settled_spot, settled_there, settled_kept}
-use Rattle.rp_learner.proofs.Tallies.{cast_decides, get_written, get_other}
+use Rattle.rp_learner.proofs.VoteCounts.{cast_decides, get_written, get_other}
 
 -- what the places of a learner's window represent
 abbrev pub learning_of : ℕ → ℕ → ℕ → List Place → Learning

@@ -122,8 +122,8 @@ impl Learner {
             None => VoteStatus::Beyond,
             Some(Place::Settled) => VoteStatus::Known,
             Some(Place::Unheard) => VoteStatus::Counting,
-            Some(Place::Heard(tallies)) => {
-                let voters = tallies.count_with(self.nodes, from, ballot, action);
+            Some(Place::Heard(vote_counts)) => {
+                let voters = vote_counts.count_with(self.nodes, from, ballot, action);
                 if voters >= usize::from(majority(self.nodes)) {
                     VoteStatus::Learned
                 } else {

@@ -83,7 +83,7 @@ fn opened<D: Device>(rt: &impl Abort, alloc: Global, device: D) -> Result<Opened
     }
 }
 
-/// Opens the device and then again, which cuts nothing.
+/// Opens the device and then again, which truncates nothing.
 fn opens<D: Device>(
     rt: &impl Abort,
     alloc: Global,
@@ -124,7 +124,7 @@ fn torn<D: CutDevice>(store: Store<D>, rec: &Rec, kept: u64) -> Result<D, Fail>
 }
 
 #[test]
-fn whole_records_are_returned_and_the_rest_is_cut(rt: HostRuntime) -> Result<(), Fail> {
+fn whole_records_are_returned_and_the_rest_is_truncated(rt: HostRuntime) -> Result<(), Fail> {
     let started = [started()?];
     let cases: [(&[u8], &[Rec], u64); 4] = [
         (&[], &[], 0),

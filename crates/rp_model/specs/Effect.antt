@@ -135,8 +135,8 @@ cut_if kept part (Err fault) = Err fault
 abbrev pub cut_effect : {S : Type 0} → Setting S → ℕ → NodePart → NodeInput → ℕ → Result (Done NodePart) Fault
 cut_effect s me part input kept = cut_if kept part (node_effect s me part input)
 
--- A restart: a stopped node runs again by its records alone, its torn bytes are cut, and it returns the numbers of
--- both. One that runs goes on.
+-- A restart: a stopped node runs again by its records alone, its torn bytes are truncated, and it returns the numbers
+-- of both. One that runs goes on.
 abbrev pub restart_while : NodePart → Option Running → Done NodePart
 restart_while part None =
     record (goes_on_as (record part { torn = 0; running = Some fresh_running })) {

@@ -85,7 +85,7 @@ impl Event {
                 operation,
                 arg,
             } => {
-                let _ = (task.get(), node.get(), index_of(operation));
+                let _ = (task.get(), node.get(), operation_index(operation));
                 call_keeps_ranges(object, arg);
             }
             Event::Again { task, node } => {
@@ -131,7 +131,7 @@ impl Step {
 }
 
 /// The index of an operation, which is within its range.
-fn index_of(operation: Operation) -> u8
+fn operation_index(operation: Operation) -> u8
     ensures { IsOperation operation }
 {
     match operation {

@@ -10,7 +10,7 @@ use Rattle.rp_model.specs.Parts.{fresh_running, records_in_log}
 use Rattle.rp_replica.specs.State.{ReplicaState}
 
 -- The replica runs by the records of the device that count, and by them alone; it returns how many records the device
--- holds, those above the log too, and how many torn bytes were cut off.
+-- holds, those above the log too, and how many torn bytes were truncated.
 pub record Opens {S : Type 0} (me : ℕ) (config : Config) (begin : S) (old : Disk) (replica : ReplicaState S)
     (count cut_bytes : ℕ) : Type 0 where
   pub all : List Rec

@@ -10,7 +10,7 @@ use Rattle.rp_model.specs.declared.event.Event.{Event}
 use Rattle.rp_model.specs.declared.event.Event.TheVariants.{Submit, Again, Node, Cut, Stop, Restart}
 use Rattle.rp_model.specs.Parts.{NodePart}
 use Rattle.rp_model.specs.World.{World, Transition, part_at}
-use Rattle.rp_script.specs.FaultLine.{with_line_feed}
+use Rattle.rp_script.specs.FaultMessage.{with_line_feed}
 use Rattle.rp_script.specs.Items.{Item, Note, Noted, item_text, items_text, note_line, notes_text}
 use Rattle.rp_script.specs.Output.{RunSetting, called_by, changed_notes, changed_text, dropped_notes, dropped_text, effect_text, full_notes, full_text, transition_items, node_of_event, nodes_items, nodes_text, opened_notes, opened_text, part_items, part_text, restarted_note, restarted_text, taken_items, taken_text, trace_notes, trace_text, traced_notes, traced_text}
 use Rattle.rp_script.specs.Printed.{full_line_of, opened_line_of, running_line_of}

@@ -12,7 +12,7 @@ use Rattle.rp_machine.specs.Replay.{one_to, replay_state}
 use Rattle.rp_model.specs.Parts.{NodePart, Running}
 use Rattle.rp_world.specs.Steps.{IsQueryAnswer, IsRunningQueryAnswer, IsQueryAnswerUnlessMemory}
 use Rattle.rp_script.specs.Printed.{applied_line_of, stopped_line_of}
-use Rattle.rp_script.specs.FaultLine.{with_line_feed}
+use Rattle.rp_script.specs.FaultMessage.{with_line_feed}
 use Rattle.rp_model.specs.World.{World, part_at}
 use Rattle.rp_script.specs.Output.{RunSetting, state_text, part_text, nodes_text}
 

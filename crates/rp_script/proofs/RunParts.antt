@@ -24,7 +24,7 @@ use Rattle.rp_script.specs.Items.{Item, Note, Noted, Refused, DrainLimit, items_
 use Rattle.rp_script.specs.Printed.{refused_line_of}
 use Rattle.rp_script.specs.Runs.{Follows, Says}
 use Rattle.rp_script.specs.Settled.{is_settled}
-use Rattle.rp_script.specs.FaultLine.{with_line_feed}
+use Rattle.rp_script.specs.FaultMessage.{with_line_feed}
 use Rattle.rp_script.specs.Stream.{Begins, Writes}
 use Rattle.rp_deck.specs.declared.deck.Command.TheVariants.{Show}
 use Rattle.rp_deck.specs.declared.deck.Line.{Line}

@@ -1,5 +1,5 @@
 pub mod Agreeing
-pub mod FaultLine
+pub mod FaultMessage
 pub mod Faults
 pub mod Figures
 pub mod Given

@@ -3,7 +3,7 @@ use Rattle.std.specs.Prelude.{ℕ, suc, Bool, List, [], ◌∷◌, ◌++◌, fla
 use Rattle.rp_base.specs.declared.reply.Answer.{Answer}
 use Rattle.rp_live.specs.declared.run.LiveOutcome.{LiveOutcome}
 use Rattle.rp_script.specs.Printed.{reply_line_of, applied_line_of, agreed_line}
-use Rattle.rp_script.specs.FaultLine.{with_line_feed}
+use Rattle.rp_script.specs.FaultMessage.{with_line_feed}
 use Rattle.rp_script.specs.Trace.{task_name}
 
 -- a reply, under the name of its task

@@ -29,7 +29,7 @@ use Rattle.rp_model.specs.Events.{event_of}
 use Rattle.rp_model.specs.World.{World, Transition, opening_world, event_effect, part_at}
 use Rattle.rp_script.specs.Items.{Item, Called, Replied, Shown, Noted, Note, Sent, Opened, AlreadyRunning, PendingFull, Stopped, Refused, DrainLimit, item_text, items_text}
 use Rattle.rp_script.specs.Printed.{opened_line_of, running_line_of, full_line_of, stopped_line_of}
-use Rattle.rp_script.specs.FaultLine.{with_line_feed}
+use Rattle.rp_script.specs.FaultMessage.{with_line_feed}
 use Rattle.rp_script.specs.Trace.{task_name, message_line_of, party_text_of}
 use Rattle.rp_deck.specs.declared.deck.Command.{Command}
 use Rattle.rp_deck.specs.declared.deck.Command.TheVariants.{Take, Lose, Drain, Show}

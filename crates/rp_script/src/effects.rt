@@ -5,7 +5,7 @@ ghost use Rattle.rp_model.specs.World.{part_at};
 ghost use Rattle.rp_script.specs.Output.{names_of, message_text, trace_text, traced_text, opened_text, full_text, dropped_text, node_of_event, node_of_step, receiver_of, taken_text, effect_text};
 ghost use Rattle.rp_script.specs.Trace.{task_name, party_text_of, message_line_of};
 ghost use Rattle.rp_script.specs.PartyText.{shown_party};
-ghost use Rattle.rp_script.specs.FaultLine.{with_line_feed};
+ghost use Rattle.rp_script.specs.FaultMessage.{with_line_feed};
 ghost use Rattle.rp_script.specs.Stream.{Writes};
 ghost use Rattle.rp_script.specs.Faults.{IsRunFault};
 

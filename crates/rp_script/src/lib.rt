@@ -14,14 +14,14 @@
 //! - `live_output`: prints the result of a run in threads
 //! - `deck_read`: reads a deck from a reader
 //! - `stream`: reads all that a reader gives, and writes what a run prints
-//! - `fault_line`: what is printed of a fault
+//! - `fault_message`: what is printed of a fault
 #![tactic(auto)]
 
 mod agreeing;
 mod deck_read;
 mod deck_run;
 mod effects;
-mod fault_line;
+mod fault_message;
 mod figures;
 mod live_output;
 mod live_run;
@@ -33,7 +33,7 @@ mod stream;
 mod trace;
 
 pub use deck_run::{run_deck, run_script};
-pub use fault_line::{FaultLine, is_refusal, reason_text, tell};
+pub use fault_message::{FaultMessage, is_refusal, reason_text, tell};
 pub use figures::FiguresLine;
 pub use live_run::run_live;
 pub use options::RunOptions;

@@ -10,7 +10,7 @@ ghost use Rattle.rp_script.specs.Stream.{Writes};
 ghost use Rattle.rp_script.specs.Faults.{IsDeviceRunFault, IsRunFault};
 
 use crate::effects::print_effect;
-use crate::fault_line::is_refusal;
+use crate::fault_message::is_refusal;
 use crate::options::RunOptions;
 use crate::printed::{AppliedLine, DrainLimitLine, RefusedLine, StoppedLine};
 use crate::settled::Settled;

@@ -49,7 +49,7 @@ pub enum NotTorn<D: Device> {
     Refused(Fault, Store<D>),
 }
 
-/// Cuts off what is torn after the whole records, if anything is.
+/// Truncates what is torn after the whole records, if anything is.
 fn trim<D: Device>(device: &mut D, whole: usize, torn: usize) -> Result<(), Fault>
     requires { whole + torn ≡ length (D.disk device.old).contents }
     ensures ok { OnOk result (IsTrimmed whole torn (D.disk device.old) (D.disk device.new)) }
@@ -66,7 +66,7 @@ fn trim<D: Device>(device: &mut D, whole: usize, torn: usize) -> Result<(), Faul
     device.cut(whole as u64)
 }
 
-/// Reads the device, cuts off what is torn and syncs. One sync, whatever it holds.
+/// Reads the device, truncates what is torn and syncs. One sync, whatever it holds.
 fn restore<D: Device>(alloc: Global, device: &mut D) -> Result<(Vec<Rec>, u64), Fault>
     ensures ok { IfOk result (λ found.
         IsOpened (D.disk device.old) found.0.items found.1 (D.disk device.new)) }
@@ -96,7 +96,7 @@ fn write<D: Device>(device: &mut D, text: &[u8]) -> Result<(), Fault>
 impl<D: Device> Store<D> {
     ghost use Rattle.rp_store.specs.Stored.{IsPut, IsNotPut};
 
-    /// Reads the records of a device, of version 1 and 2 in any order, cuts off what is torn after
+    /// Reads the records of a device, of version 1 and 2 in any order, truncates what is torn after
     /// them, and syncs, so that all that it read is stable. It appends nothing. Refused with
     /// `OutOfMemory`, and then nothing has changed, or with `Device` where the device failed: it
     /// holds each whole record that it held, and after them some beginning of what was torn.
@@ -123,9 +123,10 @@ impl<D: Device> Store<D> {
 
     /// Appends the record's text, of version 2, and syncs. It never cuts, and reads nothing. It
     /// takes no memory but the device's, and costs what the text is long, whatever the device
-    /// holds. The record is a right one: opening would cut off any other, and all records after it.
-    /// Refused with `Failed` where the device failed since it was opened, or with `OutOfMemory`:
-    /// then nothing has changed. After `Device`, some beginning of the text may be at the end.
+    /// holds. The record is a right one: opening would truncate any other, and all records after
+    /// it. Refused with `Failed` where the device failed since it was opened, or with
+    /// `OutOfMemory`: then nothing has changed. After `Device`, some beginning of the text may be
+    /// at the end.
     #[inline(always)]
     pub fn put(&mut self, rec: &Rec) -> Result<(), Fault>
         requires { IsRightRecord rec.now }

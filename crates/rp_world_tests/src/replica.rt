@@ -382,7 +382,7 @@ fn the_33rd_tick_finds_no_place(rt: HostRuntime) -> Result<(), Fail> {
     Ok(())
 }
 
-/// How many records of these bytes count for node 3, and how many bytes it cuts off.
+/// How many records of these bytes count for node 3, and how many bytes it truncates.
 fn found<M: Machine, D: Device>(
     alloc: Global,
     program: &M::Program,

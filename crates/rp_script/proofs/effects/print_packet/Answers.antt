@@ -1,6 +1,6 @@
 use Rattle.std.proofs.Common.{List, ℕ, ap, ◌∙◌}
 use Rattle.rp_script.specs.Output.{names_of}
-use Rattle.rp_script.specs.FaultLine.{with_line_feed}
+use Rattle.rp_script.specs.FaultMessage.{with_line_feed}
 use Rattle.rp_script.specs.PartyText.{shown_party}
 use Rattle.rp_script.specs.Trace.{party_text_of, trace_line_of}
 use Rattle.rp_script.proofs.Writing.{writes_same}

@@ -1,6 +1,6 @@
 use Rattle.std.proofs.Common.{List, ℕ, ap}
 use Rattle.rp_script.specs.Printed.{reply_line_of}
-use Rattle.rp_script.specs.FaultLine.{with_line_feed}
+use Rattle.rp_script.specs.FaultMessage.{with_line_feed}
 use Rattle.rp_script.proofs.Writing.{writes_same}
 use Rattle.rp_script.proofs.effects.print_reply.Goals as goal
 

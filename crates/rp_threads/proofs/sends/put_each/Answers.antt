@@ -1,4 +1,4 @@
--- The text of the first packet is cut off and put, as long as there is one.
+-- The text of the first packet is split off and put, as long as there is one.
 use Rattle.std.proofs.Common.{◌≡◌, ℕ, List, take, refl, ◌∙◌, sym, ap, subst}
 use Rattle.rp_codec.specs.declared.packet.Party.TheVariants.{Node}
 use Rattle.rp_boxes.specs.Parts.{Part}

@@ -3,7 +3,7 @@ use Rattle.std.proofs.Common.{◌≤◌, ◌++◌, List, ℕ, rules, arith, sym,
 use Rattle.rp_model.specs.World.{part_at}
 use Rattle.rp_script.specs.Printed.{applied_line_of}
 use Rattle.rp_script.specs.Runs.{run_setting}
-use Rattle.rp_script.specs.FaultLine.{with_line_feed}
+use Rattle.rp_script.specs.FaultMessage.{with_line_feed}
 use Rattle.rp_script.specs.Stream.{Begins}
 use Rattle.rp_script.proofs.Refusing.{part_there}
 use Rattle.rp_script.proofs.PrintedNames.{begins_by_count, whole_text, stopped_text}

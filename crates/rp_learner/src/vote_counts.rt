@@ -13,40 +13,40 @@ use std::marker::Model;
 
 /// A vote, and who cast it.
 #[derive(Debug, Drop)]
-pub struct Tally {
+pub struct VoteCount {
     vote: Vote,
     senders: Senders,
 }
 
-/// The votes heard at a position. Where one ballot decides there is one tally, which takes no
+/// The votes heard at a position. Where one ballot decides there is one count, which takes no
 /// memory of its own.
 #[derive(Debug, Drop)]
-pub struct Tallies {
-    first: Tally,
-    others: Vec<Tally>,
+pub struct VoteCounts {
+    first: VoteCount,
+    others: Vec<VoteCount>,
 }
 
-impl Model for Tallies {
+impl Model for VoteCounts {
     ghost use Rattle.std.specs.Prelude.{List, ◌∷◌};
-    ghost use Rattle.rp_learner.specs.Casts.{CastVote, casts_of, AreTallies};
+    ghost use Rattle.rp_learner.specs.Casts.{CastVote, casts_of, AreVoteCounts};
 
     ghost Value = { List CastVote };
 
     ghost view = { λ t. casts_of (t.first ∷ t.others.items) };
 
-    ghost invariant = { λ t. AreTallies (t.first ∷ t.others.items) };
+    ghost invariant = { λ t. AreVoteCounts (t.first ∷ t.others.items) };
 }
 
-impl Tally {
+impl VoteCount {
     /// A vote that one node cast.
     #[inline(always)]
-    fn new(from: NodeId, vote: Vote) -> Tally
+    fn new(from: NodeId, vote: Vote) -> VoteCount
         ensures vote { result.vote ≡ vote }
         ensures senders { SameMembers result.senders (from ∷ []) }
     {
         let mut senders = Senders::new();
         senders.insert(from);
-        Tally { vote, senders }
+        VoteCount { vote, senders }
     }
 
     /// Whether it counts the vote of this ballot for this action.
@@ -74,14 +74,14 @@ impl Tally {
     }
 }
 
-impl Tallies {
+impl VoteCounts {
     /// One vote was heard.
     #[inline(always)]
-    pub fn new(alloc: Global, from: NodeId, vote: Vote) -> Tallies
+    pub fn new(alloc: Global, from: NodeId, vote: Vote) -> VoteCounts
         ensures { SameMembers result (record { from = from; vote = vote } ∷ []) }
     {
-        Tallies {
-            first: Tally::new(from, vote),
+        VoteCounts {
+            first: VoteCount::new(from, vote),
             others: Vec::new(alloc),
         }
     }
@@ -96,14 +96,14 @@ impl Tallies {
         if self.first.is_of(ballot, action) {
             return self.first.senders.len_with(from, nodes);
         }
-        match index_of(&self.others, ballot, action) {
+        match index_of_count(&self.others, ballot, action) {
             Some(index) => self.others[index].senders.len_with(from, nodes),
             None => Senders::new().len_with(from, nodes),
         }
     }
 
     /// Adds a vote, unless it was heard before. How many of the nodes 1 to `nodes` have cast it
-    /// then. `AllocError` comes only where nobody had cast it, and leaves the tallies as they were.
+    /// then. `AllocError` comes only where nobody had cast it, and leaves the counts as they were.
     #[inline(always)]
     pub fn hear(
         &mut self,
@@ -128,28 +128,28 @@ impl Tallies {
         if self.first.is_of(ballot, action) {
             return Ok(self.first.hear(nodes, from));
         }
-        match index_of(&self.others, ballot, action) {
+        match index_of_count(&self.others, ballot, action) {
             Some(index) => Ok(self.others[index].hear(nodes, from)),
             None => {
                 let vote = Vote {
                     ballot,
                     action: *action,
                 };
-                self.others.push(Tally::new(from, vote))?;
+                self.others.push(VoteCount::new(from, vote))?;
                 Ok(Senders::new().len_with(from, nodes))
             }
         }
     }
 }
 
-/// Where the tally of the vote of this ballot for this action is.
+/// Where the count of the vote of this ballot for this action is.
 #[inline(never)]
-fn index_of(tallies: &[Tally], ballot: Ballot, action: &Action) -> Option<usize>
-    ensures { result ≡ index_from 0 (vote_for ballot action.now) tallies.now }
+fn index_of_count(vote_counts: &[VoteCount], ballot: Ballot, action: &Action) -> Option<usize>
+    ensures { result ≡ index_from 0 (vote_for ballot action.now) vote_counts.now }
 {
     let mut index = 0;
-    for tally in tallies {
-        if tally.is_of(ballot, action) {
+    for vote_count in vote_counts {
+        if vote_count.is_of(ballot, action) {
             return Some(index);
         }
         index += 1;

@@ -3,7 +3,7 @@
 ghost use Rattle.std.specs.Prelude.{◌≡◌, ◌≤◌, ◌↔◌, IsTrue, OnOk, Some};
 ghost use Rattle.rp_base.specs.Fault.{code_of};
 ghost use Rattle.std.specs.Io.KnownBytes.{Appends};
-ghost use Rattle.rp_script.specs.FaultLine.{reason_text_of, fault_line_of, with_line_feed};
+ghost use Rattle.rp_script.specs.FaultMessage.{reason_text_of, fault_message_of, with_line_feed};
 
 use rp_base::{DeckReason, Fault};
 use std::io::Write;
@@ -27,9 +27,9 @@ pub fn is_refusal(fault: &Fault) -> bool
 /// Writes the line of a fault: where and why the deck is bad, or the fault's number and name.
 pub fn tell<W: Write>(fault: &Fault, writer: &mut W) -> io::Result<()>
     ensures { OnOk result (Appends (W.contents writer.old) (W.contents writer.new)
-        (with_line_feed (fault_line_of fault.now))) }
+        (with_line_feed (fault_message_of fault.now))) }
 {
-    let line = FaultLine { fault: *fault };
+    let line = FaultMessage { fault: *fault };
     writeln!(writer, "{line}")
 }
 
@@ -57,12 +57,12 @@ pub fn reason_text(reason: DeckReason) -> &'static str
 
 /// The line for a fault.
 #[derive(Clone, Copy, Debug, PartialEq, Eq)]
-pub struct FaultLine {
+pub struct FaultMessage {
     pub fault: Fault,
 }
 
-impl fmt::Display for FaultLine {
-    ghost output = { λ l. Some (fault_line_of l.fault) };
+impl fmt::Display for FaultMessage {
+    ghost output = { λ l. Some (fault_message_of l.fault) };
 
     fn fmt<W: fmt::Write>(&self, f: &mut fmt::Formatter<W>) -> fmt::Result {
         match self.fault {

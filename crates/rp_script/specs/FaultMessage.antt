@@ -24,9 +24,9 @@ reason_text_of ScriptExpected = codes "script expected"
 reason_text_of NotInLive = codes "not in live"
 
 -- the line of a fault, without its end
-abbrev pub fault_line_of : Fault → List ℕ
-fault_line_of (BadDeck line reason) = codes "deck line " ++ (decimal line ++ (codes ": " ++ reason_text_of reason))
-fault_line_of fault = codes "fault " ++ (decimal (code_of fault) ++ (codes " " ++ name_of fault))
+abbrev pub fault_message_of : Fault → List ℕ
+fault_message_of (BadDeck line reason) = codes "deck line " ++ (decimal line ++ (codes ": " ++ reason_text_of reason))
+fault_message_of fault = codes "fault " ++ (decimal (code_of fault) ++ (codes " " ++ name_of fault))
 
 -- a line with its end
 abbrev pub with_line_feed : List ℕ → List ℕ

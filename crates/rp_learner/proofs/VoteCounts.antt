@@ -1,4 +1,4 @@
--- What tallies count.
+-- What the counts of votes hold.
 use Rattle.std.proofs.Common.{◌≤◌, cond, ◌≡◌, ◌≢◌, ℕ, zero, suc, ◌+◌, ◌<◌, Bool, true, false, Option, Some, None, List, [], ◌∷◌, ◌++◌, length, map, set, refl, sym, ap, subst, ◌∙◌, inl, inr, arith, append_assoc}
 use Rattle.std.specs.Prelude.{nat_eq, slice_get, filter, unwrap_or}
 use Rattle.std.specs.Bool.{Decides}
@@ -13,8 +13,8 @@ use Rattle.rp_base.specs.Majority.{nodes_among}
 use Rattle.rp_base.specs.Promises.{same_vote}
 use Rattle.rp_base.proofs.Sameness.{vote_equal, vote_same, decides_same}
 use Rattle.rp_base.proofs.Members.{has_split, has_left, has_right, has_mapped, has_with, with_has, has_members, member_stays, set_more, set_with, set_members, set_passing, same_size, same_with, same_passing}
-use Rattle.rp_learner.specs.declared.tally.Tally.{Tally}
-use Rattle.rp_learner.specs.Casts.{CastVote, casts_in, casts_of, AreTallies, index_from, same_cast, voters_with}
+use Rattle.rp_learner.specs.declared.vote_counts.VoteCount.{VoteCount}
+use Rattle.rp_learner.specs.Casts.{CastVote, casts_in, casts_of, AreVoteCounts, index_from, same_cast, voters_with}
 
 cast_equal : (c d : CastVote) → same_cast c d ≡ true → c ≡ d
 cast_equal c d e =
@@ -27,8 +27,8 @@ pub cast_decides : (c d : CastVote) → Decides (same_cast c d) (c ≡ d)
 cast_decides c d = decides_same same_cast (λ x. and_from _ _ (eq-eqb x.from x.from refl) (vote_same x.vote)) c d (cast_equal c d)
 
 -- what an `Option` holds
-some_is : {x y : Tally} → Some x ≡ Some y → x ≡ y
-some_is {x} {y} e = ap (λ (o : Option Tally). unwrap_or o x) e
+some_is : {x y : VoteCount} → Some x ≡ Some y → x ≡ y
+some_is {x} {y} e = ap (λ (o : Option VoteCount). unwrap_or o x) e
 
 -- the element that was written, and the others
 pub get_written : {A : Type 0} (xs : List A) (k : ℕ) (x : A) → k < length xs → slice_get (set xs k x) k ≡ Some x
@@ -43,19 +43,19 @@ get_other (y ∷ xs) zero (suc j) x ne = refl
 get_other (y ∷ xs) (suc k) zero x ne = refl
 get_other (y ∷ xs) (suc k) (suc j) x ne = get_other xs k j x (λ e. ne (ap suc e))
 
-get_within : (ts : List Tally) (n : ℕ) (t : Tally) → slice_get ts n ≡ Some t → n < length ts
+get_within : (ts : List VoteCount) (n : ℕ) (t : VoteCount) → slice_get ts n ≡ Some t → n < length ts
 get_within [] n t h = absurd (cc)
 get_within (u ∷ ts) zero t h = omega arith
 get_within (u ∷ ts) (suc n) t h = omega (arith, get_within ts n t h)
 
-get_has : (ts : List Tally) (n : ℕ) (t : Tally) → slice_get ts n ≡ Some t → Has t ts
+get_has : (ts : List VoteCount) (n : ℕ) (t : VoteCount) → slice_get ts n ≡ Some t → Has t ts
 get_has [] n t h = absurd (cc)
 get_has (u ∷ ts) zero t h = inl (sym (some_is h))
 get_has (u ∷ ts) (suc n) t h = inr (get_has ts n t h)
 
--- ---- finding the tally of a vote
+-- ---- finding the count of a vote
 
-pub index_found : (ts : List Tally) (k j : ℕ) (vote : Vote) → index_from k vote ts ≡ Some j → (n : ℕ) × (t : Tally) × (j ≡ k + n) × (slice_get ts n ≡ Some t) × (t.vote ≡ vote)
+pub index_found : (ts : List VoteCount) (k j : ℕ) (vote : Vote) → index_from k vote ts ≡ Some j → (n : ℕ) × (t : VoteCount) × (j ≡ k + n) × (slice_get ts n ≡ Some t) × (t.vote ≡ vote)
 index_found [] k j vote h = absurd (cc)
 index_found (t ∷ ts) k j vote h =
     elim (cases_Bool (same_vote t.vote vote)) [
@@ -68,7 +68,7 @@ index_found (t ∷ ts) k j vote h =
           (suc rest.0, rest.1, omega (arith, rest.2), rest.3, rest.4)
     ]
 
-pub index_none : (ts : List Tally) (k : ℕ) (vote : Vote) → index_from k vote ts ≡ None → ¬ Has vote (map (λ t. t.vote) ts)
+pub index_none : (ts : List VoteCount) (k : ℕ) (vote : Vote) → index_from k vote ts ≡ None → ¬ Has vote (map (λ t. t.vote) ts)
 index_none [] k vote h m = m
 index_none (t ∷ ts) k vote h m =
     elim (cases_Bool (same_vote t.vote vote)) [
@@ -81,20 +81,20 @@ index_none (t ∷ ts) k vote h m =
       ]
     ]
 
--- the tally found has its vote, and is there
-pub index_at : (ts : List Tally) (j : ℕ) (vote : Vote) → index_from 0 vote ts ≡ Some j → (t : Tally) × (j < length ts) × (slice_get ts j ≡ Some t) × (t.vote ≡ vote)
+-- the count found has its vote, and is there
+pub index_at : (ts : List VoteCount) (j : ℕ) (vote : Vote) → index_from 0 vote ts ≡ Some j → (t : VoteCount) × (j < length ts) × (slice_get ts j ≡ Some t) × (t.vote ≡ vote)
 index_at ts j vote h =
     let hit = index_found ts 0 j vote h in
     let at : slice_get ts j ≡ Some hit.1 = subst (λ (n : ℕ). slice_get ts n ≡ Some hit.1) (sym (omega (arith, hit.2))) hit.3 in
     (hit.1, get_within ts j hit.1 at, at, hit.4)
 
-pub index_is : (ts : List Tally) (j : ℕ) (vote : Vote) (t : Tally) → index_from 0 vote ts ≡ Some j → slice_get ts j ≡ Some t → t.vote ≡ vote
+pub index_is : (ts : List VoteCount) (j : ℕ) (vote : Vote) (t : VoteCount) → index_from 0 vote ts ≡ Some j → slice_get ts j ≡ Some t → t.vote ≡ vote
 index_is ts j vote t h at =
     let hit = index_at ts j vote h in
-    ap (λ (s : Tally). s.vote) (some_is (sym at ∙ hit.2)) ∙ hit.3
+    ap (λ (s : VoteCount). s.vote) (some_is (sym at ∙ hit.2)) ∙ hit.3
 
 -- what neither the first nor the others count
-pub no_other : (t : Tally) (ts : List Tally) (vote : Vote) → same_vote t.vote vote ≡ false → ¬ Has vote (map (λ s. s.vote) ts) → ¬ Has vote (map (λ s. s.vote) (t ∷ ts))
+pub no_other : (t : VoteCount) (ts : List VoteCount) (vote : Vote) → same_vote t.vote vote ≡ false → ¬ Has vote (map (λ s. s.vote) ts) → ¬ Has vote (map (λ s. s.vote) (t ∷ ts))
 no_other t ts vote miss none h =
     elim h [
       | inl e ↦ both_ways (same_vote t.vote vote) miss (subst (λ (v : Vote). same_vote v vote ≡ true) e (vote_same vote))
@@ -132,29 +132,29 @@ senders-append vote a b =
 differs : (v vote : Vote) → ¬ (vote ≡ v) → same_vote v vote ≡ false
 differs v vote ne = elim (cases_Bool (same_vote v vote)) [ inl hit ↦ absurd (ne (sym (vote_equal v vote hit))) | inr miss ↦ miss ]
 
-senders_none : (ts : List Tally) (vote : Vote) → ¬ Has vote (map (λ t. t.vote) ts) → senders_cast vote (casts_of ts) ≡ []
+senders_none : (ts : List VoteCount) (vote : Vote) → ¬ Has vote (map (λ t. t.vote) ts) → senders_cast vote (casts_of ts) ≡ []
 senders_none [] vote none = refl
 senders_none (t ∷ ts) vote none =
     senders-append vote (casts_in t) (casts_of ts)
     ∙ ap (λ (l : List ℕ). l ++ senders_cast vote (casts_of ts)) (senders_other t.vote vote t.senders (differs t.vote vote (λ e. none (inl e))))
     ∙ senders_none ts vote (λ h. none (inr h))
 
-senders_at : (ts : List Tally) (n : ℕ) (t : Tally) (vote : Vote) → AreTallies ts → slice_get ts n ≡ Some t → t.vote ≡ vote → senders_cast vote (casts_of ts) ≡ t.senders
+senders_at : (ts : List VoteCount) (n : ℕ) (t : VoteCount) (vote : Vote) → AreVoteCounts ts → slice_get ts n ≡ Some t → t.vote ≡ vote → senders_cast vote (casts_of ts) ≡ t.senders
 senders_at [] n t vote are at is = absurd (cc)
 senders_at (u ∷ ts) zero t vote are at is =
     let same : u ≡ t = some_is at in
-    let voted : u.vote ≡ vote = ap (λ (s : Tally). s.vote) same ∙ is in
+    let voted : u.vote ≡ vote = ap (λ (s : VoteCount). s.vote) same ∙ is in
     senders-append vote (casts_in u) (casts_of ts)
-    ∙ ap (λ (l : List ℕ). senders_cast vote (casts_in u) ++ l) (senders_none ts vote (λ h. are.0 (subst (λ (v : Vote). Has v (map (λ (s : Tally). s.vote) ts)) (sym voted) h)))
+    ∙ ap (λ (l : List ℕ). senders_cast vote (casts_in u) ++ l) (senders_none ts vote (λ h. are.0 (subst (λ (v : Vote). Has v (map (λ (s : VoteCount). s.vote) ts)) (sym voted) h)))
     ∙ append-nil (senders_cast vote (casts_in u))
     ∙ senders_same u.vote vote u.senders (subst (λ (v : Vote). same_vote u.vote v ≡ true) voted (vote_same u.vote))
-    ∙ ap (λ (s : Tally). s.senders) same
+    ∙ ap (λ (s : VoteCount). s.senders) same
 senders_at (u ∷ ts) (suc n) t vote are at is =
-    let there : Has vote (map (λ (s : Tally). s.vote) ts) =
-    subst (λ (v : Vote). Has v (map (λ (s : Tally). s.vote) ts)) is (has_mapped (λ (s : Tally). s.vote) t ts (get_has ts n t at)) in
+    let there : Has vote (map (λ (s : VoteCount). s.vote) ts) =
+    subst (λ (v : Vote). Has v (map (λ (s : VoteCount). s.vote) ts)) is (has_mapped (λ (s : VoteCount). s.vote) t ts (get_has ts n t at)) in
     senders-append vote (casts_in u) (casts_of ts)
     ∙ ap (λ (l : List ℕ). l ++ senders_cast vote (casts_of ts))
-    (senders_other u.vote vote u.senders (differs u.vote vote (λ e. are.0 (subst (λ (v : Vote). Has v (map (λ (s : Tally). s.vote) ts)) e there))))
+    (senders_other u.vote vote u.senders (differs u.vote vote (λ e. are.0 (subst (λ (v : Vote). Has v (map (λ (s : VoteCount). s.vote) ts)) e there))))
     ∙ senders_at ts n t vote are.1 at is
 
 -- a set's members, each once, are as many
@@ -172,13 +172,13 @@ as_many n xs from distinct =
       λ h. elim (has_members nat_eq Decides-eqb x [] xs h) [ inl none ↦ absurd none | inr there ↦ there ],
     ))))
 
-pub count_at : (ts : List Tally) (k : ℕ) (t : Tally) (n from : ℕ) (vote : Vote) → AreTallies ts → slice_get ts k ≡ Some t → t.vote ≡ vote → IsSet t.senders
+pub count_at : (ts : List VoteCount) (k : ℕ) (t : VoteCount) (n from : ℕ) (vote : Vote) → AreVoteCounts ts → slice_get ts k ≡ Some t → t.vote ≡ vote → IsSet t.senders
     → length (nodes_among n (with_member nat_eq t.senders from)) ≡ length (nodes_among n (voters_with (casts_of ts) from vote))
 count_at ts k t n from vote are at is distinct =
     as_many n t.senders from distinct
     ∙ ap (λ (l : List ℕ). length (nodes_among n (with_member nat_eq (with_members nat_eq [] l) from))) (sym (senders_at ts k t vote are at is))
 
-pub count_none : (ts : List Tally) (n from : ℕ) (vote : Vote) → ¬ Has vote (map (λ t. t.vote) ts)
+pub count_none : (ts : List VoteCount) (n from : ℕ) (vote : Vote) → ¬ Has vote (map (λ t. t.vote) ts)
     → length (nodes_among n (with_member nat_eq [] from)) ≡ length (nodes_among n (voters_with (casts_of ts) from vote))
 count_none ts n from vote none = ap (λ (l : List ℕ). length (nodes_among n (with_member nat_eq (with_members nat_eq [] l) from))) (sym (senders_none ts vote none))
 
@@ -204,7 +204,7 @@ is_cast_by : (vote : Vote) (nodes : List ℕ) (c : CastVote) → Has c.from node
 is_cast_by vote nodes c there voted =
     subst (λ (v : Vote). Has c (casts_by v nodes)) voted (has_mapped (λ (n : ℕ). record { from = n; vote = c.vote }) c.from nodes there)
 
-cast_where : (ts : List Tally) (c : CastVote) → Has c (casts_of ts) → (n : ℕ) × (t : Tally) × (slice_get ts n ≡ Some t) × Has c.from t.senders × (c.vote ≡ t.vote)
+cast_where : (ts : List VoteCount) (c : CastVote) → Has c (casts_of ts) → (n : ℕ) × (t : VoteCount) × (slice_get ts n ≡ Some t) × Has c.from t.senders × (c.vote ≡ t.vote)
 cast_where [] c h = absurd h
 cast_where (t ∷ ts) c h =
     elim (has_split c (casts_in t) (casts_of ts) h) [
@@ -212,14 +212,14 @@ cast_where (t ∷ ts) c h =
       | inr later ↦ let rest = cast_where ts c later in (suc rest.0, rest.1, rest.2, rest.3, rest.4)
     ]
 
-cast_there : (ts : List Tally) (n : ℕ) (t : Tally) (c : CastVote) → slice_get ts n ≡ Some t → Has c.from t.senders → c.vote ≡ t.vote → Has c (casts_of ts)
+cast_there : (ts : List VoteCount) (n : ℕ) (t : VoteCount) (c : CastVote) → slice_get ts n ≡ Some t → Has c.from t.senders → c.vote ≡ t.vote → Has c (casts_of ts)
 cast_there [] n t c at there voted = absurd (cc)
 cast_there (u ∷ ts) zero t c at there voted =
-    has_left c (casts_in u) (casts_of ts) (subst (λ (s : Tally). Has c (casts_in s)) (sym (some_is at)) (is_cast_by t.vote t.senders c there voted))
+    has_left c (casts_in u) (casts_of ts) (subst (λ (s : VoteCount). Has c (casts_in s)) (sym (some_is at)) (is_cast_by t.vote t.senders c there voted))
 cast_there (u ∷ ts) (suc n) t c at there voted = has_right c (casts_in u) (casts_of ts) (cast_there ts n t c at there voted)
 
--- the tally of a vote with one sender more
-pub heard_at : (ts : List Tally) (n : ℕ) (t u : Tally) (from : ℕ) (vote : Vote) → slice_get ts n ≡ Some t → t.vote ≡ vote → u.vote ≡ vote
+-- the count of a vote with one sender more
+pub heard_at : (ts : List VoteCount) (n : ℕ) (t u : VoteCount) (from : ℕ) (vote : Vote) → slice_get ts n ≡ Some t → t.vote ≡ vote → u.vote ≡ vote
     → SameMembers u.senders (with_member nat_eq t.senders from)
     → SameMembers (casts_of (set ts n u)) (with_member same_cast (casts_of ts) (record { from = from; vote = vote }))
 heard_at ts n t u from vote at voted still more c =
@@ -230,8 +230,8 @@ heard_at ts n t u from vote at voted still more c =
           with_has same_cast cast_decides c cast (casts_of ts) (elim (cases_eq hit.0 n) [
             | inl same ↦
                 let it : hit.1 ≡ u = some_is (sym hit.2 ∙ ap (slice_get (set ts n u)) same ∙ now) in
-                let is : c.vote ≡ vote = hit.4 ∙ ap (λ (s : Tally). s.vote) it ∙ still in
-                elim (has_with nat_eq Decides-eqb c.from from t.senders ((more c.from).0 (subst (λ (s : Tally). Has c.from s.senders) it hit.3))) [
+                let is : c.vote ≡ vote = hit.4 ∙ ap (λ (s : VoteCount). s.vote) it ∙ still in
+                elim (has_with nat_eq Decides-eqb c.from from t.senders ((more c.from).0 (subst (λ (s : VoteCount). Has c.from s.senders) it hit.3))) [
                   | inl old ↦ inl (cast_there ts n t c at old (is ∙ sym voted))
                   | inr new ↦ inr (λ i. record { from = new i; vote = is i })
                 ]
@@ -244,8 +244,8 @@ heard_at ts n t u from vote at voted still more c =
               | inl same ↦
                   let it : hit.1 ≡ t = some_is (sym hit.2 ∙ ap (slice_get ts) same ∙ at) in
                   cast_there (set ts n u) n u c now
-                  ((more c.from).1 (with_has nat_eq Decides-eqb c.from from t.senders (inl (subst (λ (s : Tally). Has c.from s.senders) it hit.3))))
-                  (hit.4 ∙ ap (λ (s : Tally). s.vote) it ∙ voted ∙ sym still)
+                  ((more c.from).1 (with_has nat_eq Decides-eqb c.from from t.senders (inl (subst (λ (s : VoteCount). Has c.from s.senders) it hit.3))))
+                  (hit.4 ∙ ap (λ (s : VoteCount). s.vote) it ∙ voted ∙ sym still)
               | inr other ↦ cast_there (set ts n u) hit.0 hit.1 c (get_other ts n hit.0 u other ∙ hit.2) hit.3 hit.4
             ]
         | inr new ↦
@@ -255,16 +255,16 @@ heard_at ts n t u from vote at voted still more c =
       ],
     )
 
-same_votes : (ts : List Tally) (n : ℕ) (t u : Tally) → slice_get ts n ≡ Some t → u.vote ≡ t.vote → map (λ s. s.vote) (set ts n u) ≡ map (λ s. s.vote) ts
+same_votes : (ts : List VoteCount) (n : ℕ) (t u : VoteCount) → slice_get ts n ≡ Some t → u.vote ≡ t.vote → map (λ s. s.vote) (set ts n u) ≡ map (λ s. s.vote) ts
 same_votes [] n t u at same = refl
-same_votes (s ∷ ts) zero t u at same = ap (λ (v : Vote). v ∷ map (λ (s : Tally). s.vote) ts) (same ∙ ap (λ (s : Tally). s.vote) (sym (some_is at)))
+same_votes (s ∷ ts) zero t u at same = ap (λ (v : Vote). v ∷ map (λ (s : VoteCount). s.vote) ts) (same ∙ ap (λ (s : VoteCount). s.vote) (sym (some_is at)))
 same_votes (s ∷ ts) (suc n) t u at same = ap (λ (l : List Vote). s.vote ∷ l) (same_votes ts n t u at same)
 
-pub still_tallies : (ts : List Tally) (n : ℕ) (t u : Tally) → slice_get ts n ≡ Some t → u.vote ≡ t.vote → AreTallies ts → AreTallies (set ts n u)
-still_tallies ts n t u at same are = subst (λ (l : List Vote). IsSet l) (sym (same_votes ts n t u at same)) are
+pub still_counts : (ts : List VoteCount) (n : ℕ) (t u : VoteCount) → slice_get ts n ≡ Some t → u.vote ≡ t.vote → AreVoteCounts ts → AreVoteCounts (set ts n u)
+still_counts ts n t u at same are = subst (λ (l : List Vote). IsSet l) (sym (same_votes ts n t u at same)) are
 
--- one tally alone
-pub one_cast : (t : Tally) (from : ℕ) (vote : Vote) → t.vote ≡ vote → SameMembers t.senders (from ∷ []) → SameMembers (casts_of (t ∷ [])) (record { from = from; vote = vote } ∷ [])
+-- one count alone
+pub one_cast : (t : VoteCount) (from : ℕ) (vote : Vote) → t.vote ≡ vote → SameMembers t.senders (from ∷ []) → SameMembers (casts_of (t ∷ [])) (record { from = from; vote = vote } ∷ [])
 one_cast t from vote voted alone c = (
   λ h. elim (has_split c (casts_in t) [] h) [
     | inl here ↦
@@ -278,12 +278,12 @@ one_cast t from vote voted alone c = (
   ],
 )
 
-casts-append : (ts us : List Tally) → casts_of (ts ++ us) ≡ casts_of ts ++ casts_of us
+casts-append : (ts us : List VoteCount) → casts_of (ts ++ us) ≡ casts_of ts ++ casts_of us
 casts-append [] us = refl
 casts-append (t ∷ ts) us = ap (λ (l : List CastVote). casts_in t ++ l) (casts-append ts us) ∙ sym (append_assoc (casts_in t) (casts_of ts) (casts_of us))
 
--- a tally of a vote that has none
-pub heard_first : (ts : List Tally) (u : Tally) (from : ℕ) (vote : Vote) → u.vote ≡ vote → SameMembers u.senders (from ∷ [])
+-- a count of a vote that has none
+pub heard_first : (ts : List VoteCount) (u : VoteCount) (from : ℕ) (vote : Vote) → u.vote ≡ vote → SameMembers u.senders (from ∷ [])
     → SameMembers (casts_of (ts ++ u ∷ [])) (with_member same_cast (casts_of ts) (record { from = from; vote = vote }))
 heard_first ts u from vote voted alone c =
     let cast : CastVote = record { from = from; vote = vote } in
@@ -298,13 +298,13 @@ heard_first ts u from vote voted alone c =
       ]),
     )
 
-pub more_tallies : (ts : List Tally) (u : Tally) (vote : Vote) → u.vote ≡ vote → ¬ Has vote (map (λ t. t.vote) ts) → AreTallies ts → AreTallies (ts ++ u ∷ [])
-more_tallies ts u vote voted none are =
-    subst (λ (l : List Vote). IsSet l) (sym (map-append (λ (t : Tally). t.vote) ts (u ∷ [])))
-    (set_more (map (λ (t : Tally). t.vote) ts) u.vote are (λ h. none (subst (λ (v : Vote). Has v (map (λ (t : Tally). t.vote) ts)) voted h)))
+pub more_counts : (ts : List VoteCount) (u : VoteCount) (vote : Vote) → u.vote ≡ vote → ¬ Has vote (map (λ t. t.vote) ts) → AreVoteCounts ts → AreVoteCounts (ts ++ u ∷ [])
+more_counts ts u vote voted none are =
+    subst (λ (l : List Vote). IsSet l) (sym (map-append (λ (t : VoteCount). t.vote) ts (u ∷ [])))
+    (set_more (map (λ (t : VoteCount). t.vote) ts) u.vote are (λ h. none (subst (λ (v : Vote). Has v (map (λ (t : VoteCount). t.vote) ts)) voted h)))
 
--- a vote that has no tally was not heard
-pub unheard : (ts : List Tally) (from : ℕ) (vote : Vote) → ¬ Has vote (map (λ t. t.vote) ts) → ¬ Has (record { from = from; vote = vote }) (casts_of ts)
+-- a vote that has no count was not heard
+pub unheard : (ts : List VoteCount) (from : ℕ) (vote : Vote) → ¬ Has vote (map (λ t. t.vote) ts) → ¬ Has (record { from = from; vote = vote }) (casts_of ts)
 unheard ts from vote none h =
     let hit = cast_where ts (record { from = from; vote = vote }) h in
-    none (subst (λ (v : Vote). Has v (map (λ (t : Tally). t.vote) ts)) (sym hit.4) (has_mapped (λ (t : Tally). t.vote) hit.1 ts (get_has ts hit.0 hit.1 hit.2)))
+    none (subst (λ (v : Vote). Has v (map (λ (t : VoteCount). t.vote) ts)) (sym hit.4) (has_mapped (λ (t : VoteCount). t.vote) hit.1 ts (get_has ts hit.0 hit.1 hit.2)))

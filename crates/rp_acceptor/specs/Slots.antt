@@ -49,7 +49,8 @@ HasEnds steps (Some stretch) = HasStep steps stretch.first × HasStep steps stre
 
 -- the bound at each position is the greater of what the steps promise and of the last vote's ballot
 abbrev pub AreBounds : List Level → List Rec → Type 0
-AreBounds steps records = (i : ℕ) → max (ballot_at steps i) (ballot_of_vote (last_vote_at records i)) ≡ bound_at records i
+AreBounds steps records =
+    (i : ℕ) → max (ballot_at steps i) (ballot_of_vote (last_vote_at records i)) ≡ bound_at records i
 
 -- ---- votes
 

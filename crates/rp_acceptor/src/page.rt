@@ -92,7 +92,8 @@ pub fn places_at(pages: &[Page], index: usize, count: usize) -> &[Option<Vote>]
     requires whole { (n : ℕ) → IsWhole (page_at pages.now n) }
     requires within { index % 64 + count ≤ 64 }
     ensures few { length result.now ≤ count }
-    ensures votes { (k : ℕ) → k < count → vote_in_page result.now k ≡ vote_of pages.now (index + k) }
+    ensures votes { (k : ℕ) → k < count
+        → vote_in_page result.now k ≡ vote_of pages.now (index + k) }
 {
     match pages.get(index / PAGE) {
         Some(page) if !page.is_absent() => {

@@ -1,7 +1,8 @@
 -- Proposals that run at a node, one for each position. Lamport, "Paxos Made Simple", section 2.2: a
 -- proposer asks for promises in its ballot, and with a majority of them offers one action; section 3:
 -- one proposal for each position of the log.
-use Rattle.std.specs.Prelude.{ℕ, Bool, true, false, not, ◌&&◌, ◌||◌, nat_eq, Option, Some, None, List, [], ◌∷◌, filter, find, if◌then◌else◌}
+use Rattle.std.specs.Prelude.{ℕ, Bool, true, false, not, ◌&&◌, ◌||◌, nat_eq, Option, Some, None, List, [], ◌∷◌, filter}
+use Rattle.std.specs.Prelude.{find, if◌then◌else◌}
 use Rattle.rp_base.specs.declared.action.Action.{Action}
 use Rattle.rp_base.specs.declared.proposal.Phase.{Phase}
 use Rattle.rp_base.specs.declared.proposal.Phase.TheVariants.{Preparing, Offering}

@@ -5,7 +5,8 @@ use Rattle.rp_body.specs.declared.components.Limits.{Limits}
 use Rattle.rp_body.specs.declared.expression.Expr.{Expr}
 use Rattle.rp_body.specs.declared.expression.Expr.TheVariants.{Number, Arg, Out, Int, Add', Sub'}
 use Rattle.rp_body.specs.declared.expression.Cond.{Cond}
-use Rattle.rp_body.specs.declared.expression.Cond.TheVariants.{Constant, Bool as Named, Less, LessOrEqual, Equal, Not', And', Or'}
+use Rattle.rp_body.specs.declared.expression.Cond.TheVariants.{Constant, Bool as Named, Less, LessOrEqual, Equal, Not'}
+use Rattle.rp_body.specs.declared.expression.Cond.TheVariants.{And', Or'}
 use Rattle.rp_body.specs.declared.statement.Stmt.{Stmt}
 use Rattle.rp_body.specs.declared.statement.Stmt.TheOpen.{Stmt-F}
 use Rattle.rp_body.specs.declared.statement.Stmt.TheFolds.{fold-Stmt}

@@ -5,7 +5,8 @@ use Rattle.std.specs.Ordering.{int_eq}
 use Rattle.rp_body.specs.declared.expression.Expr.{Expr}
 use Rattle.rp_body.specs.declared.expression.Expr.TheVariants.{Number, Arg, Out, Int, Add', Sub'}
 use Rattle.rp_body.specs.declared.expression.Cond.{Cond}
-use Rattle.rp_body.specs.declared.expression.Cond.TheVariants.{Constant, Bool as Named, Less, LessOrEqual, Equal, Not', And', Or'}
+use Rattle.rp_body.specs.declared.expression.Cond.TheVariants.{Constant, Bool as Named, Less, LessOrEqual, Equal, Not'}
+use Rattle.rp_body.specs.declared.expression.Cond.TheVariants.{And', Or'}
 use Rattle.rp_body.specs.Store.{Store, int_value, bool_value, is_within}
 
 -- the value of an expression, given the components, the argument and the out value

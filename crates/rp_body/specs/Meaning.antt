@@ -9,7 +9,8 @@ use Rattle.rp_body.specs.declared.statement.Outcome.TheVariants.{Out, Raised}
 use Rattle.rp_body.specs.Store.{Store, with_int, with_bool}
 use Rattle.rp_body.specs.Expressions.{value_of, truth_of, fits_64}
 
--- what a part of a body does: from the components and the out value to the components, and the out value or Constraint_Error
+-- what a part of a body does: from the components and the out value to the components, and the out value or
+-- Constraint_Error
 abbrev pub Effect : Type 0
 Effect = Store → ℤ → Store × Outcome
 

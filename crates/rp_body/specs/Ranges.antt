@@ -15,7 +15,9 @@ HasRangesOf old new = (name : ℕ) → option_map range_of (get new.ints name) �
 
 -- each whole number lies in its range
 abbrev pub IsInRange : Store → Type 0
-IsInRange store = (name : ℕ) → IfSome (get store.ints name) (λ component. IsTrue (is_within component.low component.high component.value))
+IsInRange store =
+    (name : ℕ) → IfSome (get store.ints name)
+    (λ component. IsTrue (is_within component.low component.high component.value))
 
 -- the ranges stay, and values that lie in them still do
 pub record KeepsRanges (old new : Store) : Type 0 where

@@ -1,5 +1,6 @@
 -- What the audit knows of the nodes, by the reports that it got.
-use Rattle.std.specs.Prelude.{◌≡◌, ℕ, ◌+◌, ◌-◌, ◌^◌, ◌<◌, ◌≤◌, nat_lt, Some, unwrap_or, List, [], ◌++◌, length, take, slice_get, if◌then◌else◌}
+use Rattle.std.specs.Prelude.{◌≡◌, ℕ, ◌+◌, ◌-◌, ◌^◌, ◌<◌, ◌≤◌, nat_lt, Some, unwrap_or, List, [], ◌++◌, length, take}
+use Rattle.std.specs.Prelude.{slice_get, if◌then◌else◌}
 use Rattle.rp_base.specs.Sets.{Has}
 use Rattle.rp_base.specs.declared.action.Action.{Action}
 use Rattle.rp_codec.specs.Message.{Message, IsPacket}
@@ -38,7 +39,8 @@ pub record ReportSays (part : Part) (node before : ℕ) (action : Action) : Type
 -- Each known action is in a report that the actor got.
 pub record AreAllReported (part : Part) (known : List (List Action)) : Type 0 where
   pub seven : length known ≡ 7
-  pub stated : (node before : ℕ) (action : Action) → slice_get (known_of known node) before ≡ Some action → ReportSays part node before action
+  pub stated : (node before : ℕ) (action : Action) → slice_get (known_of known node) before ≡ Some action
+      → ReportSays part node before action
   pub few : (node : ℕ) → length (known_of known node) < 2 ^ 16
 
 -- ---- a report is added
@@ -54,13 +56,16 @@ with_reported known first actions = longer_of known (take (first - 1) known ++ a
 -- the bytes are the text of a report that the actor got
 abbrev pub IsGotReport : Part → List ℕ → Type 0
 IsGotReport part bytes =
-    (node : ℕ) × (first : ℕ) × (applied : ℕ) × (actions : List Action) × Has (report node first applied actions) part.got
+    (node : ℕ) × (first : ℕ) × (applied : ℕ) × (actions : List Action)
+    × Has (report node first applied actions) part.got
     × (bytes ≡ text_of (report node first applied actions))
 
 -- The result of actions that a node reports, from this position on. Where they leave a gap after what is known of the
 -- node nothing changes; else that becomes the longer of itself and of what the report makes it.
-pub record IsJoined {P : Type 0} (old : Audited P) (node first : ℕ) (actions : List Action) (new : Audited P) (outcome : Added) : Type 0 where
-  pub gap : length (known_of old.known node) + 1 < first → (new ≡ old) × (outcome ≡ added.Gap node (length (known_of old.known node)))
+pub record IsJoined {P : Type 0} (old : Audited P) (node first : ℕ) (actions : List Action) (new : Audited P)
+    (outcome : Added) : Type 0 where
+  pub gap : length (known_of old.known node) + 1 < first
+      → (new ≡ old) × (outcome ≡ added.Gap node (length (known_of old.known node)))
   pub joined : first ≤ length (known_of old.known node) + 1
       → (new ≡ record old { known = with_part old.known node (with_reported (known_of old.known node) first actions) })
       × (outcome ≡ added.Added node (length (with_reported (known_of old.known node) first actions)))

@@ -1,5 +1,6 @@
 -- The rule of the table: between any two atomic steps there is a world, of which each seat's view is a piece.
-use Rattle.std.specs.Prelude.{◌≡◌, ◌↔◌, ℕ, zero, suc, ◌+◌, ◌%◌, ◌^◌, ◌<◌, Vec, Option, Some, IfSome, List, [], ◌++◌, length, map, slice_index}
+use Rattle.std.specs.Prelude.{◌≡◌, ◌↔◌, ℕ, zero, suc, ◌+◌, ◌%◌, ◌^◌, ◌<◌, Vec, Option, Some, IfSome, List, [], ◌++◌}
+use Rattle.std.specs.Prelude.{length, map, slice_index}
 use Rattle.std.specs.declared.alloc.Global.{Global}
 use mathlib.Core.Option.{some}
 use lib.ListN.{get_elem?}
@@ -36,7 +37,8 @@ all_sent parts zero = []
 all_sent parts (suc k) = all_sent parts k ++ (parts k).sent
 
 -- the invariant of a world: that of agreement with the replies to tasks, and numbers within their ranges
-pub record IsGood {S : Type 0} (s : Setting S) (node : ℕ → NodePart) (task : ℕ → TaskPart) (sent : List Message) : Type 0 where
+pub record IsGood {S : Type 0} (s : Setting S) (node : ℕ → NodePart) (task : ℕ → TaskPart)
+    (sent : List Message) : Type 0 where
   pub kept : IsKept s node task sent
   pub ranged : (x : ℕ) → IsRangedPart (node x)
   pub packets : (m : Message) → Has m sent → IsPacket m
@@ -48,17 +50,19 @@ pub record IsCarried (x y : ℕ) (bytes : List ℕ) (m : Message) : Type 0 where
   pub from : actor_of m.from ≡ x
   pub to : actor_of m.to ≡ y
 
--- The box from x to y: empty (0), being filled (1), full (2), or being emptied (3). An empty one may have a buffer, which
--- its receiver left there for the sender.
+-- The box from x to y: empty (0), being filled (1), full (2), or being emptied (3). An empty one may have a buffer,
+-- which its receiver left there for the sender.
 pub record IsBox (parts : ℕ → Part) (x y word : ℕ) (home : Slot → Type 0) : Type 0 where
   pub empty : word ≡ 0 → (slot : Slot) × home slot × IsVacant slot
   pub filling : (word ≡ 1) ↔ Has (box_of x y) (parts x).fills
-  pub full : word ≡ 2 → (m : Message) × (text : Vec ℕ Global) × home (Some text) × IsCarried x y text.items m × Has m (parts x).sent
+  pub full : word ≡ 2 → (m : Message) × (text : Vec ℕ Global) × home (Some text) × IsCarried x y text.items m
+      × Has m (parts x).sent
   pub emptying : (word ≡ 3) ↔ Has (box_of x y) (parts y).takes
 
 -- Each seat knows some of the actors with their parts, no two seats the same, and all actors are known.
 pub record IsSeating (views : List View) (parts : ℕ → Part) (owner : ℕ → ℕ) : Type 0 where
-  pub knows : (id : ℕ) (v : View) → get_elem? views id ≡ some v → (k : ℕ) (p : Part) → Has (k, p) v → (owner k ≡ id) × (parts k ≡ p) × (k < 16)
+  pub knows : (id : ℕ) (v : View) → get_elem? views id ≡ some v → (k : ℕ) (p : Part) → Has (k, p) v
+      → (owner k ≡ id) × (parts k ≡ p) × (k < 16)
   pub apart : (id : ℕ) (v : View) → get_elem? views id ≡ some v → IsSet (map (λ known. known.0) v)
   pub seated : (k : ℕ) → k < 16 → (v : View) × (get_elem? views (owner k) ≡ some v) × Has (k, parts k) v
 
@@ -75,7 +79,8 @@ pub record Ruled {S : Type 0} (s : Setting S) (t : State Slot View) : Type 0 whe
   pub counted : (k : ℕ) → k < 16 → slice_index t.words (256 + k) ≡ (parts k).events % 2 ^ 64
   pub sends : (k : ℕ) → k < 16 → (m : Message) → Has m (parts k).sent → actor_of m.from ≡ k
   pub gets : (k : ℕ) → k < 16 → (m : Message) → Has m (parts k).got → (actor_of m.to ≡ k) × Has m (all_sent parts 16)
-  pub boxes : (x y : ℕ) → x < 16 → y < 16 → IsBox parts x y (slice_index t.words (box_of x y)) (λ slot. get_elem? t.homes (box_of x y) ≡ some (some slot))
+  pub boxes : (x y : ℕ) → x < 16 → y < 16
+      → IsBox parts x y (slice_index t.words (box_of x y)) (λ slot. get_elem? t.homes (box_of x y) ≡ some (some slot))
 
 -- all packets that an actor sent or got are right ones, from it or to it
 pub record HasOwnPackets (k : ℕ) (p : Part) : Type 0 where

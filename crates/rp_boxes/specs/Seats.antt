@@ -1,5 +1,6 @@
 -- What a seat is to a contract, and the results of its calls.
-use Rattle.std.specs.Prelude.{◌≡◌, ℕ, ◌<◌, ◌^◌, Option, Some, None, IfSome, IsSome, Result, Ok, Err, List, [], ◌∷◌, length}
+use Rattle.std.specs.Prelude.{◌≡◌, ℕ, ◌<◌, ◌^◌, Option, Some, None, IfSome, IsSome, Result, Ok, Err, List, [], ◌∷◌}
+use Rattle.std.specs.Prelude.{length}
 use Rattle.atomic_table.specs.Seated.{TableId}
 use Rattle.rp_base.specs.Ranges.{IsRange}
 use Rattle.rp_base.specs.Number.{IsPosition, IsTask}
@@ -41,7 +42,8 @@ pub record SeatState (P : Type 0) : Type 0 where
   pub part : Part
 
 -- what the nodes at the table share
-abbrev pub setting_at : {S P : Type 0} → (S → Action → S) → (S → Action → List Answer) → (P → S) → SeatState P → Setting S
+abbrev pub setting_at : {S P : Type 0} → (S → Action → S) → (S → Action → List Answer) → (P → S) → SeatState P
+    → Setting S
 setting_at next answers begin seat_state = setting_for next answers begin seat_state.config seat_state.program
 
 -- The place of a seat that knows one actor and holds no box.
@@ -55,7 +57,8 @@ pub record IsAtTable (table mine : TableId) (actor : ℕ) (me : Sight) : Type 0 
   pub own : HasOwnPackets actor (part_in me.0)
 
 -- The replica is the node that the seat knows; where its device failed, that node is stopped.
-pub record IsNodePlace {S : Type 0} (config : Config) (begin : S) (number : ℕ) (replica : ReplicaState S) (part : Part) : Type 0 where
+pub record IsNodePlace {S : Type 0} (config : Config) (begin : S) (number : ℕ) (replica : ReplicaState S)
+    (part : Part) : Type 0 where
   pub member : IsMember config.nodes number
   pub node : NodePart
   pub is : part.role ≡ OfNode node
@@ -158,11 +161,13 @@ pub record IsReport {P : Type 0} (first : ℕ) (old new : SeatState P) (sent : S
   pub text : sent.bytes.items ≡ text_of (report_of old.number first (applied_of node.records))
   pub packets : sent.packets ≡ 1
   pub dropped : sent.dropped ≡ No
-  pub after : new ≡ record old { part = part_after old.part (OfNode node) (report_of old.number first (applied_of node.records) ∷ []) }
+  pub after : new ≡ record old
+      { part = part_after old.part (OfNode node) (report_of old.number first (applied_of node.records) ∷ []) }
 
 -- n actions are applied, if the node runs
 abbrev pub HasApplied : Part → ℕ → Type 0
-HasApplied part count = (node : NodePart) × (part.role ≡ OfNode node) × IsSome node.running × (count ≡ length (applied_of node.records))
+HasApplied part count =
+    (node : NodePart) × (part.role ≡ OfNode node) × IsSome node.running × (count ≡ length (applied_of node.records))
 
 -- the node runs, and this is what it knows while it does
 abbrev pub IsRunning : Part → Running → Type 0

@@ -58,7 +58,8 @@ module _ {P : Type 0} (old : SeatState P) (input : TaskInput) (new : SeatState P
     pub unchanged : new ≡ old
     pub task : TaskPart
     pub was : old.part.role ≡ OfTask task
-    pub why : ((fault ≡ OutOfMemory) × (done : Done TaskPart) × (task_effect old.config old.number task input ≡ Ok done))
+    pub why : ((fault ≡ OutOfMemory) × (done : Done TaskPart)
+        × (task_effect old.config old.number task input ≡ Ok done))
         ⊎ (task_effect old.config old.number task input ≡ Err fault)
 
 -- ---- replies
@@ -69,7 +70,8 @@ reply_effect task part None = goes_on_as part
 reply_effect task part (Some stated) = takes_reply task part stated.0 stated.1
 
 -- One event: the packet of this text, which the seat got, arrives at the task, and this answer is taken.
-pub record IsReplyTurn {P : Type 0} (old : SeatState P) (bytes : List ℕ) (new : SeatState P) (taken : Option Answer) : Type 0 where
+pub record IsReplyTurn {P : Type 0} (old : SeatState P) (bytes : List ℕ) (new : SeatState P)
+    (taken : Option Answer) : Type 0 where
   pub packet : Message
   pub got : Has packet old.part.got
   pub text : bytes ≡ text_of packet
@@ -80,9 +82,10 @@ pub record IsReplyTurn {P : Type 0} (old : SeatState P) (bytes : List ℕ) (new 
   pub after : new ≡ record old { part = part_after old.part (OfTask done.part) done.sends }
   pub stated : taken ≡ done.taken
 
--- There is an order of actions in which each reply of the task answers its call, which takes effect at one place; and its calls that count there are
--- those that it made, in order: all of them, or all but the one that it waits for.
-pub record HasOneOrder {S : Type 0} (next : S → Action → S) (answers : S → Action → List Answer) (begin : S) (number : ℕ) (part : Part) : Type 0 where
+-- There is an order of actions in which each reply of the task answers its call, which takes effect at one place; and
+-- its calls that count there are those that it made, in order: all of them, or all but the one that it waits for.
+pub record HasOneOrder {S : Type 0} (next : S → Action → S) (answers : S → Action → List Answer) (begin : S)
+    (number : ℕ) (part : Part) : Type 0 where
   pub order : List Action
   pub replies : (k : ℕ) (answer : Answer) → slice_get (task_of part.role).replies k ≡ Some answer
       → HasReply next answers begin order (named number (suc k)) answer

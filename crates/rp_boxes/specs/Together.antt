@@ -33,11 +33,14 @@ pub record HasReported {P : Type 0} (seat : SeatState P) (before : ℕ) (action 
 -- reported.
 pub record IsNodeOf {P : Type 0} (order : List Action) (known : List (List Action)) (seat : SeatState P) : Type 0 where
   pub applied : Begins (applied_of (node_of seat.part.role).records) order
-  pub reported : (before : ℕ) (action : Action) → slice_get (known_of known seat.number) before ≡ Some action → HasReported seat before action
+  pub reported : (before : ℕ) (action : Action) → slice_get (known_of known seat.number) before ≡ Some action
+      → HasReported seat before action
 
--- Each reply of the task of this seat is the order's answer to its call, which takes effect at one place; and the task's
--- calls that count in the order are those that it made, in order: all of them, or all but the one that it waits for.
-pub record IsTaskOf {S P : Type 0} (next : S → Action → S) (answers : S → Action → List Answer) (begin : S) (order : List Action) (seat : SeatState P) : Type 0 where
+-- Each reply of the task of this seat is the order's answer to its call, which takes effect at one place; and the
+-- task's calls that count in the order are those that it made, in order: all of them, or all but the one that it
+-- waits for.
+pub record IsTaskOf {S P : Type 0} (next : S → Action → S) (answers : S → Action → List Answer) (begin : S)
+    (order : List Action) (seat : SeatState P) : Type 0 where
   pub replies : (k : ℕ) (answer : Answer) → slice_get (task_of seat.part.role).replies k ≡ Some answer
       → HasReply next answers begin order (named seat.number (suc k)) answer
   pub calls : AreItsCalls seat.part.sent seat.number (task_of seat.part.role) (kept_of next answers begin order)

@@ -43,7 +43,8 @@ impl<M: Machine> Model for AuditSeat<M> {
       part = part_in s.place.me.0;
     } };
 
-    ghost invariant = { λ s. IsAtTable (arc_value s.board).shared.table_id s.place.table_id 0 s.place.me
+    ghost invariant = { λ s. IsAtTable
+        (arc_value s.board).shared.table_id s.place.table_id 0 s.place.me
         × ((part_in s.place.me.0).role ≡ OfAudit) };
 }
 

@@ -93,7 +93,8 @@ fn claim_empty<M: Machine, J: Fact>(
     requires to { to < 16 }
     requires place { place.old.me ≡ alone from (part_in place.old.me.0) }
     requires free { (part_in place.old.me.0).fills ≡ [] }
-    requires follows { (table : State Slot View) → IsMoment (setting_for M.next M.answers M.begin slots.now.key.config
+    requires follows { (table : State Slot View)
+        → IsMoment (setting_for M.next M.answers M.begin slots.now.key.config
         slots.now.key.program.value) place.old.me.0 table
         → slice_index table.words (box_of from to) ≢ 0 → J.says (part_in place.old.me.0) }
     ensures table { place.new.table_id ≡ place.old.table_id }
@@ -123,7 +124,8 @@ fn deliver<M: Machine, J: Fact>(
     requires fills { (part_in place.old.me.0).fills ≡ box_of from to ∷ [] }
     requires packet { (m : Message) × Has m (part_in place.old.me.0).sent
         × IsCarried from to packet.items m }
-    requires follows { (table : State Slot View) → IsMoment (setting_for M.next M.answers M.begin slots.now.key.config
+    requires follows { (table : State Slot View)
+        → IsMoment (setting_for M.next M.answers M.begin slots.now.key.config
         slots.now.key.program.value)
         ((from, filled (part_in place.old.me.0)) ∷ []) table
         → slice_index table.words (box_of from to) ≡ 2
@@ -163,7 +165,8 @@ pub(crate) fn fill<M: Machine>(
         slots.now.key.program.value) place.new.me.0 (box_of from to) packet.items) }
     ensures vacant { IfOk result IsVacant }
     ensures back { IfErr result (λ back. back ≡ packet) }
-    ensures used { IfErr result (λ back. WasWord (setting_for M.next M.answers M.begin slots.now.key.config
+    ensures used { IfErr result
+        (λ back. WasWord (setting_for M.next M.answers M.begin slots.now.key.config
         slots.now.key.program.value) place.new.me.0 (box_of from to)
         (λ word. word ≢ 0)) }
 {
@@ -186,7 +189,8 @@ fn claim_full<M: Machine, J: Fact>(
     requires to { to < 16 }
     requires place { place.old.me ≡ alone to (part_in place.old.me.0) }
     requires free { (part_in place.old.me.0).takes ≡ [] }
-    requires follows { (table : State Slot View) → IsMoment (setting_for M.next M.answers M.begin slots.now.key.config
+    requires follows { (table : State Slot View)
+        → IsMoment (setting_for M.next M.answers M.begin slots.now.key.config
         slots.now.key.program.value) place.old.me.0 table
         → slice_index table.words (box_of from to) ≢ 2 → J.says (part_in place.old.me.0) }
     ensures table { place.new.table_id ≡ place.old.table_id }
@@ -217,7 +221,8 @@ pub(crate) fn empty<M: Machine>(
     requires free { (part_in place.old.me.0).takes ≡ [] }
     ensures table { place.new.table_id ≡ place.old.table_id }
     ensures none { IfNone result (place.new.me ≡ place.old.me) }
-    ensures missed { IfNone result (WasWord (setting_for M.next M.answers M.begin slots.now.key.config
+    ensures missed { IfNone result
+        (WasWord (setting_for M.next M.answers M.begin slots.now.key.config
         slots.now.key.program.value) place.new.me.0 (box_of from to)
         (λ word. word ≢ 2)) }
     ensures some { IfSome result (λ text. (m : Message) × IsCarried from to text.items m

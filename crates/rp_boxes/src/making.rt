@@ -101,7 +101,8 @@ impl<M: Machine> Model for Unseated<M> {
       next = u.next;
     } };
 
-    ghost invariant = { λ u. IsRest (arc_value u.board).shared.table_id u.rest.table_id u.next u.rest.me
+    ghost invariant = { λ u. IsRest
+        (arc_value u.board).shared.table_id u.rest.table_id u.next u.rest.me
         × IsRightConfig u.config × ((arc_value u.board).shared.key.config ≡ u.config) };
 }
 

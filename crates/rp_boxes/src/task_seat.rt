@@ -70,8 +70,10 @@ impl<M: Machine> Model for TaskSeat<M> {
       part = part_in s.place.me.0;
     } };
 
-    ghost invariant = { λ s. IsAtTable (arc_value s.board).shared.table_id s.place.table_id (7 + s.number) s.place.me
-        × IsTaskSeat s.number (arc_value s.board).shared.key.config s.config s.task (part_in s.place.me.0) };
+    ghost invariant = { λ s. IsAtTable (arc_value s.board).shared.table_id s.place.table_id
+        (7 + s.number) s.place.me
+        × IsTaskSeat s.number (arc_value s.board).shared.key.config s.config s.task
+        (part_in s.place.me.0) };
 }
 
 impl<M: Machine> TaskSeat<M> {
@@ -139,7 +141,8 @@ impl<M: Machine> TaskSeat<M> {
     pub fn reply(&mut self, alloc: Global, packet: &[u8]) -> Result<Option<Answer>, Fault>
         requires got { (m : Message) × Has m self.old.part.got × (packet.now ≡ text_of m) }
         ensures ok { IfOk result (λ taken. IsReplyTurn self.old packet.now self.new taken) }
-        ensures stated { IfOk result (λ taken. HasOneOrder M.next M.answers (M.begin self.new.program)
+        ensures stated { IfOk result
+            (λ taken. HasOneOrder M.next M.answers (M.begin self.new.program)
             self.new.number self.new.part) }
         ensures err { IfErr result (λ fault. (fault ≡ OutOfMemory) × (self.new ≡ self.old)) }
     {

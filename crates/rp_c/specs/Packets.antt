@@ -11,13 +11,15 @@ use Rattle.rp_c.specs.declared.status.Status.TheVariants.{Done, OutOfMemory, Bad
 
 -- The bytes begin with a packet of this length, or with none, and the length is as it was.
 abbrev pub PutsLength : List ℕ → ℕ → ℕ → Status → Type 0
-PutsLength bytes old new Done = (p : Message) × (rest : List ℕ) × IsPacket p × IsTextBefore p rest bytes × (new ≡ length (text_of p))
+PutsLength bytes old new Done =
+    (p : Message) × (rest : List ℕ) × IsPacket p × IsTextBefore p rest bytes × (new ≡ length (text_of p))
 PutsLength bytes old new BadPacket = (¬ BeginsWithPacket bytes) × (new ≡ old)
 PutsLength bytes old new _ = ⊥
 
 -- The bytes are a packet's text; or they are none for this reason; or they are a report's, and memory ran out.
 abbrev pub ChecksPacket : List ℕ → ℕ → ℕ → Status → Type 0
 ChecksPacket bytes old new Done = (p : Message) × IsPacket p × IsTextOf p bytes × (new ≡ old)
-ChecksPacket bytes old new BadPacket = (reason : PacketReason) × (all_of bytes ≡ Err reason) × (new ≡ reason_code reason)
+ChecksPacket bytes old new BadPacket =
+    (reason : PacketReason) × (all_of bytes ≡ Err reason) × (new ≡ reason_code reason)
 ChecksPacket bytes old new OutOfMemory = IsLongText bytes × (new ≡ old)
 ChecksPacket bytes old new _ = ⊥

@@ -27,9 +27,11 @@ GivesVote (Err e) after read = read ≡ Err e
 abbrev pub IsContentOf : Content → List ℕ → Body → Type 0
 IsContentOf (Whole whole) after body = body ≡ whole
 IsContentOf (Listed version first applied count text) after body =
-    (actions : List Action) × (actions_at version count text ≡ Ok (actions, after)) × (body ≡ Report first applied actions)
+    (actions : List Action) × (actions_at version count text ≡ Ok (actions, after))
+    × (body ≡ Report first applied actions)
 IsContentOf (Voted version range ballot text) after body =
-    (votes : List PlacedVote) × (reported_votes_at version range ballot text ≡ Ok (votes, after)) × (body ≡ PromiseRange range ballot votes)
+    (votes : List PlacedVote) × (reported_votes_at version range ballot text ≡ Ok (votes, after))
+    × (body ≡ PromiseRange range ballot votes)
 
 -- what a function returned, and the bytes that it left, denote what reading gives
 abbrev pub Finds : Result Content PacketReason → List ℕ → Read Body → Type 0
@@ -47,12 +49,14 @@ FindsPacket (Err e) after read = read ≡ Err e
 
 -- all of the bytes
 abbrev pub FindsWhole : Result Found PacketReason → Result Message PacketReason → Type 0
-FindsWhole (Ok found) read = (body : Body) × (after : List ℕ) × IsContentOf found.content after body × (read ≡ Ok (with_body found body))
+FindsWhole (Ok found) read =
+    (body : Body) × (after : List ℕ) × IsContentOf found.content after body × (read ≡ Ok (with_body found body))
 FindsWhole (Err e) read = read ≡ Err e
 
 -- its packet keeps the rules
 abbrev pub KeepsRulesAt : Found → Type 0
-KeepsRulesAt found = (body : Body) × (after : List ℕ) × IsContentOf found.content after body × KeepsRules (with_body found body)
+KeepsRulesAt found =
+    (body : Body) × (after : List ℕ) × IsContentOf found.content after body × KeepsRules (with_body found body)
 
 -- the list is that of the first n actions
 abbrev pub AreFirst : List Action → Version → ℕ → List ℕ → Type 0
@@ -62,11 +66,13 @@ AreFirst list version count text =
 -- the list is that of the votes that are reported
 abbrev pub AreFirstVotes : List PlacedVote → Version → Range → ℕ → List ℕ → Type 0
 AreFirstVotes list version range ballot text =
-    (votes : List PlacedVote) (after : List ℕ) → reported_votes_at version range ballot text ≡ Ok (votes, after) → list ≡ votes
+    (votes : List PlacedVote) (after : List ℕ) → reported_votes_at version range ballot text ≡ Ok (votes, after)
+    → list ≡ votes
 
 -- the packet is the one that was found
 abbrev pub IsListed : Message → Found → Type 0
-IsListed packet found = (body : Body) (after : List ℕ) → IsContentOf found.content after body → packet ≡ with_body found body
+IsListed packet found =
+    (body : Body) (after : List ℕ) → IsContentOf found.content after body → packet ≡ with_body found body
 
 -- a report or a promise for a range, whose actions or votes are yet to be put into a list
 abbrev pub IsList : Content → Type 0

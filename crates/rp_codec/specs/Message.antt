@@ -12,7 +12,8 @@ use Rattle.rp_base.specs.declared.record.Vote.{Vote}
 use Rattle.rp_codec.specs.declared.packet.Party.{Party}
 use Rattle.rp_codec.specs.declared.packet.Party.TheVariants.{Node, Task, Audit}
 use Rattle.rp_codec.specs.declared.packet.Body.{Body}
-use Rattle.rp_codec.specs.declared.packet.Body.TheVariants.{Call, Prepare, Promise, Accept, Accepted, Decided, Ask, Nack, Reply as Answer, Report, PrepareRange, PromiseRange}
+use Rattle.rp_codec.specs.declared.packet.Body.TheVariants.{Call, Prepare, Promise, Accept, Accepted, Decided, Ask}
+use Rattle.rp_codec.specs.declared.packet.Body.TheVariants.{Nack, Reply as Answer, Report, PrepareRange, PromiseRange}
 
 pub record Message : Type 0 where
   pub from : Party
@@ -30,7 +31,8 @@ IsParty Audit = Unit {0}
 abbrev pub IsBody : Body → Type 0
 IsBody (Call action) = Unit {0}
 IsBody (Prepare position ballot) = IsPosition position × IsBallot ballot
-IsBody (Promise position ballot last) = IsPosition position × IsBallot ballot × IfSome last (λ vote. IsBallot vote.ballot)
+IsBody (Promise position ballot last) =
+    IsPosition position × IsBallot ballot × IfSome last (λ vote. IsBallot vote.ballot)
 IsBody (Accept position ballot action) = IsPosition position × IsBallot ballot
 IsBody (Accepted position ballot action) = IsPosition position × IsBallot ballot
 IsBody (Decided position action) = IsPosition position
@@ -39,7 +41,8 @@ IsBody (Nack position ballot bound) = IsPosition position × IsBallot ballot × 
 IsBody (Answer number reply) = IsReply reply
 IsBody (Report first applied actions) = IsPosition first × (applied < 2 ^ 16)
 IsBody (PrepareRange range ballot) = IsRange range × IsBallot ballot
-IsBody (PromiseRange range ballot votes) = IsRange range × IsBallot ballot × All (λ placed. IsBallot placed.vote.ballot) votes
+IsBody (PromiseRange range ballot votes) =
+    IsRange range × IsBallot ballot × All (λ placed. IsBallot placed.vote.ballot) votes
 
 -- ---- the obligations of who makes a packet
 

@@ -1,8 +1,10 @@
 -- The command line.
-use Rattle.std.specs.Prelude.{◌≡◌, ℕ, ◌^◌, ◌<◌, true, Option, Some, None, List, [], ◌∷◌, pos, codes, option_and_then, if◌then◌else◌}
+use Rattle.std.specs.Prelude.{◌≡◌, ℕ, ◌^◌, ◌<◌, true, Option, Some, None, List, [], ◌∷◌, pos, codes, option_and_then}
+use Rattle.std.specs.Prelude.{if◌then◌else◌}
 use Rattle.std.specs.Str.{bytes_eq}
 use Rattle.std.specs.Str.Parse.{IsNumeral, digits_value, without_leading_plus}
-use Rattle.clap.specs.Words.{App, Rule, Shape, Text, new_app, new_rule, one_of, subcommand_of, with_rule, with_subcommand}
+use Rattle.clap.specs.Words.{App, Rule, Shape, Text, new_app, new_rule, one_of, subcommand_of, with_rule}
+use Rattle.clap.specs.Words.{with_subcommand}
 use Rattle.clap.specs.Simple.{on_top}
 use Rattle.clap.specs.declared.builder.action.ArgAction.TheVariants.{SetTrue}
 use Rattle.clap.specs.declared.error.kind.ErrorKind.{ErrorKind}
@@ -56,7 +58,8 @@ name_of (Live s t) = codes "live"
 -- what the words say of an option of this subcommand, where they name that one
 abbrev pub option_of : Text → Text → List Text → Option Text
 option_of name option words =
-    option_and_then (λ found. if bytes_eq found.0 name then one_of option found.1 else None) (subcommand_of console words)
+    option_and_then (λ found. if bytes_eq found.0 name then one_of option found.1 else None)
+    (subcommand_of console words)
 
 -- of `--trace`: `true` where it is among them, else `false`
 abbrev pub trace_of : List Text → Option Text

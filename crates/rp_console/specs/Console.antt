@@ -1,5 +1,6 @@
 -- What the program does with the words of the command line, and how it ends.
-use Rattle.std.specs.Prelude.{◌≡◌, ◌≢◌, ◌⊎◌, ℕ, true, false, Option, Some, None, Result, Ok, Err, List, [], codes, option_map, IsSome, IfOk, OnOk, IfErr, OnErr}
+use Rattle.std.specs.Prelude.{◌≡◌, ◌≢◌, ◌⊎◌, ℕ, true, false, Option, Some, None, Result, Ok, Err, List, [], codes}
+use Rattle.std.specs.Prelude.{option_map, IsSome, IfOk, OnOk, IfErr, OnErr}
 use Rattle.std.specs.Io.KnownBytes.{Appends}
 use Rattle.clap.specs.Kinds.{IsAmong}
 use Rattle.clap.specs.Words.{Text, fault_of, subcommand_of}
@@ -56,11 +57,12 @@ report_of (Ok None) = []
 report_of (Ok (Some figures)) = with_line_feed (figures_line_of figures)
 report_of (Err fault) = with_line_feed (fault_message_of fault)
 
--- What the words ask for was run, with the deck that the bytes given to it mean. It printed what such a run prints, or
--- a fault ended it, after a beginning of that at most. Where the bytes mean no deck, nothing is printed, and the fault has
--- the first bad line and the first reason on it. The status is 0 where it had no fault, and else that of the fault, which
--- is reported; so are a live run's figures.
-pub record RunsAs (args : Args) (given output output_after errors errors_after : Option (List ℕ)) (ending : Ending) : Type 0 where
+-- What the words ask for was run, with the deck that the bytes given to it mean. It printed what such a run prints,
+-- or a fault ended it, after a beginning of that at most. Where the bytes mean no deck, nothing is printed, and the
+-- fault has the first bad line and the first reason on it. The status is 0 where it had no fault, and else that of
+-- the fault, which is reported; so are a live run's figures.
+pub record RunsAs (args : Args) (given output output_after errors errors_after : Option (List ℕ))
+    (ending : Ending) : Type 0 where
   pub ran : Result (Option FiguresLine) Fault
   pub printed : OnOk ran (Prints args given output output_after)
   pub begun : OnErr ran (HasBegun args given output output_after)
@@ -75,21 +77,25 @@ pub record RunsAs (args : Args) (given output output_after errors errors_after :
 abbrev pub IsAskedFor : ErrorKind → Type 0
 IsAskedFor kind = (kind ≡ DisplayHelp) ⊎ (kind ≡ DisplayVersion)
 
--- Wrong words were reported, and help alone was printed. The status is the one of this kind of mistake; where help could
--- not be printed it is that of `Io`, which is reported.
-pub record RefusesAs (kind : ErrorKind) (output output_after errors errors_after : Option (List ℕ)) (ending : Ending) : Type 0 where
+-- Wrong words were reported, and help alone was printed. The status is the one of this kind of mistake; where help
+-- could not be printed it is that of `Io`, which is reported.
+pub record RefusesAs (kind : ErrorKind) (output output_after errors errors_after : Option (List ℕ))
+    (ending : Ending) : Type 0 where
   pub status : (ending.status ≡ words_status_of kind) ⊎ (IsAskedFor kind × (ending.status ≡ status_of faults.Io)
       × OnOk ending.reported (Appends errors errors_after (report_of (Err faults.Io))))
   pub output_kept : kind ≢ DisplayHelp → kind ≢ DisplayVersion → output_after ≡ output
   pub errors_kept : kind ≡ DisplayHelp → ending.status ≡ words_status_of kind → errors_after ≡ errors
-  pub memory : kind ≡ OutOfMemory → OnOk ending.reported (Appends errors errors_after (report_of (Err faults.OutOfMemory)))
+  pub memory : kind ≡ OutOfMemory
+      → OnOk ending.reported (Appends errors errors_after (report_of (Err faults.OutOfMemory)))
 
 -- one of the words is not UTF-8, or memory ran out for saying so
 abbrev pub IsUnread : ErrorKind → Type 0
 IsUnread kind = (kind ≡ InvalidValue) ⊎ (kind ≡ OutOfMemory)
 
 -- The words ask for a run, which ran; or they are wrong, or memory ran out, which was reported.
-abbrev pub FollowsWords : List Text → Option (List ℕ) → Option (List ℕ) → Option (List ℕ) → Option (List ℕ) → Option (List ℕ) → Ending → Type 0
+abbrev pub FollowsWords : List Text → Option (List ℕ) → Option (List ℕ) → Option (List ℕ) → Option (List ℕ)
+    → Option (List ℕ) → Ending → Type 0
 FollowsWords words given output output_after errors errors_after ending =
     ((args : Args) × AsksFor words args × RunsAs args given output output_after errors errors_after ending)
-    ⊎ ((kind : ErrorKind) × ((kind ≡ OutOfMemory) ⊎ IsAmong kind (fault_of console words)) × RefusesAs kind output output_after errors errors_after ending)
+    ⊎ ((kind : ErrorKind) × ((kind ≡ OutOfMemory) ⊎ IsAmong kind (fault_of console words))
+    × RefusesAs kind output output_after errors errors_after ending)

@@ -1,5 +1,6 @@
 -- Bodies of operations, and how each line of one goes on.
-use Rattle.std.specs.Prelude.{ℕ, ◌-◌, ◌==◌, Bool, true, false, not, nat_lt, List, [], ◌∷◌, codes, length, Option, Some, None, is_some, Result, Ok, if◌then◌else◌}
+use Rattle.std.specs.Prelude.{ℕ, ◌-◌, ◌==◌, Bool, true, false, not, nat_lt, List, [], ◌∷◌, codes, length, Option, Some}
+use Rattle.std.specs.Prelude.{None, is_some, Result, Ok, if◌then◌else◌}
 use Rattle.std.specs.Str.{bytes_eq}
 use Rattle.rp_base.specs.declared.fault.DeckReason.{DeckReason}
 use Rattle.rp_base.specs.declared.fault.DeckReason.TheVariants.{UnknownWord, TooMany}

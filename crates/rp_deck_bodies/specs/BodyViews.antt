@@ -19,7 +19,8 @@ abbrev pub added_by : Stmt-F (BodyText → BodyText) → BodyText → BodyText
 added_by (Stmt-F.Set name expr) before = Set before name (expr_text expr)
 added_by (Stmt-F.Put name cond) before = Put before name (cond_text cond)
 added_by (Stmt-F.Out expr) before = Out before (expr_text expr)
-added_by (Stmt-F.If cond first second) before = If before (cond_text cond) (in_order first.items Empty) (in_order second.items Empty)
+added_by (Stmt-F.If cond first second) before =
+    If before (cond_text cond) (in_order first.items Empty) (in_order second.items Empty)
 
 -- a statement after others
 abbrev pub and_then : Stmt → BodyText → BodyText

@@ -287,7 +287,8 @@ impl<'w, 'n> Nodes<'w, 'n> {
     ) -> Result<Cond, LineError>
         ensures read { Makes (λ cond. (cond_text cond, self.new.left, unread self.new.words)) result
             (cond_of (key_names self.old.names.now) (values self.old.names.now)
-            (cond_at (key_names self.old.names.now) (values self.old.names.now) depth) first word.now
+            (cond_at (key_names self.old.names.now) (values self.old.names.now) depth) first
+            word.now
             self.old.left (unread self.old.words)) }
         ensures names { self.new.names ≡ self.old.names }
         ensures nodes { IfOk result (λ cond. self.new.left + cond_nodes cond ≡ self.old.left + 1) }

@@ -246,7 +246,8 @@ impl BodyDraft {
     fn add(&mut self, statement: Stmt) -> Result<(), AllocError>
         ensures items { OnOk result
             (self.new.statements.items ≡ self.old.statements.items ++ statement ∷ []) }
-        ensures same { OnOk result ((self.new.ifs ≡ self.old.ifs) × (self.new.left ≡ self.old.left)) }
+        ensures same { OnOk result
+            ((self.new.ifs ≡ self.old.ifs) × (self.new.left ≡ self.old.left)) }
         ensures text { OnOk result (body_draft_text self.new ≡ record (body_draft_text self.old) {
           statements = and_then statement (body_draft_text self.old).statements;
         }) }
@@ -282,7 +283,8 @@ impl BodyDraft {
     fn turn(&mut self, alloc: Global) -> Result<(), AllocError>
         ensures limits { OnOk result ((declared : List Component) → IsBody declared 0 self.old
             → IsBody declared 0 self.new) }
-        ensures text { OnOk result (body_draft_text self.new ≡ with_else (body_draft_text self.old)) }
+        ensures text { OnOk result
+            (body_draft_text self.new ≡ with_else (body_draft_text self.old)) }
     {
         if let Some(mut innermost) = self.ifs.pop() {
             let first = mem::replace(&mut self.statements, Vec::new(alloc));

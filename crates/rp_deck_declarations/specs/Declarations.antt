@@ -72,7 +72,8 @@ pub record IsComplete (declared : Declared) : Type 0 where
   pub objects : IsNameSet declared.objects
   pub some_object : 1 ≤ index_set_len declared.objects
   pub program : HasObjects (index_set_len declared.objects) declared.program
-  pub kept : DeclaresAll (map (λ task. task.priority) (values declared.tasks)) (values declared.interrupts) (values declared.timers) declared.program
+  pub kept : DeclaresAll (map (λ task. task.priority) (values declared.tasks)) (values declared.interrupts)
+      (values declared.timers) declared.program
   pub operations : length declared.operations.items ≡ index_set_len declared.objects
   pub named : AreNamesOf declared.program declared.operations.items
   pub interrupts : IsNameTable declared.interrupts

@@ -401,7 +401,8 @@ impl Draft {
     #[tactic(auto, unfolding(crate::specs::Drafts::script_line))]
     pub fn complete(&self, words: &mut Words<'_>) -> Result<(), DeckReason>
         requires { IsDraft self.now }
-        ensures read { Gives (λ _. tt) result (script_line (draft_text self.now) (unread words.old)) }
+        ensures read { Gives (λ _. tt) result
+            (script_line (draft_text self.now) (unread words.old)) }
         ensures finishable { OnOk result (IsFinishable self.now) }
     {
         if self.tasks.is_empty() {

@@ -1,5 +1,6 @@
 -- The limits that an object keeps whose lines are read.
-use Rattle.std.specs.Prelude.{ℕ, ◌≡◌, ◌<◌, ◌≤◌, All, true, false, List, Option, Some, None, String, string_bytes, length}
+use Rattle.std.specs.Prelude.{ℕ, ◌≡◌, ◌<◌, ◌≤◌, All, true, false, List, Option, Some, None, String, string_bytes}
+use Rattle.std.specs.Prelude.{length}
 use Rattle.std.specs.declared.alloc.Global.{Global}
 use Rattle.std.specs.FinMap.{len}
 use Rattle.indexmap.specs.IndexMap.{IndexMap, values}
@@ -75,7 +76,8 @@ pub record KeepsComponents (store : Store) (int_count bool_count : ℕ) (declare
 -- what an object has so far keeps the limits
 pub record IsObject (profile : Profile) (o : ObjectDraft) : Type 0 where
   pub ceiling : IsPriority o.ceiling
-  pub components : KeepsComponents o.components (length o.int_names.items) (length o.bool_names.items) (values o.component_names)
+  pub components : KeepsComponents o.components (length o.int_names.items) (length o.bool_names.items)
+      (values o.component_names)
   pub entries : length o.entry_names.items ≡ length o.operations.entries.items
   pub fit : WhereCounted (values o.component_names) (λ limits. OperationsFit limits o.operations)
   pub keeps : KeepsProfile profile o.operations

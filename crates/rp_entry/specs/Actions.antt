@@ -1,5 +1,6 @@
 -- The protected actions of an object (Ada Reference Manual, sections 9.5.1 and 9.5.3).
-use Rattle.std.specs.Prelude.{◌≡◌, ℕ, ◌-◌, ℤ, pos, ◌<◌, ◌≤◌, List, [], ◌∷◌, ◌++◌, length, Option, Some, None, Vec, slice_set}
+use Rattle.std.specs.Prelude.{◌≡◌, ℕ, ◌-◌, ℤ, pos, ◌<◌, ◌≤◌, List, [], ◌∷◌, ◌++◌, length, Option, Some, None, Vec}
+use Rattle.std.specs.Prelude.{slice_set}
 use Rattle.std.specs.declared.alloc.Global.{Global}
 use Rattle.rp_base.specs.declared.reply.Reply.TheVariants.{ProgramError, NoSuchOperation}
 use Rattle.rp_base.specs.declared.reply.Answer.{Answer}
@@ -28,7 +29,8 @@ pub data Request : Type 0 where
 
 -- A body runs, its caller gets the result, and the queues are serviced before the action ends (section 9.5.3). So it
 -- is also where the body raised an exception; what it assigned before stays.
-pub record Runs (operations : Operations) (body : List Stmt) (arg : ℤ) (before : State) (outcome : CallOutcome) (served : List Answer) (after : State) : Type 0 where
+pub record Runs (operations : Operations) (body : List Stmt) (arg : ℤ) (before : State) (outcome : CallOutcome)
+    (served : List Answer) (after : State) : Type 0 where
   pub store : Store
   pub ended : Outcome
   pub run : body_effect body arg before.store ≡ (store, ended)
@@ -42,18 +44,22 @@ with_caller before index call =
 
 -- One protected action: from a state and a request to the outcome of the caller, if there is one, the answers
 -- of the callers that were served, and the state after it.
-pub data Acts (operations : Operations) (before : State) : Request → Option CallOutcome → List Answer → State → Type 0 where
+pub data Acts (operations : Operations) (before : State) : Request → Option CallOutcome → List Answer → State
+    → Type 0 where
   -- in a function the object is constant (9.5.1), and no queue is serviced after it (9.5.3)
   function : {index : ℕ} {arg : ℤ} {called : Function}
       → of_index operations.functions.items index ≡ Some called
-      → Acts operations before (calls_function index arg) (Some (Reply (function_reply called before.store arg))) [] before
+      → Acts operations before (calls_function index arg)
+      (Some (Reply (function_reply called before.store arg))) [] before
   -- a procedure runs (9.5.1)
-  procedure : {index : ℕ} {arg : ℤ} {body : Vec Stmt Global} {outcome : CallOutcome} {served : List Answer} {after : State}
+  procedure : {index : ℕ} {arg : ℤ} {body : Vec Stmt Global} {outcome : CallOutcome} {served : List Answer}
+      {after : State}
       → of_index operations.procedures.items index ≡ Some body
       → Runs operations body.items arg before outcome served after
       → Acts operations before (calls_procedure index arg) (Some outcome) served after
   -- a call of an open entry runs at once (9.5.3)
-  open_entry : {index : ℕ} {call : Waiting} {entry : Entry} {outcome : CallOutcome} {served : List Answer} {after : State}
+  open_entry : {index : ℕ} {call : Waiting} {entry : Entry} {outcome : CallOutcome} {served : List Answer}
+      {after : State}
       → of_index operations.entries.items index ≡ Some entry
       → IsOpen entry before.store
       → Runs operations entry.body.items call.arg before outcome served after

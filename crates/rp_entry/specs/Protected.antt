@@ -20,7 +20,8 @@ pub record Protected : Type 0 where
 -- an object, for the proofs, as the pair of its parts
 abbrev pub protected_code : Coded Protected
 protected_code =
-    code_by (Operations × State) (coded× declared.the_row.coded state_code) (λ o. (o.operations, o.state)) (λ p. record { operations = p.0; state = p.1 }) (λ _. refl)
+    code_by (Operations × State) (coded× declared.the_row.coded state_code) (λ o. (o.operations, o.state))
+    (λ p. record { operations = p.0; state = p.1 }) (λ _. refl)
 
 -- no more calls wait at an entry than it allows
 abbrev pub IsShort : Entry → List Waiting → Type 0

@@ -1,6 +1,7 @@
 -- The result of a protected action, as a function of the operations, the state and the request: the result of exactly
 -- the actions of Actions (stated in our way).
-use Rattle.std.specs.Prelude.{ℕ, zero, suc, ◌-◌, ℤ, pos, nat_lt, List, [], ◌∷◌, length, Option, Some, None, Vec, if◌then◌else◌}
+use Rattle.std.specs.Prelude.{ℕ, zero, suc, ◌-◌, ℤ, pos, nat_lt, List, [], ◌∷◌, length, Option, Some, None, Vec}
+use Rattle.std.specs.Prelude.{if◌then◌else◌}
 use Rattle.std.specs.declared.alloc.Global.{Global}
 use Rattle.rp_base.specs.declared.reply.Reply.TheVariants.{ProgramError, NoSuchOperation}
 use Rattle.rp_base.specs.declared.reply.Answer.{Answer}
@@ -92,8 +93,10 @@ procedure_called operations (Some body) arg before = ran_for (λ outcome. Some o
 abbrev pub entry_called : Operations → Option Entry → ℕ → Waiting → State → Acted
 entry_called operations None index call before = replies_with (Reply NoSuchOperation) before
 entry_called operations (Some entry) index call before =
-    if bool_value before.store entry.barrier then ran_for (λ outcome. Some outcome) operations entry.body.items call.arg before
-    else if nat_lt (length (queue_at before.queues (index - 1))) entry.longest then replies_with Waits (with_caller before index call)
+    if bool_value before.store entry.barrier
+    then ran_for (λ outcome. Some outcome) operations entry.body.items call.arg before
+    else if nat_lt (length (queue_at before.queues (index - 1))) entry.longest
+    then replies_with Waits (with_caller before index call)
     else replies_with (Reply ProgramError) before
 
 -- an event, if it has a handler
@@ -103,7 +106,10 @@ event_handled operations (Some body) before = ran_for (λ outcome. None) operati
 
 -- the result of the action of a request
 abbrev pub acted : Operations → State → Request → Acted
-acted operations before (calls_function index arg) = function_called (of_index operations.functions.items index) arg before
-acted operations before (calls_procedure index arg) = procedure_called operations (of_index operations.procedures.items index) arg before
-acted operations before (calls_entry index call) = entry_called operations (of_index operations.entries.items index) index call before
+acted operations before (calls_function index arg) =
+    function_called (of_index operations.functions.items index) arg before
+acted operations before (calls_procedure index arg) =
+    procedure_called operations (of_index operations.procedures.items index) arg before
+acted operations before (calls_entry index call) =
+    entry_called operations (of_index operations.entries.items index) index call before
 acted operations before (event index) = event_handled operations (of_index operations.procedures.items index) before

@@ -221,7 +221,8 @@ impl State {
     /// at most once.
     fn next_ready(&self, operations: &Operations) -> Option<usize>
         requires { length self.now.queues ≡ length operations.now.entries.items }
-        ensures ready { IfSome result (λ place. IsReady operations.now.entries.items self.now place) }
+        ensures ready { IfSome result
+            (λ place. IsReady operations.now.entries.items self.now place) }
         ensures least { IfSome result (λ place. (other : ℕ) → other < place
             → ¬ IsReady operations.now.entries.items self.now other) }
         ensures none { IfNone result (IsServiced operations.now self.now) }

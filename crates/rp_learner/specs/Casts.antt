@@ -1,5 +1,6 @@
 -- The votes heard at one position, by their counts.
-use Rattle.std.specs.Prelude.{ℕ, suc, ◌&&◌, Bool, Option, Some, None, nat_eq, List, [], ◌∷◌, ◌++◌, map, filter, if◌then◌else◌}
+use Rattle.std.specs.Prelude.{ℕ, suc, ◌&&◌, Bool, Option, Some, None, nat_eq, List, [], ◌∷◌, ◌++◌, map, filter}
+use Rattle.std.specs.Prelude.{if◌then◌else◌}
 use Rattle.rp_base.specs.declared.record.Vote.{Vote}
 use Rattle.rp_base.specs.Sets.{IsSet, with_member, with_members}
 use Rattle.rp_base.specs.Promises.{same_vote}

@@ -1,6 +1,7 @@
 -- What a learner knows, and what a vote makes of it. Lamport, "Paxos Made Simple", section 2.3: a value
 -- is learned once a majority of acceptors accepted it; here, all of them in one ballot, which is stricter.
-use Rattle.std.specs.Prelude.{◌≡◌, ◌≤◌, ◌<◌, ◌+◌, ◌-◌, ◌||◌, ℕ, Bool, nat_eq, nat_le, nat_lt, List, [], filter, if◌then◌else◌}
+use Rattle.std.specs.Prelude.{◌≡◌, ◌≤◌, ◌<◌, ◌+◌, ◌-◌, ◌||◌, ℕ, Bool, nat_eq, nat_le, nat_lt, List, [], filter}
+use Rattle.std.specs.Prelude.{if◌then◌else◌}
 use Rattle.std.specs.List.{list_any}
 use Rattle.rp_base.specs.declared.action.Action.{Action}
 use Rattle.rp_base.specs.declared.record.Vote.{Vote}
@@ -95,7 +96,8 @@ pub record Advances (before : Learning) (first bits : ℕ) (after : Learning) : 
   pub begins : after.first ≡ first
   pub heard : SameMembers after.heard (filter (λ h. nat_le first h.1) before.heard)
   pub stays : (i : ℕ) → first ≤ i → i < before.first + window → is_settled after i ≡ is_settled before i
-  pub opens : (i : ℕ) → first ≤ i → before.first + window ≤ i → i < first + window → is_settled after i ≡ is_marked bits (i - first)
+  pub opens : (i : ℕ) → first ≤ i → before.first + window ≤ i → i < first + window
+      → is_settled after i ≡ is_marked bits (i - first)
 
 -- the two are of as many nodes and positions, and of one window
 abbrev pub SameSizes : Learning → Learning → Type 0

@@ -71,7 +71,8 @@ impl Model for Learner {
       settled = settled_from l.first l.places.items;
     } };
 
-    ghost invariant = { λ l. (3 ≤ l.nodes) × (l.nodes ≤ 7) × (length l.places.items ≡ window) × (l.places.capacity ≡ window) };
+    ghost invariant = { λ l. (3 ≤ l.nodes) × (l.nodes ≤ 7) × (length l.places.items ≡ window)
+        × (l.places.capacity ≡ window) };
 }
 
 /// The places of a window in which nothing is heard or settled.

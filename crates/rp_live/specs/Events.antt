@@ -27,7 +27,8 @@ IsLive nodes (Restart node) = ⊥
 -- the call that an event is, if this task makes it
 abbrev pub call_by : ℕ → Event → Option TaskCall
 call_by caller (Submit task node object operation arg) =
-    if nat_eq task caller then Some (record { node = node; object = object; operation = operation; arg = arg }) else None
+    if nat_eq task caller then Some (record { node = node; object = object; operation = operation; arg = arg })
+    else None
 call_by caller (Again task node) = None
 call_by caller (Node step) = None
 call_by caller (Cut step kept) = None

@@ -32,7 +32,8 @@ replies_at end = (task_of end.seat.part.role).replies
 
 -- of each node from 1 on as many actions are known as it has applied
 abbrev pub KnowsAll : List (List Action) → List ℕ → Type 0
-KnowsAll known applied = (place : ℕ) → IfSome (slice_get applied place) (λ count. count ≡ length (known_of known (suc place)))
+KnowsAll known applied =
+    (place : ℕ) → IfSome (slice_get applied place) (λ count. count ≡ length (known_of known (suc place)))
 
 module _ {S P : Type 0} (next : S → Action → S) (answers : S → Action → List Answer) (begin : P → S) where
   -- How the nodes and the tasks of a program reached their ends: all had their seats at one table, the nodes noted
@@ -47,15 +48,18 @@ module _ {S P : Type 0} (next : S → Action → S) (answers : S → Action → 
     pub noted : List (SeatState P)
     pub notes : AreNoted next answers begin events (length events) first_nodes noted
     pub node_loops : AllZip (λ seat end.
-        IsLooped next answers begin paced heard config.nodes turns seat (party_line seed (Node seat.number)) end) noted nodes
+        IsLooped next answers begin paced heard config.nodes turns seat (party_line seed (Node seat.number)) end) noted
+        nodes
     pub task_loops : AllZip (λ seat end.
-        IsTaskLooped next answers begin heard_task config.nodes turns (filter_map (call_by seat.number) events) seat (party_line seed (Task seat.number)) end) first_tasks tasks
+        IsTaskLooped next answers begin heard_task config.nodes turns (filter_map (call_by seat.number) events) seat
+        (party_line seed (Task seat.number)) end) first_tasks tasks
 
   -- What was reported of the nodes and tasks of these ends: the audit, which knew nothing of a node at first, read
   -- its log by reports that the node sent to it; then all looked at the table as one. How many actions each node has
   -- applied, and the replies of all tasks. The nodes agree where of each all is known that it has applied. The
   -- figures are theirs.
-  pub record IsAudited {D : Type 0} (audit : SeatState P) (nodes : List (NodeEnd S D P)) (tasks : List (TaskEnd S P)) (outcome : LiveOutcome) : Type 0 where
+  pub record IsAudited {D : Type 0} (audit : SeatState P) (nodes : List (NodeEnd S D P)) (tasks : List (TaskEnd S P))
+      (outcome : LiveOutcome) : Type 0 where
     pub last : List (SeatState P)
     pub reported : AllZip (λ end seat. HasOnlyReported end.seat seat) nodes last
     pub applied : AllZip (λ seat count. HasApplied seat.part count) last outcome.applied.items
@@ -67,8 +71,10 @@ module _ {S P : Type 0} (next : S → Action → S) (answers : S → Action → 
     pub agree : (outcome.agree ≡ true) ↔ KnowsAll known.known outcome.applied.items
     pub figures : outcome.figures ≡ figures_of nodes tasks
 
-  -- A whole run. In the one order the counted calls of each task are the calls among the events, in order, that it made.
-  pub record IsLiveRun (config : Config) (program : P) (events : List Event) (seed turns : ℕ) (outcome : LiveOutcome) : Type 0 where
+  -- A whole run. In the one order the counted calls of each task are the calls among the events, in order, that it
+  -- made.
+  pub record IsLiveRun (config : Config) (program : P) (events : List Event) (seed turns : ℕ)
+      (outcome : LiveOutcome) : Type 0 where
     pub audit : SeatState P
     pub nodes : List (NodeEnd S Memory P)
     pub tasks : List (TaskEnd S P)
@@ -76,4 +82,5 @@ module _ {S P : Type 0} (next : S → Action → S) (answers : S → Action → 
     pub stated : IsAudited audit nodes tasks outcome
     pub size : length outcome.applied.items ≡ config.nodes
     pub calls : All (λ end.
-        CountsCalls end.seat.number (filter_map (call_by end.seat.number) events) end.made (kept_of next answers (begin program) stated.together.order)) tasks
+        CountsCalls end.seat.number (filter_map (call_by end.seat.number) events) end.made
+        (kept_of next answers (begin program) stated.together.order)) tasks

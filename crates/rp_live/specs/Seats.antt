@@ -1,5 +1,6 @@
 -- The seats of a run.
-use Rattle.std.specs.Prelude.{◌≡◌, ◌≢◌, ◌⊎◌, ◌≤◌, ◌<◌, ◌+◌, ℕ, zero, suc, min, None, IfSome, IsSome, List, [], length, slice_get}
+use Rattle.std.specs.Prelude.{◌≡◌, ◌≢◌, ◌⊎◌, ◌≤◌, ◌<◌, ◌+◌, ℕ, zero, suc, min, None, IfSome, IsSome, List, [], length}
+use Rattle.std.specs.Prelude.{slice_get}
 use Rattle.rp_base.specs.Action.{IsIndex, IsCount}
 use Rattle.rp_base.specs.declared.action.Action.{Action}
 use Rattle.rp_boxes.specs.Audits.{known_of}
@@ -53,7 +54,8 @@ Reports first old new = (sent : Sent) × IsReport first old new sent
 abbrev pub AreReports : {P : Type 0} → ℕ → SeatState P → ℕ → ℕ → SeatState P → Type 0
 AreReports start first zero known now = (known ≡ start) × (now ≡ first)
 AreReports {P = P} start first (suc n) known now =
-    (before : ℕ) × (between : SeatState P) × AreReports start first n before between × Reports (before + 1) between now × (before < known)
+    (before : ℕ) × (between : SeatState P) × AreReports start first n before between × Reports (before + 1) between now
+    × (before < known)
 
 -- The log of a node of which `start` actions were known was read by such reports, until all that it has applied was
 -- known (or 65,535 actions of that), or until one report more, asked for in the same way, made nothing more known.

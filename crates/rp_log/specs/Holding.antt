@@ -1,5 +1,6 @@
 -- How a log keeps its places.
-use Rattle.std.specs.Prelude.{ℕ, zero, suc, ◌+◌, ◌≡◌, ◌<◌, ◌≤◌, Bool, true, Option, Some, None, IsSome, option_and_then, List, [], ◌∷◌, ◌++◌, map, length, slice_get, if◌then◌else◌}
+use Rattle.std.specs.Prelude.{ℕ, zero, suc, ◌+◌, ◌≡◌, ◌<◌, ◌≤◌, Bool, true, Option, Some, None, IsSome, option_and_then}
+use Rattle.std.specs.Prelude.{List, [], ◌∷◌, ◌++◌, map, length, slice_get, if◌then◌else◌}
 use Rattle.std.specs.Ordering.{nat_cmp}
 use Rattle.std.specs.Option.{option_map, option_or}
 use Rattle.std.specs.List.{enumerate_from}
@@ -28,7 +29,8 @@ next_place reserved next = if reserved then (next, None) ∷ [] else []
 -- the places of the front, of the position after it, and of those ahead
 abbrev pub places_of : List Action → Bool → Ahead → Places
 places_of front reserved ahead =
-    from_entries (enumerate_from 1 (map (λ action. Some action) front) ++ (next_place reserved (length front + 1) ++ ahead))
+    from_entries (enumerate_from 1 (map (λ action. Some action) front)
+    ++ (next_place reserved (length front + 1) ++ ahead))
 
 -- the place of a position in the front
 abbrev pub front_place : List Action → ℕ → Option (Option Action)

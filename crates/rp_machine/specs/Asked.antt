@@ -30,4 +30,5 @@ answer_to task number given = find (is_for task number) given
 -- the reply to a call that is kept: that to the task's last call that counted, once it is answered
 abbrev pub kept_reply : ℕ → ℕ → List Action → List Answer → Option Reply
 kept_reply task number kept given =
-    if nat_lt 0 number && nat_eq number (last_number task kept) then option_map (λ answer. answer.reply) (answer_to task number given) else None
+    if nat_lt 0 number && nat_eq number (last_number task kept)
+    then option_map (λ answer. answer.reply) (answer_to task number given) else None

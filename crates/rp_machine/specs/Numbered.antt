@@ -23,18 +23,24 @@ module _ {S : Type 0} (next : S → Action → S) (answers : S → Action → Li
 
 -- what is kept of a task's calls
 abbrev pub caller_of : ℕ → List Action → List Answer → Caller
-caller_of task kept given = record { last = last_number task kept; reply = kept_reply task (last_number task kept) kept given }
+caller_of task kept given =
+    record { last = last_number task kept; reply = kept_reply task (last_number task kept) kept given }
 
 -- there is one for each task
 abbrev pub AreCallers : List Caller → List Action → List Answer → Type 0
-AreCallers callers kept given = (task : ℕ) (other : Caller) → 1 ≤ task → task ≤ 8 → slice_index_or callers (task - 1) other ≡ caller_of task kept given
+AreCallers callers kept given =
+    (task : ℕ) (other : Caller) → 1 ≤ task → task ≤ 8
+    → slice_index_or callers (task - 1) other ≡ caller_of task kept given
 
 -- and the last occurrence of each source
 abbrev pub AreOccurrences : List ℕ → List Action → Type 0
-AreOccurrences occurrences kept = (source other : ℕ) → 1 ≤ source → source ≤ 8 → slice_index_or occurrences (source - 1) other ≡ last_occurrence source kept
+AreOccurrences occurrences kept =
+    (source other : ℕ) → 1 ≤ source → source ≤ 8
+    → slice_index_or occurrences (source - 1) other ≡ last_occurrence source kept
 
 -- right actions led to this machine, these callers and these occurrences
-pub record IsNumbered {S : Type 0} (r : Replayed S) (actions : List Action) (machine : S) (callers : List Caller) (occurrences : List ℕ) : Type 0 where
+pub record IsNumbered {S : Type 0} (r : Replayed S) (actions : List Action) (machine : S) (callers : List Caller)
+    (occurrences : List ℕ) : Type 0 where
   pub right : (action : Action) → Has action actions → IsRight action
   pub state : machine ≡ r.state
   pub room : length callers ≡ 8

@@ -9,7 +9,8 @@ use Rattle.rp_machine.specs.Replay.{counts, replay_of, replay_answers}
 module _ {S : Type 0} (next : S → Action → S) (answers : S → Action → List Answer) (begin : S) where
   -- the action counts after these
   abbrev pub counts_after : List Action → Action → Bool
-  counts_after before action = counts (replay_of next answers begin before).kept (replay_of next answers begin before).given action
+  counts_after before action =
+      counts (replay_of next answers begin before).kept (replay_of next answers begin before).given action
 
   -- the place of a call in a list of actions: the position, from 1, where it counts
   pub record IsPlace (actions : List Action) (call : CallName) (position : ℕ) : Type 0 where

@@ -1,5 +1,6 @@
 -- Which actions of a log count, and what they lead to, for any machine.
-use Rattle.std.specs.Prelude.{◌≡◌, ℕ, zero, suc, Bool, true, false, ◌&&◌, nat_eq, nat_lt, Option, Some, None, List, [], ◌∷◌, ◌++◌, filter_map, if◌then◌else◌}
+use Rattle.std.specs.Prelude.{◌≡◌, ℕ, zero, suc, Bool, true, false, ◌&&◌, nat_eq, nat_lt, Option, Some, None, List, []}
+use Rattle.std.specs.Prelude.{◌∷◌, ◌++◌, filter_map, if◌then◌else◌}
 use Rattle.std.specs.List.{list_any, list_all}
 use Rattle.std.specs.Cmp.Lexicographic.{pointwise}
 use Rattle.rp_base.specs.declared.action.Action.{Action}
@@ -54,8 +55,10 @@ all_answered kept given task = list_all (is_answered given task) (numbers_of tas
 -- always; a Noop never.
 abbrev pub counts : List Action → List Answer → Action → Bool
 counts kept given Noop = false
-counts kept given (Call task number object operation arg) = is_next_number kept task number && all_answered kept given task
-counts kept given (Interrupt source occurrence) = list_all (λ earlier. nat_lt earlier occurrence) (occurrences_of source kept)
+counts kept given (Call task number object operation arg) =
+    is_next_number kept task number && all_answered kept given task
+counts kept given (Interrupt source occurrence) =
+    list_all (λ earlier. nat_lt earlier occurrence) (occurrences_of source kept)
 counts kept given (Tick now) = true
 
 -- what a log of actions resulted in: the state, the actions that counted, and the answers in order
@@ -77,7 +80,12 @@ module _ {S : Type 0} (next : S → Action → S) (answers : S → Action → Li
   abbrev pub replay_step : Replayed S → Action → Replayed S
   replay_step r action =
       if counts r.kept r.given action
-      then record { state = next r.state action; kept = r.kept ++ action ∷ []; given = r.given ++ answers r.state action }
+      then record {
+        state = next r.state action;
+        kept = r.kept ++ action ∷ [];
+        given = r.given
+            ++ answers r.state action;
+      }
       else r
 
   -- going on: one action after another

@@ -36,7 +36,8 @@ answers_prepare_range me running from range b range_prepares.Silent = notes runn
 
 -- PrepareRange: a node asks for a promise at each position of a range in a ballot
 abbrev pub on_prepare_range : ℕ → List Rec → Running → ℕ → Range → ℕ → Turn
-on_prepare_range me records running from range b = answers_prepare_range me running from range b (range_answer records range b)
+on_prepare_range me records running from range b =
+    answers_prepare_range me running from range b (range_answer records range b)
 
 -- the answer to an Accept is sent: a vote once it is written, a vote again, a refusal, or nothing
 abbrev pub answers_accept : ℕ → Running → ℕ → ℕ → ℕ → Action → AcceptAnswer → Turn

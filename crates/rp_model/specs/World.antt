@@ -90,7 +90,8 @@ task_takes config w task input (Some part) = task_done_if w task (task_effect co
 -- a packet arrives at a task; to none it is lost
 abbrev pub task_receives : Config → World → ℕ → Message → Option TaskPart → Result Transition Fault
 task_receives config w task message None = Ok (nothing_happens w)
-task_receives config w task message (Some part) = task_done_if w task (task_effect config task part (tasks.Take message))
+task_receives config w task message (Some part) =
+    task_done_if w task (task_effect config task part (tasks.Take message))
 
 -- a node's input, where there is a node of this number
 abbrev pub node_takes : {S : Type 0} → Setting S → World → ℕ → NodeInput → Option NodePart → Result Transition Fault
@@ -132,7 +133,8 @@ step_effect s w (Report me first) = node_takes s w me (nodes.Report first) (part
 -- ---- a stop within a step
 
 -- a node's input is cut, where there is a node of this number
-abbrev pub node_is_cut : {S : Type 0} → Setting S → World → ℕ → NodeInput → ℕ → Option NodePart → Result Transition Fault
+abbrev pub node_is_cut : {S : Type 0} → Setting S → World → ℕ → NodeInput → ℕ → Option NodePart
+    → Result Transition Fault
 node_is_cut s w me input kept None = Err BadConfig
 node_is_cut s w me input kept (Some part) = node_done_if w me (cut_effect s me part input kept)
 

@@ -1,5 +1,7 @@
--- What an action does to a program: calls, interrupts and ticks (Ada Reference Manual, sections 9.5.1, 9.5.3, C.3, D.3, D.15).
-use Rattle.std.specs.Prelude.{ℕ, ◌-◌, ℤ, pos, max, Bool, Option, Some, None, is_some, option_and_then, List, [], ◌∷◌, ◌++◌, slice_set, flat_map, map, if◌then◌else◌}
+-- What an action does to a program: calls, interrupts and ticks (Ada Reference Manual, sections 9.5.1, 9.5.3, C.3,
+-- D.3, D.15).
+use Rattle.std.specs.Prelude.{ℕ, ◌-◌, ℤ, pos, max, Bool, Option, Some, None, is_some, option_and_then, List, [], ◌∷◌}
+use Rattle.std.specs.Prelude.{◌++◌, slice_set, flat_map, map, if◌then◌else◌}
 use Rattle.rp_base.specs.declared.action.Action.{Action}
 use Rattle.rp_base.specs.declared.action.Action.TheVariants.{Noop, Call, Interrupt, Tick}
 use Rattle.rp_base.specs.declared.action.Operation.{Operation}
@@ -48,7 +50,12 @@ abbrev pub object_acts : ProgramState → ℕ → Request → Option Protected �
 object_acts before number request None = nothing before
 object_acts before number request (Some object) =
     let did = acted object.operations object.state request in
-    record { caller = did.caller; replied = did.replied; after = with_object before number (record object { state = did.after }) }
+    record {
+      caller = did.caller;
+      replied = did.replied;
+      after =
+          with_object before number (record object { state = did.after });
+    }
 
 -- the protected action of the object of this number (sections 9.5.1 and 9.5.3)
 abbrev pub asks : ProgramState → ℕ → Request → Result
@@ -61,21 +68,27 @@ is_set state number = is_some (option_and_then (λ time. time) (of_index state.t
 -- a call of an object is refused where the task's priority is above the ceiling (section D.3)
 abbrev pub asks_within : Declarations → ProgramState → Waiting → ℕ → Request → Result
 asks_within program before call object request =
-    if is_within_ceiling program call.task object then asks before object request else ends_with (Reply ProgramError) before
+    if is_within_ceiling program call.task object
+    then asks before object request else ends_with (Reply ProgramError) before
 
 -- a call of what is declared; setting replaces a setting, and cancelling returns whether there was one (section D.15;
 -- that they are not checked against the ceiling is ours)
 abbrev pub allowed : Declarations → ProgramState → Waiting → ℕ → Operation → Result
-allowed program before call object (Function index) = asks_within program before call object (calls_function index call.arg)
-allowed program before call object (Procedure index) = asks_within program before call object (calls_procedure index call.arg)
+allowed program before call object (Function index) =
+    asks_within program before call object (calls_function index call.arg)
+allowed program before call object (Procedure index) =
+    asks_within program before call object (calls_procedure index call.arg)
 allowed program before call object (Entry index) = asks_within program before call object (calls_entry index call)
-allowed program before call object (SetTimer index) = ends_with (Reply (Value (pos 0))) (with_timer before index (Some call.arg))
-allowed program before call object (CancelTimer index) = ends_with (Reply (Truth (is_set before index))) (with_timer before index None)
+allowed program before call object (SetTimer index) =
+    ends_with (Reply (Value (pos 0))) (with_timer before index (Some call.arg))
+allowed program before call object (CancelTimer index) =
+    ends_with (Reply (Truth (is_set before index))) (with_timer before index None)
 
 -- a call: what is not declared is refused before anything else
 abbrev pub called : Declarations → ProgramState → Waiting → ℕ → Operation → Result
 called program before call object operation =
-    if is_declared program call.task object operation then allowed program before call object operation else ends_with (Reply NoSuchOperation) before
+    if is_declared program call.task object operation
+    then allowed program before call object operation else ends_with (Reply NoSuchOperation) before
 
 -- a handler runs, if there is one (sections C.3 and D.15)
 abbrev pub handled : ProgramState → Option Handler → Result
@@ -104,7 +117,8 @@ ticked program before now =
 -- the result of an action
 abbrev pub program_step : Declarations → ProgramState → Action → Result
 program_step program before Noop = nothing before
-program_step program before (Call task number object operation arg) = called program before (record { task = task; number = number; arg = arg }) object operation
+program_step program before (Call task number object operation arg) =
+    called program before (record { task = task; number = number; arg = arg }) object operation
 program_step program before (Interrupt source occurrence) = handled before (interrupt_handler program source)
 program_step program before (Tick now) = ticked program before now
 
@@ -116,7 +130,8 @@ own_answer call (Some (Reply reply)) = record { task = call.task; number = call.
 
 -- the caller's answer, and then those of the callers that were served
 abbrev pub answers_of : Action → Result → List Answer
-answers_of (Call task number object operation arg) result = own_answer (record { task = task; number = number }) result.caller ++ result.replied
+answers_of (Call task number object operation arg) result =
+    own_answer (record { task = task; number = number }) result.caller ++ result.replied
 answers_of Noop result = result.replied
 answers_of (Interrupt source occurrence) result = result.replied
 answers_of (Tick now) result = result.replied

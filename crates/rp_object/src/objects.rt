@@ -137,7 +137,12 @@ impl Objects {
         requires there { 1 ≤ object }
         requires declared { object ≤ length self.now.state.objects }
         ensures action { asks self.now.state object (calls_function index arg)
-            ≡ record { caller = Some result.outcome; replied = result.served; after = self.now.state } }
+            ≡ record {
+              caller = Some result.outcome;
+              replied = result.served;
+              after =
+                  self.now.state;
+            } }
     {
         let reply = self.objects[usize::from(object) - 1].function(index, arg);
         Done {
@@ -151,7 +156,12 @@ impl Objects {
         requires there { 1 ≤ object }
         requires declared { object ≤ length self.old.state.objects }
         ensures action { asks self.old.state object (calls_procedure index arg)
-            ≡ record { caller = Some result.outcome; replied = result.served; after = self.new.state } }
+            ≡ record {
+              caller = Some result.outcome;
+              replied = result.served;
+              after =
+                  self.new.state;
+            } }
         ensures program { self.new.program ≡ self.old.program }
     {
         self.objects[usize::from(object) - 1].procedure(index, arg)
@@ -163,7 +173,12 @@ impl Objects {
         requires declared { object ≤ length self.old.state.objects }
         requires free { ¬ Has call.task (tasks_waiting self.old) }
         ensures action { asks self.old.state object (calls_entry index call)
-            ≡ record { caller = Some result.outcome; replied = result.served; after = self.new.state } }
+            ≡ record {
+              caller = Some result.outcome;
+              replied = result.served;
+              after =
+                  self.new.state;
+            } }
         ensures program { self.new.program ≡ self.old.program }
     {
         let asked = &mut self.objects[usize::from(object) - 1];
@@ -202,7 +217,12 @@ impl Objects {
     fn call(&mut self, call: Waiting, object: u8, operation: Operation) -> Done
         requires free { ¬ Has call.task (tasks_waiting self.old) }
         ensures action { called self.old.program self.old.state call object operation
-            ≡ record { caller = Some result.outcome; replied = result.served; after = self.new.state } }
+            ≡ record {
+              caller = Some result.outcome;
+              replied = result.served;
+              after =
+                  self.new.state;
+            } }
         ensures few { length (own_answer (name_of call) (Some result.outcome))
             + length result.served ≤ 8 }
         ensures program { self.new.program ≡ self.old.program }
@@ -219,7 +239,12 @@ impl Objects {
         requires declared { IsTrue (is_declared self.old.program call.task object operation) }
         requires free { ¬ Has call.task (tasks_waiting self.old) }
         ensures action { allowed self.old.program self.old.state call object operation
-            ≡ record { caller = Some result.outcome; replied = result.served; after = self.new.state } }
+            ≡ record {
+              caller = Some result.outcome;
+              replied = result.served;
+              after =
+                  self.new.state;
+            } }
         ensures program { self.new.program ≡ self.old.program }
     {
         let within = self.declarations.is_within_ceiling(call.task, object);

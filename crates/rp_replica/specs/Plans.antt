@@ -58,13 +58,15 @@ module _ {S : Type 0} (replica : ReplicaState S) where
 
   -- what is known once a vote is noted
   abbrev pub once_heard : ℕ → ℕ → CastVote → Running
-  once_heard from i vote = record replica.running { heard = with_member same_heard replica.running.heard (from, i, vote) }
+  once_heard from i vote =
+      record replica.running { heard = with_member same_heard replica.running.heard (from, i, vote) }
 
 module _ {S : Type 0} (next : S → Action → S) (answers : S → Action → List Answer) (replica : ReplicaState S) where
   -- the turn that a plan is
   abbrev pub turn_of : Plan → Turn
   turn_of (Pass dropped) = record { written = None; sent = []; running = replica.running; dropped = dropped }
-  turn_of (Promise to i b last) = writes (Promised i b) replica.running (says replica.me (bodies.Promise i b last) to ∷ [])
+  turn_of (Promise to i b last) =
+      writes (Promised i b) replica.running (says replica.me (bodies.Promise i b last) to ∷ [])
   turn_of (PromiseRange p) =
       writes (PromisedRange p.range p.ballot) replica.running
       (says replica.me (bodies.PromiseRange p.range p.ballot (last_votes replica.records p.range)) p.to ∷ [])
@@ -72,7 +74,8 @@ module _ {S : Type 0} (next : S → Action → S) (answers : S → Action → Li
   turn_of (Repeat to i b v) = sends replica.running (says replica.me (bodies.Accepted i b v) to ∷ [])
   turn_of (Refuse to i b bound) = sends replica.running (says replica.me (bodies.Nack i b bound) to ∷ [])
   turn_of (Inform to i v) = sends replica.running (says replica.me (bodies.Decided i v) to ∷ [])
-  turn_of (Reply task number reply) = sends replica.running (says_to_task replica.me (bodies.Reply number reply) task ∷ [])
+  turn_of (Reply task number reply) =
+      sends replica.running (says_to_task replica.me (bodies.Reply number reply) task ∷ [])
   turn_of (Await item) = notes (record replica.running { pending = replica.running.pending ++ item ∷ [] })
   turn_of (Lead i b own) =
       writes (Started b) (started_running replica.running i b own)

@@ -29,7 +29,8 @@ part_of replica = record { records = replica.records; torn = 0; running = Some r
 
 -- what it shares with the other nodes
 abbrev pub setting_of : {S : Type 0} → (S → Action → S) → (S → Action → List Answer) → ReplicaState S → Setting S
-setting_of next answers replica = record { config = replica.config; next = next; answers = answers; begin = replica.begin }
+setting_of next answers replica =
+    record { config = replica.config; next = next; answers = answers; begin = replica.begin }
 
 -- what its device holds once a record is written, if one is
 abbrev pub with_text : Disk → Option Rec → Disk

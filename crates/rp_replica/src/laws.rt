@@ -46,7 +46,8 @@ pub fn opening_is_a_restart<M: Machine>()
         (count cut_bytes : ℕ) (part : NodePart) → HoldsPart config.max_positions disk part
         → part.running ≡ None → Opens me config begin disk replica count cut_bytes
         → restart_part part
-        ≡ record (goes_on_as (part_of replica)) { opened = Some (length replica.records, cut_bytes) } }
+        ≡ record (goes_on_as (part_of replica))
+        { opened = Some (length replica.records, cut_bytes) } }
     ensures count { (me : ℕ) (config : Config) (begin : M) (disk : Disk) (replica : ReplicaState M)
         (count cut_bytes : ℕ) (part : NodePart) → HoldsOnly disk part
         → Opens me config begin disk replica count cut_bytes → count ≡ length part.records }

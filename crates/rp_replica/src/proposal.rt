@@ -183,7 +183,8 @@ impl<M: Machine, D: Device> Replica<M, D> {
     fn start_offer(&mut self, position: Position, action: &Action)
         requires right { IsRight action.now }
         ensures { self.new ≡ after_turn self.old (notes (offered_running
-            self.old.config.nodes self.old.running action.now (proposal_at self.old.running.proposals position))) }
+            self.old.config.nodes self.old.running action.now
+            (proposal_at self.old.running.proposals position))) }
     {
         self.proposer.offer(position, *action);
     }

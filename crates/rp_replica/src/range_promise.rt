@@ -33,8 +33,10 @@ impl<M: Machine, D: Device> Replica<M, D> {
     ) -> Result<(), Fault>
         requires working { self.old.failed ≡ false }
         requires may { MayPromiseRange self.old promise.now }
-        ensures ok { OnOk result (Commits (writes (PromisedRange promise.now.range promise.now.ballot)
-            self.old.running (says self.old.me (bodies.PromiseRange promise.now.range promise.now.ballot
+        ensures ok { OnOk result
+            (Commits (writes (PromisedRange promise.now.range promise.now.ballot)
+            self.old.running (says self.old.me
+            (bodies.PromiseRange promise.now.range promise.now.ballot
             (last_votes self.old.records promise.now.range)) promise.now.to ∷ []))
             self.old self.new out.old.run out.new.run Dropped.No) }
         ensures err { IfErr result (λ fault. Stops (Some

@@ -77,7 +77,9 @@ impl<M: Machine, D: Device> Model for Replica<M, D> {
       failed = r.store.failed;
     } };
 
-    ghost invariant = { λ r. IsReplica r.me r.config (D.disk r.store.device) r.store.failed r.acceptor.records r.proposer r.learner r.heard r.log r.machine };
+    ghost invariant = { λ r. IsReplica r.me r.config
+        (D.disk r.store.device) r.store.failed r.acceptor.records r.proposer r.learner r.heard
+        r.log r.machine };
 }
 
 /// Makes room to note the record.

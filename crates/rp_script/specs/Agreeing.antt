@@ -48,9 +48,12 @@ module _ {S : Type 0} (s : RunSetting S) where
   -- that are shown with equally many applied actions show equal images.
   pub record IsPrinted (w : World) (items : List Item) : Type 0 where
     pub ordered : IsOrdered s.setting.next s.setting.answers s.setting.begin s.setting.config.nodes w
-    pub shown : (node applied : ℕ) (image : List ℕ) → Has (Shown node applied image) items → IsShownBy ordered.order applied image
-    pub replied : (name : List ℕ) (answer : Answer) → Has (Replied name answer) items → IsRepliedBy ordered.order items name answer
-    pub alike : (one other applied : ℕ) (image another : List ℕ) → Has (Shown one applied image) items → Has (Shown other applied another) items → image ≡ another
+    pub shown : (node applied : ℕ) (image : List ℕ) → Has (Shown node applied image) items
+        → IsShownBy ordered.order applied image
+    pub replied : (name : List ℕ) (answer : Answer) → Has (Replied name answer) items
+        → IsRepliedBy ordered.order items name answer
+    pub alike : (one other applied : ℕ) (image another : List ℕ) → Has (Shown one applied image) items
+        → Has (Shown other applied another) items → image ≡ another
 
   module _ (most : ℕ) (lines : List Line) where
     -- the world after the first n lines
@@ -68,7 +71,8 @@ module _ {S : Type 0} (s : RunSetting S) where
     -- After any number of lines one order gives all that they print; and nodes agree, the one after some lines
     -- and the other after as many or more.
     pub record RunAgrees : Type 0 where
-      pub agree : (i j : ℕ) → i ≤ j → Agree s.setting.next s.setting.answers s.image s.setting.begin (world_after i) (world_after j)
+      pub agree : (i j : ℕ) → i ≤ j
+          → Agree s.setting.next s.setting.answers s.image s.setting.begin (world_after i) (world_after j)
       pub printed : (i : ℕ) → IsPrinted (world_after i) (items_after i)
 
     -- The texts of the items of all lines were written, one order gives them, and nodes agree.
@@ -79,8 +83,10 @@ module _ {S : Type 0} (s : RunSetting S) where
 
 -- the same of a deck, by its program
 abbrev pub PrintsAt : Bool → Deck → Option (List ℕ) → Option (List ℕ) → DeckProgram → Type 0
-PrintsAt traced deck old new (Tally objects) = RunPrints (tally_run traced deck objects) drain_limit deck.script.items old new
-PrintsAt traced deck old new (Objects program) = RunPrints (objects_run traced deck program) drain_limit deck.script.items old new
+PrintsAt traced deck old new (Tally objects) =
+    RunPrints (tally_run traced deck objects) drain_limit deck.script.items old new
+PrintsAt traced deck old new (Objects program) =
+    RunPrints (objects_run traced deck program) drain_limit deck.script.items old new
 
 abbrev pub DeckPrints : Bool → Deck → Option (List ℕ) → Option (List ℕ) → Type 0
 DeckPrints traced deck old new = PrintsAt traced deck old new deck.program
@@ -88,7 +94,8 @@ DeckPrints traced deck old new = PrintsAt traced deck old new deck.program
 -- what a run of a script prints: the output of the deck that the reader's bytes mean, of which the same is so
 abbrev pub ScriptPrints : Bool → Option (List ℕ) → Option (List ℕ) → Option (List ℕ) → Type 0
 ScriptPrints traced given old new =
-    (deck : Deck) × MeansDeck Script given deck × Appends old new (output_of traced deck) × DeckPrints traced deck old new
+    (deck : Deck) × MeansDeck Script given deck × Appends old new (output_of traced deck)
+    × DeckPrints traced deck old new
 
 -- where a fault ends it: nothing, or a beginning of that deck's output
 abbrev pub ScriptBegins : Bool → Option (List ℕ) → Option (List ℕ) → Option (List ℕ) → Type 0

@@ -4,7 +4,10 @@ use Rattle.rp_base.specs.Fault.{code_of, name_of}
 use Rattle.rp_base.specs.declared.fault.Fault.{Fault}
 use Rattle.rp_base.specs.declared.fault.Fault.TheVariants.{BadDeck}
 use Rattle.rp_base.specs.declared.fault.DeckReason.{DeckReason}
-use Rattle.rp_base.specs.declared.fault.DeckReason.TheVariants.{NodesExpected, UnknownWord, WrongNumberOfWords, BadNumber, BadName, DuplicateName, UnknownName, TooMany, BadExpression, TaskExpected, ObjectExpected, EndExpected, ScriptExpected, NotInLive}
+use Rattle.rp_base.specs.declared.fault.DeckReason.TheVariants.{NodesExpected, UnknownWord, WrongNumberOfWords}
+use Rattle.rp_base.specs.declared.fault.DeckReason.TheVariants.{BadNumber, BadName, DuplicateName, UnknownName, TooMany}
+use Rattle.rp_base.specs.declared.fault.DeckReason.TheVariants.{BadExpression, TaskExpected, ObjectExpected}
+use Rattle.rp_base.specs.declared.fault.DeckReason.TheVariants.{EndExpected, ScriptExpected, NotInLive}
 
 -- the words of a reason
 abbrev pub reason_text_of : DeckReason → List ℕ

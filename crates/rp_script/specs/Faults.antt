@@ -1,7 +1,9 @@
 -- Which faults end a run, and the program.
 use Rattle.std.specs.Prelude.{◌≡◌, ◌⊎◌, ℕ, List}
 use Rattle.rp_base.specs.declared.fault.Fault.{Fault}
-use Rattle.rp_base.specs.declared.fault.Fault.TheVariants.{OutOfMemory, Device, Failed, BadPacket, NotRunning, BallotsSpent, LogFull, NoSuchMessage, TaskBusy, NumbersSpent, BadDeck, BadConfig, Io}
+use Rattle.rp_base.specs.declared.fault.Fault.TheVariants.{OutOfMemory, Device, Failed, BadPacket, NotRunning}
+use Rattle.rp_base.specs.declared.fault.Fault.TheVariants.{BallotsSpent, LogFull, NoSuchMessage, TaskBusy, NumbersSpent}
+use Rattle.rp_base.specs.declared.fault.Fault.TheVariants.{BadDeck, BadConfig, Io}
 use Rattle.rp_world.specs.Failures.{RisesAt}
 
 -- a fault that ends a run in memory: memory ran out, or a write failed

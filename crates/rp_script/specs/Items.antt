@@ -4,7 +4,8 @@ use Rattle.rp_base.specs.declared.action.Operation.{Operation}
 use Rattle.rp_base.specs.declared.fault.Fault.{Fault}
 use Rattle.rp_base.specs.declared.reply.Answer.{Answer}
 use Rattle.rp_codec.specs.declared.packet.Body.{Body}
-use Rattle.rp_script.specs.Printed.{reply_line_of, applied_line_of, refused_line_of, opened_line_of, running_line_of, full_line_of, stopped_line_of, limit_line_of}
+use Rattle.rp_script.specs.Printed.{reply_line_of, applied_line_of, refused_line_of, opened_line_of, running_line_of}
+use Rattle.rp_script.specs.Printed.{full_line_of, stopped_line_of, limit_line_of}
 use Rattle.rp_script.specs.FaultMessage.{with_line_feed}
 use Rattle.rp_script.specs.Trace.{trace_line_of}
 

@@ -36,9 +36,11 @@ events_of lines = filter_map (λ line. event_of line.command) lines
 -- turns
 abbrev pub IsOutcomeOf : Deck → DeckProgram → ℕ → ℕ → LiveOutcome → Type 0
 IsOutcomeOf deck (Tally objects) seed turns outcome =
-    IsLiveRun tally_next tally_answers (λ objects. replicate objects (pos 0)) deck.config objects (events_of deck.script.items) seed turns outcome
+    IsLiveRun tally_next tally_answers (λ objects. replicate objects (pos 0)) deck.config objects
+    (events_of deck.script.items) seed turns outcome
 IsOutcomeOf deck (Objects program) seed turns outcome =
-    IsLiveRun objects_next objects_answers (λ program. first_state (arc_value program.declarations)) deck.config program (events_of deck.script.items) seed turns outcome
+    IsLiveRun objects_next objects_answers (λ program. first_state (arc_value program.declarations)) deck.config program
+    (events_of deck.script.items) seed turns outcome
 
 -- and a run of the deck's own program
 abbrev pub IsOutcome : Deck → ℕ → ℕ → LiveOutcome → Type 0

@@ -1,5 +1,7 @@
 -- What the script of a deck prints.
-use Rattle.std.specs.Prelude.{ℕ, zero, suc, ◌+◌, ◌-◌, ◌^◌, ◌&&◌, ℤ, min, not, nat_eq, nat_le, pos, Bool, Option, Some, None, Result, Ok, Err, List, [], ◌∷◌, ◌++◌, length, map, filter, replicate, find, flat_map, if◌then◌else◌, String, string_bytes}
+use Rattle.std.specs.Prelude.{ℕ, zero, suc, ◌+◌, ◌-◌, ◌^◌, ◌&&◌, ℤ, min, not, nat_eq, nat_le, pos, Bool, Option, Some}
+use Rattle.std.specs.Prelude.{None, Result, Ok, Err, List, [], ◌∷◌, ◌++◌, length, map, filter, replicate, find}
+use Rattle.std.specs.Prelude.{flat_map, if◌then◌else◌, String, string_bytes}
 use Rattle.std.specs.Arc.{arc_value}
 use Rattle.std.specs.List.{list_any}
 use Rattle.indexmap.specs.IndexMap.{IndexMap, keys}
@@ -27,7 +29,8 @@ use Rattle.rp_model.specs.Parts.{NodePart, Running}
 use Rattle.rp_model.specs.Effect.{Setting}
 use Rattle.rp_model.specs.Events.{event_of}
 use Rattle.rp_model.specs.World.{World, Transition, opening_world, event_effect, part_at}
-use Rattle.rp_script.specs.Items.{Item, Called, Replied, Shown, Noted, Note, Sent, Opened, AlreadyRunning, PendingFull, Stopped, Refused, DrainLimit, item_text, items_text}
+use Rattle.rp_script.specs.Items.{Item, Called, Replied, Shown, Noted, Note, Sent, Opened, AlreadyRunning, PendingFull}
+use Rattle.rp_script.specs.Items.{Stopped, Refused, DrainLimit, item_text, items_text}
 use Rattle.rp_script.specs.Printed.{opened_line_of, running_line_of, full_line_of, stopped_line_of}
 use Rattle.rp_script.specs.FaultMessage.{with_line_feed}
 use Rattle.rp_script.specs.Trace.{task_name, message_line_of, party_text_of}
@@ -125,7 +128,8 @@ message_text names number (Some m) = with_line_feed (message_line_of names numbe
 -- each packet, by its number
 abbrev pub trace_text : List (List ℕ) → ℕ → List Message → List ℕ
 trace_text names number [] = []
-trace_text names number (m ∷ rest) = with_line_feed (message_line_of names number m) ++ trace_text names (suc number) rest
+trace_text names number (m ∷ rest) =
+    with_line_feed (message_line_of names number m) ++ trace_text names (suc number) rest
 
 abbrev pub traced_text : Bool → List (List ℕ) → ℕ → List Message → List ℕ
 traced_text traced names number packets = if traced then trace_text names number packets else []
@@ -258,12 +262,17 @@ module _ {S : Type 0} (s : RunSetting S) where
   abbrev pub transition_items : World → Event → Transition → List Item
   transition_items before event transition =
       called_by event ++ Noted (traced_notes s.traced s.names (length before.sent + 1) transition.sends
-      ++ changed_notes transition.world.sent event transition.opened transition.dropped) ∷ taken_items s.names transition.taken
+      ++ changed_notes transition.world.sent event transition.opened transition.dropped)
+      ∷ taken_items s.names transition.taken
 
   -- What happened is printed, and settles its messages. What was refused prints why, and leaves the play as it is.
   abbrev pub effect_said : ℕ → Play → Event → Result Transition Fault → Said
   effect_said line play event (Ok transition) =
-      record { items = transition_items play.world event transition; play = record { world = transition.world; settled = settled_by event ++ play.settled } }
+      record {
+        items = transition_items play.world event transition;
+        play =
+            record { world = transition.world; settled = settled_by event ++ play.settled };
+      }
   effect_said line play event (Err refusal) = note_said play (Refused line refusal)
 
   -- an event of the line of this number
@@ -275,7 +284,8 @@ module _ {S : Type 0} (s : RunSetting S) where
   drain_from line play None most = nothing_said play
   drain_from line play (Some message) zero = note_said play (DrainLimit line)
   drain_from line play (Some message) (suc most) =
-      and_then (event_said line play (Node (Deliver message))) (λ after. drain_from line after (least_unsettled after) most)
+      and_then (event_said line play (Node (Deliver message)))
+      (λ after. drain_from line after (least_unsettled after) most)
 
   -- `drain`, in a line of this number
   abbrev pub drained : ℕ → ℕ → Play → Said
@@ -318,7 +328,8 @@ module _ {S : Type 0} (s : RunSetting S) where
   -- the lines of a script in order
   unfoldable pub script_said : ℕ → Play → List Line → Said
   script_said most play [] = nothing_said play
-  script_said most play (line ∷ rest) = and_then (command_said most line.number play line.command) (λ after. script_said most after rest)
+  script_said most play (line ∷ rest) =
+      and_then (command_said most line.number play line.command) (λ after. script_said most after rest)
 
   -- all nodes run, and nothing was called, sent or settled
   abbrev pub opening_play : Play
@@ -341,7 +352,8 @@ output_at most deck s = text_of (run_said s most deck.script.items)
 -- a run of a tally of n sums
 abbrev pub tally_run : Bool → Deck → ℕ → RunSetting (List ℤ)
 tally_run traced deck objects = record {
-  setting = record { config = deck.config; next = tally_next; answers = tally_answers; begin = replicate objects (pos 0) };
+  setting =
+      record { config = deck.config; next = tally_next; answers = tally_answers; begin = replicate objects (pos 0) };
   image = tally_image;
   names = names_of deck.tasks;
   traced = traced;
@@ -350,7 +362,14 @@ tally_run traced deck objects = record {
 -- a run of the protected objects of a program
 abbrev pub objects_run : Bool → Deck → Program → RunSetting ObjectsState
 objects_run traced deck program = record {
-  setting = record { config = deck.config; next = objects_next; answers = objects_answers; begin = first_state (arc_value program.declarations) };
+  setting =
+      record {
+        config = deck.config;
+        next = objects_next;
+        answers = objects_answers;
+        begin =
+            first_state (arc_value program.declarations);
+      };
   image = objects_image;
   names = names_of deck.tasks;
   traced = traced;

@@ -14,7 +14,8 @@ use Rattle.rp_script.specs.declared.options.RunOptions.{RunOptions}
 use Rattle.rp_script.specs.declared.settled.Settled.{Settled}
 
 -- what stays through a run of a cluster
-abbrev pub run_setting : {S P : Type 0} → (S → Action → S) → (S → Action → List Answer) → (P → S) → (S → List ℕ) → Setup P → RunOptions → RunSetting S
+abbrev pub run_setting : {S P : Type 0} → (S → Action → S) → (S → Action → List Answer) → (P → S) → (S → List ℕ)
+    → Setup P → RunOptions → RunSetting S
 run_setting next answers start image cluster options = record {
   setting = setting_of next answers start cluster;
   image = image;

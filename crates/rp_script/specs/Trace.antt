@@ -5,7 +5,8 @@ use Rattle.rp_base.specs.declared.action.Action.TheVariants as actions
 use Rattle.rp_base.specs.Ranges.{Range}
 use Rattle.rp_codec.specs.Message.{Message}
 use Rattle.rp_codec.specs.declared.packet.Body.{Body}
-use Rattle.rp_codec.specs.declared.packet.Body.TheVariants.{Call, Prepare, Promise, Accept, Accepted, Decided, Ask, Nack, Reply, Report, PrepareRange, PromiseRange}
+use Rattle.rp_codec.specs.declared.packet.Body.TheVariants.{Call, Prepare, Promise, Accept, Accepted, Decided, Ask}
+use Rattle.rp_codec.specs.declared.packet.Body.TheVariants.{Nack, Reply, Report, PrepareRange, PromiseRange}
 use Rattle.rp_codec.specs.declared.packet.Party.{Party}
 use Rattle.rp_codec.specs.declared.packet.Party.TheVariants.{Node, Task, Audit}
 use Rattle.rp_model.specs.World.{part_at}
@@ -37,7 +38,8 @@ ballot_text_of position ballot = decimal position ++ (codes " " ++ decimal ballo
 
 -- a range, its first position and how many they are, and a ballot
 abbrev pub range_text_of : Range → ℕ → List ℕ
-range_text_of range ballot = decimal range.first ++ (codes " " ++ (decimal range.count ++ (codes " " ++ decimal ballot)))
+range_text_of range ballot =
+    decimal range.first ++ (codes " " ++ (decimal range.count ++ (codes " " ++ decimal ballot)))
 
 -- the kind of a packet, and what distinguishes it from others of its kind
 abbrev pub body_text_of : Body → List ℕ

@@ -80,7 +80,8 @@ impl<M: Machine, D: CutDevice> Run<M, D> {
         ensures said { (play : Play) → Follows self.old.cluster.world self.old.settled play
             → Says self.new.cluster.world self.new.settled
             (W.contents writer.old) (W.contents writer.new)
-            (command_said (run_setting M.next M.answers M.begin M.image self.old.cluster options.now)
+            (command_said (run_setting M.next M.answers M.begin M.image self.old.cluster
+            options.now)
             options.now.most line.now.number play line.now.command) result }
         ensures fault { IfErr result (IsDeviceRunFault self.old.cluster.failures
             self.new.cluster.failures) }

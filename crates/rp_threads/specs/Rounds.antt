@@ -1,5 +1,6 @@
 -- The turns of a node's loop: each is the turn of its node, and where nothing comes a second try to lead.
-use Rattle.std.specs.Prelude.{◌≡◌, ◌⊎◌, ℕ, zero, suc, ◌+◌, ◌%◌, ◌<◌, ◌≤◌, nat_eq, Bool, true, false, Option, Some, None, List, length}
+use Rattle.std.specs.Prelude.{◌≡◌, ◌⊎◌, ℕ, zero, suc, ◌+◌, ◌%◌, ◌<◌, ◌≤◌, nat_eq, Bool, true, false, Option, Some, None}
+use Rattle.std.specs.Prelude.{List, length}
 use Rattle.rp_base.specs.declared.action.Action.{Action}
 use Rattle.rp_base.specs.declared.fault.Fault.{Fault}
 use Rattle.rp_base.specs.declared.fault.Fault.TheVariants.{OutOfMemory, Device, Failed}
@@ -66,8 +67,8 @@ module _ {S P : Type 0} (next : S → Action → S) (answers : S → Action → 
     IsUnmade fault = IsLost from (Node old.number) old new line after fault
         ⊎ (IsStoppedTurn next answers begin from lead old new line after fault ⊎ IsStoppedAnew fault)
 
-    -- a turn that was made, or skipped: by the gate, or since the node was refused to lead. Unless the gate skips it, that
-    -- hears how many packets were sent in it
+    -- a turn that was made, or skipped: by the gate, or since the node was refused to lead. Unless the gate skips it,
+    -- that hears how many packets were sent in it
     abbrev pub IsMadeOrSkipped : (ℕ → Type 0) → Bool → Option Turn → Type 0
     IsMadeOrSkipped heard passes (Some turn) = (passes ≡ true) × (sent : ℕ) × IsMade turn sent × heard sent
     IsMadeOrSkipped heard passes None = ((passes ≡ false) × (new ≡ old) × (after ≡ line))
@@ -87,20 +88,22 @@ before_turns seat line = record { seat = seat; line = line; counts = no_turns }
 abbrev pub is_to_lead : ℕ → ℕ → Bool
 is_to_lead number turn = nat_eq (turn % (8 + number)) 0
 
--- Why a node's loop may end before its last turn: out of memory; its device failed in that turn; or the node was stopped
--- from the first, since its device had failed.
+-- Why a node's loop may end before its last turn: out of memory; its device failed in that turn; or the node was
+-- stopped from the first, since its device had failed.
 abbrev pub IsNodeFault : {P : Type 0} → SeatState P → SeatState P → Fault → Type 0
 IsNodeFault first last OutOfMemory = Unit {0}
 IsNodeFault first last Device = first.failures < last.failures
 IsNodeFault first last Failed = IsStopped first.part
 IsNodeFault first last _ = ⊥
 
-module _ {S P : Type 0} (next : S → Action → S) (answers : S → Action → List Answer) (begin : P → S) (lets : ℕ → ℕ → Bool) (heard : ℕ → ℕ → ℕ → Type 0) (nodes : ℕ) where
+module _ {S P : Type 0} (next : S → Action → S) (answers : S → Action → List Answer) (begin : P → S)
+    (lets : ℕ → ℕ → Bool) (heard : ℕ → ℕ → ℕ → Type 0) (nodes : ℕ) where
   -- the turn of this number, of a node among n: the gate is asked about it and hears of it, and the box of its sender
   -- is emptied
   abbrev pub IsTurnOf : ℕ → SeatState P → SeatState P → Line → Line → Option Turn → Type 0
   IsTurnOf turn old new line after made =
-      IsMadeOrSkipped next answers begin (sender_at nodes turn) (is_to_lead old.number turn) old new line after (heard old.number turn) (lets old.number turn) made
+      IsMadeOrSkipped next answers begin (sender_at nodes turn) (is_to_lead old.number turn) old new line after
+      (heard old.number turn) (lets old.number turn) made
 
   -- One turn more, which is counted.
   pub record IsNextTurn (turn : ℕ) (old new : NodeAt P) : Type 0 where
@@ -121,5 +124,6 @@ module _ {S P : Type 0} (next : S → Action → S) (answers : S → Action → 
     pub before : NodeAt P
     pub made : AreTurns first done before
     pub passes : lets before.seat.number (suc done) ≡ true
-    pub unmade : IsUnmade next answers begin (sender_at nodes (suc done)) (is_to_lead before.seat.number (suc done)) before.seat last.seat before.line last.line fault
+    pub unmade : IsUnmade next answers begin (sender_at nodes (suc done))
+        (is_to_lead before.seat.number (suc done)) before.seat last.seat before.line last.line fault
     pub counts : last.counts ≡ before.counts

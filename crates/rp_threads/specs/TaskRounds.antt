@@ -1,5 +1,6 @@
 -- The turns of a task's loop: it fetches from one node, takes what its line gives on, and asks.
-use Rattle.std.specs.Prelude.{◌≡◌, ◌⊎◌, ℕ, zero, suc, ◌+◌, ◌%◌, ◌/◌, ◌<◌, ◌||◌, not, nat_eq, nat_lt, Bool, true, false, is_some, Option, Some, None, List, slice_get, if◌then◌else◌}
+use Rattle.std.specs.Prelude.{◌≡◌, ◌⊎◌, ℕ, zero, suc, ◌+◌, ◌%◌, ◌/◌, ◌<◌, ◌||◌, not, nat_eq, nat_lt, Bool, true, false}
+use Rattle.std.specs.Prelude.{is_some, Option, Some, None, List, slice_get, if◌then◌else◌}
 use Rattle.rp_base.specs.Action.{is_right}
 use Rattle.rp_base.specs.Sets.{Has}
 use Rattle.rp_base.specs.declared.action.Action.{Action}
@@ -28,7 +29,8 @@ use Rattle.rp_threads.specs.declared.tasks.TaskCall.{TaskCall}
 -- the task takes what the line gives on, if it gives something: whether a call has its reply now
 abbrev pub Hears : {P : Type 0} → Option (List ℕ) → SeatState P → SeatState P → Bool → Type 0
 Hears None old new answered = (new ≡ old) × (answered ≡ false)
-Hears (Some text) old new answered = (taken : Option Answer) × IsReplyTurn old text new taken × (answered ≡ is_some taken)
+Hears (Some text) old new answered =
+    (taken : Option Answer) × IsReplyTurn old text new taken × (answered ≡ is_some taken)
 
 -- once a call has its reply, in this turn, the task waits for none
 abbrev pub heard_by : Bool → ℕ → Calls → Calls
@@ -41,7 +43,8 @@ abbrev pub submitted : Option TaskCall → Option TaskInput
 submitted None = None
 submitted (Some call) = Some (Submit call.node call.object call.operation call.arg)
 
--- what a task asks in a turn: while it waits, in each 16th turn the next of n nodes again; else its next call, if there is one
+-- what a task asks in a turn: while it waits, in each 16th turn the next of n nodes again; else its next call, if
+-- there is one
 abbrev pub asked_by : Bool → ℕ → List TaskCall → ℕ → ℕ → Option TaskInput
 asked_by true nodes calls made turn = if nat_eq (turn % 16) 0 then Some (Again (node_at nodes (turn / 16))) else None
 asked_by false nodes calls made turn = submitted (slice_get calls made)
@@ -81,11 +84,12 @@ asked_for calls so_far = made_by so_far.waits calls so_far
 
 -- ---- turns
 
--- Why a task's loop may end before its last turn: out of memory; no number is left for its next call; or the task asks a
--- node above the last, or its next call is not right.
+-- Why a task's loop may end before its last turn: out of memory; no number is left for its next call; or the task
+-- asks a node above the last, or its next call is not right.
 abbrev pub IsBadCall : Config → ℕ → List TaskCall → ℕ → Type 0
 IsBadCall config task calls made =
-    (call : TaskCall) × (slice_get calls made ≡ Some call) × ((nat_lt config.nodes call.node || not (is_right (call_after task made call))) ≡ true)
+    (call : TaskCall) × (slice_get calls made ≡ Some call)
+    × ((nat_lt config.nodes call.node || not (is_right (call_after task made call))) ≡ true)
 
 abbrev pub IsTaskFault : {P : Type 0} → ℕ → List TaskCall → SeatState P → ℕ → Fault → Type 0
 IsTaskFault nodes calls seat made OutOfMemory = Unit {0}
@@ -121,10 +125,12 @@ module _ {P : Type 0} (nodes : ℕ) (calls : List TaskCall) where
   -- a fault, by which the turn was not made
   abbrev pub IsUnmadeTurn : ℕ → TaskAt P → TaskAt P → Fault → Type 0
   IsUnmadeTurn turn old new fault =
-      (IsLost (Node (node_at nodes turn)) (Task old.seat.number) old.seat new.seat old.line new.line fault × (new.so_far ≡ old.so_far))
+      (IsLost (Node (node_at nodes turn)) (Task old.seat.number) old.seat new.seat old.line new.line fault
+      × (new.so_far ≡ old.so_far))
       ⊎ (IsUnheard turn old new fault ⊎ IsUnasked turn old new fault)
 
-module _ {S P : Type 0} (next : S → Action → S) (answers : S → Action → List Answer) (begin : P → S) (nodes : ℕ) (calls : List TaskCall) where
+module _ {S P : Type 0} (next : S → Action → S) (answers : S → Action → List Answer) (begin : P → S) (nodes : ℕ)
+    (calls : List TaskCall) where
   -- The turn of this number.
   pub record IsTaskTurnOf (turn : ℕ) (old new : TaskAt P) : Type 0 where
     pub heard : SeatState P
@@ -133,12 +139,14 @@ module _ {S P : Type 0} (next : S → Action → S) (answers : S → Action → 
     pub asks : Asks next answers begin (asked_in nodes calls turn so_far) heard new.seat
     pub counts : new.so_far ≡ asked_for calls so_far
 
-module _ {S P : Type 0} (next : S → Action → S) (answers : S → Action → List Answer) (begin : P → S) (gate_heard : ℕ → ℕ → Type 0) (nodes : ℕ) (calls : List TaskCall) where
+module _ {S P : Type 0} (next : S → Action → S) (answers : S → Action → List Answer) (begin : P → S)
+    (gate_heard : ℕ → ℕ → Type 0) (nodes : ℕ) (calls : List TaskCall) where
   -- the turns 1 to n, one after the other; the gate hears of each
   abbrev pub AreTaskTurns : TaskAt P → ℕ → TaskAt P → Type 0
   AreTaskTurns first zero now = now ≡ first
   AreTaskTurns first (suc n) now =
-      (before : TaskAt P) × AreTaskTurns first n before × IsTaskTurnOf next answers begin nodes calls (suc n) before now × gate_heard before.seat.number (suc n)
+      (before : TaskAt P) × AreTaskTurns first n before × IsTaskTurnOf next answers begin nodes calls (suc n) before now
+      × gate_heard before.seat.number (suc n)
 
   -- After some turns the next one, of at most n, was not made. The gate heard of it too.
   pub record IsTaskEndedBy (first : TaskAt P) (turns : ℕ) (last : TaskAt P) (fault : Fault) : Type 0 where

@@ -1,5 +1,6 @@
 -- The calls that a task's loop made.
-use Rattle.std.specs.Prelude.{◌≡◌, ℕ, suc, ◌+◌, ◌<◌, ◌≤◌, Bool, true, false, Option, Some, None, List, length, slice_get, if◌then◌else◌, ℤ}
+use Rattle.std.specs.Prelude.{◌≡◌, ℕ, suc, ◌+◌, ◌<◌, ◌≤◌, Bool, true, false, Option, Some, None, List, length}
+use Rattle.std.specs.Prelude.{slice_get, if◌then◌else◌, ℤ}
 use Rattle.rp_base.specs.Sets.{Has}
 use Rattle.rp_base.specs.declared.action.Action.{Action}
 use Rattle.rp_base.specs.declared.action.Operation.{Operation}
@@ -30,13 +31,15 @@ first_asked task made call = asks task call.node (call_after task made call)
 -- whether a task that made n of these calls waits: then for the last of them
 abbrev pub Waits : ℕ → List TaskCall → ℕ → Bool → Option Action → Type 0
 Waits task calls made true outstanding =
-    (k : ℕ) × (call : TaskCall) × (made ≡ suc k) × (slice_get calls k ≡ Some call) × (outstanding ≡ Some (call_after task k call))
+    (k : ℕ) × (call : TaskCall) × (made ≡ suc k) × (slice_get calls k ≡ Some call)
+    × (outstanding ≡ Some (call_after task k call))
 Waits task calls made false outstanding = outstanding ≡ None
 
 -- the packet asks a node for one of the first n of these calls
 abbrev pub AsksForOne : ℕ → List TaskCall → ℕ → Message → Type 0
 AsksForOne task calls made packet =
-    (k : ℕ) × (call : TaskCall) × (node : ℕ) × (k < made) × (slice_get calls k ≡ Some call) × (packet ≡ asks task node (call_after task k call))
+    (k : ℕ) × (call : TaskCall) × (node : ℕ) × (k < made) × (slice_get calls k ≡ Some call)
+    × (packet ≡ asks task node (call_after task k call))
 
 -- The task of this seat made n calls, all of them from the front of this list, each asked of its node, and each
 -- packet that it sent asks for one of them; it waits for the last of them, or has all replies.
@@ -44,7 +47,8 @@ pub record HasMade {P : Type 0} (calls : List TaskCall) (seat : SeatState P) (ma
   pub task : TaskPart
   pub is : seat.part.role ≡ OfTask task
   pub some : made ≤ length calls
-  pub each : (k : ℕ) (call : TaskCall) → k < made → slice_get calls k ≡ Some call → Has (first_asked seat.number k call) seat.part.sent
+  pub each : (k : ℕ) (call : TaskCall) → k < made → slice_get calls k ≡ Some call
+      → Has (first_asked seat.number k call) seat.part.sent
   pub only : (packet : Message) → Has packet seat.part.sent → AsksForOne seat.number calls made packet
   pub count : length task.replies + (if waits then 1 else 0) ≡ made
   pub waiting : Waits seat.number calls made waits task.outstanding
@@ -57,4 +61,5 @@ pub record TaskAt (P : Type 0) : Type 0 where
 
 -- before its first turn
 abbrev pub before_calls : {P : Type 0} → SeatState P → Line → TaskAt P
-before_calls seat line = record { seat = seat; line = line; so_far = record { made = 0; waits = false; last_reply = 0 } }
+before_calls seat line =
+    record { seat = seat; line = line; so_far = record { made = 0; waits = false; last_reply = 0 } }

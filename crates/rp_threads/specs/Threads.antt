@@ -38,18 +38,25 @@ node_at_end end line = record {
 
 -- A loop of n turns, of the node of this seat among n and over this line, had this end: without a fault all turns
 -- from 1 on were made or skipped, one after the other, else one of them was not made, by that fault.
-pub record IsLooped {S M D P : Type 0} (next : S → Action → S) (answers : S → Action → List Answer) (begin : P → S) (lets : ℕ → ℕ → Bool) (heard : ℕ → ℕ → ℕ → Type 0) (nodes turns : ℕ) (seat : SeatState P) (line : Line) (end : NodeEnd M D P) : Type 0 where
+pub record IsLooped {S M D P : Type 0} (next : S → Action → S) (answers : S → Action → List Answer) (begin : P → S)
+    (lets : ℕ → ℕ → Bool) (heard : ℕ → ℕ → ℕ → Type 0) (nodes turns : ℕ) (seat : SeatState P) (line : Line)
+    (end : NodeEnd M D P) : Type 0 where
   pub same : IsSameSeat seat end.seat
-  pub turned : end.fault ≡ None → (after : Line) × AreTurns next answers begin lets heard nodes (before_turns seat line) turns (node_at_end end after)
+  pub turned : end.fault ≡ None
+      → (after : Line) × AreTurns next answers begin lets heard nodes (before_turns seat line) turns
+      (node_at_end end after)
   pub counted : end.fault ≡ None → end.received + end.led + end.idle + end.skipped ≡ turns
   pub events : end.fault ≡ None → end.seat.part.events ≡ seat.part.events + end.received + end.led
   pub idle : end.fault ≡ None → end.idle ≤ turns_off (8 + seat.number) turns
   pub failures : end.fault ≢ Some Device → end.seat.failures ≡ seat.failures
-  pub fault : IfSome end.fault (λ fault. (after : Line) × IsEndedBy next answers begin lets heard nodes (before_turns seat line) turns (node_at_end end after) fault)
+  pub fault : IfSome end.fault
+      (λ fault. (after : Line)
+      × IsEndedBy next answers begin lets heard nodes (before_turns seat line) turns (node_at_end end after) fault)
 
 -- the end of a task's loop with these calls, and n packets lost
 abbrev pub task_end_of : {M P : Type 0} → SeatState P → Calls → ℕ → Option Fault → TaskEnd M P
-task_end_of seat so_far lost fault = record { seat = seat; made = so_far.made; last_reply = so_far.last_reply; lost = lost; fault = fault }
+task_end_of seat so_far lost fault =
+    record { seat = seat; made = so_far.made; last_reply = so_far.last_reply; lost = lost; fault = fault }
 
 -- where a task's loop is at its end, with this line, whether it waits or not
 abbrev pub task_at_end : {M P : Type 0} → TaskEnd M P → Line → Bool → TaskAt P
@@ -61,9 +68,17 @@ task_at_end end line waits = record {
 
 -- A loop of n turns, of the task of this seat with these calls among n nodes and over this line, had this end:
 -- without a fault all turns from 1 on were made, one after the other, else one was not made, by that fault.
-pub record IsTaskLooped {S M P : Type 0} (next : S → Action → S) (answers : S → Action → List Answer) (begin : P → S) (gate_heard : ℕ → ℕ → Type 0) (nodes turns : ℕ) (calls : List TaskCall) (seat : SeatState P) (line : Line) (end : TaskEnd M P) : Type 0 where
+pub record IsTaskLooped {S M P : Type 0} (next : S → Action → S) (answers : S → Action → List Answer) (begin : P → S)
+    (gate_heard : ℕ → ℕ → Type 0) (nodes turns : ℕ) (calls : List TaskCall) (seat : SeatState P) (line : Line)
+    (end : TaskEnd M P) : Type 0 where
   pub same : IsSameSeat seat end.seat
-  pub turned : end.fault ≡ None → (after : Line) × (waits : Bool) × AreTaskTurns next answers begin gate_heard nodes calls (before_calls seat line) turns (task_at_end end after waits)
+  pub turned : end.fault ≡ None
+      → (after : Line) × (waits : Bool)
+      × AreTaskTurns next answers begin gate_heard nodes calls (before_calls seat line) turns
+      (task_at_end end after waits)
   pub made : (waits : Bool) × HasMade calls end.seat end.made waits
   pub first : end.fault ≡ None → 0 < length calls → 0 < turns → 0 < end.made
-  pub fault : IfSome end.fault (λ fault. (after : Line) × (waits : Bool) × IsTaskEndedBy next answers begin gate_heard nodes calls (before_calls seat line) turns (task_at_end end after waits) fault)
+  pub fault : IfSome end.fault
+      (λ fault. (after : Line) × (waits : Bool)
+      × IsTaskEndedBy next answers begin gate_heard nodes calls (before_calls seat line) turns
+      (task_at_end end after waits) fault)

@@ -36,7 +36,8 @@ pub record IsBrought {P : Type 0} (from to : Party) (old new : SeatState P) (lin
   pub takes : after ≡ line_with fetched line
 
 -- A packet was fetched, and the line was out of memory to take it: it is lost, and the line stays.
-pub record IsLost {P : Type 0} (from to : Party) (old new : SeatState P) (line after : Line) (fault : Fault) : Type 0 where
+pub record IsLost {P : Type 0} (from to : Party) (old new : SeatState P) (line after : Line)
+    (fault : Fault) : Type 0 where
   pub packet : List ℕ
   pub fetch : IsFetched from to packet old new
   pub memory : fault ≡ OutOfMemory
@@ -90,7 +91,8 @@ module _ {S P : Type 0} (next : S → Action → S) (answers : S → Action → 
   abbrev pub IsAllOffered : Party → SeatState P → Sent → Type 0
   IsAllOffered from seat sent =
       (packets : List Message) → sent.bytes.items ≡ texts_of packets → sent.packets ≡ length packets
-      → ((m : Message) → Has m packets → Has m seat.part.sent) → (m : Message) → Has m packets → IsOffered from seat (text_of m)
+      → ((m : Message) → Has m packets → Has m seat.part.sent) → (m : Message) → Has m packets
+      → IsOffered from seat (text_of m)
 
   -- One event, by such an input; n packets were sent, each of which was offered to its box.
   pub record IsEventBy (Is : Input → Type 0) (old new : SeatState P) (packets : ℕ) : Type 0 where
@@ -128,7 +130,8 @@ module _ {S P : Type 0} (next : S → Action → S) (answers : S → Action → 
 
   -- One event or none: the line takes what is fetched, and what it then gives on is received. Where it holds
   -- nothing, the node leads if it is to, and is else idle.
-  pub record IsNodeTurn (from : Party) (lead : Bool) (old new : SeatState P) (line after : Line) (turned : TurnResult) : Type 0 where
+  pub record IsNodeTurn (from : Party) (lead : Bool) (old new : SeatState P) (line after : Line)
+      (turned : TurnResult) : Type 0 where
     pub between : SeatState P
     pub full : Line
     pub brought : IsBrought from (Node old.number) old between line full
@@ -137,7 +140,8 @@ module _ {S P : Type 0} (next : S → Action → S) (answers : S → Action → 
     pub gives : after ≡ line_after full
 
   -- The step after that was cut, or was none; the packet that the line gave on is lost.
-  pub record IsStoppedTurn (from : Party) (lead : Bool) (old new : SeatState P) (line after : Line) (fault : Fault) : Type 0 where
+  pub record IsStoppedTurn (from : Party) (lead : Bool) (old new : SeatState P) (line after : Line)
+      (fault : Fault) : Type 0 where
     pub between : SeatState P
     pub full : Line
     pub brought : IsBrought from (Node old.number) old between line full

@@ -67,7 +67,8 @@ impl<M: Machine, G: Gate> Promise<TaskEnd<M>> for TaskGuarantee<M, G> {
     ghost use Rattle.rp_threads.specs.Threads.{IsTaskLooped};
 
     ghost kept_by = { λ guarantee end. IsTaskLooped M.next M.answers M.begin G.heard_task
-        guarantee.nodes guarantee.turns guarantee.calls.value.items guarantee.seat.value guarantee.line.value end };
+        guarantee.nodes guarantee.turns guarantee.calls.value.items guarantee.seat.value
+        guarantee.line.value end };
 }
 
 /// Starts a node's loop in a thread. Refused where no thread can be made; the seat is dropped then.
@@ -100,7 +101,8 @@ where
         guarantee,
         move || -> NodeEnd<M, D>
             requires { (nodes ≤ 7) × (line.held ≡ []) }
-            ensures { IsLooped M.next M.answers M.begin G.lets G.heard nodes turns seat line result }
+            ensures { IsLooped M.next M.answers M.begin G.lets G.heard nodes turns seat line
+                result }
         { node_loop(seat, line, alloc, nodes, gate, turns) },
     )?;
     Ok(handle)

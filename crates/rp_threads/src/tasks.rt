@@ -160,7 +160,8 @@ fn make<M: Machine>(
     arg: i64,
 ) -> Result<(), Fault>
     ensures got { seat.new.part.got ≡ seat.old.part.got }
-    ensures ok { OnOk result (Asks M.next M.answers M.begin (submitted (Some (called node object operation arg)))
+    ensures ok { OnOk result
+        (Asks M.next M.answers M.begin (submitted (Some (called node object operation arg)))
         seat.old seat.new) }
     ensures err { IfErr result (IsRefused (submitted (Some (called node object operation arg)))
         seat.old seat.new) }
@@ -193,7 +194,9 @@ fn ask<M: Machine>(
 ) -> Result<(), Fault>
     requires nodes { (1 ≤ nodes) × (nodes ≤ 7) }
     ensures got { seat.new.part.got ≡ seat.old.part.got }
-    ensures ok { OnOk result (Asks M.next M.answers M.begin (asked_in nodes calls.now turn so_far.old) seat.old seat.new) }
+    ensures ok { OnOk result
+        (Asks M.next M.answers M.begin
+        (asked_in nodes calls.now turn so_far.old) seat.old seat.new) }
     ensures made { OnOk result (so_far.new ≡ asked_for calls.now so_far.old) }
     ensures err { IfErr result (λ fault. (so_far.new ≡ so_far.old)
         × IsRefused (asked_in nodes calls.now turn so_far.old) seat.old seat.new fault) }

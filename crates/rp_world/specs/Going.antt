@@ -67,7 +67,8 @@ abbrev pub no_cut : ℕ → Result Transition Fault
 no_cut kept = Err NotRunning
 
 -- a restart that failed: the node was stopped, and some torn bytes may be gone
-pub record StartsNot (w : World) (me : ℕ) (effect : Result Transition Fault) (new : World) (fault : Fault) : Type 0 where
+pub record StartsNot (w : World) (me : ℕ) (effect : Result Transition Fault) (new : World)
+    (fault : Fault) : Type 0 where
   pub why : (fault ≡ OutOfMemory) ⊎ (fault ≡ Device)
   pub intended : Transition
   pub resulted : effect ≡ Ok intended

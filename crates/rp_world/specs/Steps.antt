@@ -62,8 +62,10 @@ Runs None = ⊥
 Runs (Some part) = IsSome part.running
 
 -- the same, but for a node that runs memory may run out
-abbrev pub IsQueryAnswerUnlessMemory : {A : Type 0} → Result A Fault → (A → List Rec → Type 0) → Option NodePart → Type 0
-IsQueryAnswerUnlessMemory answer describes part = ((answer ≡ Err OutOfMemory) × Runs part) ⊎ IsQueryAnswer answer describes part
+abbrev pub IsQueryAnswerUnlessMemory : {A : Type 0} → Result A Fault → (A → List Rec → Type 0) → Option NodePart
+    → Type 0
+IsQueryAnswerUnlessMemory answer describes part =
+    ((answer ≡ Err OutOfMemory) × Runs part) ⊎ IsQueryAnswer answer describes part
 
 -- how many bytes a node's device holds: BadConfig where there is no such node
 abbrev pub IsStored : Result ℕ Fault → Option NodePart → Type 0

@@ -136,7 +136,8 @@ impl<M: Machine, D: CutDevice> Cluster<M, D> {
             self.old.world self.new.world }
         ensures ordered { IsOrdered M.next M.answers (M.begin self.old.program)
             self.old.config.nodes self.new.world }
-        ensures decided { (i : ℕ) (v : Action) → IsDecided self.old.config.nodes self.old.world.sent i v
+        ensures decided { (i : ℕ) (v : Action)
+            → IsDecided self.old.config.nodes self.old.world.sent i v
             → IsDecided self.old.config.nodes self.new.world.sent i v }
     {
         self.is_kept();

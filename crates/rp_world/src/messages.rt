@@ -88,7 +88,8 @@ impl Messages {
     pub(crate) fn put(&mut self, texts: Vec<u8>, count: usize)
         requires settled { self.old.apart ≡ 0 }
         requires texts { AreTexts texts.items count }
-        ensures { self.new ≡ record { sent = self.old.sent ++ packets_in count texts.items; apart = count } }
+        ensures { self.new ≡ record
+            { sent = self.old.sent ++ packets_in count texts.items; apart = count } }
     {
         self.last = texts;
         self.apart = count;
@@ -97,7 +98,8 @@ impl Messages {
     /// A packet is sent. Refused for memory, nothing changes.
     pub(crate) fn say(&mut self, packet: &Packet) -> Result<(), AllocError>
         requires settled { self.old.apart ≡ 0 }
-        ensures ok { OnOk result (self.new ≡ record { sent = self.old.sent ++ packet.now ∷ []; apart = 1 }) }
+        ensures ok { OnOk result
+            (self.new ≡ record { sent = self.old.sent ++ packet.now ∷ []; apart = 1 }) }
         ensures err { OnErr result (self.new ≡ self.old) }
     {
         let _body = packet.body();
@@ -136,7 +138,8 @@ fn add_ends(ends: &mut Vec<usize>, bytes: &[u8], from: usize, count: usize)
     requires within { from ≤ length bytes.now }
     requires texts { AreTexts (drop from bytes.now) count }
     requires room { vec_len ends.old + count ≤ vec_capacity ends.old }
-    ensures { ends.new.items ≡ ends.old.items ++ ends_of from (packets_in count (drop from bytes.now)) }
+    ensures { ends.new.items ≡ ends.old.items
+        ++ ends_of from (packets_in count (drop from bytes.now)) }
 {
     let mut at = from;
     for place in 0..count {
@@ -191,7 +194,8 @@ fn start_of(bytes: &[u8], count: usize, place: usize) -> usize
 #[inline(never)]
 fn text_apart(bytes: &[u8], count: usize, place: usize) -> Option<&[u8]>
     requires { AreTexts bytes.now count }
-    ensures { option_copied result ≡ option_map text_of (slice_get (packets_in count bytes.now) place) }
+    ensures { option_copied result
+        ≡ option_map text_of (slice_get (packets_in count bytes.now) place) }
 {
     if place >= count {
         return None;

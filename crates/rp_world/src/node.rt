@@ -130,7 +130,8 @@ impl<M: Machine, D: CutDevice> Node<M, D> {
             (member_of me config (M.begin program.now)) self result.0) }
         ensures rests { IfErr result.1 (λ fault. IsResting D.disk
             (member_of me config (M.begin program.now)) self) }
-        ensures failures { IsCounted (failures_in D.disk self) (failures_in D.disk result.0) result.1 }
+        ensures failures { IsCounted (failures_in D.disk self)
+            (failures_in D.disk result.0) result.1 }
         ensures only { IfErr result.1 (λ fault. (fault ≡ faults.OutOfMemory) ⊎ (fault
             ≡ faults.Device)) }
     {
@@ -207,7 +208,8 @@ impl<M: Machine, D: CutDevice> Node<M, D> {
         ensures err { IfErr result.1 (λ fault. (member : Member M) (given : NodeInput)
             → given_by input.now ≡ Ok given → NotTaken D.disk member self result.0
             (node_step M.next M.answers member given) fault) }
-        ensures failures { IsCounted (failures_in D.disk self) (failures_in D.disk result.0) result.1 }
+        ensures failures { IsCounted (failures_in D.disk self)
+            (failures_in D.disk result.0) result.1 }
     {
         match self {
             Node::Running(replica) => {

@@ -275,7 +275,8 @@ impl<M: Machine, D: CutDevice> World<M, D> {
         ensures answer { let setting = setting_of M.next M.answers M.begin self.old in
             Answers self.old.world
             (delivers setting self.old.world (part_at self.old.world.sent number))
-            (λ kept. delivery_is_cut setting self.old.world (part_at self.old.world.sent number) kept)
+            (λ kept. delivery_is_cut setting self.old.world
+            (part_at self.old.world.sent number) kept)
             self.new.world result }
         ensures setup { IsSameSetup self.old self.new }
         ensures failures { let setting = setting_of M.next M.answers M.begin self.old in
@@ -297,7 +298,8 @@ impl<M: Machine, D: CutDevice> World<M, D> {
         ensures answer { let setting = setting_of M.next M.answers M.begin self.old in
             Answers self.old.world
             (delivers setting self.old.world (part_at self.old.world.sent number))
-            (λ kept. delivery_is_cut setting self.old.world (part_at self.old.world.sent number) kept)
+            (λ kept. delivery_is_cut setting self.old.world
+            (part_at self.old.world.sent number) kept)
             self.new.world (stated result effect.new) }
         ensures setup { IsSameSetup self.old self.new }
         ensures failures { let setting = setting_of M.next M.answers M.begin self.old in
@@ -339,7 +341,8 @@ impl<M: Machine, D: CutDevice> World<M, D> {
         ensures answer { let setting = setting_of M.next M.answers M.begin self.old in
             Answers self.old.world
             (delivers setting self.old.world (part_at self.old.world.sent number))
-            (λ kept. delivery_is_cut setting self.old.world (part_at self.old.world.sent number) kept)
+            (λ kept. delivery_is_cut setting self.old.world
+            (part_at self.old.world.sent number) kept)
             self.new.world (stated result effect.new) }
         ensures setup { IsSameSetup self.old self.new }
         ensures failures { let setting = setting_of M.next M.answers M.begin self.old in
@@ -382,7 +385,8 @@ impl<M: Machine, D: CutDevice> World<M, D> {
         ensures answer { let setting = setting_of M.next M.answers M.begin self.old in
             Answers self.old.world
             (delivers setting self.old.world (part_at self.old.world.sent number))
-            (λ kept. delivery_is_cut setting self.old.world (part_at self.old.world.sent number) kept)
+            (λ kept. delivery_is_cut setting self.old.world
+            (part_at self.old.world.sent number) kept)
             self.new.world result }
         ensures setup { IsSameSetup self.old self.new }
         ensures failures { self.new.failures ≡ self.old.failures }

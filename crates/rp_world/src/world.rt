@@ -47,7 +47,8 @@ impl<M: Machine, D: CutDevice> Model for World<M, D> {
       failures = map (failures_in D.disk) w.nodes.items;
     } };
 
-    ghost invariant = { λ w. IsWorld D.disk w.config (M.begin w.program) w.nodes.items w.tasks.items };
+    ghost invariant = { λ w. IsWorld D.disk w.config
+        (M.begin w.program) w.nodes.items w.tasks.items };
 }
 
 /// A node over each of these devices, which are empty.
@@ -60,7 +61,8 @@ fn opened<M: Machine, D: CutDevice>(
     requires config { IsRightConfig config }
     requires count { length devices.items ≡ config.nodes }
     requires empty { All (λ device. (D.disk device).contents ≡ []) devices.items }
-    ensures nodes { IfOk result (λ nodes. AreFresh D.disk config (M.begin program.now) nodes.items) }
+    ensures nodes { IfOk result
+        (λ nodes. AreFresh D.disk config (M.begin program.now) nodes.items) }
     ensures failures { IfOk result (λ nodes. map (failures_in D.disk) nodes.items
         ≡ map (λ device. (D.disk device).failures) devices.items) }
     ensures only { IfErr result (λ fault. (fault ≡ faults.OutOfMemory) ⊎ (fault

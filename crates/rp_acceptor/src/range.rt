@@ -19,6 +19,9 @@ impl Acceptor {
     /// noted.
     #[tactic(auto, using(crate::proofs::Answering::answered))]
     pub fn prepare_range(&self, range: PositionRange, ballot: Ballot) -> RangeAnswer
+        // claim: A question for a range is answered by all bounds and last votes of its positions:
+        //   a promise above every bound, a refusal for the least position with a higher bound, or
+        //   silence
         ensures answer { result ≡ range_answer self.now.records range ballot }
     {
         match self.compare(range, ballot) {
@@ -34,6 +37,7 @@ impl Acceptor {
     /// How the ballot compares with the bounds at the positions of the range. Each step and each
     /// page of votes is read once.
     pub fn compare(&self, range: PositionRange, ballot: Ballot) -> Comparison
+        // claim: A ballot is compared with the bounds of a range exactly
         ensures { result ≡ compared (bound_at self.now.records) ballot (positions_of range) }
     {
         let votes = self.places(range).compare(ballot);
@@ -47,6 +51,7 @@ impl Acceptor {
         alloc: Global,
         range: PositionRange,
     ) -> Result<Vec<PlacedVote>, AllocError>
+        // claim: The last votes of a range, for which memory may be missing only where there is one
         ensures votes { IfOk result (λ votes. votes.items ≡ last_votes self.now.records range) }
         ensures full { OnErr result (¬ (last_votes self.now.records range ≡ [])) }
     {

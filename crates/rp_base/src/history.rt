@@ -48,6 +48,7 @@ impl<T: Drop> History<T> {
 
     /// Adds an item after the others, in constant time and with no memory.
     pub fn push(&mut self, item: T)
+        // claim: A list that is not in memory grows at its end
         ensures { self.new ≡ self.old ++ item ∷ [] }
     {
         let before = Snapshot::of(self);

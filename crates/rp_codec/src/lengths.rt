@@ -37,6 +37,7 @@ fn reply_len(tag: u8) -> usize
 #[inline(always)]
 pub fn text_len(bytes: &[u8]) -> usize
     requires { BeginsWithPacket bytes.now }
+    // claim: The same for bytes that are known to begin with one, without reading it
     ensures { (p : Message) (rest : List ℕ) → IsPacket p → IsTextBefore p rest bytes.now
         → result ≡ length (text_of p) }
 {

@@ -83,6 +83,9 @@ impl<M: Machine, D: Device> Replica<M, D> {
     /// `Device` the device has failed, and each further step is refused with `Failed`.
     pub fn turn(&mut self, alloc: Global, input: &Input) -> Result<Sent, Fault>
         requires right { IsRightInput input.now }
+        // claim: Each input of a replica is the node's effect of the definitions, exactly, or the
+        //   one reason why it is not; a refusal changes nothing, and a device that fails holds a
+        //   cut of the step
         ensures { Answers (input_effect M.next M.answers self.old input.now)
             self.old self.new result }
     {
@@ -120,6 +123,8 @@ impl<M: Machine, D: Device> Replica<M, D> {
     /// beyond the configuration, or in a ballot that its sender does not own, is dropped, and nothing
     /// happens.
     pub fn receive(&mut self, alloc: Global, bytes: &[u8]) -> Result<Sent, Fault>
+        // claim: Bytes that encode a packet are handled as that packet, and refused with their
+        //   reason if they encode none
         ensures { Answers (effect_if_given M.next M.answers self.old
             (packet_given (all_of bytes.now)))
             self.old self.new result }
@@ -132,6 +137,8 @@ impl<M: Machine, D: Device> Replica<M, D> {
     /// Where the position is learned nothing happens. It is refused with `LogFull` above the log or 64 positions above the first unlearned one, with
     /// `BallotsSpent` where the node has no ballot left, and then as `Replica` says.
     pub fn lead(&mut self, alloc: Global, choice: Option<Position>) -> Result<Sent, Fault>
+        // claim: If no position is given, the node leads at the least one that is not learned and
+        //   at which no proposal runs
         ensures { Answers (effect_of M.next M.answers self.old (inputs.NodeInput.Lead choice))
             self.old self.new result }
     {
@@ -162,6 +169,7 @@ impl<M: Machine, D: Device> Replica<M, D> {
     /// unless it or a higher one counted, and is dropped where 32 items are pending.
     pub fn interrupt(&mut self, alloc: Global, source: u8, occurrence: u32) -> Result<Sent, Fault>
         requires right { IsRight (actions.Interrupt source occurrence) }
+        // claim: Interrupts and ticks become pending as the definition says
         ensures { Answers (effect_of M.next M.answers self.old
             (inputs.NodeInput.Interrupt source occurrence))
             self.old self.new result }
@@ -182,6 +190,7 @@ impl<M: Machine, D: Device> Replica<M, D> {
     /// `report_len` says. It copies what it reports and no more. Refused with `OutOfMemory` or
     /// `Failed`.
     pub fn report(&mut self, alloc: Global, first: Position) -> Result<Sent, Fault>
+        // claim: A report has the applied actions from a position on, as many as a packet takes
         ensures { Answers (effect_of M.next M.answers self.old (inputs.NodeInput.Report first))
             self.old self.new result }
     {

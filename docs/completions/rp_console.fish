@@ -1,7 +1,7 @@
 # Made by tools/words. Copy it to ~/.config/fish/completions/rp_console.fish.
 complete -c rp_console -f
 complete -c rp_console -n __fish_use_subcommand -a script -d 'Runs the script of the deck that standard input holds, and prints what happens'
-complete -c rp_console -n __fish_use_subcommand -a live -d 'Runs the deck that standard input holds in threads, and prints what came of it'
+complete -c rp_console -n __fish_use_subcommand -a live -d 'Runs the deck that standard input holds in threads, and prints the result'
 complete -c rp_console -n '__fish_use_subcommand' -s h -l help -d 'Print help'
 complete -c rp_console -n '__fish_use_subcommand' -s V -l version -d 'Print version'
 complete -c rp_console -n '__fish_seen_subcommand_from script' -l trace -d 'Prints each packet that is sent'

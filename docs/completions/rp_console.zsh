@@ -1,7 +1,7 @@
 #compdef rp_console
 # Made by tools/words. Copy it to a folder of $fpath as _rp_console.
 _rp_console() {
-    local -a commands=('script:Runs the script of the deck that standard input holds, and prints what happens' 'live:Runs the deck that standard input holds in threads, and prints what came of it')
+    local -a commands=('script:Runs the script of the deck that standard input holds, and prints what happens' 'live:Runs the deck that standard input holds in threads, and prints the result')
     local state line
     _arguments -C '-h[Print help]' \
                 '--help[Print help]' \

@@ -13,8 +13,8 @@ use Rattle.rp_acceptor.specs.declared.comparison.Comparison.{Comparison}
 use Rattle.rp_acceptor.specs.declared.comparison.Comparison.TheVariants.{Above, Below, Equal}
 use Rattle.rp_acceptor.specs.Comparing.{not_above, compared, compared_at, followed_by, combined, compared_votes}
 use Rattle.rp_acceptor.specs.Slots.{ballot_of_vote, placed_if}
-use Rattle.rp_acceptor.specs.Steps.{Level, held_at, ballot_before}
-use Rattle.rp_acceptor.proofs.Splitting.{held_by}
+use Rattle.rp_acceptor.specs.Steps.{Level, ballot_at, ballot_before}
+use Rattle.rp_acceptor.proofs.Splitting.{ballot_by}
 
 -- ---- part by part
 
@@ -130,23 +130,23 @@ compared_flat b bound first (suc n) =
     ∙ again b bound first (first + 1)
 
 -- the bounds of a stretch in which one step holds
-pub stretch_held : (steps : List Level) (b position next count : ℕ) → AllWithin (λ s. s.from < position + 1) steps 0 count → AllWithin (λ s. next ≤ s.from) steps count (length steps)
-    → compared (held_at steps) b (range_with_len position (next - position)) ≡ compared (λ i. ballot_before 0 steps count) b (range_with_len position (next - position))
-stretch_held steps b position next count below above =
-    compared_same (held_at steps) (λ i. ballot_before 0 steps count) b position (next - position) (λ i from within.
-    held_by 0 steps i count (λ k d low high. let early = below k d low high in omega (arith, early, from)) (λ k d low high. let late = above k d low high in omega (arith, late, from, within)))
+pub stretch_ballot : (steps : List Level) (b position next count : ℕ) → AllWithin (λ s. s.from < position + 1) steps 0 count → AllWithin (λ s. next ≤ s.from) steps count (length steps)
+    → compared (ballot_at steps) b (range_with_len position (next - position)) ≡ compared (λ i. ballot_before 0 steps count) b (range_with_len position (next - position))
+stretch_ballot steps b position next count below above =
+    compared_same (ballot_at steps) (λ i. ballot_before 0 steps count) b position (next - position) (λ i from within.
+    ballot_by 0 steps i count (λ k d low high. let early = below k d low high in omega (arith, early, from)) (λ k d low high. let late = above k d low high in omega (arith, late, from, within)))
 
 -- what was found before a stretch, with what the stretch has and what the rest has
 pub stretch_next : (steps : List Level) (b position next end count : ℕ) (found here all : Comparison) → position ≤ next → next ≤ end
     → AllWithin (λ s. s.from < position + 1) steps 0 count → AllWithin (λ s. next ≤ s.from) steps count (length steps)
     → here ≡ compared (λ i. ballot_before 0 steps count) b (range_with_len position (next - position))
-    → followed_by found (compared (held_at steps) b (range_with_len position (end - position))) ≡ all
-    → followed_by (followed_by found here) (compared (held_at steps) b (range_with_len next (end - next))) ≡ all
+    → followed_by found (compared (ballot_at steps) b (range_with_len position (end - position))) ≡ all
+    → followed_by (followed_by found here) (compared (ballot_at steps) b (range_with_len next (end - next))) ≡ all
 stretch_next steps b position next end count found here all up most below above is so_far =
-    followed_again found here (compared (held_at steps) b (range_with_len next (end - next)))
-    ∙ ap (λ (c : Comparison). followed_by found (followed_by c (compared (held_at steps) b (range_with_len next (end - next)))))
-    (is ∙ sym (stretch_held steps b position next count below above))
-    ∙ ap (followed_by found) (sym (compared_parts (held_at steps) b position (next - position) (end - next) next (end - position) (omega (arith, up, most)) (omega (arith, up))))
+    followed_again found here (compared (ballot_at steps) b (range_with_len next (end - next)))
+    ∙ ap (λ (c : Comparison). followed_by found (followed_by c (compared (ballot_at steps) b (range_with_len next (end - next)))))
+    (is ∙ sym (stretch_ballot steps b position next count below above))
+    ∙ ap (followed_by found) (sym (compared_parts (ballot_at steps) b position (next - position) (end - next) next (end - position) (omega (arith, up, most)) (omega (arith, up))))
     ∙ so_far
 
 -- ---- with the greater of two bounds

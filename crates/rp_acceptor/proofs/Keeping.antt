@@ -7,7 +7,7 @@ use Rattle.rp_base.specs.Records.{last_vote_at}
 use Rattle.rp_base.specs.Ranges.{Range, end_of}
 use Rattle.rp_base.proofs.Members.{has_left, has_right, has_split}
 use Rattle.rp_acceptor.specs.Noted.{Noted, HasRoom, reserves, reserves_vote, reserves_range, reserves_for, notes}
-use Rattle.rp_acceptor.specs.Steps.{Level, held_at, HasStep}
+use Rattle.rp_acceptor.specs.Steps.{Level, ballot_at, HasStep}
 use Rattle.rp_acceptor.specs.Slots.{ballot_of_vote, HasEnds, stretch_in, promise_at, AreBounds, vote_of, page_at, HasSlot, HasMore, AreVotes, HaveEnds, AreKept}
 use Rattle.rp_acceptor.proofs.Noting.{bounds_noted}
 use Rattle.rp_acceptor.proofs.Pages.{pages_still, pages_more, pages_noted}
@@ -29,12 +29,12 @@ ends_still before after reserved ranges keeps ends = record {
 }
 
 -- the same bounds by other steps
-bounds_still : (before after : List Level) (records : List Rec) → ((i : ℕ) → held_at after i ≡ held_at before i) → AreBounds before records → AreBounds after records
+bounds_still : (before after : List Level) (records : List Rec) → ((i : ℕ) → ballot_at after i ≡ ballot_at before i) → AreBounds before records → AreBounds after records
 bounds_still before after records same are = λ i. ap (λ (n : ℕ). max n (ballot_of_vote (last_vote_at records i))) (same i) ∙ are i
 
 -- a record is noted
 pub kept_noted : (steps after : List Level) (pages pages' : List (List (Option Vote))) (noted : Noted) (rec : Rec)
-    → ((i : ℕ) → held_at after i ≡ max (held_at steps i) (promise_at i (stretch_in rec))) → ((i : ℕ) → HasStep steps i → HasStep after i)
+    → ((i : ℕ) → ballot_at after i ≡ max (ballot_at steps i) (promise_at i (stretch_in rec))) → ((i : ℕ) → HasStep steps i → HasStep after i)
     → ((n : ℕ) → length (page_at pages' n) ≡ length (page_at pages n)) → AreVotes (vote_of pages') (noted.records ++ rec ∷ [])
     → AreKept steps pages noted → AreKept after pages' (notes noted rec)
 kept_noted steps after pages pages' noted rec raised keeps same votes kept = record {
@@ -45,7 +45,7 @@ kept_noted steps after pages pages' noted rec raised keeps same votes kept = rec
 }
 
 -- other steps, of which none is gone, keep the same
-pub kept_split : (steps after : List Level) (pages : List (List (Option Vote))) (noted : Noted) → ((i : ℕ) → held_at after i ≡ held_at steps i) → ((i : ℕ) → HasStep steps i → HasStep after i)
+pub kept_split : (steps after : List Level) (pages : List (List (Option Vote))) (noted : Noted) → ((i : ℕ) → ballot_at after i ≡ ballot_at steps i) → ((i : ℕ) → HasStep steps i → HasStep after i)
     → AreKept steps pages noted → AreKept after pages noted
 kept_split steps after pages noted same keeps kept = record {
   bounds = bounds_still steps after noted.records same kept.bounds;

@@ -11,7 +11,7 @@ use Rattle.rp_base.specs.declared.placed.PlacedVote.{PlacedVote}
 use Rattle.rp_base.specs.Records.{bound_in, bound_at, highest, vote_in, last_vote_at}
 use Rattle.rp_base.proofs.MoreRecords.{bound_push, last_push}
 use Rattle.rp_acceptor.specs.Noted.{placed_in}
-use Rattle.rp_acceptor.specs.Steps.{Level, held_at, is_between}
+use Rattle.rp_acceptor.specs.Steps.{Level, ballot_at, is_between}
 use Rattle.rp_acceptor.proofs.Raising.{between, below_all, above_all}
 use Rattle.rp_acceptor.specs.Slots.{ballot_of_vote, stretch_in, promise_at, AreBounds, AreVotes}
 
@@ -62,7 +62,7 @@ higher_ballot (Some v) (Some w) =
     elim (leb_tells (suc v.ballot) w.ballot) [ inl lt ↦ rw lt.0 (omega (arith, lt.1)) | inr ge ↦ rw ge.0 (omega (arith, ge.1)) ]
 
 -- the steps with the promise noted, if the record is one
-pub bounds_noted : (before after : List Level) (records : List Rec) (rec : Rec) → ((i : ℕ) → held_at after i ≡ max (held_at before i) (promise_at i (stretch_in rec)))
+pub bounds_noted : (before after : List Level) (records : List Rec) (rec : Rec) → ((i : ℕ) → ballot_at after i ≡ max (ballot_at before i) (promise_at i (stretch_in rec)))
     → AreBounds before records → AreBounds after (records ++ rec ∷ [])
 bounds_noted before after records rec raised are = λ i.
     let last : ballot_of_vote (last_vote_at (records ++ rec ∷ []) i) ≡ max (ballot_of_vote (last_vote_at records i)) (ballot_of_vote (vote_in i rec)) =

@@ -8,7 +8,7 @@ use Rattle.rp_base.proofs.Members.{has_split}
 use Rattle.rp_base.specs.declared.record.Vote.{Vote}
 use Rattle.rp_acceptor.specs.Slots.{vote_in_page, page_at, vote_of, HasSlot, HasMore, IsWhole, AreVotes, ArePages}
 
--- an absent page behind the others changes nothing
+-- an absent page after the others changes nothing
 pub absent_page : (pages : List (List (Option Vote))) (n : ℕ) → page_at (pages ++ [] ∷ []) n ≡ page_at pages n
 absent_page [] zero = refl
 absent_page [] (suc n) = refl

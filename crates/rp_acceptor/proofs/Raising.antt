@@ -4,7 +4,7 @@ use Rattle.std.specs.Prelude.{slice_index_or}
 use Rattle.std.specs.List.{AllWithin}
 use Rattle.std.proofs.lemmas.List.{get_or-map, get_or_default, length-map, map-append, take-append-drop}
 use Rattle.std.proofs.lemmas.Bool.Decides.{leb_tells}
-use Rattle.rp_acceptor.specs.Steps.{Level, IsRising, held_after, held_at, HasStep, is_between, raised_at, raised_step}
+use Rattle.rp_acceptor.specs.Steps.{Level, IsRising, ballot_after, ballot_at, HasStep, is_between, raised_at, raised_step}
 
 none : Level
 none = record { from = 0; ballot = 0 }
@@ -32,7 +32,7 @@ at_least low i [] are has = absurd has
 at_least low i (step ∷ rest) are has =
     elim has [
       | inl here ↦ omega (arith, are.0, here)
-      | inr behind ↦ let h = at_least step.from i rest are.1 behind in omega (arith, are.0, h)
+      | inr following ↦ let h = at_least step.from i rest are.1 following in omega (arith, are.0, h)
     ]
 
 pub between : (first end i : ℕ) → first ≤ i → i < end → is_between first end i ≡ true
@@ -67,68 +67,68 @@ stay first end b (step ∷ rest) are =
     ∙ ap (λ (l : List Level). step ∷ l) (stay first end b rest (lower step.from end rest are.0 are.1))
 
 -- the step is in the rest, where it is not the first
-behind : (step : Level) (rest : List Level) (i : ℕ) → ¬ (step.from ≡ i) → HasStep (step ∷ rest) i → HasStep rest i
-behind step rest i other has = elim has [ inl here ↦ absurd (other here) | inr later ↦ later ]
+following : (step : Level) (rest : List Level) (i : ℕ) → ¬ (step.from ≡ i) → HasStep (step ∷ rest) i → HasStep rest i
+following step rest i other has = elim has [ inl here ↦ absurd (other here) | inr later ↦ later ]
 
 -- ---- where the ballot before is raised as well
 
 within_below : (first end b before : ℕ) (steps : List Level) (i : ℕ) → i < end → IsFrom first steps
-    → held_after (max before b) (map (raised_step first end b) steps) i ≡ max (held_after before steps i) b
+    → ballot_after (max before b) (map (raised_step first end b) steps) i ≡ max (ballot_after before steps i) b
 within_below first end b before [] i below are = refl
 within_below first end b before (step ∷ rest) i below are =
     elim (leb_tells step.from i) [
       | inl low ↦
-          ap (λ (s : Level). held_after (max before b) (s ∷ map (raised_step first end b) rest) i) (raised_here first end b step are.0 (omega (arith, low.1, below)))
+          ap (λ (s : Level). ballot_after (max before b) (s ∷ map (raised_step first end b) rest) i) (raised_here first end b step are.0 (omega (arith, low.1, below)))
           ∙ rw low.0 (within_below first end b step.ballot rest i below (lower step.from first rest are.0 are.1))
       | inr high ↦ rw high.0 refl
     ]
 
 within_above : (first end b before : ℕ) (steps : List Level) (i : ℕ) → end ≤ i → IsFrom first steps → HasStep steps end
-    → held_after (max before b) (map (raised_step first end b) steps) i ≡ held_after before steps i
+    → ballot_after (max before b) (map (raised_step first end b) steps) i ≡ ballot_after before steps i
 within_above first end b before [] i above are has = absurd has
 within_above first end b before (step ∷ rest) i above are has =
     elim (leb_tells step.from i) [
       | inl low ↦ elim (leb_tells end step.from) [
         | inl past ↦
-            ap (λ (l : List Level). held_after (max before b) l i) (stay first end b (step ∷ rest) (past.1, are.1))
+            ap (λ (l : List Level). ballot_after (max before b) l i) (stay first end b (step ∷ rest) (past.1, are.1))
             ∙ rw low.0 refl
         | inr inside ↦
-            ap (λ (s : Level). held_after (max before b) (s ∷ map (raised_step first end b) rest) i) (raised_here first end b step are.0 inside.1)
-            ∙ rw low.0 (within_above first end b step.ballot rest i above (lower step.from first rest are.0 are.1) (behind step rest end (λ e. omega (arith, e, inside.1)) has))
+            ap (λ (s : Level). ballot_after (max before b) (s ∷ map (raised_step first end b) rest) i) (raised_here first end b step are.0 inside.1)
+            ∙ rw low.0 (within_above first end b step.ballot rest i above (lower step.from first rest are.0 are.1) (following step rest end (λ e. omega (arith, e, inside.1)) has))
       ]
       | inr high ↦ let least = at_least step.from end (step ∷ rest) (omega arith, are.1) has in absurd (omega (arith, least, high.1, above))
     ]
 
 -- ---- from the first step on
 
-raised_below : (first end b before : ℕ) (steps : List Level) (i : ℕ) → i < first → held_after before (map (raised_step first end b) steps) i ≡ held_after before steps i
+raised_below : (first end b before : ℕ) (steps : List Level) (i : ℕ) → i < first → ballot_after before (map (raised_step first end b) steps) i ≡ ballot_after before steps i
 raised_below first end b before [] i below = refl
 raised_below first end b before (step ∷ rest) i below =
     elim (leb_tells step.from i) [
       | inl low ↦
-          ap (λ (s : Level). held_after before (s ∷ map (raised_step first end b) rest) i) (untouched first end b step (below_all first end step.from (omega (arith, low.1, below))))
+          ap (λ (s : Level). ballot_after before (s ∷ map (raised_step first end b) rest) i) (untouched first end b step (below_all first end step.from (omega (arith, low.1, below))))
           ∙ rw low.0 (raised_below first end b step.ballot rest i below)
       | inr high ↦ rw high.0 refl
     ]
 
 raised_within : (first end b before low : ℕ) (steps : List Level) (i : ℕ) → first ≤ i → i < end → IsFrom low steps → HasStep steps first
-    → held_after before (map (raised_step first end b) steps) i ≡ max (held_after before steps i) b
+    → ballot_after before (map (raised_step first end b) steps) i ≡ max (ballot_after before steps i) b
 raised_within first end b before low [] i from below are has = absurd has
 raised_within first end b before low (step ∷ rest) i from below are has =
     elim (leb_tells step.from i) [
       | inl le ↦ elim (leb_tells first step.from) [
         | inl past ↦
-            ap (λ (s : Level). held_after before (s ∷ map (raised_step first end b) rest) i) (raised_here first end b step past.1 (omega (arith, le.1, below)))
+            ap (λ (s : Level). ballot_after before (s ∷ map (raised_step first end b) rest) i) (raised_here first end b step past.1 (omega (arith, le.1, below)))
             ∙ rw le.0 (within_below first end b step.ballot rest i below (lower step.from first rest past.1 are.1))
         | inr early ↦
-            ap (λ (s : Level). held_after before (s ∷ map (raised_step first end b) rest) i) (untouched first end b step (below_all first end step.from early.1))
-            ∙ rw le.0 (raised_within first end b step.ballot step.from rest i from below are.1 (behind step rest first (λ e. omega (arith, e, early.1)) has))
+            ap (λ (s : Level). ballot_after before (s ∷ map (raised_step first end b) rest) i) (untouched first end b step (below_all first end step.from early.1))
+            ∙ rw le.0 (raised_within first end b step.ballot step.from rest i from below are.1 (following step rest first (λ e. omega (arith, e, early.1)) has))
       ]
       | inr high ↦ let least = at_least step.from first (step ∷ rest) (omega arith, are.1) has in absurd (omega (arith, least, high.1, from))
     ]
 
 raised_above : (first end b before low : ℕ) (steps : List Level) (i : ℕ) → first < end → end ≤ i → IsFrom low steps → HasStep steps first → HasStep steps end
-    → held_after before (map (raised_step first end b) steps) i ≡ held_after before steps i
+    → ballot_after before (map (raised_step first end b) steps) i ≡ ballot_after before steps i
 raised_above first end b before low [] i rises above are has ends = absurd has
 raised_above first end b before low (step ∷ rest) i rises above are has ends =
     elim (leb_tells step.from i) [
@@ -136,18 +136,18 @@ raised_above first end b before low (step ∷ rest) i rises above are has ends =
         | inl past ↦
             let least = at_least step.from first (step ∷ rest) (omega arith, are.1) has in
             let inside : step.from < end = omega (arith, least, rises) in
-            ap (λ (s : Level). held_after before (s ∷ map (raised_step first end b) rest) i) (raised_here first end b step past.1 inside)
-            ∙ rw le.0 (within_above first end b step.ballot rest i above (lower step.from first rest past.1 are.1) (behind step rest end (λ e. omega (arith, e, inside)) ends))
+            ap (λ (s : Level). ballot_after before (s ∷ map (raised_step first end b) rest) i) (raised_here first end b step past.1 inside)
+            ∙ rw le.0 (within_above first end b step.ballot rest i above (lower step.from first rest past.1 are.1) (following step rest end (λ e. omega (arith, e, inside)) ends))
         | inr early ↦
-            ap (λ (s : Level). held_after before (s ∷ map (raised_step first end b) rest) i) (untouched first end b step (below_all first end step.from early.1))
-            ∙ rw le.0 (raised_above first end b step.ballot step.from rest i rises above are.1 (behind step rest first (λ e. omega (arith, e, early.1)) has) (behind step rest end (λ e. omega (arith, e, early.1, rises)) ends))
+            ap (λ (s : Level). ballot_after before (s ∷ map (raised_step first end b) rest) i) (untouched first end b step (below_all first end step.from early.1))
+            ∙ rw le.0 (raised_above first end b step.ballot step.from rest i rises above are.1 (following step rest first (λ e. omega (arith, e, early.1)) has) (following step rest end (λ e. omega (arith, e, early.1, rises)) ends))
       ]
       | inr high ↦ let least = at_least step.from end (step ∷ rest) (omega arith, are.1) ends in absurd (omega (arith, least, high.1, above))
     ]
 
 -- where a step begins at each end, raising the steps raises the ballots that hold
 pub raising_raises : (first end b : ℕ) (steps : List Level) → IsRising steps → first < end → HasStep steps first → HasStep steps end
-    → (i : ℕ) → held_at (map (raised_step first end b) steps) i ≡ raised_at first end b i (held_at steps i)
+    → (i : ℕ) → ballot_at (map (raised_step first end b) steps) i ≡ raised_at first end b i (ballot_at steps i)
 raising_raises first end b steps rising rises has ends i =
     let are : IsFrom 0 steps = from_rising 0 steps rising (λ some. omega arith) in
     elim (leb_tells first i) [

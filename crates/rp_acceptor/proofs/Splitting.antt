@@ -7,12 +7,12 @@ use Rattle.std.proofs.lemmas.Bool.Decides.{leb_tells}
 use Rattle.std.proofs.lemmas.Option.{slice_get-get_or}
 use Rattle.std.proofs.lemmas.List.{get_or_default}
 use Rattle.std.proofs.lemmas.List.Sorted.{IsNonDecreasingBy-insert}
-use Rattle.rp_acceptor.specs.Steps.{Level, IsRising, held_after, ballot_before, begins_at, HasStep}
+use Rattle.rp_acceptor.specs.Steps.{Level, IsRising, ballot_after, ballot_before, begins_at, HasStep}
 
 none : Level
 none = record { from = 0; ballot = 0 }
 
--- the steps behind the first one have what all have
+-- the steps after the first one have what all have
 later : (P : Level → Type 0) (step : Level) (rest : List Level) (low high : ℕ) → AllWithin P (step ∷ rest) (suc low) (suc high) → AllWithin P rest low high
 later P step rest low high all = λ k d from below. all (suc k) d (omega (arith, from)) (omega (arith, below))
 
@@ -24,7 +24,7 @@ all_below steps i last d rising within low = λ k e from below.
     omega (arith, order, same, low)
 
 -- before the first step what held before holds
-pub none_yet : (before : ℕ) (steps : List Level) (i : ℕ) → AllWithin (λ s. i < s.from) steps 0 (length steps) → held_after before steps i ≡ before
+pub none_yet : (before : ℕ) (steps : List Level) (i : ℕ) → AllWithin (λ s. i < s.from) steps 0 (length steps) → ballot_after before steps i ≡ before
 none_yet before [] i above = refl
 none_yet before (step ∷ rest) i above =
     elim (leb_tells step.from i) [
@@ -33,13 +33,13 @@ none_yet before (step ∷ rest) i above =
     ]
 
 -- what holds is the ballot of the last step that began
-pub held_by : (before : ℕ) (steps : List Level) (i count : ℕ) → AllWithin (λ s. s.from < i + 1) steps 0 count → AllWithin (λ s. i + 1 ≤ s.from) steps count (length steps)
-    → held_after before steps i ≡ ballot_before before steps count
-held_by before [] i count below above = refl
-held_by before (step ∷ rest) i zero below above = none_yet before (step ∷ rest) i (λ k d from within. let high = above k d from within in omega (arith, high))
-held_by before (step ∷ rest) i (suc count) below above =
+pub ballot_by : (before : ℕ) (steps : List Level) (i count : ℕ) → AllWithin (λ s. s.from < i + 1) steps 0 count → AllWithin (λ s. i + 1 ≤ s.from) steps count (length steps)
+    → ballot_after before steps i ≡ ballot_before before steps count
+ballot_by before [] i count below above = refl
+ballot_by before (step ∷ rest) i zero below above = none_yet before (step ∷ rest) i (λ k d from within. let high = above k d from within in omega (arith, high))
+ballot_by before (step ∷ rest) i (suc count) below above =
     elim (leb_tells step.from i) [
-      | inl low ↦ rw low.0 (held_by step.ballot rest i count (later (λ s. s.from < i + 1) step rest 0 count (λ k d from within. below k d (omega arith) within)) (later (λ s. i + 1 ≤ s.from) step rest count (length rest) above))
+      | inl low ↦ rw low.0 (ballot_by step.ballot rest i count (later (λ s. s.from < i + 1) step rest 0 count (λ k d from within. below k d (omega arith) within)) (later (λ s. i + 1 ≤ s.from) step rest count (length rest) above))
       | inr high ↦ let low = below 0 none (omega arith) (omega arith) in absurd (omega (arith, high.1, low))
     ]
 
@@ -55,19 +55,19 @@ no_ballot before [] = refl
 no_ballot before (step ∷ rest) = refl
 
 -- a step put in with the ballot that holds there changes no ballot
-pub same_held : (before : ℕ) (steps : List Level) (step : Level) (count i : ℕ) → count ≤ length steps → step.ballot ≡ ballot_before before steps count
+pub same_ballot : (before : ℕ) (steps : List Level) (step : Level) (count i : ℕ) → count ≤ length steps → step.ballot ≡ ballot_before before steps count
     → AllWithin (λ s. s.from < step.from) steps 0 count → AllWithin (λ s. step.from < s.from) steps count (length steps)
-    → held_after before (insert steps count step) i ≡ held_after before steps i
-same_held before steps step zero i within is below above =
+    → ballot_after before (insert steps count step) i ≡ ballot_after before steps i
+same_ballot before steps step zero i within is below above =
     let same : step.ballot ≡ before = is ∙ no_ballot before steps in
     elim (leb_tells step.from i) [
       | inl low ↦ rw (low.0, same) refl
       | inr high ↦ rw high.0 (sym (none_yet before steps i (λ k d from w. let a = above k d from w in omega (arith, a, high.1))))
     ]
-same_held before [] step (suc count) i within is below above = absurd (omega (arith, within))
-same_held before (first ∷ rest) step (suc count) i within is below above =
+same_ballot before [] step (suc count) i within is below above = absurd (omega (arith, within))
+same_ballot before (first ∷ rest) step (suc count) i within is below above =
     ap (λ n. cond (nat_le first.from i) n before)
-    (same_held first.ballot rest step count i (omega (arith, within)) is (later (λ s. s.from < step.from) first rest 0 count (λ k d from w. below k d (omega arith) w)) (later (λ s. step.from < s.from) first rest count (length rest) above))
+    (same_ballot first.ballot rest step count i (omega (arith, within)) is (later (λ s. s.from < step.from) first rest 0 count (λ k d from w. below k d (omega arith) w)) (later (λ s. step.from < s.from) first rest count (length rest) above))
 
 -- the step is there, and each that was there still is
 pub step_put : (steps : List Level) (step : Level) (count : ℕ) → HasStep (insert steps count step) step.from
@@ -78,7 +78,7 @@ step_put (first ∷ rest) step (suc count) = inr (step_put rest step count)
 pub steps_stay : (steps : List Level) (step : Level) (count i : ℕ) → HasStep steps i → HasStep (insert steps count step) i
 steps_stay steps step zero i has = inr has
 steps_stay [] step (suc count) i has = absurd has
-steps_stay (first ∷ rest) step (suc count) i has = elim has [ inl here ↦ inl here | inr behind ↦ inr (steps_stay rest step count i behind) ]
+steps_stay (first ∷ rest) step (suc count) i has = elim has [ inl here ↦ inl here | inr following ↦ inr (steps_stay rest step count i following) ]
 
 -- a step of the index begins there
 pub begun : (steps : List Level) (index i : ℕ) → begins_at i (slice_get steps index) ≡ true → HasStep steps i
@@ -91,7 +91,7 @@ step_index [] i d has = absurd has
 step_index (step ∷ rest) i d has =
     elim has [
       | inl here ↦ (0, omega arith, here)
-      | inr behind ↦ let later = step_index rest i d behind in (suc later.0, omega (arith, later.1), later.2)
+      | inr following ↦ let later = step_index rest i d following in (suc later.0, omega (arith, later.1), later.2)
     ]
 
 -- the first step that begins there or later begins elsewhere, so all from it on begin later

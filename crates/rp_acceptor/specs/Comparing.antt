@@ -1,4 +1,4 @@
--- How a ballot compares with the bounds at positions (this project's own).
+-- How a ballot compares with the bounds at positions.
 use Rattle.std.specs.Prelude.{ℕ, nat_eq, nat_le, nat_lt, ◌&&◌, ◌||◌, Option, Some, None, List, [], ◌∷◌, find}
 use Rattle.std.specs.Prelude.{if◌then◌else◌}
 use Rattle.std.specs.List.{list_all}

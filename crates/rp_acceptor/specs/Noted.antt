@@ -1,4 +1,4 @@
--- What an acceptor has noted, and where it may note more (this project's own).
+-- What an acceptor has noted, and where it may note more.
 use Rattle.std.specs.Prelude.{ℕ, Option, Some, None, option_map, option_to_list, List, [], ◌∷◌, ◌++◌}
 use Rattle.rp_base.specs.declared.record.Rec.{Rec}
 use Rattle.rp_base.specs.declared.record.Rec.TheVariants.{Started, Promised, Voted, Learned, PromisedRange}

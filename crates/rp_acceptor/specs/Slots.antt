@@ -1,4 +1,4 @@
--- How an acceptor keeps what its records say (this project's own; callers see none of it).
+-- How an acceptor keeps what its records say (callers see none of it).
 use Rattle.std.specs.Prelude.{max, ◌≡◌, ◌⊎◌, ℕ, ◌+◌, ◌/◌, ◌%◌, ◌<◌, ◌≤◌, Option, Some, None, option_map, List, [], ◌∷◌}
 use Rattle.std.specs.Prelude.{length, slice_index_or, if◌then◌else◌}
 use Rattle.std.specs.List.{cons_option}
@@ -10,7 +10,7 @@ use Rattle.rp_base.specs.Sets.{Has}
 use Rattle.rp_base.specs.Ranges.{Range, end_of}
 use Rattle.rp_base.specs.Records.{bound_at, last_vote_at}
 use Rattle.rp_acceptor.specs.Noted.{Noted}
-use Rattle.rp_acceptor.specs.Steps.{Level, held_at, HasStep, is_between}
+use Rattle.rp_acceptor.specs.Steps.{Level, ballot_at, HasStep, is_between}
 
 -- ---- promises
 
@@ -49,7 +49,8 @@ HasEnds steps (Some stretch) = HasStep steps stretch.first × HasStep steps stre
 
 -- the bound at each position is the greater of what the steps promise and of the last vote's ballot
 abbrev pub AreBounds : List Level → List Rec → Type 0
-AreBounds steps records = (i : ℕ) → max (held_at steps i) (ballot_of_vote (last_vote_at records i)) ≡ bound_at records i
+AreBounds steps records =
+    (i : ℕ) → max (ballot_at steps i) (ballot_of_vote (last_vote_at records i)) ≡ bound_at records i
 
 -- ---- votes
 

@@ -1,5 +1,5 @@
--- The ballots that an acceptor promised, as steps: each holds from its position up to the next one (this
--- project's own; callers see none of it).
+-- The ballots that an acceptor promised, as steps: each holds from its position up to the next one (callers see none
+-- of it).
 use Rattle.std.specs.Prelude.{◌≡◌, ◌<◌, ◌≤◌, ◌⊎◌, ℕ, zero, suc, max, Bool, false, ◌&&◌, nat_eq, Option, Some, None}
 use Rattle.std.specs.Prelude.{nat_le, nat_lt, List, [], ◌∷◌, length, if◌then◌else◌}
 use Rattle.std.specs.List.{AllWithin}
@@ -21,13 +21,13 @@ pub record IsCountBelow (steps : List Level) (i count : ℕ) : Type 0 where
   pub not_below : AllWithin (λ s. i ≤ s.from) steps count (length steps)
 
 -- the ballot that holds at a position, where another holds before the first step
-abbrev pub held_after : ℕ → List Level → ℕ → ℕ
-held_after before [] i = before
-held_after before (step ∷ rest) i = if nat_le step.from i then held_after step.ballot rest i else before
+abbrev pub ballot_after : ℕ → List Level → ℕ → ℕ
+ballot_after before [] i = before
+ballot_after before (step ∷ rest) i = if nat_le step.from i then ballot_after step.ballot rest i else before
 
 -- the ballot that holds at a position, or 0
-abbrev pub held_at : List Level → ℕ → ℕ
-held_at steps i = held_after 0 steps i
+abbrev pub ballot_at : List Level → ℕ → ℕ
+ballot_at steps i = ballot_after 0 steps i
 
 -- the ballot of the last of this many steps, where another holds before the first
 abbrev pub ballot_before : ℕ → List Level → ℕ → ℕ

@@ -10,7 +10,7 @@ ghost use Rattle.rp_acceptor.specs.Slots.{ballot_of_vote};
 ghost use Rattle.rp_base.specs.Voting.{prepare_answer, vote_answer, accept_answer};
 
 use crate::page::{Page, make, note, vote_at};
-use crate::slot::{Slot, index_of};
+use crate::slot::{Slot, index_of_position};
 use crate::steps::{Steps, raise_promised, split_ends};
 use rp_base::{
     AcceptAnswer, Action, Ballot, Fault, History, Position, PositionRange, PrepareAnswer, Rec, Vote,
@@ -120,7 +120,7 @@ impl Acceptor {
         ensures full { OnErr result (¬ Has position self.old.reserved) }
         ensures only { IsOkUnless result Fault.OutOfMemory }
     {
-        make(&mut self.pages, self.alloc, index_of(position))?;
+        make(&mut self.pages, self.alloc, index_of_position(position))?;
         let first = usize::from(position.get());
         split_ends(&mut self.steps, first, first + 1)?;
         self.reserved.push(position);
@@ -138,7 +138,7 @@ impl Acceptor {
         ensures full { OnErr result (¬ Has position self.old.votes) }
         ensures only { IsOkUnless result Fault.OutOfMemory }
     {
-        make(&mut self.pages, self.alloc, index_of(position))?;
+        make(&mut self.pages, self.alloc, index_of_position(position))?;
         self.votes.push(position);
         Ok(())
     }
@@ -183,7 +183,7 @@ impl Acceptor {
     fn last_vote(&self, position: Position) -> Option<Vote>
         ensures { result ≡ last_vote_at self.now.records position }
     {
-        vote_at(&self.pages, index_of(position))
+        vote_at(&self.pages, index_of_position(position))
     }
 
     /// What is answered to a `Prepare` of the ballot at the position (section 2.2, phase 1b). The
@@ -262,7 +262,7 @@ fn slot_of(promised: Option<Ballot>, last: Option<Vote>) -> Slot
     }
 }
 
-/// Adds a record behind the others.
+/// Adds a record after the others.
 fn remember(records: &mut History<Rec>, rec: &Rec)
     ensures { records.new ≡ records.old ++ rec.now ∷ [] }
 {

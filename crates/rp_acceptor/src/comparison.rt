@@ -64,7 +64,8 @@ impl Comparison {
 
 /// Whether a bound counts before another: its position is less, or the same, and it is no less.
 fn is_first(position: Position, bound: Ballot, other: Position, other_bound: Ballot) -> bool
-    ensures { result ≡ (nat_lt position other || nat_eq position other && nat_le other_bound bound) }
+    ensures { result ≡ (nat_lt position other
+        || nat_eq position other && nat_le other_bound bound) }
 {
     position < other || position == other && other_bound <= bound
 }

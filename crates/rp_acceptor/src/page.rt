@@ -7,7 +7,7 @@ ghost use Rattle.rp_base.specs.declared.record.Rec.{Rec};
 ghost use Rattle.rp_acceptor.specs.Noted.{voted_in};
 ghost use Rattle.rp_acceptor.specs.Slots.{vote_in_page, page_at, vote_of, HasSlot, HasMore, IsWhole, AreVotes};
 
-use crate::slot::{index_of, placed_in};
+use crate::slot::{index_of_position, placed_in};
 use rp_base::{Rec, Vote};
 use std::alloc::{AllocError, Global};
 use std::marker::Model;
@@ -92,7 +92,8 @@ pub fn places_at(pages: &[Page], index: usize, count: usize) -> &[Option<Vote>]
     requires whole { (n : ℕ) → IsWhole (page_at pages.now n) }
     requires within { index % 64 + count ≤ 64 }
     ensures few { length result.now ≤ count }
-    ensures votes { (k : ℕ) → k < count → vote_in_page result.now k ≡ vote_of pages.now (index + k) }
+    ensures votes { (k : ℕ) → k < count
+        → vote_in_page result.now k ≡ vote_of pages.now (index + k) }
 {
     match pages.get(index / PAGE) {
         Some(page) if !page.is_absent() => {
@@ -141,6 +142,6 @@ pub fn note(pages: &mut Vec<Page>, rec: &Rec)
     let Some(placed) = placed_in(rec) else {
         return;
     };
-    let index = index_of(placed.position);
+    let index = index_of_position(placed.position);
     pages[index / PAGE].note_at(index % PAGE, placed.vote);
 }

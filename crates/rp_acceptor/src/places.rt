@@ -8,7 +8,7 @@ ghost use Rattle.rp_acceptor.specs.Slots.{placed_from, page_at, vote_of, IsWhole
 
 use crate::comparison::Comparison;
 use crate::page::{PAGE, Page, places_at};
-use crate::slot::index_of;
+use crate::slot::index_of_position;
 use rp_base::{Ballot, PlacedVote, PositionRange, RangeVotes, Vote};
 use std::alloc::{AllocError, Global};
 use std::marker::Model;
@@ -45,7 +45,7 @@ impl<'a> Places<'a> {
         ensures { (records : List Rec) → AreVotes (vote_of pages.now) records
             → result ≡ last_votes records range }
     {
-        let index = index_of(range.first());
+        let index = index_of_position(range.first());
         let count = usize::from(range.count());
         let split = count.min(PAGE - index % PAGE);
         Places {

@@ -32,7 +32,7 @@ impl Acceptor {
     }
 
     /// How the ballot compares with the bounds at the positions of the range. Each step and each
-    /// page of votes is looked at once.
+    /// page of votes is read once.
     pub fn compare(&self, range: PositionRange, ballot: Ballot) -> Comparison
         ensures { result ≡ compared (bound_at self.now.records) ballot (positions_of range) }
     {

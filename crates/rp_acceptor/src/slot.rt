@@ -73,7 +73,7 @@ pub fn placed_in(rec: &Rec) -> Option<PlacedVote>
 }
 
 /// The index of a position's place.
-pub fn index_of(position: Position) -> usize
+pub fn index_of_position(position: Position) -> usize
     ensures { result + 1 ≡ position }
 {
     usize::from(position.get()) - 1

@@ -6,7 +6,7 @@ ghost use Rattle.std.specs.List.{range_with_len};
 ghost use Rattle.rp_base.specs.Ballot.{number_of};
 ghost use Rattle.rp_base.specs.Ranges.{end_of, positions_of};
 ghost use Rattle.rp_acceptor.specs.Comparing.{compared};
-ghost use Rattle.rp_acceptor.specs.Steps.{Level, IsRising, IsCountBelow, held_at, ballot_before, begins_at, HasStep, raised_at, raised_step};
+ghost use Rattle.rp_acceptor.specs.Steps.{Level, IsRising, IsCountBelow, ballot_at, ballot_before, begins_at, HasStep, raised_at, raised_step};
 ghost use Rattle.rp_acceptor.specs.Slots.{stretch_in, promise_at, HasEnds};
 
 use crate::comparison::Comparison;
@@ -15,8 +15,8 @@ use rp_base::{Ballot, PositionRange, Rec};
 use std::alloc::{AllocError, Global};
 use std::marker::Model;
 
-/// How many of the last steps are looked at before all are searched: a promise for one position
-/// adds two.
+/// How many of the last steps are read before all are searched: a promise for one position adds
+/// two.
 const NEAR_END: usize = 4;
 
 /// From a position on the ballot is promised, or nothing is.
@@ -81,7 +81,7 @@ impl Steps {
     /// The ballot that holds at a position.
     pub fn ballot(&self, position: usize) -> Option<Ballot>
         requires { position < 2 ^ 32 }
-        ensures { number_of result ≡ held_at self.now position }
+        ensures { number_of result ≡ ballot_at self.now position }
     {
         let count = count_below(&self.steps, position + 1);
         ballot_before(&self.steps, count)
@@ -89,14 +89,14 @@ impl Steps {
 
     /// How the ballot compares with those that hold at the positions of a range.
     pub fn compare(&self, range: PositionRange, ballot: Ballot) -> Comparison
-        ensures { result ≡ compared (held_at self.now) ballot (positions_of range) }
+        ensures { result ≡ compared (ballot_at self.now) ballot (positions_of range) }
     {
         compare(&self.steps, range, ballot)
     }
 
     /// Has a step begin at a position. No ballot changes, and no step is gone.
     pub fn split(&mut self, position: usize) -> Result<(), AllocError>
-        ensures same { (i : ℕ) → held_at self.new i ≡ held_at self.old i }
+        ensures same { (i : ℕ) → ballot_at self.new i ≡ ballot_at self.old i }
         ensures keeps { (i : ℕ) → HasStep self.old i → HasStep self.new i }
         ensures begins { OnOk result (HasStep self.new position) }
         ensures full { OnErr result (¬ HasStep self.old position) }
@@ -109,8 +109,8 @@ impl Steps {
     pub fn raise(&mut self, first: usize, end: usize, ballot: Ballot)
         requires ends { HasStep self.old first × HasStep self.old end }
         requires rises { first < end }
-        ensures raised { (i : ℕ) → held_at self.new i
-            ≡ raised_at first end ballot i (held_at self.old i) }
+        ensures raised { (i : ℕ) → ballot_at self.new i
+            ≡ raised_at first end ballot i (ballot_at self.old i) }
         ensures keeps { (i : ℕ) → HasStep self.old i → HasStep self.new i }
     {
         raise(&mut self.steps, first, end, ballot);
@@ -161,7 +161,7 @@ fn ballot_before(steps: &[Step], count: usize) -> Option<Ballot>
 /// the first position it looks at each step once.
 fn compare(steps: &[Step], range: PositionRange, ballot: Ballot) -> Comparison
     requires { IsRising steps.now }
-    ensures { result ≡ compared (held_at steps.now) ballot (positions_of range) }
+    ensures { result ≡ compared (ballot_at steps.now) ballot (positions_of range) }
 {
     let end = range.end() as usize;
     let mut position = usize::from(range.first().get());
@@ -211,7 +211,7 @@ fn begins_at(steps: &[Step], index: usize, position: usize) -> bool
 fn split(steps: &mut Vec<Step>, position: usize) -> Result<(), AllocError>
     requires { IsRising steps.old.items }
     ensures rising { IsRising steps.new.items }
-    ensures same { (i : ℕ) → held_at steps.new.items i ≡ held_at steps.old.items i }
+    ensures same { (i : ℕ) → ballot_at steps.new.items i ≡ ballot_at steps.old.items i }
     ensures keeps { (i : ℕ) → HasStep steps.old.items i → HasStep steps.new.items i }
     ensures begins { OnOk result (HasStep steps.new.items position) }
     ensures full { OnErr result (¬ HasStep steps.old.items position) }
@@ -242,7 +242,7 @@ fn raise(steps: &mut Vec<Step>, first: usize, end: usize, ballot: Ballot)
 
 /// Has a step begin at two positions, if there is memory. No ballot changes, and no step is gone.
 pub fn split_ends(steps: &mut Steps, first: usize, end: usize) -> Result<(), AllocError>
-    ensures same { (i : ℕ) → held_at steps.new i ≡ held_at steps.old i }
+    ensures same { (i : ℕ) → ballot_at steps.new i ≡ ballot_at steps.old i }
     ensures keeps { (i : ℕ) → HasStep steps.old i → HasStep steps.new i }
     ensures ends { OnOk result (HasStep steps.new first × HasStep steps.new end) }
     ensures full { OnErr result (¬ (HasStep steps.old first × HasStep steps.old end)) }
@@ -254,8 +254,8 @@ pub fn split_ends(steps: &mut Steps, first: usize, end: usize) -> Result<(), All
 /// Notes the promise that a record is, if it is one. A step begins at each of its ends.
 pub fn raise_promised(steps: &mut Steps, rec: &Rec)
     requires { HasEnds steps.old (stretch_in rec.now) }
-    ensures raised { (i : ℕ) → held_at steps.new i
-        ≡ max (held_at steps.old i) (promise_at i (stretch_in rec.now)) }
+    ensures raised { (i : ℕ) → ballot_at steps.new i
+        ≡ max (ballot_at steps.old i) (promise_at i (stretch_in rec.now)) }
     ensures keeps { (i : ℕ) → HasStep steps.old i → HasStep steps.new i }
 {
     if let Some(stretch) = stretch_in(rec) {

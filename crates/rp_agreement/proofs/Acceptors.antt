@@ -15,7 +15,7 @@ use Rattle.rp_base.specs.declared.voting.RangeAnswer.TheVariants as range_prepar
 use Rattle.rp_base.specs.declared.placed.PlacedVote.{PlacedVote}
 use Rattle.rp_base.specs.PlacedVotes.{last_votes}
 use Rattle.rp_base.specs.Ranges.{Range, end_of, is_covered}
-use Rattle.rp_agreement.specs.Founded.{Reports}
+use Rattle.rp_agreement.specs.Justified.{Reports}
 use Rattle.rp_base.specs.Action.{same_action}
 use Rattle.rp_base.specs.Sets.{Has}
 use Rattle.rp_base.specs.Records.{bound_at, last_vote_at}
@@ -29,7 +29,7 @@ use Rattle.rp_codec.specs.declared.packet.Body.{Body}
 use Rattle.rp_codec.specs.declared.packet.Body.TheVariants as bodies
 use Rattle.rp_model.specs.Parts.{Running}
 use Rattle.rp_model.specs.Says.{says, writes}
-use Rattle.rp_model.specs.Acceptor.{tells_promise, on_prepare, tells_range, on_prepare_range, tells_vote, on_accept}
+use Rattle.rp_model.specs.Acceptor.{answers_prepare, on_prepare, answers_prepare_range, on_prepare_range, answers_accept, on_accept}
 use Rattle.rp_model.specs.Facts.{IsOffered}
 use Rattle.rp_agreement.specs.Sound.{IsSo, IsRunning}
 use Rattle.rp_agreement.proofs.RecordGrowth.{reports, range_reports, last_cast}
@@ -63,23 +63,23 @@ promise_allowed records i b =
           ])
     ]
 
-promise_told : (nodes x : ℕ) (records : List Rec) (sent : List Message) (running : Running) (from i b : ℕ) (answer : PrepareAnswer)
-    → IsRunning sent records running → AllowsPromise records i b answer → IsSoundTurn nodes x records sent (tells_promise x running from i b answer)
-promise_told nodes x records sent running from i b (prepares.Promise last rec) runs allows =
-    let told = subst (λ (o : Option Vote). IsSo nodes sent (records ++ Promised i b ∷ []) (bodies.Promise i b o)) (sym allows.0)
+prepare_answered : (nodes x : ℕ) (records : List Rec) (sent : List Message) (running : Running) (from i b : ℕ) (answer : PrepareAnswer)
+    → IsRunning sent records running → AllowsPromise records i b answer → IsSoundTurn nodes x records sent (answers_prepare x running from i b answer)
+prepare_answered nodes x records sent running from i b (prepares.Promise last rec) runs allows =
+    let stated = subst (λ (o : Option Vote). IsSo nodes sent (records ++ Promised i b ∷ []) (bodies.Promise i b o)) (sym allows.0)
     (has_right (Promised i b) records (Promised i b ∷ []) (inl refl), reports records i b allows.2) in
     subst (λ (r : Rec). IsSoundTurn nodes x records sent (writes r running (says x (bodies.Promise i b last) from ∷ []))) (sym allows.1)
     (plain nodes x records sent (writes (Promised i b) running (says x (bodies.Promise i b last) from ∷ [])) tt
-    (one_said nodes x sent (records ++ Promised i b ∷ []) (bodies.Promise i b last) from told (λ h. h))
+    (one_said nodes x sent (records ++ Promised i b ∷ []) (bodies.Promise i b last) from stated (λ h. h))
     (runs_written sent records (Some (Promised i b)) running runs))
-promise_told nodes x records sent running from i b (prepares.Nack bound) runs allows =
+prepare_answered nodes x records sent running from i b (prepares.Nack bound) runs allows =
     sending nodes x records sent running (says x (bodies.Nack i b bound) from ∷ []) (one_said nodes x sent records (bodies.Nack i b bound) from tt (λ h. h)) runs
-promise_told nodes x records sent running from i b prepares.Silent runs allows = quiet nodes x records sent running runs
+prepare_answered nodes x records sent running from i b prepares.Silent runs allows = quiet nodes x records sent running runs
 
 pub prepare_sound : (nodes x : ℕ) (records : List Rec) (sent : List Message) (running : Running) (from i b : ℕ)
     → IsRunning sent records running → IsSoundTurn nodes x records sent (on_prepare x records running from i b)
 prepare_sound nodes x records sent running from i b runs =
-    promise_told nodes x records sent running from i b (prepare_answer records i b) runs (promise_allowed records i b)
+    prepare_answered nodes x records sent running from i b (prepare_answer records i b) runs (promise_allowed records i b)
 
 -- ---- PrepareRange
 
@@ -128,23 +128,23 @@ range_is_so nodes sent records range b above = (
       (range_reports records range i b covered (above_each records range b i above covered)),
 )
 
-range_told : (nodes x : ℕ) (records : List Rec) (sent : List Message) (running : Running) (from : ℕ) (range : Range) (b : ℕ) (answer : RangeAnswer)
-    → IsRunning sent records running → AllowsRange records range b answer → IsSoundTurn nodes x records sent (tells_range x running from range b answer)
-range_told nodes x records sent running from range b (range_prepares.Promise votes rec) runs allows =
-    let told = subst (λ (l : List PlacedVote). IsSo nodes sent (records ++ PromisedRange range b ∷ []) (bodies.PromiseRange range b l)) (sym allows.0)
+range_answered : (nodes x : ℕ) (records : List Rec) (sent : List Message) (running : Running) (from : ℕ) (range : Range) (b : ℕ) (answer : RangeAnswer)
+    → IsRunning sent records running → AllowsRange records range b answer → IsSoundTurn nodes x records sent (answers_prepare_range x running from range b answer)
+range_answered nodes x records sent running from range b (range_prepares.Promise votes rec) runs allows =
+    let stated = subst (λ (l : List PlacedVote). IsSo nodes sent (records ++ PromisedRange range b ∷ []) (bodies.PromiseRange range b l)) (sym allows.0)
     (range_is_so nodes sent records range b allows.2) in
     subst (λ (r : Rec). IsSoundTurn nodes x records sent (writes r running (says x (bodies.PromiseRange range b votes) from ∷ []))) (sym allows.1)
     (plain nodes x records sent (writes (PromisedRange range b) running (says x (bodies.PromiseRange range b votes) from ∷ [])) tt
-    (one_said nodes x sent (records ++ PromisedRange range b ∷ []) (bodies.PromiseRange range b votes) from told (λ h. h))
+    (one_said nodes x sent (records ++ PromisedRange range b ∷ []) (bodies.PromiseRange range b votes) from stated (λ h. h))
     (runs_written sent records (Some (PromisedRange range b)) running runs))
-range_told nodes x records sent running from range b (range_prepares.Nack i bound) runs allows =
+range_answered nodes x records sent running from range b (range_prepares.Nack i bound) runs allows =
     sending nodes x records sent running (says x (bodies.Nack i b bound) from ∷ []) (one_said nodes x sent records (bodies.Nack i b bound) from tt (λ h. h)) runs
-range_told nodes x records sent running from range b range_prepares.Silent runs allows = quiet nodes x records sent running runs
+range_answered nodes x records sent running from range b range_prepares.Silent runs allows = quiet nodes x records sent running runs
 
 pub prepare_range_sound : (nodes x : ℕ) (records : List Rec) (sent : List Message) (running : Running) (from : ℕ) (range : Range) (b : ℕ)
     → IsRunning sent records running → IsSoundTurn nodes x records sent (on_prepare_range x records running from range b)
 prepare_range_sound nodes x records sent running from range b runs =
-    range_told nodes x records sent running from range b (range_answer records range b) runs (range_allowed records range b)
+    range_answered nodes x records sent running from range b (range_answer records range b) runs (range_allowed records range b)
 
 -- ---- Accept
 
@@ -181,20 +181,20 @@ vote_allowed records i b v =
           (last_allowed records i b v (last_vote_at records i) refl (ltb-false b (bound_at records i) above))
     ]
 
-vote_told : (nodes x : ℕ) (records : List Rec) (sent : List Message) (running : Running) (from i b : ℕ) (v : Action) (answer : AcceptAnswer)
-    → IsOffered sent i b v → IsRunning sent records running → AllowsVote records i b v answer → IsSoundTurn nodes x records sent (tells_vote x running from i b v answer)
-vote_told nodes x records sent running from i b v (accepts.Vote rec) offered runs allows =
+accept_answered : (nodes x : ℕ) (records : List Rec) (sent : List Message) (running : Running) (from i b : ℕ) (v : Action) (answer : AcceptAnswer)
+    → IsOffered sent i b v → IsRunning sent records running → AllowsVote records i b v answer → IsSoundTurn nodes x records sent (answers_accept x running from i b v answer)
+accept_answered nodes x records sent running from i b v (accepts.Vote rec) offered runs allows =
     subst (λ (r : Rec). IsSoundTurn nodes x records sent (writes r running (says x (bodies.Accepted i b v) from ∷ []))) (sym allows.0)
     (plain nodes x records sent (writes (Voted i b v) running (says x (bodies.Accepted i b v) from ∷ [])) (offered, allows.1)
     (one_said nodes x sent (records ++ Voted i b v ∷ []) (bodies.Accepted i b v) from (has_right (Voted i b v) records (Voted i b v ∷ []) (inl refl)) (λ h. h))
     (runs_written sent records (Some (Voted i b v)) running runs))
-vote_told nodes x records sent running from i b v accepts.Again offered runs allows =
+accept_answered nodes x records sent running from i b v accepts.Again offered runs allows =
     sending nodes x records sent running (says x (bodies.Accepted i b v) from ∷ []) (one_said nodes x sent records (bodies.Accepted i b v) from allows (λ h. h)) runs
-vote_told nodes x records sent running from i b v (accepts.Nack bound) offered runs allows =
+accept_answered nodes x records sent running from i b v (accepts.Nack bound) offered runs allows =
     sending nodes x records sent running (says x (bodies.Nack i b bound) from ∷ []) (one_said nodes x sent records (bodies.Nack i b bound) from tt (λ h. h)) runs
-vote_told nodes x records sent running from i b v accepts.Silent offered runs allows = quiet nodes x records sent running runs
+accept_answered nodes x records sent running from i b v accepts.Silent offered runs allows = quiet nodes x records sent running runs
 
 pub accept_sound : (nodes x : ℕ) (records : List Rec) (sent : List Message) (running : Running) (from i b : ℕ) (v : Action)
     → IsOffered sent i b v → IsRunning sent records running → IsSoundTurn nodes x records sent (on_accept x records running from i b v)
 accept_sound nodes x records sent running from i b v offered runs =
-    vote_told nodes x records sent running from i b v (accept_answer records i b v) offered runs (vote_allowed records i b v)
+    accept_answered nodes x records sent running from i b v (accept_answer records i b v) offered runs (vote_allowed records i b v)

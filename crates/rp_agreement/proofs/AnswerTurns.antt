@@ -38,16 +38,16 @@ use Rattle.rp_model.specs.Parts.{Running}
 use Rattle.rp_model.specs.Parts.{Turn}
 use Rattle.rp_model.specs.Parts.{with_record}
 use Rattle.rp_model.specs.Says.{says, says_to_all, says_to_others, says_to_task, sends, notes, drops_foreign, drops_full}
-use Rattle.rp_model.specs.Acceptor.{tells_promise, tells_range, tells_vote}
+use Rattle.rp_model.specs.Acceptor.{answers_prepare, answers_prepare_range, answers_accept}
 use Rattle.rp_model.specs.Pending.{most_pending, adds_pending, on_numbered, on_call, is_answered_by, replies_to, is_same_call, own_action}
 use Rattle.rp_model.specs.Leader.{chosen_position, is_beyond, is_out_of_reach, starts_above, begins, on_lead, counts_promise, on_promise_to, begins_if, offers, leads_at, unlearned_in, begins_range, on_lead_range}
-use Rattle.rp_model.specs.Learner.{missing_position, asks_for, tells_learned, learns, on_vote, on_decision}
+use Rattle.rp_model.specs.Learner.{missing_position, asks_for, answers_ask, learns, on_vote, on_decision}
 use Rattle.rp_model.specs.Receiving.{is_for_node, party_number, on_body}
 use Rattle.rp_model.specs.Effect.{Setting, NodeInput, Receive, Lead, LeadRange, Interrupt, Tick, Report, report_of, running_effect}
 use Rattle.rp_agreement.specs.Answered.{SaysAnswer, answers_of}
 use Rattle.rp_agreement.proofs.Lists.{some_same, found_has}
 
--- each packet that replies tells one of these answers
+-- each packet that replies has one of these answers
 abbrev pub AreAnswers : List Answer → List Message → Type 0
 AreAnswers given packets = (m : Message) → Has m packets → SaysAnswer given m.to m.body
 
@@ -55,7 +55,7 @@ one_answer : (given : List Answer) (m : Message) → SaysAnswer given m.to m.bod
 one_answer given m is k h = elim h [ inl same ↦ subst (λ (n : Message). SaysAnswer given n.to n.body) (sym same) is | inr none ↦ absurd none ]
 
 both_answers : (given : List Answer) (ms ks : List Message) → AreAnswers given ms → AreAnswers given ks → AreAnswers given (ms ++ ks)
-both_answers given ms ks left right m h = elim (has_split m ms ks h) [ inl before ↦ left m before | inr behind ↦ right m behind ]
+both_answers given ms ks left right m h = elim (has_split m ms ks h) [ inl before ↦ left m before | inr following ↦ right m following ]
 
 mapped_answers : {A : Type 0} (given : List Answer) (f : A → Message) (xs : List A) → ((a : A) → Has a xs → SaysAnswer given (f a).to (f a).body) → AreAnswers given (map f xs)
 mapped_answers given f xs each m h = let hit = mapped_has f m xs h in subst (λ (n : Message). SaysAnswer given n.to n.body) (sym hit.2) (each hit.0 hit.1)
@@ -109,17 +109,17 @@ module _ {S : Type 0} (s : Setting S) where
 
   -- ---- the handlers
 
-  prepare_answers : (me : ℕ) (records : List Rec) (running : Running) (from i b : ℕ) (answer : PrepareAnswer) → TurnAnswers records (tells_promise me running from i b answer)
+  prepare_answers : (me : ℕ) (records : List Rec) (running : Running) (from i b : ℕ) (answer : PrepareAnswer) → TurnAnswers records (answers_prepare me running from i b answer)
   prepare_answers me records running from i b (prepares.Promise last rec) = one_answer _ (says me (bodies.Promise i b last) from) tt
   prepare_answers me records running from i b (prepares.Nack bound) = one_answer _ (says me (bodies.Nack i b bound) from) tt
   prepare_answers me records running from i b prepares.Silent = silent records running
 
-  range_answers : (me : ℕ) (records : List Rec) (running : Running) (from : ℕ) (range : Range) (b : ℕ) (answer : RangeAnswer) → TurnAnswers records (tells_range me running from range b answer)
+  range_answers : (me : ℕ) (records : List Rec) (running : Running) (from : ℕ) (range : Range) (b : ℕ) (answer : RangeAnswer) → TurnAnswers records (answers_prepare_range me running from range b answer)
   range_answers me records running from range b (range_prepares.Promise votes rec) = one_answer _ (says me (bodies.PromiseRange range b votes) from) tt
   range_answers me records running from range b (range_prepares.Nack i bound) = one_answer _ (says me (bodies.Nack i b bound) from) tt
   range_answers me records running from range b range_prepares.Silent = silent records running
 
-  accept_answers : (me : ℕ) (records : List Rec) (running : Running) (from i b : ℕ) (v : Action) (answer : AcceptAnswer) → TurnAnswers records (tells_vote me running from i b v answer)
+  accept_answers : (me : ℕ) (records : List Rec) (running : Running) (from i b : ℕ) (v : Action) (answer : AcceptAnswer) → TurnAnswers records (answers_accept me running from i b v answer)
   accept_answers me records running from i b v (accepts.Vote rec) = one_answer _ (says me (bodies.Accepted i b v) from) tt
   accept_answers me records running from i b v accepts.Again = one_answer _ (says me (bodies.Accepted i b v) from) tt
   accept_answers me records running from i b v (accepts.Nack bound) = one_answer _ (says me (bodies.Nack i b bound) from) tt
@@ -163,14 +163,14 @@ module _ {S : Type 0} (s : Setting S) where
   asks_answers given me from None = λ m h. absurd h
   asks_answers given me from (Some i) = one_answer given (says me (bodies.Ask i) from) tt
 
-  learned_answers : (me : ℕ) (records : List Rec) (running : Running) (i : ℕ) (v : Action) (packets behind : List Message)
-      → ((given : List Answer) → AreAnswers given packets) → ((given : List Answer) → AreAnswers given behind)
-      → TurnAnswers records (learns s.next s.answers s.begin me records running i v packets behind)
-  learned_answers me records running i v packets behind first last =
+  learned_answers : (me : ℕ) (records : List Rec) (running : Running) (i : ℕ) (v : Action) (packets following : List Message)
+      → ((given : List Answer) → AreAnswers given packets) → ((given : List Answer) → AreAnswers given following)
+      → TurnAnswers records (learns s.next s.answers s.begin me records running i v packets following)
+  learned_answers me records running i v packets following first last =
       let given = answers_of s (applied_of (records ++ Learned i v ∷ [])) in
       let before = length (answers_of s (applied_of records)) in
       let replies = replies_to me running.pending (drop before given) in
-      both_answers given (packets ++ replies) behind
+      both_answers given (packets ++ replies) following
       (both_answers given packets replies (first given) (replies_are me (drop before given) given running.pending (λ answer h. has_dropped before answer given h)))
       (last given)
 
@@ -193,7 +193,7 @@ module _ {S : Type 0} (s : Setting S) where
       learned_answers me records running i v [] (asks_for me from (missing_position (records ++ Learned i v ∷ []))) (λ given m h. absurd h)
       (λ given. asks_answers given me from (missing_position (records ++ Learned i v ∷ [])))
 
-  ask_answers : (me : ℕ) (records : List Rec) (running : Running) (from i : ℕ) (learned : Option Action) → TurnAnswers records (tells_learned me running from i learned)
+  ask_answers : (me : ℕ) (records : List Rec) (running : Running) (from i : ℕ) (learned : Option Action) → TurnAnswers records (answers_ask me running from i learned)
   ask_answers me records running from i None = silent records running
   ask_answers me records running from i (Some v) = one_answer _ (says me (bodies.Decided i v) from) tt
 
@@ -211,7 +211,7 @@ module _ {S : Type 0} (s : Setting S) where
       let known = record running { proposals = filter (λ p. not (is_given_up nodes i b p)) running.proposals; refused = greatest_with running.refused bound } in
       choice records (is_in b (proposal_at running.proposals i)) (notes known) (notes running) (silent records known) (silent records running)
   body_answers nodes me records running from (bodies.Reply number reply) = silent records running
-  body_answers nodes me records running from (bodies.Report first applied told) = silent records running
+  body_answers nodes me records running from (bodies.Report first applied stated) = silent records running
   body_answers nodes me records running from (bodies.PrepareRange range b) = range_answers me records running from range b (range_answer records range b)
   body_answers nodes me records running from (bodies.PromiseRange range b votes) = silent records (record running { proposals = map (once_promised nodes from range b votes) running.proposals })
 

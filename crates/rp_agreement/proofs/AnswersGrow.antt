@@ -1,4 +1,4 @@
--- Longer lists lead to the answers of the shorter, and to more; so what tasks were told stays so.
+-- Longer lists lead to the answers of the shorter, and to more; so the replies to tasks stay.
 use Rattle.std.proofs.Common.{◌≡◌, ℕ, List, ◌++◌, sym, ap, subst, ◌∙◌, append_assoc}
 use Rattle.rp_base.specs.declared.action.Action.{Action}
 use Rattle.rp_base.specs.declared.reply.Answer.{Answer}
@@ -35,7 +35,7 @@ answer_more given more inside to (bodies.Nack i b bound) so = so
 answer_more given more inside (Node k) (bodies.Reply number reply) so = absurd so
 answer_more given more inside (Task t) (bodies.Reply number reply) so = inside (record { task = t; number = number; reply = reply }) so
 answer_more given more inside Audit (bodies.Reply number reply) so = absurd so
-answer_more given more inside to (bodies.Report first applied told) so = so
+answer_more given more inside to (bodies.Report first applied stated) so = so
 answer_more given more inside to (bodies.PrepareRange range b) so = so
 answer_more given more inside to (bodies.PromiseRange range b votes) so = so
 

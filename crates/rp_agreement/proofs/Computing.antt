@@ -22,11 +22,11 @@ use Rattle.rp_codec.specs.declared.packet.Body.{Body}
 use Rattle.rp_codec.specs.declared.packet.Body.TheVariants.{Call, Prepare, Promise, Accept, Accepted, Decided, Ask, Nack, Reply, Report, PrepareRange, PromiseRange}
 use Rattle.rp_machine.specs.Replay.{one_to}
 use Rattle.rp_model.specs.Facts.{HasVoted, IsDecided, IsOrder}
-use Rattle.rp_agreement.specs.Computed.{vote_by, vote_between, votes_told, decided_at, decided_run, order_of}
+use Rattle.rp_agreement.specs.Computed.{vote_by, vote_between, votes_sent, decided_at, decided_run, order_of}
 use Rattle.rp_agreement.proofs.Lists.{some_same, has_picked, picked_has, found_has}
 use Rattle.rp_agreement.proofs.Counting.{majority_decides, decided_counts, decided_voter}
 
--- ---- the votes that were told
+-- ---- the votes that were sent
 
 abbrev IsVoteOf : Body → ℕ → HeardVote → Type 0
 IsVoteOf body a h = (h.0 ≡ a) × (body ≡ Accepted h.1 h.2.ballot h.2.action)
@@ -37,8 +37,8 @@ vote_is a (Prepare position ballot) h e = absurd (cc)
 vote_is a (Promise position ballot last) h e = absurd (cc)
 vote_is a (Accept position ballot action) h e = absurd (cc)
 vote_is a (Accepted position ballot action) h e =
-    let told : HeardVote = (a, position, record { ballot = ballot; action = action }) in
-    let same : told ≡ h = some_same e in
+    let stated : HeardVote = (a, position, record { ballot = ballot; action = action }) in
+    let same : stated ≡ h = some_same e in
     (λ k. (sym same k).0, λ k. Accepted (same k).1 (same k).2.ballot (same k).2.action)
 vote_is a (Decided position action) h e = absurd (cc)
 vote_is a (Ask position) h e = absurd (cc)
@@ -61,11 +61,11 @@ between_is sent Audit to body h there e = absurd (cc)
 abbrev vote_of : Message → Option HeardVote
 vote_of m = vote_between m.from m.to m.body
 
-was_told : (sent : List Message) (h : HeardVote) → Has h (votes_told sent) → HasVoted sent h.0 h.1 h.2.ballot h.2.action
-was_told sent h told = let from = has_picked vote_of h sent told in between_is sent from.0.from from.0.to from.0.body h from.1 from.2
+was_sent : (sent : List Message) (h : HeardVote) → Has h (votes_sent sent) → HasVoted sent h.0 h.1 h.2.ballot h.2.action
+was_sent sent h stated = let from = has_picked vote_of h sent stated in between_is sent from.0.from from.0.to from.0.body h from.1 from.2
 
-is_told : (sent : List Message) (a i : ℕ) (w : Vote) → HasVoted sent a i w.ballot w.action → Has (a, i, w) (votes_told sent)
-is_told sent a i w voted =
+is_sent_vote : (sent : List Message) (a i : ℕ) (w : Vote) → HasVoted sent a i w.ballot w.action → Has (a, i, w) (votes_sent sent)
+is_sent_vote sent a i w voted =
     picked_has vote_of (record { from = Node a; to = Node voted.0; body = Accepted i w.ballot w.action }) (let h : HeardVote = (a, i, w) in h) sent voted.1 refl
 
 -- ---- what a search finds
@@ -107,29 +107,29 @@ length-filter_map {A} {B} pick (x ∷ xs) = by (pick x) (length-filter_map pick 
 
 module _ (nodes : ℕ) (sent : List Message) where
   abbrev wins : ℕ → HeardVote → Bool
-  wins i h = nat_eq h.1 i && makes_majority nodes i h.2 (votes_told sent)
+  wins i h = nat_eq h.1 i && makes_majority nodes i h.2 (votes_sent sent)
 
   at_is_decided : (i : ℕ) (v : Action) → decided_at nodes sent i ≡ Some v → IsDecided nodes sent i v
-  at_is_decided i v e = by (find (wins i) (votes_told sent)) refl e
+  at_is_decided i v e = by (find (wins i) (votes_sent sent)) refl e
     where
-      by : (o : Option HeardVote) → find (wins i) (votes_told sent) ≡ o → option_map (λ h. h.2.action) o ≡ Some v → IsDecided nodes sent i v
+      by : (o : Option HeardVote) → find (wins i) (votes_sent sent) ≡ o → option_map (λ h. h.2.action) o ≡ Some v → IsDecided nodes sent i v
       by None found e = absurd (cc)
       by (Some h) found e =
-          let is = found_has (wins i) h (votes_told sent) found in
+          let is = found_has (wins i) h (votes_sent sent) found in
           let same : h.2.action ≡ v = some_same e in
-          subst (IsDecided nodes sent i) same (majority_decides nodes sent i h.2 (votes_told sent) (λ a told. was_told sent (let k : HeardVote = (a, i, h.2) in k) told) (and_parts _ _ is.1).1)
+          subst (IsDecided nodes sent i) same (majority_decides nodes sent i h.2 (votes_sent sent) (λ a stated. was_sent sent (let k : HeardVote = (a, i, h.2) in k) stated) (and_parts _ _ is.1).1)
 
   decided_is_found : (i : ℕ) (v : Action) → IsDecided nodes sent i v → ¬ (decided_at nodes sent i ≡ None)
-  decided_is_found i v decided e = by (find (wins i) (votes_told sent)) refl e
+  decided_is_found i v decided e = by (find (wins i) (votes_sent sent)) refl e
     where
-      by : (o : Option HeardVote) → find (wins i) (votes_told sent) ≡ o → option_map (λ h. h.2.action) o ≡ None → ⊥
+      by : (o : Option HeardVote) → find (wins i) (votes_sent sent) ≡ o → option_map (λ h. h.2.action) o ≡ None → ⊥
       by (Some h) found e = absurd (cc)
       by None found e =
           let vote : Vote = record { ballot = decided.ballot; action = v } in
           let voter = decided_voter nodes sent i v decided in
           let h : HeardVote = (voter.0, i, vote) in
-          none_passes (wins i) h (votes_told sent) found (is_told sent voter.0 i vote voter.1)
-          (and_from _ _ (eq-eqb i i refl) (decided_counts nodes sent i v decided (votes_told sent) (λ a w told. is_told sent a i w told)))
+          none_passes (wins i) h (votes_sent sent) found (is_sent_vote sent voter.0 i vote voter.1)
+          (and_from _ _ (eq-eqb i i refl) (decided_counts nodes sent i v decided (votes_sent sent) (λ a w stated. is_sent_vote sent a i w stated)))
 
   -- ---- the run of decided actions
 
@@ -143,7 +143,7 @@ module _ (nodes : ℕ) (sent : List Message) where
       by (Some found) is zero e later = let same : i ≡ 0 + i = omega arith in subst (λ (j : ℕ). IsDecided nodes sent j v) same (at_is_decided i v (is ∙ e))
       by (Some found) is (suc k) e later = let same : k + suc i ≡ suc k + i = omega arith in subst (λ (j : ℕ). IsDecided nodes sent j v) same (later k v e)
 
-  -- it ends where nothing is decided, or with so many actions
+  -- it ends where nothing is decided, or with n actions
   run_ends : (most i : ℕ) → (decided_at nodes sent (length (decided_run nodes sent most i) + i) ≡ None) ⊎ (length (decided_run nodes sent most i) ≡ most)
   run_ends zero i = inr refl
   run_ends (suc most) i = by (decided_at nodes sent i) refl (run_ends most (suc i))
@@ -169,18 +169,18 @@ module _ (nodes : ℕ) (sent : List Message) where
       let same : k + 1 ≡ suc k = omega arith in
       (v, subst (λ (i : ℕ). IsDecided nodes sent i v) same (run_is_decided most 1 k v (slice_get-get_or run k Noop within)))
 
-  has_position : (i : ℕ) (v : Action) → IsDecided nodes sent i v → Has i (map (λ h. h.1) (votes_told sent))
+  has_position : (i : ℕ) (v : Action) → IsDecided nodes sent i v → Has i (map (λ h. h.1) (votes_sent sent))
   has_position i v decided =
       let voter = decided_voter nodes sent i v decided in
       let h : HeardVote = (voter.0, i, record { ballot = decided.ballot; action = v }) in
-      has_mapped (λ (k : HeardVote). k.1) h (votes_told sent) (is_told sent voter.0 i h.2 voter.1)
+      has_mapped (λ (k : HeardVote). k.1) h (votes_sent sent) (is_sent_vote sent voter.0 i h.2 voter.1)
 
   not_too_many : (n : ℕ) → ((k : ℕ) → k < n → (v : Action) × IsDecided nodes sent (suc k) v) → n ≤ length sent
   not_too_many n each =
-      let fits : length (one_to n) ≤ length (map (λ (h : HeardVote). h.1) (votes_told sent)) =
-      set_fits (one_to n) (map (λ h. h.1) (votes_told sent)) (one_to_set n)
-      (λ i there. let is = in_one_to n i there in let decided = each is.0 is.2 in subst (λ (j : ℕ). Has j (map (λ h. h.1) (votes_told sent))) (sym is.1) (has_position (suc is.0) decided.0 decided.1)) in
-      omega (arith, fits, length-one_to n, length-map (votes_told sent) (λ (h : HeardVote). h.1), length-filter_map vote_of sent)
+      let fits : length (one_to n) ≤ length (map (λ (h : HeardVote). h.1) (votes_sent sent)) =
+      set_fits (one_to n) (map (λ h. h.1) (votes_sent sent)) (one_to_set n)
+      (λ i there. let is = in_one_to n i there in let decided = each is.0 is.2 in subst (λ (j : ℕ). Has j (map (λ h. h.1) (votes_sent sent))) (sym is.1) (has_position (suc is.0) decided.0 decided.1)) in
+      omega (arith, fits, length-one_to n, length-map (votes_sent sent) (λ (h : HeardVote). h.1), length-filter_map vote_of sent)
 
   -- what is read off the packets is the order
   pub order_is : IsOrder nodes sent (order_of nodes sent)

@@ -39,10 +39,10 @@ cast_voter i vote heard a cast =
     let passed = passes (is_vote i vote) h heard cast (and_from _ _ (eq-eqb i i refl) (vote_same vote)) in
     member_stays nat_eq Decides-eqb a [] (map (λ (k : HeardVote). k.0) (filter (is_vote i vote) heard)) (has_mapped (λ (k : HeardVote). k.0) h (filter (is_vote i vote) heard) passed)
 
--- Votes that were told, and make a majority, decide.
+-- Votes that were sent, and make a majority, decide.
 pub majority_decides : (nodes : ℕ) (sent : List Message) (i : ℕ) (vote : Vote) (heard : List HeardVote) → ((a : ℕ) → Has (a, i, vote) heard → HasVoted sent a i vote.ballot vote.action)
     → makes_majority nodes i vote heard ≡ true → IsDecided nodes sent i vote.action
-majority_decides nodes sent i vote heard told most =
+majority_decides nodes sent i vote heard stated most =
     let voters = voters_of i vote heard in
     let among = λ (a : ℕ) (h : Has a (nodes_among nodes voters)). has_passing (in_range 1 nodes) a voters h in
     record {
@@ -53,10 +53,10 @@ majority_decides nodes sent i vote heard told most =
         distinct = set_passing (in_range 1 nodes) voters (set_members nat_eq Decides-eqb [] (map (λ h. h.0) (filter (is_vote i vote) heard)) tt);
       };
       majority = leb-true (majority_of nodes) (length (nodes_among nodes voters)) most;
-      voted = λ a h. told a (voter_cast i vote heard a (among a h).0);
+      voted = λ a h. stated a (voter_cast i vote heard a (among a h).0);
     }
 
--- What is decided has a majority among all the votes that were told.
+-- What is decided has a majority among all the votes that were sent.
 pub decided_counts : (nodes : ℕ) (sent : List Message) (i : ℕ) (v : Action) (decided : IsDecided nodes sent i v) (heard : List HeardVote)
     → ((a : ℕ) (w : Vote) → HasVoted sent a i w.ballot w.action → Has (a, i, w) heard) → makes_majority nodes i (record { ballot = decided.ballot; action = v }) heard ≡ true
 decided_counts nodes sent i v decided heard hears =

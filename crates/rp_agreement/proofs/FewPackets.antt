@@ -19,11 +19,11 @@ use Rattle.rp_model.specs.Parts.{NodePart}
 use Rattle.rp_model.specs.Parts.{TaskPart}
 use Rattle.rp_model.specs.Parts.{Turn}
 use Rattle.rp_model.specs.Effect as nodes
-use Rattle.rp_model.specs.Effect.{Setting, Done, NodeInput, running_effect, turned_if, effect_while, node_effect, stops_while, stop_effect, cut_if, cut_effect, restart_while, restart_part}
+use Rattle.rp_model.specs.Effect.{Setting, Done, NodeInput, running_effect, turn_done_if, effect_while, node_effect, stops_while, stop_effect, cut_if, cut_effect, restart_while, restart_part}
 use Rattle.rp_model.specs.Tasks as tasks
 use Rattle.rp_model.specs.Tasks.{TaskInput, next_call, may_call, calls_if, asks_again, takes, takes_reply, task_hears, task_effect}
 use Rattle.rp_model.specs.Events.{Step, Deliver, Lead, LeadRange, Interrupt, Tick, Report, Event, Submit, Again, Makes, Cut, Stop, Restart}
-use Rattle.rp_model.specs.World.{World, Happening, part_at, node_done_if, task_done_if, task_takes, task_is_told, node_takes, node_hears, node_is_told, arrives, delivers, step_effect, node_is_cut, hearing_is_cut, arrival_is_cut, delivery_is_cut, cut_step, stops, restarts, event_effect}
+use Rattle.rp_model.specs.World.{World, Transition, part_at, node_done_if, task_done_if, task_takes, task_receives, node_takes, node_hears, node_receives, arrives, delivers, step_effect, node_is_cut, hearing_is_cut, arrival_is_cut, delivery_is_cut, cut_step, stops, restarts, event_effect}
 use Rattle.rp_agreement.specs.Answered.{answers_of}
 use Rattle.rp_agreement.specs.Worlds.{node_in, IsSoundWorld}
 use Rattle.rp_agreement.proofs.Following.{decided_asked}
@@ -65,7 +65,7 @@ one_heard t part (bodies.Decided i v) = omega arith
 one_heard t part (bodies.Ask i) = omega arith
 one_heard t part (bodies.Nack i b bound) = omega arith
 one_heard t part (bodies.Reply number reply) = one_either (takes part number) _ _ (omega arith) (omega arith)
-one_heard t part (bodies.Report first applied told) = omega arith
+one_heard t part (bodies.Report first applied stated) = omega arith
 one_heard t part (bodies.PrepareRange range b) = omega arith
 one_heard t part (bodies.PromiseRange range b votes) = omega arith
 
@@ -86,7 +86,7 @@ module _ {S : Type 0} (s : Setting S) where
   IsFewDone (Ok done) = IsFewBy done.sends done.part
   IsFewDone (Err fault) = Unit {0}
 
-  few_turned : (part : NodePart) (turn : Result Turn Fault) → IsFewIf s part.records turn → IsFewDone (turned_if part turn)
+  few_turned : (part : NodePart) (turn : Result Turn Fault) → IsFewIf s part.records turn → IsFewDone (turn_done_if part turn)
   few_turned part (Ok turn) few = few
   few_turned part (Err fault) few = tt
 
@@ -107,12 +107,12 @@ module _ {S : Type 0} (s : Setting S) where
   few_restart part (Some running) = omega arith
 
   -- what happened sent one packet or none, or few by what a node has applied after it
-  abbrev pub IsFewAfter : Happening → Type 0
-  IsFewAfter happening =
-      (length happening.sends ≤ 1) ⊎ ((me : ℕ) × (part : NodePart) × (part_at happening.world.nodes me ≡ Some part) × IsFewBy happening.sends part)
+  abbrev pub IsFewAfter : Transition → Type 0
+  IsFewAfter transition =
+      (length transition.sends ≤ 1) ⊎ ((me : ℕ) × (part : NodePart) × (part_at transition.world.nodes me ≡ Some part) × IsFewBy transition.sends part)
 
-  abbrev pub IsFewAfterIf : Result Happening Fault → Type 0
-  IsFewAfterIf (Ok happening) = IsFewAfter happening
+  abbrev pub IsFewAfterIf : Result Transition Fault → Type 0
+  IsFewAfterIf (Ok transition) = IsFewAfter transition
   IsFewAfterIf (Err fault) = Unit {0}
 
   node_few : (w : World) (me : ℕ) (part : NodePart) (result : Result (Done NodePart) Fault) → part_at w.nodes me ≡ Some part → IsFewDone result → IsFewAfterIf (node_done_if w me result)
@@ -133,21 +133,21 @@ module _ {S : Type 0} (s : Setting S) where
   hears_few w me message part (Some running) here =
       node_few w me part (node_effect s me part (nodes.Receive message)) here (few_while me part (nodes.Receive message) part.running)
 
-  told_few : (w : World) (me : ℕ) (message : Message) (part : Option NodePart) → part_at w.nodes me ≡ part → IsFewAfterIf (node_is_told s w me message part)
-  told_few w me message None here = inl (omega arith)
-  told_few w me message (Some part) here = hears_few w me message part part.running here
+  received_few : (w : World) (me : ℕ) (message : Message) (part : Option NodePart) → part_at w.nodes me ≡ part → IsFewAfterIf (node_receives s w me message part)
+  received_few w me message None here = inl (omega arith)
+  received_few w me message (Some part) here = hears_few w me message part part.running here
 
   task_takes_few : (w : World) (t : ℕ) (input : TaskInput) (part : Option TaskPart) → IsFewAfterIf (task_takes s.config w t input part)
   task_takes_few w t input None = tt
   task_takes_few w t input (Some part) = task_few w t (task_effect s.config t part input) (one_taken s.config t part input)
 
-  task_told_few : (w : World) (t : ℕ) (message : Message) (part : Option TaskPart) → IsFewAfterIf (task_is_told s.config w t message part)
-  task_told_few w t message None = inl (omega arith)
-  task_told_few w t message (Some part) = task_few w t (task_effect s.config t part (tasks.Take message)) (one_taken s.config t part (tasks.Take message))
+  task_received_few : (w : World) (t : ℕ) (message : Message) (part : Option TaskPart) → IsFewAfterIf (task_receives s.config w t message part)
+  task_received_few w t message None = inl (omega arith)
+  task_received_few w t message (Some part) = task_few w t (task_effect s.config t part (tasks.Take message)) (one_taken s.config t part (tasks.Take message))
 
   arrival_few : (w : World) (message : Message) (party : Party) → IsFewAfterIf (arrives s w message party)
-  arrival_few w message (Node me) = told_few w me message (part_at w.nodes me) refl
-  arrival_few w message (Task t) = task_told_few w t message (part_at w.tasks t)
+  arrival_few w message (Node me) = received_few w me message (part_at w.nodes me) refl
+  arrival_few w message (Task t) = task_received_few w t message (part_at w.tasks t)
   arrival_few w message Audit = inl (omega arith)
 
   delivery_few : (w : World) (message : Option Message) → IsFewAfterIf (delivers s w message)
@@ -216,21 +216,21 @@ module _ {S : Type 0} (s : Setting S) where
   -- so few packets are sent, where right actions lead to few answers
   pub few_sent : IsRightConfig s.config
       → ((actions : List Action) → ((action : Action) → Has action actions → IsRight action) → length (answers_of s actions) ≤ length actions)
-      → (happening : Happening) → IsSoundWorld s.config.nodes happening.world → NodesInLog s.config.max_positions happening.world
-      → IsFewAfter happening → length happening.sends < 2 ^ 32 - 1
-  few_sent right answers_few happening sound in_log few =
+      → (transition : Transition) → IsSoundWorld s.config.nodes transition.world → NodesInLog s.config.max_positions transition.world
+      → IsFewAfter transition → length transition.sends < 2 ^ 32 - 1
+  few_sent right answers_few transition sound in_log few =
       elim few [
         | inl one ↦ few_of_one one
         | inr many ↦
-            let given = answers_few (applied_of many.1.records) (applied_right happening.world many.0 many.1 sound many.2) in
-            let applied = applied_in_log many.1.records s.config.max_positions (in_log many.1 (part_has happening.world.nodes many.0 many.1 many.2)) in
+            let given = answers_few (applied_of many.1.records) (applied_right transition.world many.0 many.1 sound many.2) in
+            let applied = applied_in_log many.1.records s.config.max_positions (in_log many.1 (part_has transition.world.nodes many.0 many.1 many.2)) in
             few_of_all many.3 given applied
       ]
     where
-      few_of_one : length happening.sends ≤ 1 → length happening.sends < 2 ^ 32 - 1
+      few_of_one : length transition.sends ≤ 1 → length transition.sends < 2 ^ 32 - 1
       few_of_one one = omega (arith, one)
 
-      few_of_all : {given applied : ℕ} → length happening.sends ≤ s.config.nodes + 1 + given → given ≤ applied → applied ≤ s.config.max_positions → length happening.sends < 2 ^ 32 - 1
+      few_of_all : {given applied : ℕ} → length transition.sends ≤ s.config.nodes + 1 + given → given ≤ applied → applied ≤ s.config.max_positions → length transition.sends < 2 ^ 32 - 1
       few_of_all {given} {applied} sends answers actions =
           let nodes_few : s.config.nodes ≤ 7 = right.nodes.1 in
           let positions_few : s.config.max_positions < 2 ^ 16 = right.positions.1 in

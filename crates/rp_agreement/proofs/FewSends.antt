@@ -34,9 +34,9 @@ use Rattle.rp_model.specs.Parts.{Running}
 use Rattle.rp_model.specs.Parts.{Turn}
 use Rattle.rp_model.specs.Parts.{with_record}
 use Rattle.rp_model.specs.Says.{says, says_to_all, says_to_others, says_to_task}
-use Rattle.rp_model.specs.Acceptor.{tells_promise, tells_range, tells_vote}
+use Rattle.rp_model.specs.Acceptor.{answers_prepare, answers_prepare_range, answers_accept}
 use Rattle.rp_model.specs.Leader.{chosen_position, is_beyond, is_out_of_reach, starts_above, on_promise_to, begins_if, offers, leads_at, unlearned_in, on_lead_range}
-use Rattle.rp_model.specs.Learner.{missing_position, asks_for, tells_learned, learns, on_vote, on_decision}
+use Rattle.rp_model.specs.Learner.{missing_position, asks_for, answers_ask, learns, on_vote, on_decision}
 use Rattle.rp_model.specs.Pending.{adds_pending, most_pending, is_answered_by, replies_to, on_numbered, on_call, is_same_call, own_action}
 use Rattle.rp_model.specs.Receiving.{is_for_node, party_number, on_body}
 use Rattle.rp_model.specs.Effect.{Setting, NodeInput, Receive, Lead, LeadRange, Interrupt, Tick, Report, running_effect}
@@ -93,17 +93,17 @@ module _ {S : Type 0} (next : S → Action → S) (answers : S → Action → Li
   few_either true one other left right = left
   few_either false one other left right = right
 
-  few_promise : (me : ℕ) (running : Running) (from i b : ℕ) (answer : PrepareAnswer) → IsFew (tells_promise me running from i b answer)
+  few_promise : (me : ℕ) (running : Running) (from i b : ℕ) (answer : PrepareAnswer) → IsFew (answers_prepare me running from i b answer)
   few_promise me running from i b (prepares.Promise last rec) = omega arith
   few_promise me running from i b (prepares.Nack bound) = omega arith
   few_promise me running from i b prepares.Silent = omega arith
 
-  few_range : (me : ℕ) (running : Running) (from : ℕ) (range : Range) (b : ℕ) (answer : RangeAnswer) → IsFew (tells_range me running from range b answer)
+  few_range : (me : ℕ) (running : Running) (from : ℕ) (range : Range) (b : ℕ) (answer : RangeAnswer) → IsFew (answers_prepare_range me running from range b answer)
   few_range me running from range b (range_prepares.Promise votes rec) = omega arith
   few_range me running from range b (range_prepares.Nack i bound) = omega arith
   few_range me running from range b range_prepares.Silent = omega arith
 
-  few_vote : (me : ℕ) (running : Running) (from i b : ℕ) (v : Action) (answer : AcceptAnswer) → IsFew (tells_vote me running from i b v answer)
+  few_vote : (me : ℕ) (running : Running) (from i b : ℕ) (v : Action) (answer : AcceptAnswer) → IsFew (answers_accept me running from i b v answer)
   few_vote me running from i b v (accepts.Vote rec) = omega arith
   few_vote me running from i b v accepts.Again = omega arith
   few_vote me running from i b v (accepts.Nack bound) = omega arith
@@ -117,9 +117,9 @@ module _ {S : Type 0} (next : S → Action → S) (answers : S → Action → Li
       few_either (takes_promise b p) _ _
       (few_either (is_promised nodes (with_promise p promise)) _ _ (omega (arith, most)) (omega arith)) (omega arith)
 
-  few_told : (me : ℕ) (running : Running) (from i : ℕ) (learned : Option Action) → IsFew (tells_learned me running from i learned)
-  few_told me running from i None = omega arith
-  few_told me running from i (Some v) = omega arith
+  few_answered : (me : ℕ) (running : Running) (from i : ℕ) (learned : Option Action) → IsFew (answers_ask me running from i learned)
+  few_answered me running from i None = omega arith
+  few_answered me running from i (Some v) = omega arith
 
   few_pending : (running : Running) (item : Action) → IsFew (adds_pending running item)
   few_pending running item =
@@ -136,22 +136,22 @@ module _ {S : Type 0} (next : S → Action → S) (answers : S → Action → Li
   few_call me kept given running (actions.Interrupt source occurrence) = omega arith
   few_call me kept given running (actions.Tick now) = omega arith
 
-  few_learned : (me : ℕ) (running : Running) (i : ℕ) (v : Action) (packets behind : List Message) → length packets + length behind ≤ nodes + 1
-      → IsFew (learns next answers begin me records running i v packets behind)
-  few_learned me running i v packets behind few =
+  few_learned : (me : ℕ) (running : Running) (i : ℕ) (v : Action) (packets following : List Message) → length packets + length following ≤ nodes + 1
+      → IsFew (learns next answers begin me records running i v packets following)
+  few_learned me running i v packets following few =
       let before = length (replay_answers next answers begin (applied_of records)) in
       let given = replay_answers next answers begin (applied_of (records ++ Learned i v ∷ [])) in
       let replies = replies_to me running.pending (drop before given) in
-      let all : length (packets ++ replies ++ behind) ≡ length (packets ++ replies) + length behind = length-append (packets ++ replies) behind in
+      let all : length (packets ++ replies ++ following) ≡ length (packets ++ replies) + length following = length-append (packets ++ replies) following in
       let last : length (packets ++ replies) ≡ length packets + length replies = length-append packets replies in
       let most : length replies ≤ length given = replies_few me running.pending before given in
       omega (arith, few, all, last, most)
 
   few_voted : (me : ℕ) (running : Running) (from i : ℕ) (vote : Vote) (learned : Option Action) → IsFew (on_vote next answers begin nodes me records running from i vote learned)
   few_voted me running from i vote None =
-      let told : length (says_to_others nodes me (bodies.Decided i vote.action)) ≤ nodes = others_few nodes me (bodies.Decided i vote.action) in
+      let stated : length (says_to_others nodes me (bodies.Decided i vote.action)) ≤ nodes = others_few nodes me (bodies.Decided i vote.action) in
       few_either (makes_majority nodes i vote (with_member same_heard running.heard (from, i, vote))) _ _
-      (few_learned me running i vote.action (says_to_others nodes me (bodies.Decided i vote.action)) [] (omega (arith, told))) (omega arith)
+      (few_learned me running i vote.action (says_to_others nodes me (bodies.Decided i vote.action)) [] (omega (arith, stated))) (omega arith)
   few_voted me running from i vote (Some learned) = omega arith
 
   few_decided : (me : ℕ) (running : Running) (from i : ℕ) (v : Action) (learned : Option Action) → IsFew (on_decision next answers begin me records running from i v learned)
@@ -169,10 +169,10 @@ module _ {S : Type 0} (next : S → Action → S) (answers : S → Action → Li
   few_body me running from (bodies.Accepted i b v) =
       few_either (is_beyond records i) _ _ (omega arith) (few_voted me running from i (record { ballot = b; action = v }) (learned_at records i))
   few_body me running from (bodies.Decided i v) = few_decided me running from i v (learned_at records i)
-  few_body me running from (bodies.Ask i) = few_told me running from i (learned_at records i)
+  few_body me running from (bodies.Ask i) = few_answered me running from i (learned_at records i)
   few_body me running from (bodies.Nack i b bound) = few_either (is_in b (proposal_at running.proposals i)) _ _ (omega arith) (omega arith)
   few_body me running from (bodies.Reply number reply) = omega arith
-  few_body me running from (bodies.Report first applied told) = omega arith
+  few_body me running from (bodies.Report first applied stated) = omega arith
   few_body me running from (bodies.PrepareRange range b) = few_range me running from range b (range_answer records range b)
   few_body me running from (bodies.PromiseRange range b votes) = omega arith
 
@@ -189,8 +189,8 @@ few_begin : {S : Type 0} (s : Setting S) (me : ℕ) (records : List Rec) (runnin
     → IsFewIf s records (begins_if s.next s.answers s.begin s.config.nodes me records running i)
 few_begin s me records running i =
     let b = next_ballot me (starts_above records running) in
-    let told : length (says_to_all s.config.nodes me (bodies.Prepare i b)) ≤ s.config.nodes = all_few s.config.nodes me (bodies.Prepare i b) in
-    few_if s records (nat_le (2 ^ 32) (round_of b)) _ _ tt (omega (arith, told))
+    let stated : length (says_to_all s.config.nodes me (bodies.Prepare i b)) ≤ s.config.nodes = all_few s.config.nodes me (bodies.Prepare i b) in
+    few_if s records (nat_le (2 ^ 32) (round_of b)) _ _ tt (omega (arith, stated))
 
 few_lead : {S : Type 0} (s : Setting S) (me : ℕ) (records : List Rec) (running : Running) (i : ℕ) (at : Option Proposal)
     → IsFewIf s records (leads_at s.next s.answers s.begin s.config.nodes me records running i at)
@@ -200,18 +200,18 @@ few_lead s me records running i (Some p) =
     let others = without_proposal running.proposals p.position in
     let after = as_offered (own_action (kept_of s.next s.answers s.begin (applied_of records)) others running.pending) p in
     let accept = bodies.Accept p.position p.ballot (offer_of after.own p.promises) in
-    let told : length (says_to_all s.config.nodes me accept) ≤ s.config.nodes = all_few s.config.nodes me accept in
-    few_if s records (is_prepared s.config.nodes p) _ _ (omega (arith, told)) (few_begin s me records running i)
+    let stated : length (says_to_all s.config.nodes me accept) ≤ s.config.nodes = all_few s.config.nodes me accept in
+    few_if s records (is_prepared s.config.nodes p) _ _ (omega (arith, stated)) (few_begin s me records running i)
 
 few_lead_range : {S : Type 0} (s : Setting S) (me : ℕ) (records : List Rec) (running : Running) (range : Result Range Fault)
     → IsFewIf s records (on_lead_range s.config me records running range)
 few_lead_range s me records running (Err fault) = tt
 few_lead_range s me records running (Ok range) =
     let b = next_ballot me (starts_above records running) in
-    let told : length (says_to_all s.config.nodes me (bodies.PrepareRange range b)) ≤ s.config.nodes = all_few s.config.nodes me (bodies.PrepareRange range b) in
+    let stated : length (says_to_all s.config.nodes me (bodies.PrepareRange range b)) ≤ s.config.nodes = all_few s.config.nodes me (bodies.PrepareRange range b) in
     few_if s records (list_any (is_out_of_reach s.config.max_positions records) (positions_of range)) _ _ tt
     (few_if s records (nat_eq (length (unlearned_in records range)) 0) _ _ (omega arith)
-    (few_if s records (nat_le (2 ^ 32) (round_of b)) _ _ tt (omega (arith, told))))
+    (few_if s records (nat_le (2 ^ 32) (round_of b)) _ _ tt (omega (arith, stated))))
 
 pub turn_few : {S : Type 0} (s : Setting S) (me : ℕ) (records : List Rec) (running : Running) (input : NodeInput) → IsFewIf s records (running_effect s me records running input)
 turn_few s me records running (Receive message) =

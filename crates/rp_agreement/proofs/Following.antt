@@ -7,12 +7,12 @@ use Rattle.rp_base.specs.declared.record.Vote.{Vote}
 use Rattle.rp_base.specs.declared.record.Rec.TheVariants.{Voted}
 use Rattle.rp_base.specs.Sets.{Has}
 use Rattle.rp_base.specs.Majority.{majority_of, AreNodes}
-use Rattle.rp_base.proofs.SetsMeet.{sets_meet}
+use Rattle.rp_base.proofs.SetsIntersect.{sets_intersect}
 use Rattle.rp_codec.specs.Message.{Message}
 use Rattle.rp_model.specs.Facts.{HasPromised, HasVoted, IsOffered, IsDecided}
 use Rattle.rp_model.specs.Parts.{NodePart}
-use Rattle.rp_agreement.specs.Told.{IsAsked}
-use Rattle.rp_agreement.specs.Founded.{IsFounded}
+use Rattle.rp_agreement.specs.Asked.{IsAsked}
+use Rattle.rp_agreement.specs.Justified.{IsJustified}
 use Rattle.rp_agreement.specs.Sound.{IsSound}
 use Rattle.rp_agreement.specs.Decided.{IsCast}
 use Rattle.rp_agreement.proofs.Offering.{promise_kept, offer_asked}
@@ -20,16 +20,16 @@ use Rattle.rp_agreement.proofs.Highest.{highest_reported}
 
 -- two majorities of the same nodes share one
 majorities_share : (nodes : ℕ) (xs ys : List ℕ) → AreNodes nodes xs → AreNodes nodes ys → majority_of nodes ≤ length xs → majority_of nodes ≤ length ys → (a : ℕ) × Has a xs × Has a ys
-majorities_share nodes xs ys left right some more = sets_meet nodes xs ys left.distinct right.distinct left.members right.members (omega (arith, some, more))
+majorities_share nodes xs ys left right some more = sets_intersect nodes xs ys left.distinct right.distinct left.members right.members (omega (arith, some, more))
 
 module _ {nodes : ℕ} {node : ℕ → NodePart} {sent : List Message} (sound : IsSound nodes node sent) where
-  -- a vote that was told stands in its node's records
+  -- a vote that was sent is in its node's records
   pub vote_kept : (a i b : ℕ) (v : Action) → HasVoted sent a i b v → Has (Voted i b v) (node a).records
-  vote_kept a i b v told = (sound.says _ told.1).1
+  vote_kept a i b v stated = (sound.says _ stated.1).1
 
-  -- what is offered is founded
-  pub offer_founded : (i b : ℕ) (v : Action) → IsOffered sent i b v → IsFounded nodes sent i b v
-  offer_founded i b v offered = (sound.says _ offered.2).1.1
+  -- what is offered is justified
+  pub offer_justified : (i b : ℕ) (v : Action) → IsOffered sent i b v → IsJustified nodes sent i b v
+  offer_justified i b v offered = (sound.says _ offered.2).1.1
 
   -- what is decided is cast, in its ballot
   pub decided_cast : (i : ℕ) (v : Action) (decided : IsDecided nodes sent i v) → IsCast nodes node i decided.ballot v
@@ -62,15 +62,15 @@ module _ {nodes : ℕ} {node : ℕ → NodePart} {sent : List Message} (sound : 
   takes_from : (i b c : ℕ) (v w : Action) → IsCast nodes node i b v → b < c → IsOffered sent i c w
       → (vote : Vote) × (w ≡ vote.action) × IsOffered sent i vote.ballot vote.action × (b ≤ vote.ballot) × (vote.ballot < c)
   takes_from i b c v w cast above offered =
-      let founded = offer_founded i c w offered in
-      let shared = majorities_share nodes founded.promisers cast.voters founded.members cast.members founded.majority cast.majority in
-      let promise = founded.promised shared.0 shared.1 in
-      let reports = (promise_kept nodes node sent sound shared.0 i c promise.0 (founded.told shared.0 promise.0 promise.1)).1 in
+      let justified = offer_justified i c w offered in
+      let shared = majorities_share nodes justified.promisers cast.voters justified.members cast.members justified.majority cast.majority in
+      let promise = justified.promised shared.0 shared.1 in
+      let reports = (promise_kept nodes node sent sound shared.0 i c promise.0 (justified.stated shared.0 promise.0 promise.1)).1 in
       let last = reports.covers b v (cast.voted shared.0 shared.2) above in
-      let highest = highest_reported shared.0 promise.0 last.0 founded.promises promise.1 last.1 in
+      let highest = highest_reported shared.0 promise.0 last.0 justified.promises promise.1 last.1 in
       let vote = highest.0 in
-      let reported = vote_reported highest.3 i c vote (founded.told highest.3 (Some vote) highest.4) in
-      (vote, founded.highest vote highest.1, reported.0, omega (arith, last.2, highest.2), reported.1)
+      let reported = vote_reported highest.3 i c vote (justified.stated highest.3 (Some vote) highest.4) in
+      (vote, justified.highest vote highest.1, reported.0, omega (arith, last.2, highest.2), reported.1)
 
   -- by induction on a bound of the higher ballot
   follows_below : (i b : ℕ) (v : Action) → IsCast nodes node i b v → (most c : ℕ) (w : Action) → c < most → b < c → IsOffered sent i c w → w ≡ v

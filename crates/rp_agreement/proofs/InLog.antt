@@ -35,10 +35,10 @@ use Rattle.rp_base.specs.PlacedVotes.{last_votes}
 use Rattle.rp_model.specs.Parts.{Running}
 use Rattle.rp_model.specs.Parts.{Turn}
 use Rattle.rp_model.specs.Parts.{is_in_log}
-use Rattle.rp_model.specs.Acceptor.{tells_promise, tells_range, tells_vote}
+use Rattle.rp_model.specs.Acceptor.{answers_prepare, answers_prepare_range, answers_accept}
 use Rattle.rp_model.specs.Leader.{chosen_position, is_beyond, is_out_of_reach, starts_above, on_promise_to, begins_if, leads_at, unlearned_in, on_lead_range}
 use Rattle.rp_model.specs.Says.{drops_foreign}
-use Rattle.rp_model.specs.Learner.{tells_learned, on_vote, on_decision}
+use Rattle.rp_model.specs.Learner.{answers_ask, on_vote, on_decision}
 use Rattle.rp_model.specs.Pending.{adds_pending, most_pending, on_numbered, on_call, is_same_call}
 use Rattle.rp_model.specs.Receiving.{is_node, is_no_node_above, party_number, is_allowed, is_for_node, on_body, receives, is_range_within}
 use Rattle.rp_model.specs.Effect.{Setting, NodeInput, Receive, Lead, LeadRange, Interrupt, Tick, Report, running_effect}
@@ -58,34 +58,34 @@ either_in_log most false one other left right = right
 -- ---- by what the packet says
 
 promise_in_log : (most me : ℕ) (running : Running) (from i b bound : ℕ) (last : Option Vote) (above below : Bool) → nat_le i most ≡ true
-    → TurnInLog most (tells_promise me running from i b (if above then prepares.Promise last (Promised i b) else if below then prepares.Nack bound else prepares.Silent))
+    → TurnInLog most (answers_prepare me running from i b (if above then prepares.Promise last (Promised i b) else if below then prepares.Nack bound else prepares.Silent))
 promise_in_log most me running from i b bound last true below e = e
 promise_in_log most me running from i b bound last false true e = tt
 promise_in_log most me running from i b bound last false false e = tt
 
-refused_in_log : (most me : ℕ) (running : Running) (from : ℕ) (range : Range) (b : ℕ) (records : List Rec) (at : Option ℕ) → TurnInLog most (tells_range me running from range b (range_refusal records at))
+refused_in_log : (most me : ℕ) (running : Running) (from : ℕ) (range : Range) (b : ℕ) (records : List Rec) (at : Option ℕ) → TurnInLog most (answers_prepare_range me running from range b (range_refusal records at))
 refused_in_log most me running from range b records None = tt
 refused_in_log most me running from range b records (Some i) = tt
 
 range_in_log : (most me : ℕ) (running : Running) (from : ℕ) (range : Range) (b : ℕ) (rest : RangeAnswer) (above : Bool) (votes : List PlacedVote) → nat_le range.first most ≡ true
-    → TurnInLog most (tells_range me running from range b rest)
-    → TurnInLog most (tells_range me running from range b (if above then range_prepares.Promise votes (PromisedRange range b) else rest))
+    → TurnInLog most (answers_prepare_range me running from range b rest)
+    → TurnInLog most (answers_prepare_range me running from range b (if above then range_prepares.Promise votes (PromisedRange range b) else rest))
 range_in_log most me running from range b rest true votes e refused = e
 range_in_log most me running from range b rest false votes e refused = refused
 
 again_in_log : (most me : ℕ) (running : Running) (from i b : ℕ) (v : Action) (same alike : Bool) → nat_le i most ≡ true
-    → TurnInLog most (tells_vote me running from i b v (if same then (if alike then accepts.Again else accepts.Silent) else accepts.Vote (Voted i b v)))
+    → TurnInLog most (answers_accept me running from i b v (if same then (if alike then accepts.Again else accepts.Silent) else accepts.Vote (Voted i b v)))
 again_in_log most me running from i b v true true e = tt
 again_in_log most me running from i b v true false e = tt
 again_in_log most me running from i b v false alike e = e
 
 vote_in_log : (most me : ℕ) (running : Running) (from i b : ℕ) (v : Action) (last : Option Vote) → nat_le i most ≡ true
-    → TurnInLog most (tells_vote me running from i b v (vote_answer i b v last))
+    → TurnInLog most (answers_accept me running from i b v (vote_answer i b v last))
 vote_in_log most me running from i b v None e = e
 vote_in_log most me running from i b v (Some last) e = again_in_log most me running from i b v (nat_eq last.ballot b) (same_action last.action v) e
 
 accept_in_log : (most me : ℕ) (running : Running) (from i b bound : ℕ) (v : Action) (last : Option Vote) (below : Bool) → nat_le i most ≡ true
-    → TurnInLog most (tells_vote me running from i b v (if below then accepts.Nack bound else vote_answer i b v last))
+    → TurnInLog most (answers_accept me running from i b v (if below then accepts.Nack bound else vote_answer i b v last))
 accept_in_log most me running from i b bound v last true e = tt
 accept_in_log most me running from i b bound v last false e = vote_in_log most me running from i b v last e
 
@@ -94,9 +94,9 @@ counted_in_log most nodes me running b promise None = tt
 counted_in_log most nodes me running b promise (Some p) =
     either_in_log most (takes_promise b p) _ _ (either_in_log most (is_promised nodes (with_promise p promise)) _ _ tt tt) tt
 
-told_in_log : (most me : ℕ) (running : Running) (from i : ℕ) (learned : Option Action) → TurnInLog most (tells_learned me running from i learned)
-told_in_log most me running from i None = tt
-told_in_log most me running from i (Some v) = tt
+ask_in_log : (most me : ℕ) (running : Running) (from i : ℕ) (learned : Option Action) → TurnInLog most (answers_ask me running from i learned)
+ask_in_log most me running from i None = tt
+ask_in_log most me running from i (Some v) = tt
 
 pending_in_log : (most : ℕ) (running : Running) (item : Action) → TurnInLog most (adds_pending running item)
 pending_in_log most running item =
@@ -148,7 +148,7 @@ module _ {S : Type 0} (next : S → Action → S) (answers : S → Action → Li
   body_in_log most nodes me records running from (bodies.Accepted i b v) e =
       either_in_log most (is_beyond records i) _ _ tt (voted_in_log most nodes me records running from i (record { ballot = b; action = v }) (learned_at records i) (not_above most i e))
   body_in_log most nodes me records running from (bodies.Decided i v) e = decided_in_log most me records running from i v (learned_at records i) (not_above most i e)
-  body_in_log most nodes me records running from (bodies.Ask i) e = told_in_log most me running from i (learned_at records i)
+  body_in_log most nodes me records running from (bodies.Ask i) e = ask_in_log most me running from i (learned_at records i)
   body_in_log most nodes me records running from (bodies.Nack i b bound) e = either_in_log most (is_in b (proposal_at running.proposals i)) _ _ tt tt
   body_in_log most nodes me records running from (bodies.Reply number reply) e = tt
   body_in_log most nodes me records running from (bodies.Report first applied actions) e = tt

@@ -21,7 +21,7 @@ use Rattle.rp_agreement.specs.Computed.{order_of}
 use Rattle.rp_agreement.specs.Answered.{answers_of, named, calls_so_far, calls_by, AreMade, AreItsCalls, IsKept}
 use Rattle.rp_agreement.proofs.Lists.{get_mapped, get_unmapped, get_one_to}
 use Rattle.rp_agreement.proofs.TaskKeeping.{asked_in_order}
-use Rattle.rp_agreement.proofs.TaskTelling.{last_replied, most_calls}
+use Rattle.rp_agreement.proofs.TaskReplies.{last_replied, most_calls}
 use Rattle.rp_agreement.proofs.Places.{AnswersKnown, kept_from, number_is, same_name, first_call}
 
 -- ---- calls that are numbered on from a number
@@ -65,7 +65,7 @@ number_at t k (y ∷ ys) x are h =
       | inr later ↦ let rest = number_at t (suc k) ys x are.1 later in (rest.0, rest.1, omega (arith, rest.2), omega (arith, rest.3))
     ]
 
--- of two lists numbered alike the one begins the other, if all of it is in the other
+-- of two lists numbered alike the one is a prefix of the other, if all of it is in the other
 begins_all : (t k : ℕ) (xs ys : List Action) → AreNumbered t k xs → AreNumbered t k ys → ((x : Action) → Has x xs → Has x ys) → Begins xs ys
 begins_all t k [] ys are other inside = (ys, refl)
 begins_all t k (x ∷ xs) [] are other inside = absurd (inside x (inl refl))
@@ -126,17 +126,17 @@ module _ (sent : List Message) (t : ℕ) (part : TaskPart) (made actions : List 
 
   -- one call is left, which is the one that the task waits for
   one_left : (last : Action) (waiting : Option Action) → part.outstanding ≡ waiting → made ≡ own ++ last ∷ [] → (call : Action) × (part.outstanding ≡ Some call) × (made ≡ own ++ call ∷ [])
-  one_left last None is stands =
-      let long : length made ≡ length own + 1 = ap (λ (list : List Action). length list) stands ∙ length-append own (last ∷ []) in
+  one_left last None is occurs =
+      let long : length made ≡ length own + 1 = ap (λ (list : List Action). length list) occurs ∙ length-append own (last ∷ []) in
       let none = so_far None is in
       let one = own_length in
       let all = made_length in
       absurd (omega (arith, long, none, one, all, enough))
-  one_left last (Some call) is stands =
-      let long : length made ≡ length own + 1 = ap (λ (list : List Action). length list) stands ∙ length-append own (last ∷ []) in
+  one_left last (Some call) is occurs =
+      let long : length made ≡ length own + 1 = ap (λ (list : List Action). length list) occurs ∙ length-append own (last ∷ []) in
       let some = so_far (Some call) is in
       let all = made_length in
-      let among : Has call (own ++ last ∷ []) = subst (λ (list : List Action). Has call list) stands (are.waits call is) in
+      let among : Has call (own ++ last ∷ []) = subst (λ (list : List Action). Has call list) occurs (are.waits call is) in
       elim (has_split call own (last ∷ []) among) [
         | inl before ↦
             let at = number_at t 0 own call (from_one t m own own_names) before in
@@ -144,17 +144,17 @@ module _ (sent : List Message) (t : ℕ) (part : TaskPart) (made actions : List 
             let one = own_length in
             let number : at.0 ≡ suc (length part.replies) = (same_name (first_call (sym at.1 ∙ waits_next call is))).1 in
             absurd (omega (arith, high, number, one, long, some, all))
-        | inr behind ↦ elim behind [
-          | inl same ↦ (call, is, stands ∙ ap (λ (a : Action). own ++ a ∷ []) (sym same))
+        | inr following ↦ elim following [
+          | inl same ↦ (call, is, occurs ∙ ap (λ (a : Action). own ++ a ∷ []) (sym same))
           | inr none ↦ absurd none
         ]
       ]
 
   by_rest : (rest : List Action) → made ≡ own ++ rest → (made ≡ own) ⊎ ((call : Action) × (part.outstanding ≡ Some call) × (made ≡ own ++ call ∷ []))
-  by_rest [] stands = inl (stands ∙ append-nil own)
-  by_rest (last ∷ []) stands = inr (one_left last part.outstanding refl stands)
-  by_rest (first ∷ second ∷ rest) stands =
-      let long : length made ≡ length own + suc (suc (length rest)) = ap (λ (list : List Action). length list) stands ∙ length-append own (first ∷ second ∷ rest) in
+  by_rest [] occurs = inl (occurs ∙ append-nil own)
+  by_rest (last ∷ []) occurs = inr (one_left last part.outstanding refl occurs)
+  by_rest (first ∷ second ∷ rest) occurs =
+      let long : length made ≡ length own + suc (suc (length rest)) = ap (λ (list : List Action). length list) occurs ∙ length-append own (first ∷ second ∷ rest) in
       let most = most_calls part.outstanding (length part.replies) in
       let one = own_length in
       let all = made_length in
@@ -186,8 +186,8 @@ module _ {S : Type 0} (s : Setting S) (node : ℕ → NodePart) (task : ℕ → 
   replied_count zero is = omega arith
   replied_count (suc n) is =
       let right = λ (action : Action) (h : Has action order). (asked_in_order s node sent kept.sound action h).right in
-      let told = last_replied (answers_of s order) t (task t) (kept.answered t) (omega (arith, is)) in
-      let numbered = made_number (named t (length (task t).replies)) counted_ones (known order right (named t (length (task t).replies)) told) in
+      let stated = last_replied (answers_of s order) t (task t) (kept.answered t) (omega (arith, is)) in
+      let numbered = made_number (named t (length (task t).replies)) counted_ones (known order right (named t (length (task t).replies)) stated) in
       let low = one_to_bound (last_number t counted_ones) (length (task t).replies) (subst (λ (list : List ℕ). Has (length (task t).replies) list) ((counted s.next s.answers s.begin order).numbered t) numbered) in
       omega (arith, low, is)
 

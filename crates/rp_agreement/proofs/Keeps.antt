@@ -21,7 +21,7 @@ use Rattle.rp_agreement.specs.Steps.{Happens, MayWrite, IsSoundStep}
 use Rattle.rp_agreement.proofs.RecordGrowth.{record_or_new}
 use Rattle.rp_agreement.proofs.Sending.{Within, promised_more, voted_more, offered_more, decided_more, asked_more, own_asked_more, so_sent, so_written}
 
--- an offer after the step stood before it or is one of the packets
+-- an offer after the step was there before it or is one of the packets
 offered_split : (sent packets after : List Message) → ((m : Message) → Has m after → Has m sent ⊎ Has m packets)
     → (i b : ℕ) (v : Action) → IsOffered after i b v → IsOffered sent i b v ⊎ IsOffered packets i b v
 offered_split sent packets after more i b v h =
@@ -38,7 +38,7 @@ running_more sent packets after records running in_after more waits old = record
     promised = λ a last h. promised_more sent after in_after a p.position p.ballot last (before.promised a last h);
     asked = own_asked_more sent after in_after p.own before.asked;
     unoffered = λ preparing v offer. elim (offered_split sent packets after more p.position p.ballot v offer) [
-      | inl stood ↦ before.unoffered preparing v stood
+      | inl occurred ↦ before.unoffered preparing v occurred
       | inr new ↦ waits p is preparing v new
     ];
   };
@@ -91,7 +91,7 @@ each_node P x written running packets node sent node_after sent_after happens he
       | inr other ↦ subst (λ (part : NodePart). P k part.records) (sym (happens.others k other)) (there k)
     ]
 
--- what a packet of a node that stood before says is so after the step
+-- what a packet that a node sent before says is so after the step
 old_says : (nodes x : ℕ) (written : Option Rec) (running : Option Running) (packets : List Message)
     (node : ℕ → NodePart) (sent : List Message) (node_after : ℕ → NodePart) (sent_after : List Message)
     → MayWrite nodes sent x (node x).records written → Happens x written running packets node sent node_after sent_after

@@ -1,4 +1,4 @@
--- Each actor's step in a world keeps the invariant with what tasks are told.
+-- Each actor's step in a world keeps the invariant with the replies to tasks.
 use Rattle.std.proofs.Common.{◌≡◌, ℕ, zero, suc, Ok, Option, Some, List, [], ◌++◌, length, map, inl, refl, sym, ap, subst, ◌∙◌, ◌≤◌, arith}
 use Rattle.std.specs.Prelude.{unwrap_or, slice_get, replicate}
 use Rattle.rp_base.specs.declared.action.Action.{Action}
@@ -18,14 +18,14 @@ use Rattle.rp_agreement.specs.Inputs.{TaskMoves, WaitsForOwn}
 use Rattle.rp_agreement.specs.Computed.{order_of}
 use Rattle.rp_agreement.specs.Worlds.{node_in, IsSoundWorld}
 use Rattle.rp_agreement.specs.Answered.{answers_of, named, IsAnswered, task_in, AreMade, IsKeptWorld, IsReady}
-use Rattle.rp_agreement.proofs.PartPlaces.{part_has, put_there, put_beside, put_length, sent_behind}
+use Rattle.rp_agreement.proofs.PartPlaces.{part_has, put_there, put_beside, put_length, sent_after}
 use Rattle.rp_agreement.proofs.NodeEffects.{IsSoundDone, done_keeps}
 use Rattle.rp_agreement.proofs.WorldKeeping.{member_here, moves_here, untorn_world, input_done, cut_done, stop_done, restart_done, torn_done}
 use Rattle.rp_model.specs.Events.{Event}
 use Rattle.rp_agreement.specs.History.{IsHistory}
 use Rattle.rp_agreement.proofs.EventWalk.{IsKeptByAll, history_keeps}
 use Rattle.rp_agreement.proofs.AnswerTurns.{AreAnswers}
-use Rattle.rp_agreement.proofs.NodeTelling.{node_keeps, effect_answers, cut_answers, stop_answers, restart_answers}
+use Rattle.rp_agreement.proofs.NodeReplies.{node_keeps, effect_answers, cut_answers, stop_answers, restart_answers}
 use Rattle.rp_agreement.proofs.TaskKeeping.{task_goes_on}
 use Rattle.rp_agreement.proofs.Lists.{get_mapped, get_one_to, get_unmapped}
 use Rattle.rp_agreement.proofs.Made.{made_nothing}
@@ -33,41 +33,41 @@ use Rattle.rp_agreement.proofs.Made.{made_nothing}
 task_here : (w : World) (t : ℕ) (part : TaskPart) → part_at w.tasks t ≡ Some part → task_in w.tasks t ≡ part
 task_here w t part here = ap (λ (o : Option TaskPart). unwrap_or o fresh_task) here
 
--- what comes of a task's step stands in the world
+-- the result of a task's step is in the world
 task_moves_here : (w : World) (t : ℕ) (part : TaskPart) (done : Done TaskPart) → part_at w.tasks t ≡ Some part
     → TaskMoves t done (task_in w.tasks) w.sent (task_in (with_part w.tasks t done.part)) (w.sent ++ done.sends)
 task_moves_here w t part done here = record {
   part = ap (λ (o : Option TaskPart). unwrap_or o fresh_task) (put_there w.tasks t part done.part here);
   others = λ k other. ap (λ (o : Option TaskPart). unwrap_or o fresh_task) (put_beside w.tasks t k done.part other);
-  sends = sent_behind w.sent done.sends;
+  sends = sent_after w.sent done.sends;
 }
 
 module _ {S : Type 0} (s : Setting S) (right : IsRightConfig s.config) where
   node_case : (w : World) (me : ℕ) (part : NodePart) (done : Done NodePart) → IsKeptWorld s w → part_at w.nodes me ≡ Some part
       → IsSoundDone s.config.nodes me (node_in w.nodes me) w.sent done → AreAnswers (answers_of s (applied_of done.part.records)) done.sends
       → IsKeptWorld s (node_done w me done).world
-  node_case w me part done world here d told =
+  node_case w me part done world here d stated =
       let moves = moves_here w me part done here in
       let after = node_in (with_part w.nodes me done.part) in
       let sound = done_keeps s.config.nodes me done (node_in w.nodes) w.sent after (w.sent ++ done.sends) (member_here s.config.nodes w me part world.size here) world.kept.sound d moves in
       record {
         size = put_length w.nodes me done.part ∙ world.size;
-        kept = node_keeps s me done (node_in w.nodes) (task_in w.tasks) w.sent after (w.sent ++ done.sends) world.kept sound d told moves;
+        kept = node_keeps s me done (node_in w.nodes) (task_in w.tasks) w.sent after (w.sent ++ done.sends) world.kept sound d stated moves;
       }
 
-  -- what tasks are told is kept by all
+  -- all keep the replies to tasks
   pub kept_by_all : IsKeptByAll s (IsKeptWorld s)
   kept_by_all = record {
-    input = λ w me part input done world here is came. node_case w me part done world here (input_done s right w me part world.size world.kept.sound here input done is came) (effect_answers s me part input done came);
-    cut = λ w me kept part input done world here is came. node_case w me part done world here (cut_done s right w me part world.size world.kept.sound here kept input done is came) (cut_answers s me kept part input done came);
-    stop = λ w me part done world here came. node_case w me part done world here (stop_done s right w me part world.size world.kept.sound here done came) (stop_answers s part done came);
+    input = λ w me part input done world here is resulted. node_case w me part done world here (input_done s right w me part world.size world.kept.sound here input done is resulted) (effect_answers s me part input done resulted);
+    cut = λ w me kept part input done world here is resulted. node_case w me part done world here (cut_done s right w me part world.size world.kept.sound here kept input done is resulted) (cut_answers s me kept part input done resulted);
+    stop = λ w me part done world here resulted. node_case w me part done world here (stop_done s right w me part world.size world.kept.sound here done resulted) (stop_answers s part done resulted);
     restart = λ w me part world here. node_case w me part (restart_part part) world here (restart_done s right w me part world.size world.kept.sound here) (restart_answers s part);
     torn = λ w me kept part world here.
         untorn_world (IsKeptWorld s) w me kept part (node_case w me part (goes_on_as (untorn_part kept part)) world here (torn_done s right w me part world.size world.kept.sound here kept) (λ m h. absurd h));
-    task = λ w t part input done world here is came. record {
+    task = λ w t part input done world here is resulted. record {
       size = world.size;
       kept = task_goes_on s t input done (node_in w.nodes) (task_in w.tasks) w.sent (node_in w.nodes) (task_in (with_part w.tasks t done.part)) (w.sent ++ done.sends) world.kept is
-          (subst (λ (p : TaskPart). task_effect s.config t p input ≡ Ok done) (sym (task_here w t part here)) came) (λ k. refl) (task_moves_here w t part done here);
+          (subst (λ (p : TaskPart). task_effect s.config t p input ≡ Ok done) (sym (task_here w t part here)) resulted) (λ k. refl) (task_moves_here w t part done here);
     };
   }
 
@@ -97,7 +97,7 @@ kept_opening s opening = record {
     ready = λ t n. subst (λ (part : TaskPart). n ≤ length part.replies → IsReady s (order_of s.config.nodes []) t n) (sym (all_fresh t)) (λ few. record {
       before = [];
       begins = (order_of s.config.nodes [], refl);
-      absent = λ stands. stands.1;
+      absent = λ occurs. occurs.1;
       answered = inl (omega (arith, few));
     });
   };
@@ -118,7 +118,7 @@ reply_has replies k answer e = part_has replies (suc k) answer e
 
 -- ---- histories
 
--- each history leads to a world that keeps what tasks are told
+-- each history leads to a world that keeps the replies to tasks
 pub kept_in : {S : Type 0} (s : Setting S) (events : List Event) (world : World) → IsSoundWorld s.config.nodes (opening_world s.config.nodes) → IsHistory s events world → IsKeptWorld s world
 kept_in s events world opening history =
     history_keeps s (IsKeptWorld s) (kept_by_all s history.config) (opening_world s.config.nodes) events world (kept_opening s opening) history.right history.happened

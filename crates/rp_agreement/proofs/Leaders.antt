@@ -33,7 +33,7 @@ use Rattle.rp_model.specs.Says.{says, says_to_all, sends, notes}
 use Rattle.rp_model.specs.Pending.{is_free_item, own_action}
 use Rattle.rp_model.specs.Leader.{chosen_position, is_out_of_reach, starts_above, begins, begins_if, offers, leads_at, on_lead, unlearned_in, begins_range, leads_range, on_lead_range, on_promise_range, counts_promise, on_promise_to, on_promise, on_nack}
 use Rattle.rp_model.specs.Facts.{HasPromised, IsOffered}
-use Rattle.rp_agreement.specs.Told.{IsAsked}
+use Rattle.rp_agreement.specs.Asked.{IsAsked}
 use Rattle.rp_agreement.specs.Sound.{IsSo, IsProposal, IsRunning, IsSound}
 use Rattle.rp_agreement.proofs.Lists.{some_same, found_has}
 use Rattle.rp_agreement.proofs.RecordGrowth.{started_below}
@@ -74,9 +74,9 @@ promised_with sent p from last old new a o h =
 -- one promise more
 more_promised : (sent : List Message) (records : List Rec) (p : Proposal) (from : ℕ) (last : Option Vote) → IsProposal sent records p
     → HasPromised sent from p.position p.ballot last → IsProposal sent records (with_promise p (from, last))
-more_promised sent records p from last is told = record {
+more_promised sent records p from last is stated = record {
   started = is.started;
-  promised = promised_with sent p from last is.promised told;
+  promised = promised_with sent p from last is.promised stated;
   asked = is.asked;
   unoffered = is.unoffered;
 }
@@ -138,14 +138,14 @@ counts_sound : (nodes x : ℕ) (node : ℕ → NodePart) (sent : List Message) (
     → IsSound nodes node sent → IsRunning sent (node x).records running → IsProposal sent (node x).records p → p.phase ≡ Preparing
     → HasPromised sent from p.position p.ballot last
     → IsSoundTurn nodes x (node x).records sent (counts_promise nodes x running p (from, last))
-counts_sound nodes x node sent running p from last sound runs is waits told =
+counts_sound nodes x node sent running p from last sound runs is waits stated =
     let one : Promise = (from, last) in
     let after = with_promise p one in
     let records = (node x).records in
     let known : Proposal → Running = λ q. record running { proposals = with_proposal running.proposals q } in
     let packets = says_to_all nodes x (bodies.Accept p.position p.ballot (offer_of p.own after.promises)) in
     let turn : Proposal → Turn = λ q. if is_promised nodes after then sends (known q) packets else notes (known q) in
-    let stays = more_promised sent records p from last is told in
+    let stays = more_promised sent records p from last is stated in
     elim (cases_Bool (is_promised nodes after)) [
       | inl most ↦ subst (λ (q : Proposal). IsSoundTurn nodes x records sent (turn q)) (sym (cond-true (is_promised nodes after) (offering after) after most))
           (subst (IsSoundTurn nodes x records sent) (sym (cond-true (is_promised nodes after) (sends (known (offering after)) packets) (notes (known (offering after))) most))
@@ -162,22 +162,22 @@ waits_by Offering e = absurd (false≢true e)
 promise_to : (nodes x : ℕ) (node : ℕ → NodePart) (sent : List Message) (running : Running) (from i b : ℕ) (last : Option Vote) (at : Option Proposal)
     → IsSound nodes node sent → IsRunning sent (node x).records running → HasPromised sent from i b last → proposal_at running.proposals i ≡ at
     → IsSoundTurn nodes x (node x).records sent (on_promise_to nodes x running b (from, last) at)
-promise_to nodes x node sent running from i b last None sound runs told is = quiet nodes x (node x).records sent running runs
-promise_to nodes x node sent running from i b last (Some p) sound runs told is =
+promise_to nodes x node sent running from i b last None sound runs stated is = quiet nodes x (node x).records sent running runs
+promise_to nodes x node sent running from i b last (Some p) sound runs stated is =
     let found = found_has (λ (q : Proposal). nat_eq q.position i) p running.proposals is in
     let place : p.position ≡ i = eqb-true p.position i found.1 in
     either nodes x (node x).records sent (takes_promise b p) (counts_promise nodes x running p (from, last)) (notes running) (λ takes.
     let both = and_parts _ _ takes in
     let ballot : p.ballot ≡ b = eqb-true p.ballot b both.0 in
-    let here = subst (λ (c : ℕ). HasPromised sent from p.position c last) (sym ballot) (subst (λ (j : ℕ). HasPromised sent from j b last) (sym place) told) in
+    let here = subst (λ (c : ℕ). HasPromised sent from p.position c last) (sym ballot) (subst (λ (j : ℕ). HasPromised sent from j b last) (sym place) stated) in
     counts_sound nodes x node sent running p from last sound runs (runs.proposals p found.0) (waits_by p.phase (and_parts _ _ both.1).0) here)
     (λ _. quiet nodes x (node x).records sent running runs)
 
 pub promise_sound : (nodes x : ℕ) (node : ℕ → NodePart) (sent : List Message) (running : Running) (from i b : ℕ) (last : Option Vote)
     → IsSound nodes node sent → IsRunning sent (node x).records running → HasPromised sent from i b last
     → IsSoundTurn nodes x (node x).records sent (on_promise nodes x running from i b last)
-promise_sound nodes x node sent running from i b last sound runs told =
-    promise_to nodes x node sent running from i b last (proposal_at running.proposals i) sound runs told refl
+promise_sound nodes x node sent running from i b last sound runs stated =
+    promise_to nodes x node sent running from i b last (proposal_at running.proposals i) sound runs stated refl
 
 -- ---- Nack
 
@@ -208,7 +208,7 @@ nack_sound nodes x records sent running i b bound runs =
 once_noted_is : (nodes : ℕ) (sent : List Message) (records : List Rec) (from : ℕ) (range : Range) (b : ℕ) (votes : List PlacedVote) (p : Proposal)
     → ((i : ℕ) → is_covered range i ≡ true → HasPromised sent from i b (placed_at votes i)) → IsProposal sent records p
     → IsProposal sent records (once_promised nodes from range b votes p)
-once_noted_is nodes sent records from range b votes p told is =
+once_noted_is nodes sent records from range b votes p stated is =
     let after = with_promise p (from, placed_at votes p.position) in
     elim (cases_Bool (is_covered range p.position && takes_range_promise nodes b p)) [
       | inl takes ↦
@@ -216,19 +216,19 @@ once_noted_is nodes sent records from range b votes p told is =
           let ballot : p.ballot ≡ b = eqb-true p.ballot b (and_parts _ _ both.1).0 in
           subst (IsProposal sent records) (sym (cond-true (is_covered range p.position && takes_range_promise nodes b p) after p takes))
           (more_promised sent records p from (placed_at votes p.position) is
-          (subst (λ (c : ℕ). HasPromised sent from p.position c (placed_at votes p.position)) (sym ballot) (told p.position both.0)))
+          (subst (λ (c : ℕ). HasPromised sent from p.position c (placed_at votes p.position)) (sym ballot) (stated p.position both.0)))
       | inr passes ↦ subst (IsProposal sent records) (sym (cond-false (is_covered range p.position && takes_range_promise nodes b p) after p passes)) is
     ]
 
 pub promise_range_sound : (nodes x : ℕ) (node : ℕ → NodePart) (sent : List Message) (running : Running) (from : ℕ) (range : Range) (b : ℕ) (votes : List PlacedVote)
     → IsRunning sent (node x).records running → ((i : ℕ) → is_covered range i ≡ true → HasPromised sent from i b (placed_at votes i))
     → IsSoundTurn nodes x (node x).records sent (on_promise_range nodes running from range b votes)
-promise_range_sound nodes x node sent running from range b votes runs told =
+promise_range_sound nodes x node sent running from range b votes runs stated =
     let f = once_promised nodes from range b votes in
     quiet nodes x (node x).records sent (record running { proposals = map f running.proposals }) (record {
       proposals = λ q h.
           let hit = mapped_has f q running.proposals h in
-          subst (IsProposal sent (node x).records) (sym hit.2) (once_noted_is nodes sent (node x).records from range b votes hit.0 told (runs.proposals hit.0 hit.1));
+          subst (IsProposal sent (node x).records) (sym hit.2) (once_noted_is nodes sent (node x).records from range b votes hit.0 stated (runs.proposals hit.0 hit.1));
       apart = subst (λ (l : List ℕ). IsSet l) (sym (positions_stay f (promised_there nodes from range b votes) running.proposals)) runs.apart;
       pending = runs.pending;
       heard = runs.heard;
@@ -268,7 +268,7 @@ own_is_asked : (sent : List Message) (kept : List Action) (others : List Proposa
 own_is_asked sent kept others pending asked =
     found_asked sent (find (is_free_item kept others) pending) (item_asked sent kept others pending (find (is_free_item kept others) pending) asked refl)
 
--- what a turn comes to, if it is not refused, is a sound step
+-- the result of a turn, if it is not refused, is a sound step
 abbrev pub IsSoundIf : ℕ → ℕ → List Rec → List Message → Result Turn Fault → Type 0
 IsSoundIf nodes x records sent (Ok turn) = IsSoundTurn nodes x records sent turn
 IsSoundIf nodes x records sent (Err fault) = Unit {0}

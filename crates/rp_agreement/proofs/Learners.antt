@@ -19,7 +19,7 @@ use Rattle.rp_model.specs.Parts.{Running}
 use Rattle.rp_model.specs.Says.{says, says_to_others, says_to_task, notes}
 use Rattle.rp_model.specs.Pending.{is_answered_by, replies_to, stays}
 use Rattle.rp_model.specs.Leader.{is_beyond}
-use Rattle.rp_model.specs.Learner.{missing_position, asks_for, tells_learned, on_ask, learns, on_vote, on_accepted, on_decision, on_decided}
+use Rattle.rp_model.specs.Learner.{missing_position, asks_for, answers_ask, on_ask, learns, on_vote, on_accepted, on_decision, on_decided}
 use Rattle.rp_model.specs.Facts.{HasVoted, IsDecided}
 use Rattle.rp_agreement.specs.Sound.{IsRunning}
 use Rattle.rp_agreement.proofs.RecordGrowth.{learned_has}
@@ -28,7 +28,7 @@ use Rattle.rp_agreement.proofs.Counting.{majority_decides}
 use Rattle.rp_agreement.proofs.Proposing.{member_or_new, stays_there}
 use Rattle.rp_base.proofs.Apart.{without_apart}
 
--- each vote of the list was told
+-- each vote of the list was sent
 abbrev AreCast : List Message → List HeardVote → Type 0
 AreCast sent heard = (a i : ℕ) (w : Vote) → (let h : HeardVote = (a, i, w) in Has h heard) → HasVoted sent a i w.ballot w.action
 
@@ -40,7 +40,7 @@ decides nodes sent i vote heard cast most = majority_decides nodes sent i vote h
 
 heard_more : (sent : List Message) (heard : List HeardVote) (from i : ℕ) (vote : Vote) → AreCast sent heard → HasVoted sent from i vote.ballot vote.action
     → AreCast sent (with_member same_heard heard (from, i, vote))
-heard_more sent heard from i vote cast told a j w h =
+heard_more sent heard from i vote cast stated a j w h =
     let one : HeardVote = (a, j, w) in
     let other : HeardVote = (from, i, vote) in
     elim (member_or_new same_heard one other heard h) [
@@ -48,7 +48,7 @@ heard_more sent heard from i vote cast told a j w h =
       | inr same ↦
           subst (λ (k : ℕ). HasVoted sent k j w.ballot w.action) (sym (ap (λ (k : HeardVote). k.0) same))
           (subst (λ (k : ℕ). HasVoted sent from k w.ballot w.action) (sym (ap (λ (k : HeardVote). k.1) same))
-          (subst (λ (u : Vote). HasVoted sent from i u.ballot u.action) (sym (ap (λ (k : HeardVote). k.2) same)) told))
+          (subst (λ (u : Vote). HasVoted sent from i u.ballot u.action) (sym (ap (λ (k : HeardVote). k.2) same)) stated))
     ]
 
 runs_heard : (sent : List Message) (records : List Rec) (running : Running) (heard : List HeardVote) → IsRunning sent records running → AreCast sent heard
@@ -57,16 +57,16 @@ runs_heard sent records running heard runs cast = record { proposals = runs.prop
 
 -- ---- Ask
 
-ask_told : (nodes x : ℕ) (records : List Rec) (sent : List Message) (running : Running) (from i : ℕ) (learned : Option Action)
-    → IsRunning sent records running → learned_at records i ≡ learned → IsSoundTurn nodes x records sent (tells_learned x running from i learned)
-ask_told nodes x records sent running from i None runs is = quiet nodes x records sent running runs
-ask_told nodes x records sent running from i (Some v) runs is =
+ask_answered : (nodes x : ℕ) (records : List Rec) (sent : List Message) (running : Running) (from i : ℕ) (learned : Option Action)
+    → IsRunning sent records running → learned_at records i ≡ learned → IsSoundTurn nodes x records sent (answers_ask x running from i learned)
+ask_answered nodes x records sent running from i None runs is = quiet nodes x records sent running runs
+ask_answered nodes x records sent running from i (Some v) runs is =
     sending nodes x records sent running (says x (bodies.Decided i v) from ∷ [])
     (one_plain nodes x sent records (says x (bodies.Decided i v) from) (record { from = refl; so = learned_has records i v is; no_offer = λ h. h })) runs
 
 pub ask_sound : (nodes x : ℕ) (records : List Rec) (sent : List Message) (running : Running) (from i : ℕ) → IsRunning sent records running
     → IsSoundTurn nodes x records sent (on_ask x records running from i)
-ask_sound nodes x records sent running from i runs = ask_told nodes x records sent running from i (learned_at records i) runs refl
+ask_sound nodes x records sent running from i runs = ask_answered nodes x records sent running from i (learned_at records i) runs refl
 
 -- ---- replies, and questions for what is missing
 
@@ -93,29 +93,29 @@ runs_learned sent records running i test runs = record {
 }
 
 module _ {S : Type 0} (next : S → Action → S) (answers : S → Action → List Answer) (begin : S) where
-  learned_sound : (nodes x : ℕ) (records : List Rec) (sent : List Message) (running : Running) (i : ℕ) (v : Action) (packets behind : List Message)
+  learned_sound : (nodes x : ℕ) (records : List Rec) (sent : List Message) (running : Running) (i : ℕ) (v : Action) (packets following : List Message)
       → IsDecided nodes sent i v → IsRunning sent records running
-      → ArePlain nodes x sent (records ++ Learned i v ∷ []) packets → ArePlain nodes x sent (records ++ Learned i v ∷ []) behind
-      → IsSoundTurn nodes x records sent (learns next answers begin x records running i v packets behind)
-  learned_sound nodes x records sent running i v packets behind decided runs first last =
+      → ArePlain nodes x sent (records ++ Learned i v ∷ []) packets → ArePlain nodes x sent (records ++ Learned i v ∷ []) following
+      → IsSoundTurn nodes x records sent (learns next answers begin x records running i v packets following)
+  learned_sound nodes x records sent running i v packets following decided runs first last =
       let more = records ++ Learned i v ∷ [] in
       let before = applied_of records in
       let after = applied_of more in
       let given = replay_answers next answers begin after in
       let test = stays (kept_of next answers begin after) given (drop (length before) after) in
       let replies = replies_to x running.pending (drop (length (replay_answers next answers begin before)) given) in
-      plain nodes x records sent (learns next answers begin x records running i v packets behind) decided
-      (both_plain nodes x sent more (packets ++ replies) behind
+      plain nodes x records sent (learns next answers begin x records running i v packets following) decided
+      (both_plain nodes x sent more (packets ++ replies) following
       (both_plain nodes x sent more packets replies first (replies_plain nodes x sent more running.pending (drop (length (replay_answers next answers begin before)) given))) last)
       (runs_learned sent more running i test (runs_written sent records (Some (Learned i v)) running runs))
 
   vote_sound : (nodes x : ℕ) (records : List Rec) (sent : List Message) (running : Running) (from i : ℕ) (vote : Vote) (learned : Option Action)
       → IsRunning sent records running → HasVoted sent from i vote.ballot vote.action
       → IsSoundTurn nodes x records sent (on_vote next answers begin nodes x records running from i vote learned)
-  vote_sound nodes x records sent running from i vote (Some learned) runs told = quiet nodes x records sent running runs
-  vote_sound nodes x records sent running from i vote None runs told =
+  vote_sound nodes x records sent running from i vote (Some learned) runs stated = quiet nodes x records sent running runs
+  vote_sound nodes x records sent running from i vote None runs stated =
       let heard = with_member same_heard running.heard (from, i, vote) in
-      let cast = heard_more sent running.heard from i vote runs.heard told in
+      let cast = heard_more sent running.heard from i vote runs.heard stated in
       let more = records ++ Learned i vote.action ∷ [] in
       either nodes x records sent (makes_majority nodes i vote heard)
       (learns next answers begin x records running i vote.action (says_to_others nodes x (bodies.Decided i vote.action)) [])
@@ -130,12 +130,12 @@ module _ {S : Type 0} (next : S → Action → S) (answers : S → Action → Li
   pub accepted_sound : (nodes x : ℕ) (records : List Rec) (sent : List Message) (running : Running) (from i : ℕ) (vote : Vote)
       → IsRunning sent records running → HasVoted sent from i vote.ballot vote.action
       → IsSoundTurn nodes x records sent (on_accepted next answers begin nodes x records running from i vote)
-  accepted_sound nodes x records sent running from i vote runs told =
+  accepted_sound nodes x records sent running from i vote runs stated =
       either nodes x records sent (is_beyond records i)
       (notes running)
       (on_vote next answers begin nodes x records running from i vote (learned_at records i))
       (λ _. quiet nodes x records sent running runs)
-      (λ _. vote_sound nodes x records sent running from i vote (learned_at records i) runs told)
+      (λ _. vote_sound nodes x records sent running from i vote (learned_at records i) runs stated)
 
   decision_sound : (nodes x : ℕ) (records : List Rec) (sent : List Message) (running : Running) (from i : ℕ) (v : Action) (learned : Option Action)
       → IsRunning sent records running → IsDecided nodes sent i v

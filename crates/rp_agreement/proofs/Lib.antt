@@ -20,12 +20,12 @@ pub mod TaskEffects
 pub mod PartPlaces
 pub mod EventWalk
 pub mod WorldKeeping
-pub mod Happening
+pub mod EventLists
 pub mod Playing
 pub mod AnswerTurns
 pub mod AnswersGrow
-pub mod NodeTelling
-pub mod TaskTelling
+pub mod NodeReplies
+pub mod TaskReplies
 pub mod Made
 pub mod TaskKeeping
 pub mod KeptWorlds

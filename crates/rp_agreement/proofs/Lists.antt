@@ -13,7 +13,7 @@ use Rattle.rp_base.specs.Records.{higher_vote, highest}
 pub some_same : {A : Type 0} {x y : A} → Some x ≡ Some y → x ≡ y
 some_same {A} {x} {y} e = ap (λ (o : Option A). unwrap_or o x) e
 
--- a member of what a function picks comes of one that it picks it from
+-- a member of what a function picks results from one that it picks it from
 has_cons_option : {B : Type 0} (y : B) (o : Option B) (ys : List B) → Has y (cons_option o ys) → (o ≡ Some y) ⊎ Has y ys
 has_cons_option y None ys h = inr h
 has_cons_option y (Some z) ys h = elim h [ inl e ↦ inl (ap Some (sym e)) | inr later ↦ inr later ]
@@ -109,12 +109,12 @@ get_mapped f [] k a e = absurd (cc)
 get_mapped {A} f (x ∷ xs) zero a e = ap (λ (o : Option A). Some (f (unwrap_or o x))) e
 get_mapped f (x ∷ xs) (suc k) a e = get_mapped f xs k a e
 
-get_behind : {A : Type 0} (xs : List A) (y : A) (k : ℕ) (a : A) → slice_get (xs ++ y ∷ []) k ≡ Some a → (slice_get xs k ≡ Some a) ⊎ ((k ≡ length xs) × (a ≡ y))
-get_behind [] y zero a e = inr (refl, sym (ap (λ (o : Option _). unwrap_or o y) e))
-get_behind [] y (suc k) a e = absurd (cc)
-get_behind (x ∷ xs) y zero a e = inl e
-get_behind (x ∷ xs) y (suc k) a e =
-    elim (get_behind xs y k a e) [
+get_after : {A : Type 0} (xs : List A) (y : A) (k : ℕ) (a : A) → slice_get (xs ++ y ∷ []) k ≡ Some a → (slice_get xs k ≡ Some a) ⊎ ((k ≡ length xs) × (a ≡ y))
+get_after [] y zero a e = inr (refl, sym (ap (λ (o : Option _). unwrap_or o y) e))
+get_after [] y (suc k) a e = absurd (cc)
+get_after (x ∷ xs) y zero a e = inl e
+get_after (x ∷ xs) y (suc k) a e =
+    elim (get_after xs y k a e) [
       | inl before ↦ inl before
       | inr last ↦ inr (ap suc last.0, last.1)
     ]
@@ -123,7 +123,7 @@ get_behind (x ∷ xs) y (suc k) a e =
 pub get_one_to : (n k m : ℕ) → slice_get (one_to n) k ≡ Some m → m ≡ suc k
 get_one_to zero k m e = absurd (cc)
 get_one_to (suc n) k m e =
-    elim (get_behind (one_to n) (suc n) k m e) [
+    elim (get_after (one_to n) (suc n) k m e) [
       | inl before ↦ get_one_to n k m before
       | inr last ↦ last.1 ∙ ap suc (sym (last.0 ∙ length-one_to n))
     ]

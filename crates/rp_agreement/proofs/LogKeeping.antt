@@ -14,7 +14,7 @@ use Rattle.rp_model.specs.Parts.{NodePart}
 use Rattle.rp_model.specs.Parts.{Turn}
 use Rattle.rp_model.specs.Parts.{fresh_node, with_record, is_in_log}
 use Rattle.rp_model.specs.Texts.{written_for}
-use Rattle.rp_model.specs.Effect.{Setting, Done, NodeInput, running_effect, turned_if, effect_while, node_effect, stop_part, cut_part, stops_while, stop_effect, cut_if, cut_effect, restart_while, restart_part}
+use Rattle.rp_model.specs.Effect.{Setting, Done, NodeInput, running_effect, turn_done_if, effect_while, node_effect, stop_part, cut_part, stops_while, stop_effect, cut_if, cut_effect, restart_while, restart_part}
 use Rattle.rp_model.specs.Events.{Event}
 use Rattle.rp_model.specs.World.{World, opening_world, part_at, with_part}
 use Rattle.rp_agreement.specs.History.{IsHistory}
@@ -41,7 +41,7 @@ abbrev DoneInLog : ℕ → Result (Done NodePart) Fault → Type 0
 DoneInLog most (Ok done) = AreInLog most done.part.records
 DoneInLog most (Err fault) = Unit {0}
 
-turned_in_log : (most : ℕ) (part : NodePart) (turn : Result Turn Fault) → AreInLog most part.records → InLogIf most turn → DoneInLog most (turned_if part turn)
+turned_in_log : (most : ℕ) (part : NodePart) (turn : Result Turn Fault) → AreInLog most part.records → InLogIf most turn → DoneInLog most (turn_done_if part turn)
 turned_in_log most part (Ok turn) all one = written_in_log most part.records turn.written all one
 turned_in_log most part (Err fault) all one = tt
 
@@ -55,7 +55,7 @@ cut_in_log most kept part (Some rec) all one =
       | false ↦ all
     ]
 
-turned_cut : (most kept : ℕ) (part : NodePart) (turn : Result Turn Fault) → AreInLog most part.records → InLogIf most turn → DoneInLog most (cut_if kept part (turned_if part turn))
+turned_cut : (most kept : ℕ) (part : NodePart) (turn : Result Turn Fault) → AreInLog most part.records → InLogIf most turn → DoneInLog most (cut_if kept part (turn_done_if part turn))
 turned_cut most kept part (Ok turn) all one = cut_in_log most kept part turn.written all one
 turned_cut most kept part (Err fault) all one = tt
 
@@ -77,8 +77,8 @@ restarted : (most : ℕ) (part : NodePart) (running : Option Running) → AreInL
 restarted most part None all = all
 restarted most part (Some running) all = all
 
-came_in_log : (most : ℕ) (result : Result (Done NodePart) Fault) (done : Done NodePart) → DoneInLog most result → result ≡ Ok done → AreInLog most done.part.records
-came_in_log most result done all came = subst (DoneInLog most) came all
+result_in_log : (most : ℕ) (result : Result (Done NodePart) Fault) (done : Done NodePart) → DoneInLog most result → result ≡ Ok done → AreInLog most done.part.records
+result_in_log most result done all resulted = subst (DoneInLog most) resulted all
 
 -- ---- the parts of a world
 
@@ -113,16 +113,16 @@ module _ {S : Type 0} (s : Setting S) where
 
   pub log_kept : IsKeptByAll s (NodesInLog s.config.max_positions)
   log_kept = record {
-    input = λ w me part input done all here is came. put_in_log s.config.max_positions w me done.part all
-        (came_in_log s.config.max_positions (node_effect s me part input) done (input_while s me part input part.running (at_place w me part all here)) came);
-    cut = λ w me kept part input done all here is came. put_in_log s.config.max_positions w me done.part all
-        (came_in_log s.config.max_positions (cut_effect s me part input kept) done (cut_while s me kept part input part.running (at_place w me part all here)) came);
-    stop = λ w me part done all here came. put_in_log s.config.max_positions w me done.part all
-        (came_in_log s.config.max_positions (stop_effect part) done (stop_while s.config.max_positions part part.running (at_place w me part all here)) came);
+    input = λ w me part input done all here is resulted. put_in_log s.config.max_positions w me done.part all
+        (result_in_log s.config.max_positions (node_effect s me part input) done (input_while s me part input part.running (at_place w me part all here)) resulted);
+    cut = λ w me kept part input done all here is resulted. put_in_log s.config.max_positions w me done.part all
+        (result_in_log s.config.max_positions (cut_effect s me part input kept) done (cut_while s me kept part input part.running (at_place w me part all here)) resulted);
+    stop = λ w me part done all here resulted. put_in_log s.config.max_positions w me done.part all
+        (result_in_log s.config.max_positions (stop_effect part) done (stop_while s.config.max_positions part part.running (at_place w me part all here)) resulted);
     restart = λ w me part all here. put_in_log s.config.max_positions w me (restart_part part).part all
         (restarted s.config.max_positions part part.running (at_place w me part all here));
     torn = λ w me kept part all here. put_in_log s.config.max_positions w me _ all (at_place w me part all here);
-    task = λ w t part input done all here is came. all;
+    task = λ w t part input done all here is resulted. all;
   }
 
 pub same_everywhere : {A : Type 0} (n : ℕ) (a x : A) → Has x (replicate n a) → x ≡ a

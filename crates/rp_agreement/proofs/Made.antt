@@ -13,12 +13,12 @@ use Rattle.rp_machine.proofs.Calling.{one_to_bound}
 use Rattle.rp_model.specs.Parts.{TaskPart, fresh_task}
 use Rattle.rp_model.specs.Effect.{Done}
 use Rattle.rp_model.specs.Tasks.{asks}
-use Rattle.rp_agreement.specs.Told.{Asks}
+use Rattle.rp_agreement.specs.Asked.{Asks}
 use Rattle.rp_agreement.specs.Order.{AllSent}
 use Rattle.rp_agreement.specs.Steps.{SentToo}
 use Rattle.rp_agreement.specs.Answered.{named, calls_so_far, IsAnswered, AreMade}
 use Rattle.rp_agreement.proofs.Lists.{some_same}
-use Rattle.rp_agreement.proofs.TaskTelling.{same_call, WentOn, MadeNone, MadeOne}
+use Rattle.rp_agreement.proofs.TaskReplies.{same_call, WentOn, MadeNone, MadeOne}
 
 -- a task that did nothing yet made no call
 pub made_nothing : (t : ℕ) → AreMade [] t fresh_task []

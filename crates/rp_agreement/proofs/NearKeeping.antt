@@ -22,7 +22,7 @@ use Rattle.rp_model.specs.Texts.{written_for}
 use Rattle.rp_model.specs.Leader.{window}
 use Rattle.rp_model.specs.Receiving.{party_number}
 use Rattle.rp_model.specs.Tasks.{TaskInput, Submit, Again, Take, asks, next_call, may_call, calls_if, asks_again, takes, takes_reply, task_hears, task_effect}
-use Rattle.rp_model.specs.Effect.{Setting, Done, goes_on_as, NodeInput, Receive, Lead, LeadRange, Interrupt, Tick, Report, running_effect, turned_if, effect_while, node_effect, stop_part, cut_part, stops_while, cut_if, restart_while, untorn_part}
+use Rattle.rp_model.specs.Effect.{Setting, Done, goes_on_as, NodeInput, Receive, Lead, LeadRange, Interrupt, Tick, Report, running_effect, turn_done_if, effect_while, node_effect, stop_part, cut_part, stops_while, cut_if, restart_while, untorn_part}
 use Rattle.rp_model.specs.Events.{Event}
 use Rattle.rp_model.specs.World.{World, opening_world, part_at, with_part, node_done}
 use Rattle.rp_model.proofs.AppliedGrowing.{applied_more}
@@ -51,7 +51,7 @@ SentNear w from to (bodies.Decided i v) = Unit {0}
 SentNear w from to (bodies.Ask i) = Unit {0}
 SentNear w from to (bodies.Nack i b bound) = Unit {0}
 SentNear w from to (bodies.Reply number reply) = Unit {0}
-SentNear w from to (bodies.Report first applied told) = Unit {0}
+SentNear w from to (bodies.Report first applied stated) = Unit {0}
 SentNear w from to (bodies.PrepareRange range b) = Unit {0}
 SentNear w from to (bodies.PromiseRange range b votes) = Unit {0}
 
@@ -66,7 +66,7 @@ IsPlain (bodies.Decided i v) = Unit {0}
 IsPlain (bodies.Ask i) = Unit {0}
 IsPlain (bodies.Nack i b bound) = Unit {0}
 IsPlain (bodies.Reply number reply) = Unit {0}
-IsPlain (bodies.Report first applied told) = Unit {0}
+IsPlain (bodies.Report first applied stated) = Unit {0}
 IsPlain (bodies.PrepareRange range b) = Unit {0}
 IsPlain (bodies.PromiseRange range b votes) = Unit {0}
 
@@ -115,7 +115,7 @@ module _ (w : World) (me : ℕ) (part after : NodePart) (here : part_at w.nodes 
   sent_stays from to (bodies.Ask i) is = tt
   sent_stays from to (bodies.Nack i b bound) is = tt
   sent_stays from to (bodies.Reply number reply) is = tt
-  sent_stays from to (bodies.Report first applied told) is = tt
+  sent_stays from to (bodies.Report first applied stated) is = tt
   sent_stays from to (bodies.PrepareRange range b) is = tt
   sent_stays from to (bodies.PromiseRange range b votes) is = tt
 
@@ -129,7 +129,7 @@ module _ (w : World) (me : ℕ) (part after : NodePart) (here : part_at w.nodes 
   newly_sent from to (bodies.Ask i) is = tt
   newly_sent from to (bodies.Nack i b bound) is = tt
   newly_sent from to (bodies.Reply number reply) is = tt
-  newly_sent from to (bodies.Report first applied told) is = tt
+  newly_sent from to (bodies.Report first applied stated) is = tt
   newly_sent from to (bodies.PrepareRange range b) is = tt
   newly_sent from to (bodies.PromiseRange range b votes) is = tt
 
@@ -161,7 +161,7 @@ may_vote w from to (bodies.Decided i v) is = tt
 may_vote w from to (bodies.Ask i) is = tt
 may_vote w from to (bodies.Nack i b bound) is = tt
 may_vote w from to (bodies.Reply number reply) is = tt
-may_vote w from to (bodies.Report first applied told) is = tt
+may_vote w from to (bodies.Report first applied stated) is = tt
 may_vote w from to (bodies.PrepareRange range b) is = tt
 may_vote w from to (bodies.PromiseRange range b votes) is = tt
 
@@ -189,12 +189,12 @@ module _ (w : World) (me : ℕ) (part : NodePart) (all : IsNearWorld w) (here : 
       → IsNearWorld (record { nodes = with_part w.nodes me after; tasks = w.tasks; sent = w.sent ++ [] })
   rests after more grown none = near_next w me part after here more grown [] all (λ running is p h. absurd (none running is p h)) (no_sends me part.records (IsNodeNear w))
 
-  turned_near : (running : Running) (turn : Result Turn Fault) (done : Done NodePart) → IsNearIf me part.records (IsNodeNear w) turn → turned_if part turn ≡ Ok done → IsNearWorld (node_done w me done).world
-  turned_near running (Err fault) done near came = absurd (cc)
-  turned_near running (Ok turn) done near came =
+  turned_near : (running : Running) (turn : Result Turn Fault) (done : Done NodePart) → IsNearIf me part.records (IsNodeNear w) turn → turn_done_if part turn ≡ Ok done → IsNearWorld (node_done w me done).world
+  turned_near running (Err fault) done near resulted = absurd (cc)
+  turned_near running (Ok turn) done near resulted =
       let more = written_more part.records turn.written in
       let after : NodePart = record part { records = with_record part.records turn.written; running = Some turn.running } in
-      subst (λ (d : Done NodePart). IsNearWorld (node_done w me d).world) (ok_is _ done came)
+      subst (λ (d : Done NodePart). IsNearWorld (node_done w me d).world) (ok_is _ done resulted)
       (near_next w me part after here more.0 more.1 turn.sent all
       (λ running is p h.
       let known : turn.running ≡ running = some_is turn.running running is in
@@ -212,14 +212,14 @@ module _ (w : World) (me : ℕ) (part : NodePart) (all : IsNearWorld w) (here : 
         | false ↦ rests torn [] (sym (append-nil part.records)) (λ running is p h. absurd (cc))
       ]
 
-  cut_came : (kept : ℕ) (result : Result (Done NodePart) Fault) (done : Done NodePart) → cut_if kept part result ≡ Ok done → IsNearWorld (node_done w me done).world
-  cut_came kept (Err fault) done came = absurd (cc)
-  cut_came kept (Ok whole) done came = subst (λ (d : Done NodePart). IsNearWorld (node_done w me d).world) (ok_is _ done came) (cut_near kept whole.written)
+  cut_results : (kept : ℕ) (result : Result (Done NodePart) Fault) (done : Done NodePart) → cut_if kept part result ≡ Ok done → IsNearWorld (node_done w me done).world
+  cut_results kept (Err fault) done resulted = absurd (cc)
+  cut_results kept (Ok whole) done resulted = subst (λ (d : Done NodePart). IsNearWorld (node_done w me d).world) (ok_is _ done resulted) (cut_near kept whole.written)
 
-  stop_came : (running : Option Running) (done : Done NodePart) → stops_while part running ≡ Ok done → IsNearWorld (node_done w me done).world
-  stop_came None done came = absurd (cc)
-  stop_came (Some running) done came =
-      subst (λ (d : Done NodePart). IsNearWorld (node_done w me d).world) (ok_is _ done came) (rests (stop_part part) [] (sym (append-nil part.records)) (λ running is p h. absurd (cc)))
+  stop_results : (running : Option Running) (done : Done NodePart) → stops_while part running ≡ Ok done → IsNearWorld (node_done w me done).world
+  stop_results None done resulted = absurd (cc)
+  stop_results (Some running) done resulted =
+      subst (λ (d : Done NodePart). IsNearWorld (node_done w me d).world) (ok_is _ done resulted) (rests (stop_part part) [] (sym (append-nil part.records)) (λ running is p h. absurd (cc)))
 
   runs_still : (running : Running) → part.running ≡ Some running → AreNear part.records running.proposals
   runs_still running is = all.parts me part running here is
@@ -232,12 +232,12 @@ module _ (w : World) (me : ℕ) (part : NodePart) (all : IsNearWorld w) (here : 
   same_sent after is = subst (λ (ms : List Message). IsNearWorld (record { nodes = with_part w.nodes me after; tasks = w.tasks; sent = ms })) (append-nil w.sent) is
 
   module _ {S : Type 0} (s : Setting S) where
-    input_came : (input : NodeInput) (running : Option Running) (done : Done NodePart) → IsInput w.sent input → part.running ≡ running → effect_while s me part input running ≡ Ok done
+    input_results : (input : NodeInput) (running : Option Running) (done : Done NodePart) → IsInput w.sent input → part.running ≡ running → effect_while s me part input running ≡ Ok done
         → IsNearWorld (node_done w me done).world
-    input_came input None done right is came = absurd (cc)
-    input_came input (Some running) done right is came =
+    input_results input None done right is resulted = absurd (cc)
+    input_results input (Some running) done right is resulted =
         turned_near running (running_effect s me part.records running input) done
-        (turn_near s me part.records (IsNodeNear w) running input (runs_still running is) (may_vote_for w input all right)) came
+        (turn_near s me part.records (IsNodeNear w) running input (runs_still running is) (may_vote_for w input all right)) resulted
 
 -- ---- a task's step
 
@@ -258,7 +258,7 @@ module _ (w : World) (t : ℕ) (after : TaskPart) (sends : List Message) where
   stays from to (bodies.Ask i) is = tt
   stays from to (bodies.Nack i b bound) is = tt
   stays from to (bodies.Reply number reply) is = tt
-  stays from to (bodies.Report first applied told) is = tt
+  stays from to (bodies.Report first applied stated) is = tt
   stays from to (bodies.PrepareRange range b) is = tt
   stays from to (bodies.PromiseRange range b votes) is = tt
 
@@ -272,7 +272,7 @@ module _ (w : World) (t : ℕ) (after : TaskPart) (sends : List Message) where
   is_plain from to (bodies.Ask i) is = tt
   is_plain from to (bodies.Nack i b bound) is = tt
   is_plain from to (bodies.Reply number reply) is = tt
-  is_plain from to (bodies.Report first applied told) is = tt
+  is_plain from to (bodies.Report first applied stated) is = tt
   is_plain from to (bodies.PrepareRange range b) is = tt
   is_plain from to (bodies.PromiseRange range b votes) is = tt
 
@@ -322,7 +322,7 @@ hears t part (bodies.Decided i v) = λ m h. absurd h
 hears t part (bodies.Ask i) = λ m h. absurd h
 hears t part (bodies.Nack i b bound) = λ m h. absurd h
 hears t part (bodies.Reply number reply) = taken t number part reply
-hears t part (bodies.Report first applied told) = λ m h. absurd h
+hears t part (bodies.Report first applied stated) = λ m h. absurd h
 hears t part (bodies.PrepareRange range b) = λ m h. absurd h
 hears t part (bodies.PromiseRange range b votes) = λ m h. absurd h
 
@@ -339,14 +339,14 @@ task_plain config t part (Take message) = hears t part message.body
 
 pub near_kept : {S : Type 0} (s : Setting S) → IsKeptByAll s IsNearWorld
 near_kept s = record {
-  input = λ w me part input done all here right came. input_came w me part all here s input part.running done right refl came;
-  cut = λ w me kept part input done all here right came. cut_came w me part all here kept (node_effect s me part input) done came;
-  stop = λ w me part done all here came. stop_came w me part all here part.running done came;
+  input = λ w me part input done all here right resulted. input_results w me part all here s input part.running done right refl resulted;
+  cut = λ w me kept part input done all here right resulted. cut_results w me part all here kept (node_effect s me part input) done resulted;
+  stop = λ w me part done all here resulted. stop_results w me part all here part.running done resulted;
   restart = λ w me part all here. restarts w me part all here part.running;
   torn = λ w me kept part all here.
       same_sent w me part all here (untorn_part kept part)
       (near_next w me part (untorn_part kept part) here [] (sym (append-nil part.records)) [] all (runs_still w me part all here) (no_sends me part.records (IsNodeNear w)));
-  task = λ w t part input done all here right came. task_sends w t done.part done.sends all (subst SendsPlainIf came (task_plain s.config t part input));
+  task = λ w t part input done all here right resulted. task_sends w t done.part done.sends all (subst SendsPlainIf resulted (task_plain s.config t part input));
 }
 
 opening_near : (nodes : ℕ) → IsNearWorld (opening_world nodes)

@@ -35,9 +35,9 @@ use Rattle.rp_base.specs.declared.voting.RangeAnswer.TheVariants as range_prepar
 use Rattle.rp_base.specs.Ranges.{Range, positions_of, range_of}
 use Rattle.rp_model.specs.Parts.{Running, Turn}
 use Rattle.rp_model.specs.Says.{says, says_to_all, says_to_others, says_to_task, sends, notes, writes, drops_full, drops_foreign}
-use Rattle.rp_model.specs.Acceptor.{tells_promise, tells_range, tells_vote}
+use Rattle.rp_model.specs.Acceptor.{answers_prepare, answers_prepare_range, answers_accept}
 use Rattle.rp_model.specs.Leader.{chosen_position, window, is_beyond, is_out_of_reach, starts_above, counts_promise, on_promise_to, on_nack, begins_if, leads_at, unlearned_in, on_lead_range}
-use Rattle.rp_model.specs.Learner.{missing_position, asks_for, tells_learned, learns, on_vote, on_decision}
+use Rattle.rp_model.specs.Learner.{missing_position, asks_for, answers_ask, learns, on_vote, on_decision}
 use Rattle.rp_model.specs.Pending.{most_pending, adds_pending, on_numbered, on_call, is_answered_by, replies_to, is_same_call, own_action}
 use Rattle.rp_model.specs.Receiving.{is_for_node, party_number, on_body}
 use Rattle.rp_model.specs.Effect.{Setting, NodeInput, Receive, Lead, LeadRange, Interrupt, Tick, Report, report_of, running_effect}
@@ -63,7 +63,7 @@ SaysNear me records Votes from to (bodies.Decided i v) = Unit {0}
 SaysNear me records Votes from to (bodies.Ask i) = Unit {0}
 SaysNear me records Votes from to (bodies.Nack i b bound) = Unit {0}
 SaysNear me records Votes from to (bodies.Reply number reply) = Unit {0}
-SaysNear me records Votes from to (bodies.Report first applied told) = Unit {0}
+SaysNear me records Votes from to (bodies.Report first applied stated) = Unit {0}
 SaysNear me records Votes from to (bodies.PrepareRange range b) = Unit {0}
 SaysNear me records Votes from to (bodies.PromiseRange range b votes) = Unit {0}
 
@@ -78,7 +78,7 @@ MayVote Votes from (bodies.Decided i v) = Unit {0}
 MayVote Votes from (bodies.Ask i) = Unit {0}
 MayVote Votes from (bodies.Nack i b bound) = Unit {0}
 MayVote Votes from (bodies.Reply number reply) = Unit {0}
-MayVote Votes from (bodies.Report first applied told) = Unit {0}
+MayVote Votes from (bodies.Report first applied stated) = Unit {0}
 MayVote Votes from (bodies.PrepareRange range b) = Unit {0}
 MayVote Votes from (bodies.PromiseRange range b votes) = Unit {0}
 
@@ -98,7 +98,7 @@ module _ (me : ℕ) (records : List Rec) (Votes : ℕ → ℕ → Type 0) where
   one m is k h = elim h [ inl same ↦ subst (λ (n : Message). SaysNear me records Votes n.from n.to n.body) (sym same) is | inr nothing ↦ absurd nothing ]
 
   both : (ms ks : List Message) → AllNear ms → AllNear ks → AllNear (ms ++ ks)
-  both ms ks left right m h = elim (has_split m ms ks h) [ inl before ↦ left m before | inr behind ↦ right m behind ]
+  both ms ks left right m h = elim (has_split m ms ks h) [ inl before ↦ left m before | inr following ↦ right m following ]
 
   mapped : {A : Type 0} (f : A → Message) (xs : List A) → ((a : A) → SaysNear me records Votes (f a).from (f a).to (f a).body) → AllNear (map f xs)
   mapped f xs each m h = let hit = mapped_has f m xs h in subst (λ (n : Message). SaysNear me records Votes n.from n.to n.body) (sym hit.2) (each hit.0)
@@ -144,17 +144,17 @@ module _ (me : ℕ) (records : List Rec) (Votes : ℕ → ℕ → Type 0) where
 
   -- ---- the acceptor
 
-  promised : (from i b : ℕ) (running : Running) (answer : PrepareAnswer) → AreNear records running.proposals → IsNearTurn (tells_promise me running from i b answer)
+  promised : (from i b : ℕ) (running : Running) (answer : PrepareAnswer) → AreNear records running.proposals → IsNearTurn (answers_prepare me running from i b answer)
   promised from i b running (prepares.Promise last rec) near = writing rec running (says me (bodies.Promise i b last) from ∷ []) near (one _ tt)
   promised from i b running (prepares.Nack bound) near = sending running (says me (bodies.Nack i b bound) from ∷ []) near (one _ tt)
   promised from i b running prepares.Silent near = noted running near
 
-  range_told : (from : ℕ) (range : Range) (b : ℕ) (running : Running) (answer : RangeAnswer) → AreNear records running.proposals → IsNearTurn (tells_range me running from range b answer)
-  range_told from range b running (range_prepares.Promise votes rec) near = writing rec running (says me (bodies.PromiseRange range b votes) from ∷ []) near (one _ tt)
-  range_told from range b running (range_prepares.Nack i bound) near = sending running (says me (bodies.Nack i b bound) from ∷ []) near (one _ tt)
-  range_told from range b running range_prepares.Silent near = noted running near
+  range_answered : (from : ℕ) (range : Range) (b : ℕ) (running : Running) (answer : RangeAnswer) → AreNear records running.proposals → IsNearTurn (answers_prepare_range me running from range b answer)
+  range_answered from range b running (range_prepares.Promise votes rec) near = writing rec running (says me (bodies.PromiseRange range b votes) from ∷ []) near (one _ tt)
+  range_answered from range b running (range_prepares.Nack i bound) near = sending running (says me (bodies.Nack i b bound) from ∷ []) near (one _ tt)
+  range_answered from range b running range_prepares.Silent near = noted running near
 
-  voted : (from i b : ℕ) (v : Action) (running : Running) (answer : AcceptAnswer) → AreNear records running.proposals → Votes from i → IsNearTurn (tells_vote me running from i b v answer)
+  voted : (from i b : ℕ) (v : Action) (running : Running) (answer : AcceptAnswer) → AreNear records running.proposals → Votes from i → IsNearTurn (answers_accept me running from i b v answer)
   voted from i b v running (accepts.Vote rec) near may = writing rec running (says me (bodies.Accepted i b v) from ∷ []) near (one _ (from, refl, may))
   voted from i b v running accepts.Again near may = sending running (says me (bodies.Accepted i b v) from ∷ []) near (one _ (from, refl, may))
   voted from i b v running (accepts.Nack bound) near may = sending running (says me (bodies.Nack i b bound) from ∷ []) near (one _ tt)
@@ -188,23 +188,23 @@ module _ (me : ℕ) (records : List Rec) (Votes : ℕ → ℕ → Type 0) where
 
   -- ---- the learner
 
-  told : (from i : ℕ) (running : Running) (learned : Option Action) → AreNear records running.proposals → IsNearTurn (tells_learned me running from i learned)
-  told from i running None near = noted running near
-  told from i running (Some v) near = sending running (says me (bodies.Decided i v) from ∷ []) near (one _ tt)
+  stated : (from i : ℕ) (running : Running) (learned : Option Action) → AreNear records running.proposals → IsNearTurn (answers_ask me running from i learned)
+  stated from i running None near = noted running near
+  stated from i running (Some v) near = sending running (says me (bodies.Decided i v) from ∷ []) near (one _ tt)
 
   asked : (from : ℕ) (missing : Option ℕ) → AllNear (asks_for me from missing)
   asked from None = none
   asked from (Some i) = one _ tt
 
   module _ {S : Type 0} (next : S → Action → S) (answers : S → Action → List Answer) (begin : S) where
-    learned : (running : Running) (i : ℕ) (v : Action) (packets behind : List Message) → AreNear records running.proposals → AllNear packets → AllNear behind
-        → IsNearTurn (learns next answers begin me records running i v packets behind)
-    learned running i v packets behind near first last =
+    learned : (running : Running) (i : ℕ) (v : Action) (packets following : List Message) → AreNear records running.proposals → AllNear packets → AllNear following
+        → IsNearTurn (learns next answers begin me records running i v packets following)
+    learned running i v packets following near first last =
         let replies : (given : List Answer) → AllNear (replies_to me running.pending given) = λ given.
         mapped (λ (answer : Answer). says_to_task me (bodies.Reply answer.number answer.reply) answer.task) (filter (λ answer. list_any (is_answered_by answer) running.pending) given) (λ answer. tt) in
         record {
           proposals = without_near running.proposals i near;
-          sent = both _ behind (both packets _ first (replies _)) last;
+          sent = both _ following (both packets _ first (replies _)) last;
         }
 
     vote_near : (nodes : ℕ) (running : Running) (from i : ℕ) (vote : Vote) (known : Option Action) → AreNear records running.proposals → IsNearTurn (on_vote next answers begin nodes me records running from i vote known)
@@ -226,11 +226,11 @@ module _ (me : ℕ) (records : List Rec) (Votes : ℕ → ℕ → Type 0) where
     body_near nodes running from (bodies.Accepted i b v) near may =
         choice (is_beyond records i) _ _ (noted running near) (vote_near nodes running from i (record { ballot = b; action = v }) (learned_at records i) near)
     body_near nodes running from (bodies.Decided i v) near may = decision_near running from i v (learned_at records i) near
-    body_near nodes running from (bodies.Ask i) near may = told from i running (learned_at records i) near
+    body_near nodes running from (bodies.Ask i) near may = stated from i running (learned_at records i) near
     body_near nodes running from (bodies.Nack i b bound) near may = refused nodes running i b bound near
     body_near nodes running from (bodies.Reply number reply) near may = noted running near
     body_near nodes running from (bodies.Report first applied actions) near may = noted running near
-    body_near nodes running from (bodies.PrepareRange range b) near may = range_told from range b running (range_answer records range b) near
+    body_near nodes running from (bodies.PrepareRange range b) near may = range_answered from range b running (range_answer records range b) near
     body_near nodes running from (bodies.PromiseRange range b votes) near may =
         noted (record running { proposals = map (once_promised nodes from range b votes) running.proposals })
         (λ q h.
@@ -239,7 +239,7 @@ module _ (me : ℕ) (records : List Rec) (Votes : ℕ → ℕ → Type 0) where
 
 -- ---- any input
 
--- what a turn comes to, if it is not refused
+-- the result of a turn, if it is not refused
 abbrev pub IsNearIf : ℕ → List Rec → (ℕ → ℕ → Type 0) → Result Turn Fault → Type 0
 IsNearIf me records Votes (Ok turn) = IsNearTurn me records Votes turn
 IsNearIf me records Votes (Err fault) = Unit {0}
@@ -322,9 +322,9 @@ pub turn_near : {S : Type 0} (s : Setting S) (me : ℕ) (records : List Rec) (Vo
 turn_near s me records Votes running (Receive message) near may =
     choice me records Votes (is_for_node s.config me message) _ (drops_foreign running)
     (body_near me records Votes s.next s.answers s.begin s.config.nodes running (party_number message.from) message.body near may) (record { proposals = near; sent = none me records Votes })
-turn_near s me records Votes running (Lead wanted) near may =
+turn_near s me records Votes running (Lead intended) near may =
     let most = s.config.max_positions in
-    let i = chosen_position s.config.nodes records running wanted in
+    let i = chosen_position s.config.nodes records running intended in
     either_if me records Votes (is_some (learned_at records i)) _ _ (λ _. noted me records Votes running near) (λ _.
     either_if me records Votes (is_out_of_reach most records i) _ _ (λ _. tt) (λ within. leads_near s me records Votes running i (proposal_at running.proposals i) near (in_reach most records i within) refl))
 turn_near s me records Votes running (LeadRange first count) near may = lead_range_near s me records Votes running (range_of first count) near

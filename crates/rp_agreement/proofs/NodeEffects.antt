@@ -1,4 +1,4 @@
--- What a node's input comes to, whole or cut, and what a stop or a restart leaves, keeps the invariant.
+-- The result of a node's input, whole or cut, and what a stop or a restart leaves, keeps the invariant.
 use Rattle.std.proofs.Common.{◌≡◌, ℕ, ◌<◌, ◌≤◌, true, false, if◌then◌else◌, Result, Ok, Err, Option, Some, None, List, [], ◌∷◌, ◌++◌, length, take, drop, ◌-◌, refl, sym, ap, subst, ◌∙◌, arith}
 use Rattle.std.specs.Prelude.{nat_le}
 use Rattle.std.proofs.lemmas.List.{take_all}
@@ -17,7 +17,7 @@ use Rattle.rp_model.specs.Parts.{Turn}
 use Rattle.rp_model.specs.Parts.{fresh_running, with_record}
 use Rattle.rp_model.specs.Says.{sends}
 use Rattle.rp_model.specs.Texts.{written_for}
-use Rattle.rp_model.specs.Effect.{Setting, Done, goes_on_as, NodeInput, Receive, Lead, LeadRange, Interrupt, Tick, Report, report_of, running_effect, turned_if, effect_while, node_effect, stop_part, cut_part, untorn_part, stops_while, stop_effect, cut_if, cut_effect, restart_while, restart_part}
+use Rattle.rp_model.specs.Effect.{Setting, Done, goes_on_as, NodeInput, Receive, Lead, LeadRange, Interrupt, Tick, Report, report_of, running_effect, turn_done_if, effect_while, node_effect, stop_part, cut_part, untorn_part, stops_while, stop_effect, cut_if, cut_effect, restart_while, restart_part}
 use Rattle.rp_agreement.specs.Sound.{IsMember, IsReported, IsRunning, IsSound}
 use Rattle.rp_agreement.specs.Steps.{MayWrite, IsSoundStep}
 use Rattle.rp_agreement.specs.Inputs.{IsInput, NodeMoves}
@@ -30,7 +30,7 @@ use Rattle.rp_agreement.proofs.Receives.{receive_sound}
 
 -- ---- a part after a sound step
 
--- The part came of the old one by a sound step, which wrote this record or none.
+-- The part results from the old one by a sound step, which wrote this record or none.
 pub record IsSoundDone (nodes x : ℕ) (part : NodePart) (sent : List Message) (done : Done NodePart) : Type 0 where
   pub wrote : Option Rec
   pub records : done.part.records ≡ with_record part.records wrote
@@ -47,7 +47,7 @@ done_keeps nodes x done node sent node' sent' member sound d moves =
       sends = moves.sends;
     })
 
--- what an input comes to, if it is not refused
+-- the result of an input, if it is not refused
 abbrev pub IsSoundDoneIf : ℕ → ℕ → NodePart → List Message → Result (Done NodePart) Fault → Type 0
 IsSoundDoneIf nodes x part sent (Ok done) = IsSoundDone nodes x part sent done
 IsSoundDoneIf nodes x part sent (Err fault) = Unit {0}
@@ -89,7 +89,7 @@ running_sound s x node sent running (Tick now) small sound runs right = tick_sou
 running_sound s x node sent running (Report first) small sound runs right = report_sound s.config.nodes x (node x).records sent running first runs
 
 turn_done : (nodes x : ℕ) (part : NodePart) (sent : List Message) (turn : Result Turn Fault) → IsSoundIf nodes x part.records sent turn
-    → IsSoundDoneIf nodes x part sent (turned_if part turn)
+    → IsSoundDoneIf nodes x part sent (turn_done_if part turn)
 turn_done nodes x part sent (Ok turn) step = record { wrote = turn.written; records = refl; step = step }
 turn_done nodes x part sent (Err fault) step = tt
 
@@ -124,7 +124,7 @@ cut_written nodes x kept part sent (Some rec) may =
     ]
 
 turn_cut : (nodes x kept : ℕ) (part : NodePart) (sent : List Message) (turn : Result Turn Fault) → IsSoundIf nodes x part.records sent turn
-    → IsSoundDoneIf nodes x part sent (cut_if kept part (turned_if part turn))
+    → IsSoundDoneIf nodes x part sent (cut_if kept part (turn_done_if part turn))
 turn_cut nodes x kept part sent (Ok turn) step = cut_written nodes x kept part sent turn.written step.writes
 turn_cut nodes x kept part sent (Err fault) step = tt
 
@@ -194,4 +194,4 @@ below_eight config x right member =
 -- what was not refused
 pub if_done : (nodes x : ℕ) (part : NodePart) (sent : List Message) (result : Result (Done NodePart) Fault) (done : Done NodePart) → IsSoundDoneIf nodes x part sent result
     → result ≡ Ok done → IsSoundDone nodes x part sent done
-if_done nodes x part sent result done sound came = subst (IsSoundDoneIf nodes x part sent) came sound
+if_done nodes x part sent result done sound resulted = subst (IsSoundDoneIf nodes x part sent) resulted sound

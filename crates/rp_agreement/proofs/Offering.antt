@@ -1,4 +1,4 @@
--- A majority of promises founds an offer.
+-- A majority of promises justifies an offer.
 use Rattle.std.proofs.Common.{◌≡◌, ℕ, true, Option, Some, None, List, [], length, map, inl, inr, refl, sym, ap, subst}
 use Rattle.std.specs.Prelude.{nat_eq, IfSome, unwrap_or}
 use Rattle.std.proofs.lemmas.Bool.{leb-true, and_parts}
@@ -20,12 +20,12 @@ use Rattle.rp_codec.specs.declared.packet.Body.{Body}
 use Rattle.rp_codec.specs.declared.packet.Body.TheVariants as bodies
 use Rattle.rp_model.specs.Parts.{NodePart}
 use Rattle.rp_model.specs.Facts.{IsPromise, HasPromised, IsOffered}
-use Rattle.rp_agreement.specs.Told.{IsAsked}
-use Rattle.rp_agreement.specs.Founded.{Reports, IsFounded, HasWritten}
+use Rattle.rp_agreement.specs.Asked.{IsAsked}
+use Rattle.rp_agreement.specs.Justified.{Reports, IsJustified, HasWritten}
 use Rattle.rp_agreement.specs.Sound.{IsMember, IsSo, SaysSo, IsSound}
 use Rattle.rp_agreement.proofs.Lists.{has_picked, highest_has}
 
--- ---- what is told is so
+-- ---- what is sent is so
 
 promise_so : (nodes : ℕ) (sent : List Message) (records : List Rec) (body : Body) (i b : ℕ) (last : Option Vote) → IsPromise body i b last → IsSo nodes sent records body
     → HasWritten records i b × Reports records i b last
@@ -46,12 +46,12 @@ promise_so nodes sent records (bodies.PromiseRange range ballot votes) i b last 
     let Kept : ℕ → Option Vote → Type 0 = λ c o. HasWritten records i c × Reports records i c o in
     subst (Kept b) is.2 (subst (λ (c : ℕ). Kept c (placed_at votes i)) is.1 ((PromisedRange range ballot, so.0, (is.0, refl)), so.1 i is.0))
 
--- who told a promise is a node that keeps it
+-- a node that sent a promise keeps it
 pub promise_kept : (nodes : ℕ) (node : ℕ → NodePart) (sent : List Message) → IsSound nodes node sent → (a i b : ℕ) (last : Option Vote) → HasPromised sent a i b last
     → IsMember nodes a × Reports (node a).records i b last × HasWritten (node a).records i b
-promise_kept nodes node sent sound a i b last told =
-    let so = subst (λ (party : Party). SaysSo nodes node sent party told.0.body) told.2 (sound.says told.0 told.1) in
-    let kept = promise_so nodes sent (node a).records told.0.body i b last told.3 so.1 in
+promise_kept nodes node sent sound a i b last stated =
+    let so = subst (λ (party : Party). SaysSo nodes node sent party stated.0.body) stated.2 (sound.says stated.0 stated.1) in
+    let kept = promise_so nodes sent (node a).records stated.0.body i b last stated.3 so.1 in
     (so.0, kept.1, kept.0)
 
 -- what is offered was asked for
@@ -71,17 +71,17 @@ vote_or_own : (sent : List Message) (own : Action) (vote : Option Vote) → IsAs
 vote_or_own sent own None asked reported = asked
 vote_or_own sent own (Some w) asked reported = reported w refl
 
--- each promise of the list was told
-abbrev pub AreTold : List Message → ℕ → ℕ → List Promise → Type 0
-AreTold sent i b promises = (a : ℕ) (last : Option Vote) → Has (a, last) promises → HasPromised sent a i b last
+-- each promise of the list was sent
+abbrev pub AreStated : List Message → ℕ → ℕ → List Promise → Type 0
+AreStated sent i b promises = (a : ℕ) (last : Option Vote) → Has (a, last) promises → HasPromised sent a i b last
 
 -- the offer was asked for
 pub offer_is_asked : (nodes : ℕ) (node : ℕ → NodePart) (sent : List Message) → IsSound nodes node sent → (i b : ℕ) (promises : List Promise) (own : Option Action)
-    → AreTold sent i b promises → IfSome own (IsAsked sent) → IsAsked sent (offer_of own promises)
-offer_is_asked nodes node sent sound i b promises own told asked =
+    → AreStated sent i b promises → IfSome own (IsAsked sent) → IsAsked sent (offer_of own promises)
+offer_is_asked nodes node sent sound i b promises own stated asked =
     vote_or_own sent (unwrap_or own Noop) (highest_vote promises) (own_asked sent own asked) (λ w is.
     let picked = has_picked (λ (p : Promise). p.1) w promises (highest_has w _ is) in
-    let kept = promise_kept nodes node sent sound picked.0.0 i b picked.0.1 (told picked.0.0 picked.0.1 picked.1) in
+    let kept = promise_kept nodes node sent sound picked.0.0 i b picked.0.1 (stated picked.0.0 picked.0.1 picked.1) in
     let cast = kept.1.cast w picked.2 in
     offer_asked nodes node sent sound i w.ballot w.action (sound.voted picked.0.0 i w.ballot w.action cast.0))
 
@@ -94,14 +94,14 @@ promiser a promises h =
           (hit.0.1, subst (λ (k : ℕ). let p : Promise = (k, hit.0.1) in Has p promises) (sym hit.2) hit.1)
     ]
 
--- more than half promised, so the offer is founded
-pub founds : (nodes : ℕ) (sent : List Message) (i b : ℕ) (promises : List Promise) (own : Option Action) → AreTold sent i b promises
-    → is_majority nodes (promisers_of promises) ≡ true → IsFounded nodes sent i b (offer_of own promises)
-founds nodes sent i b promises own told most =
+-- more than half promised, so the offer is justified
+pub founds : (nodes : ℕ) (sent : List Message) (i b : ℕ) (promises : List Promise) (own : Option Action) → AreStated sent i b promises
+    → is_majority nodes (promisers_of promises) ≡ true → IsJustified nodes sent i b (offer_of own promises)
+founds nodes sent i b promises own stated most =
     let among = λ (a : ℕ) (h : Has a (nodes_among nodes (promisers_of promises))). has_passing (in_range 1 nodes) a (promisers_of promises) h in
     record {
       promises = promises;
-      told = told;
+      stated = stated;
       promisers = nodes_among nodes (promisers_of promises);
       members = record {
         members = λ a h. let test = and_parts _ _ (among a h).1 in (leb-true 1 a test.0, leb-true a nodes test.1);

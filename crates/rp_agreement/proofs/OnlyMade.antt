@@ -34,7 +34,7 @@ module _ {S : Type 0} (next : S → Action → S) (answers : S → Action → Li
 
   pub place_kept : (order : List Action) (call : CallName) (place : ℕ) (at : IsPlace next answers begin order call place) → Has at.action (kept_of next answers begin order)
   place_kept order call place at =
-      subst (λ (all : List Action). Has at.action (kept_of next answers begin all)) (sym at.stands) (counted_stays at.before at.action at.behind at.takes_effect)
+      subst (λ (all : List Action). Has at.action (kept_of next answers begin all)) (sym at.occurs) (counted_stays at.before at.action at.following at.takes_effect)
 
 -- the number of a call of the task
 its_number : (t n : ℕ) (action : Action) → calls_of action ≡ named t n ∷ [] → is_some (number_for t action) ≡ true

@@ -28,7 +28,7 @@ run_learned records (suc most) i k v e = by (learned_at records i) refl k e (run
 
 -- ---- lists of which every item is determined
 
--- Where no two different actions may stand at a place, one list begins the other.
+-- Where no two different actions may be at a place, one list is a prefix of the other.
 alike : (P : ℕ → Action → Type 0) → ((k : ℕ) (v w : Action) → P k v → P k w → v ≡ w) → (xs ys : List Action)
     → ((k : ℕ) (v : Action) → slice_get xs k ≡ Some v → P k v) → ((k : ℕ) (v : Action) → slice_get ys k ≡ Some v → P k v) → AreAlike xs ys
 alike P one [] ys left right = inl (ys, refl)
@@ -40,20 +40,20 @@ alike P one (x ∷ xs) (y ∷ ys) left right =
       | inr begins ↦ inr (begins.0, λ k. same k ∷ begins.1 k)
     ]
 
-get_behind : (xs : List Action) (v : Action) (rest : List Action) → slice_get (xs ++ v ∷ rest) (length xs) ≡ Some v
-get_behind [] v rest = refl
-get_behind (x ∷ xs) v rest = get_behind xs v rest
+get_after : (xs : List Action) (v : Action) (rest : List Action) → slice_get (xs ++ v ∷ rest) (length xs) ≡ Some v
+get_after [] v rest = refl
+get_after (x ∷ xs) v rest = get_after xs v rest
 
--- a list that the other begins, where nothing stands behind the other
+-- a list that the other begins, where nothing follows the other
 no_more : (xs ys : List Action) → Begins xs ys → ((v : Action) → ¬ (slice_get ys (length xs) ≡ Some v)) → ys ≡ xs
 no_more xs ys begins none = by begins.0 begins.1
   where
     by : (rest : List Action) → ys ≡ xs ++ rest → ys ≡ xs
     by [] e = e ∙ append-nil xs
-    by (v ∷ rest) e = absurd (none v (ap (λ (list : List Action). slice_get list (length xs)) e ∙ get_behind xs v rest))
+    by (v ∷ rest) e = absurd (none v (ap (λ (list : List Action). slice_get list (length xs)) e ∙ get_after xs v rest))
 
 module _ {nodes : ℕ} {node : ℕ → NodePart} {sent : List Message} (sound : IsSound nodes node sent) where
-  -- of two lists of decided actions one begins the other
+  -- of two lists of decided actions one is a prefix of the other
   pub decided_alike : (xs ys : List Action) → AreDecided nodes sent xs → AreDecided nodes sent ys → AreAlike xs ys
   decided_alike xs ys left right = alike (λ k. IsDecided nodes sent (suc k)) (λ k. one_decided sound (suc k)) xs ys left right
 
@@ -90,7 +90,7 @@ applied_alike nodes node after sent later before now all x y =
     let xs = applied_of (node x).records in
     decided_alike now xs (applied_of (after y).records) (all_decided_stays nodes sent later xs all (applied_decided before x)) (applied_decided now y)
 
--- equally long lists of which one begins the other are equal
+-- equally long lists of which one is a prefix of the other are equal
 begins_equal : (xs ys : List Action) → Begins xs ys → length xs ≡ length ys → ys ≡ xs
 begins_equal xs ys begins long = no_more xs ys begins (λ v e. let within : length xs < length ys = slice_get_within ys (length xs) v e in omega (arith, within, long))
 

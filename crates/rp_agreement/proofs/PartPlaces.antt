@@ -58,9 +58,9 @@ pub put_length : {A : Type 0} (parts : List A) (place : ℕ) (a : A) → length 
 put_length parts zero a = refl
 put_length parts (suc i) a = set_length parts i a
 
--- the packets behind those before are sent too
-pub sent_behind : (sent packets : List Message) → SentToo packets sent (sent ++ packets)
-sent_behind sent packets m = (
+-- the packets after those before are sent too
+pub sent_after : (sent packets : List Message) → SentToo packets sent (sent ++ packets)
+sent_after sent packets m = (
   λ h. has_split m sent packets h,
   λ h. elim h [ inl old ↦ has_left m sent packets old | inr new ↦ has_right m sent packets new ],
 )

@@ -18,7 +18,7 @@ use Rattle.rp_machine.specs.Asked.{last_number, last_occurrence, kept_reply}
 use Rattle.rp_model.specs.Parts.{Running}
 use Rattle.rp_model.specs.Says.{says_to_task, notes, drops_full}
 use Rattle.rp_model.specs.Pending.{most_pending, adds_pending, on_numbered, on_call, on_interrupt, on_tick, is_same_call}
-use Rattle.rp_agreement.specs.Told.{Asks, IsAsked}
+use Rattle.rp_agreement.specs.Asked.{Asks, IsAsked}
 use Rattle.rp_agreement.specs.Sound.{IsRunning}
 use Rattle.rp_agreement.proofs.Turns.{IsSoundTurn, one_plain, quiet, full, sending, either}
 
@@ -65,10 +65,10 @@ call_sound nodes x records sent running kept given (Interrupt source occurrence)
 call_sound nodes x records sent running kept given (Tick now) runs asked = quiet nodes x records sent running runs
 
 -- what a task says was asked by it
-pub told_asked : (sent : List Message) (t k : ℕ) (action : Action) → IsCallBy t action → IsRight action
+pub reply_asked : (sent : List Message) (t k : ℕ) (action : Action) → IsCallBy t action → IsRight action
     → Has (record { from = Task t; to = Node k; body = bodies.Call action }) sent → IsAsked sent action
-told_asked sent t k Noop by right h = absurd by
-told_asked sent t k (Call task number object operation arg) by right h = record {
+reply_asked sent t k Noop by right h = absurd by
+reply_asked sent t k (Call task number object operation arg) by right h = record {
   right = right;
   asked = λ call of_it. elim of_it [
     | inl same ↦
@@ -77,8 +77,8 @@ told_asked sent t k (Call task number object operation arg) by right h = record 
     | inr none ↦ absurd none
   ];
 }
-told_asked sent t k (Interrupt source occurrence) by right h = absurd by
-told_asked sent t k (Tick now) by right h = absurd by
+reply_asked sent t k (Interrupt source occurrence) by right h = absurd by
+reply_asked sent t k (Tick now) by right h = absurd by
 
 interrupt_asked : (sent : List Message) (source occurrence : ℕ) → IsIndex source → IsCount occurrence → IsAsked sent (Interrupt source occurrence)
 interrupt_asked sent source occurrence index count = record { right = (index, count); asked = λ call none. absurd none }

@@ -1,4 +1,4 @@
--- The first standing of a call in the order is its place: there it counts.
+-- The first occurrence of a call in the order is its place: there it counts.
 use Rattle.std.proofs.Common.{◌≡◌, ℕ, zero, suc, ◌<◌, ◌≤◌, Bool, true, Some, None, List, [], ◌∷◌, ◌++◌, length, map, take, drop, ◌⊎◌, inl, inr, refl, sym, ap, subst, ◌∙◌, arith}
 use Rattle.std.specs.Prelude.{nat_eq, slice_get, ◌&&◌}
 use Rattle.std.specs.List.{list_all}
@@ -24,11 +24,11 @@ use Rattle.rp_model.specs.Parts.{TaskPart}
 use Rattle.rp_codec.specs.Message.{Message}
 use Rattle.rp_agreement.specs.Order.{Begins}
 use Rattle.rp_agreement.specs.Computed.{order_of}
-use Rattle.rp_agreement.specs.Answered.{answers_of, named, calls_so_far, Stands, IsKept}
+use Rattle.rp_agreement.specs.Answered.{answers_of, named, calls_so_far, Occurs, IsKept}
 use Rattle.rp_agreement.proofs.Lists.{some_same, has_picked}
 use Rattle.rp_agreement.proofs.PartPlaces.{part_has}
 use Rattle.rp_agreement.proofs.Lists.{one_to_has}
-use Rattle.rp_agreement.proofs.TaskTelling.{most_calls}
+use Rattle.rp_agreement.proofs.TaskReplies.{most_calls}
 use Rattle.rp_agreement.proofs.Made.{asks_in_turn}
 use Rattle.rp_agreement.proofs.TaskKeeping.{asked_in_order}
 use Rattle.rp_agreement.proofs.AnswersGrow.{answers_grow}
@@ -51,7 +51,7 @@ begins_take (x ∷ xs) rest (suc k) short =
     let later = begins_take xs rest k (omega (arith, short)) in
     (later.0, ap (λ (list : List _). x ∷ list) later.1)
 
--- an item stands between what is before it and what is behind it
+-- an item is between what is before it and what is after it
 split_at : {A : Type 0} (xs : List A) (k : ℕ) (x : A) → slice_get xs k ≡ Some x → (xs ≡ take k xs ++ x ∷ drop (suc k) xs) × (length (take k xs) ≡ k)
 split_at [] k x is = absurd (cc)
 split_at {A} (y ∷ xs) zero x is = (ap (λ (z : A). z ∷ xs) (some_same is), refl)
@@ -104,11 +104,11 @@ number_is t j (actions.Call caller number object operation arg) e =
 number_is t j (actions.Interrupt source occurrence) e = absurd (cc)
 number_is t j (actions.Tick now) e = absurd (cc)
 
--- a number of the task's is one of a call that stands
-number_stands : (t j : ℕ) (kept : List Action) → Has j (numbers_of t kept) → Stands (named t j) kept
-number_stands t j kept h = let picked = has_picked (number_for t) j kept h in (picked.0, picked.1, number_is t j picked.0 picked.2)
+-- a number of the task's is one of a call that occurs
+number_occurs : (t j : ℕ) (kept : List Action) → Has j (numbers_of t kept) → Occurs (named t j) kept
+number_occurs t j kept h = let picked = has_picked (number_for t) j kept h in (picked.0, picked.1, number_is t j picked.0 picked.2)
 
--- ---- what a log comes to
+-- ---- the result of a log
 
 module _ {S : Type 0} (s : Setting S) where
   kept_if : (r : Replayed S) (action other : Action) → Has other (replay_step s.next s.answers r action).kept → Has other r.kept ⊎ (other ≡ action)
@@ -122,7 +122,7 @@ module _ {S : Type 0} (s : Setting S) where
         | inr miss ↦ inl (subst (λ (u : Replayed S). Has other u.kept) (cond-false (counts r.kept r.given action) more r miss) h)
       ]
 
-  -- what counted stands in the log
+  -- what counted is in the log
   pub kept_from : (r : Replayed S) (xs : List Action) (other : Action) → Has other (replay_from s.next s.answers r xs).kept → Has other r.kept ⊎ Has other xs
   kept_from r [] other h = inl h
   kept_from r (x ∷ xs) other h =
@@ -131,11 +131,11 @@ module _ {S : Type 0} (s : Setting S) where
         | inl before ↦ elim (kept_if r x other before) [ inl old ↦ inl old | inr same ↦ inr (inl same) ]
       ]
 
-  kept_stands : (xs : List Action) (call : CallName) → Stands call (kept_of s.next s.answers s.begin xs) → Stands call xs
-  kept_stands xs call stands =
-      elim (kept_from (unmoved s.begin) xs stands.0 stands.1) [
+  kept_occurs : (xs : List Action) (call : CallName) → Occurs call (kept_of s.next s.answers s.begin xs) → Occurs call xs
+  kept_occurs xs call occurs =
+      elim (kept_from (unmoved s.begin) xs occurs.0 occurs.1) [
         | inl none ↦ absurd none
-        | inr there ↦ (stands.0, there, stands.2)
+        | inr there ↦ (occurs.0, there, occurs.2)
       ]
 
   answered_more : (xs ys : List Action) → Begins xs ys → (call : CallName) → Has call (map call_of (answers_of s xs)) → Has call (map call_of (answers_of s ys))
@@ -147,10 +147,10 @@ module _ {S : Type 0} (s : Setting S) where
   abbrev pub AnswersKnown : Type 0
   AnswersKnown = (xs : List Action) → ((action : Action) → Has action xs → IsRight action) → (call : CallName) → Has call (map call_of (answers_of s xs)) → Has call (calls_made (kept_of s.next s.answers s.begin xs))
 
-  -- ---- where the calls below m + 1 are answered, and that one does not stand
+  -- ---- where the calls below m + 1 are answered, and that one does not occur
 
   module _ (known : AnswersKnown) (xs : List Action) (right : (action : Action) → Has action xs → IsRight action) (t m : ℕ)
-      (absent : ¬ Stands (named t (suc m)) xs) (answered : (m ≡ 0) ⊎ Has (named t m) (map call_of (answers_of s xs))) where
+      (absent : ¬ Occurs (named t (suc m)) xs) (answered : (m ≡ 0) ⊎ Has (named t m) (map call_of (answers_of s xs))) where
     abbrev kept : List Action
     kept = kept_of s.next s.answers s.begin xs
 
@@ -167,15 +167,15 @@ module _ {S : Type 0} (s : Setting S) where
           | inr high ↦
               let above : m < last_number t kept = high.1 in
               let there = one_to_has (last_number t kept) (suc m) (omega arith) (omega (arith, above)) in
-              absurd (absent (kept_stands xs (named t (suc m)) (number_stands t (suc m) kept (subst (λ (list : List ℕ). Has (suc m) list) (sym (fine.numbered t)) there))))
+              absurd (absent (kept_occurs xs (named t (suc m)) (number_occurs t (suc m) kept (subst (λ (list : List ℕ). Has (suc m) list) (sym (fine.numbered t)) there))))
         ]
 
     not_less : m ≤ last_number t kept
     not_less =
         elim answered [
           | inl none ↦ omega (arith, none)
-          | inr told ↦
-              let numbered = made_number (named t m) kept (known xs right (named t m) told) in
+          | inr stated ↦
+              let numbered = made_number (named t m) kept (known xs right (named t m) stated) in
               one_to_bound (last_number t kept) m (subst (λ (list : List ℕ). Has m list) (fine.numbered t) numbered)
         ]
 
@@ -192,7 +192,7 @@ module _ {S : Type 0} (s : Setting S) where
         elim (cases_eq j m) [
           | inl same ↦ elim answered [
             | inl none ↦ absurd (subst (λ (n : ℕ). Has j (one_to n)) none here)
-            | inr told ↦ subst (λ (n : ℕ). is_answered given t n ≡ true) (sym same) (answered_so given t m told)
+            | inr stated ↦ subst (λ (n : ℕ). is_answered given t n ≡ true) (sym same) (answered_so given t m stated)
           ]
           | inr other ↦ let last : last_number t kept ≡ m = last_is in fine.earlier t j h (omega (arith, bound, other, last))
         ]
@@ -213,14 +213,14 @@ module _ {S : Type 0} (s : Setting S) where
 
   -- ---- in the order
 
-  -- where a call stands first it counts
+  -- a call counts where it first occurs
   pub first_counts : (node : ℕ → NodePart) (task : ℕ → TaskPart) (sent : List Message) → IsKept s node task sent → AnswersKnown
       → (let order = order_of s.config.nodes sent in (t m k : ℕ) (action : Action) → slice_get order k ≡ Some action → calls_of action ≡ named t (suc m) ∷ []
-      → ¬ Stands (named t (suc m)) (take k order)
+      → ¬ Occurs (named t (suc m)) (take k order)
       → counts (kept_of s.next s.answers s.begin (take k order)) (answers_of s (take k order)) action ≡ true)
-  first_counts node task sent kept known t m k action stands is first =
+  first_counts node task sent kept known t m k action occurs is first =
       let order = order_of s.config.nodes sent in
-      let here : Has action order = part_has order (suc k) action stands in
+      let here : Has action order = part_has order (suc k) action occurs in
       let of_it : Has (named t (suc m)) (calls_of action) = subst (λ (calls : List CallName). Has (named t (suc m)) calls) (sym is) (inl refl) in
       let asked = asked_in_order s node sent kept.sound action here in
       let so_far : suc m ≤ calls_so_far (task t) = asks_in_turn sent t (task t) (kept.made t).0 (kept.made t).1 action (asked.asked (named t (suc m)) of_it) (named t (suc m)) of_it in
@@ -230,13 +230,13 @@ module _ {S : Type 0} (s : Setting S) where
       let short : length ready.before ≤ k = elim (leb_tells (length ready.before) k) [
         | inl low ↦ low.1
         | inr high ↦
-            let inside : slice_get ready.before k ≡ Some action = sym (get_left ready.before ready.begins.0 k high.1) ∙ ap (λ (list : List Action). slice_get list k) (sym ready.begins.1) ∙ stands in
+            let inside : slice_get ready.before k ≡ Some action = sym (get_left ready.before ready.begins.0 k high.1) ∙ ap (λ (list : List Action). slice_get list k) (sym ready.begins.1) ∙ occurs in
             absurd (ready.absent (action, part_has ready.before (suc k) action inside, of_it))
       ] in
       let begins : Begins ready.before (take k order) = subst (λ (list : List Action). Begins ready.before (take k list)) (sym ready.begins.1) (begins_take ready.before ready.begins.0 k short) in
       let answered : (m ≡ 0) ⊎ Has (named t m) (map call_of (answers_of s (take k order))) = elim ready.answered [
         | inl none ↦ inl none
-        | inr told ↦ inr (answered_more ready.before (take k order) begins (named t m) told)
+        | inr stated ↦ inr (answered_more ready.before (take k order) begins (named t m) stated)
       ] in
       next_counts known (take k order) right t m first answered action is
 
@@ -250,21 +250,21 @@ module _ {S : Type 0} (s : Setting S) where
   -- that is its place
   pub first_is_place : (node : ℕ → NodePart) (task : ℕ → TaskPart) (sent : List Message) → IsKept s node task sent → AnswersKnown
       → (let order = order_of s.config.nodes sent in (t n k : ℕ) (action : Action) → slice_get order k ≡ Some action → calls_of action ≡ named t n ∷ []
-      → ¬ Stands (named t n) (take k order)
+      → ¬ Occurs (named t n) (take k order)
       → IsPlace s.next s.answers s.begin order (named t n) (suc k))
-  first_is_place node task sent kept known t zero k action stands is first =
-      let here : Has action (order_of s.config.nodes sent) = part_has (order_of s.config.nodes sent) (suc k) action stands in
+  first_is_place node task sent kept known t zero k action occurs is first =
+      let here : Has action (order_of s.config.nodes sent) = part_has (order_of s.config.nodes sent) (suc k) action occurs in
       let low : 1 ≤ 0 = positive action t 0 (asked_in_order s node sent kept.sound action here).right is in
       absurd (omega (arith, low))
-  first_is_place node task sent kept known t (suc m) k action stands is first =
+  first_is_place node task sent kept known t (suc m) k action occurs is first =
       let order = order_of s.config.nodes sent in
-      let split = split_at order k action stands in
+      let split = split_at order k action occurs in
       record {
         before = take k order;
         action = action;
-        behind = drop (suc k) order;
-        stands = split.0;
+        following = drop (suc k) order;
+        occurs = split.0;
         here = ap suc (sym split.1);
         is_call = is;
-        takes_effect = first_counts node task sent kept known t m k action stands is first;
+        takes_effect = first_counts node task sent kept known t m k action occurs is first;
       }

@@ -23,7 +23,7 @@ use Rattle.rp_model.specs.Parts.{TaskPart}
 use Rattle.rp_model.specs.Parts.{Turn}
 use Rattle.rp_model.specs.Parts.{fresh_running, fresh_node}
 use Rattle.rp_model.specs.Texts.{written_for}
-use Rattle.rp_model.specs.Effect.{Setting, Done, NodeInput, running_effect, turned_if, effect_while, node_effect, goes_on_as, stop_part, cut_part, untorn_part, stops_while, stop_effect, cut_if, cut_effect, restart_while, restart_part}
+use Rattle.rp_model.specs.Effect.{Setting, Done, NodeInput, running_effect, turn_done_if, effect_while, node_effect, goes_on_as, stop_part, cut_part, untorn_part, stops_while, stop_effect, cut_if, cut_effect, restart_while, restart_part}
 use Rattle.rp_model.specs.Tasks as tasks
 use Rattle.rp_model.specs.Tasks.{TaskInput, may_call, next_call, calls_if, asks_again, takes, takes_reply, task_hears, task_effect}
 use Rattle.rp_model.specs.World.{World, opening_world, part_at, node_done, task_done}
@@ -51,7 +51,7 @@ abbrev IsRangedDoneIf : Result (Done NodePart) Fault → Type 0
 IsRangedDoneIf (Ok done) = IsRangedDone done
 IsRangedDoneIf (Err fault) = Unit {0}
 
-turned_ranged : (part : NodePart) (turn : Result Turn Fault) → AreRecords part.records → IsRangedIf turn → IsRangedDoneIf (turned_if part turn)
+turned_ranged : (part : NodePart) (turn : Result Turn Fault) → AreRecords part.records → IsRangedIf turn → IsRangedDoneIf (turn_done_if part turn)
 turned_ranged part (Ok turn) all is = (record { records = written_ranged part.records turn.written all is.written; running = is.running }, is.sent)
 turned_ranged part (Err fault) all is = tt
 
@@ -68,7 +68,7 @@ cut_ranged kept part (Some rec) all one =
       | false ↦ stopped_ranged (record part { torn = kept }) all
     ]
 
-turned_cut : (kept : ℕ) (part : NodePart) (turn : Result Turn Fault) → AreRecords part.records → IsRangedIf turn → IsRangedDoneIf (cut_if kept part (turned_if part turn))
+turned_cut : (kept : ℕ) (part : NodePart) (turn : Result Turn Fault) → AreRecords part.records → IsRangedIf turn → IsRangedDoneIf (cut_if kept part (turn_done_if part turn))
 turned_cut kept part (Ok turn) all is = (cut_ranged kept part turn.written all is.written, no_packets)
 turned_cut kept part (Err fault) all is = tt
 
@@ -87,9 +87,9 @@ restarted_ranged : (part : NodePart) (running : Option Running) → IsRangedPart
 restarted_ranged part None is = (record { records = is.records; running = fresh_ranged }, no_packets)
 restarted_ranged part (Some running) is = (is, no_packets)
 
--- what came, if it was not refused
-came_ranged : (result : Result (Done NodePart) Fault) (done : Done NodePart) → IsRangedDoneIf result → result ≡ Ok done → IsRangedDone done
-came_ranged result done is came = subst IsRangedDoneIf came is
+-- the result, if it was not refused
+result_ranged : (result : Result (Done NodePart) Fault) (done : Done NodePart) → IsRangedDoneIf result → result ≡ Ok done → IsRangedDone done
+result_ranged result done is resulted = subst IsRangedDoneIf resulted is
 
 -- ---- a task's step
 
@@ -133,7 +133,7 @@ heard_nodes t part (bodies.Decided i v) m h = absurd h
 heard_nodes t part (bodies.Ask i) m h = absurd h
 heard_nodes t part (bodies.Nack i b bound) m h = absurd h
 heard_nodes t part (bodies.Reply number reply) m h = reply_nodes t part number reply m h
-heard_nodes t part (bodies.Report first applied told) m h = absurd h
+heard_nodes t part (bodies.Report first applied stated) m h = absurd h
 heard_nodes t part (bodies.PrepareRange range b) m h = absurd h
 heard_nodes t part (bodies.PromiseRange range b votes) m h = absurd h
 
@@ -163,7 +163,7 @@ called_packet t k (bodies.Decided i v) is theirs = absurd is
 called_packet t k (bodies.Ask i) is theirs = absurd is
 called_packet t k (bodies.Nack i b bound) is theirs = absurd is
 called_packet t k (bodies.Reply number reply) is theirs = absurd is
-called_packet t k (bodies.Report first applied told) is theirs = absurd is
+called_packet t k (bodies.Report first applied stated) is theirs = absurd is
 called_packet t k (bodies.PrepareRange range b) is theirs = absurd is
 called_packet t k (bodies.PromiseRange range b votes) is theirs = absurd is
 
@@ -179,17 +179,17 @@ task_packets t done is are m h =
 
 -- ---- worlds
 
-node_stands : (nodes : ℕ) (w : World) (me : ℕ) (done : Done NodePart) → IsRangedWorld nodes w → IsRangedDone done → IsRangedWorld nodes (node_done w me done).world
-node_stands nodes w me done all is = record {
+node_ranged : (nodes : ℕ) (w : World) (me : ℕ) (done : Done NodePart) → IsRangedWorld nodes w → IsRangedDone done → IsRangedWorld nodes (node_done w me done).world
+node_ranged nodes w me done all is = record {
   size = put_length w.nodes me done.part ∙ all.size;
   parts = λ part h. elim (part_or_new w.nodes me done.part part h) [ inl old ↦ all.parts part old | inr new ↦ subst IsRangedPart (sym new) is.0 ];
   waits = all.waits;
   packets = both_packets w.sent done.sends all.packets is.1;
 }
 
-task_stands : (nodes : ℕ) (w : World) (t : ℕ) (part : TaskPart) (done : Done TaskPart) → IsRangedWorld nodes w → part_at w.tasks t ≡ Some part → IsTaskDone t done
+task_ranged : (nodes : ℕ) (w : World) (t : ℕ) (part : TaskPart) (done : Done TaskPart) → IsRangedWorld nodes w → part_at w.tasks t ≡ Some part → IsTaskDone t done
     → AreForNodes done.sends → IsRangedWorld nodes (task_done w t done).world
-task_stands nodes w t part done all here is are = record {
+task_ranged nodes w t part done all here is are = record {
   size = all.size;
   parts = all.parts;
   waits = each_task WaitsForOwn w.tasks t part done.part here is.waits all.waits;
@@ -197,7 +197,7 @@ task_stands nodes w t part done all here is are = record {
 }
 
 pub for_nodes_if : (result : Result (Done TaskPart) Fault) (done : Done TaskPart) → AreForNodesIf result → result ≡ Ok done → AreForNodes done.sends
-for_nodes_if result done are came = subst AreForNodesIf came are
+for_nodes_if result done are resulted = subst AreForNodesIf resulted are
 
 module _ {S : Type 0} (s : Setting S) (right : IsRightConfig s.config) (fits : (actions : List Action) → AllRight actions → AreReplies (answers_of s actions)) where
   input_while : (me : ℕ) (part : NodePart) (sent : List Message) (input : NodeInput) (running : Option Running) → part.running ≡ running → IsNode me → IsRangedPart part → ArePackets sent
@@ -216,13 +216,13 @@ module _ {S : Type 0} (s : Setting S) (right : IsRightConfig s.config) (fits : (
 
   pub input_ranged : (me : ℕ) (part : NodePart) (sent : List Message) (input : NodeInput) (done : Done NodePart) → IsNode me → IsRangedPart part → ArePackets sent → IsInput sent input
       → node_effect s me part input ≡ Ok done → IsRangedDone done
-  input_ranged me part sent input done mine ranged packets given came =
-      came_ranged (node_effect s me part input) done (input_while me part sent input part.running refl mine ranged packets given) came
+  input_ranged me part sent input done mine ranged packets given resulted =
+      result_ranged (node_effect s me part input) done (input_while me part sent input part.running refl mine ranged packets given) resulted
 
   pub cut_input_ranged : (me kept : ℕ) (part : NodePart) (sent : List Message) (input : NodeInput) (done : Done NodePart) → IsNode me → IsRangedPart part → ArePackets sent → IsInput sent input
       → cut_effect s me part input kept ≡ Ok done → IsRangedDone done
-  cut_input_ranged me kept part sent input done mine ranged packets given came =
-      came_ranged (cut_effect s me part input kept) done (cut_while me kept part sent input part.running refl mine ranged packets given) came
+  cut_input_ranged me kept part sent input done mine ranged packets given resulted =
+      result_ranged (cut_effect s me part input kept) done (cut_while me kept part sent input part.running refl mine ranged packets given) resulted
 
   member : (w : World) (me : ℕ) (part : NodePart) → IsRangedWorld s.config.nodes w → part_at w.nodes me ≡ Some part → IsNode me
   member w me part all here =
@@ -233,22 +233,22 @@ module _ {S : Type 0} (s : Setting S) (right : IsRightConfig s.config) (fits : (
 
   pub ranges_kept : IsKeptByAll s (IsRangedWorld s.config.nodes)
   ranges_kept = record {
-    input = λ w me part input done all here is came. node_stands s.config.nodes w me done all
-        (came_ranged (node_effect s me part input) done
-        (input_while me part w.sent input part.running refl (member w me part all here) (all.parts part (part_has w.nodes me part here)) all.packets is) came);
-    cut = λ w me kept part input done all here is came. node_stands s.config.nodes w me done all
-        (came_ranged (cut_effect s me part input kept) done
-        (cut_while me kept part w.sent input part.running refl (member w me part all here) (all.parts part (part_has w.nodes me part here)) all.packets is) came);
-    stop = λ w me part done all here came. node_stands s.config.nodes w me done all
-        (came_ranged (stop_effect part) done (stops_ranged part part.running (all.parts part (part_has w.nodes me part here))) came);
-    restart = λ w me part all here. node_stands s.config.nodes w me (restart_part part) all (restarted_ranged part part.running (all.parts part (part_has w.nodes me part here)));
+    input = λ w me part input done all here is resulted. node_ranged s.config.nodes w me done all
+        (result_ranged (node_effect s me part input) done
+        (input_while me part w.sent input part.running refl (member w me part all here) (all.parts part (part_has w.nodes me part here)) all.packets is) resulted);
+    cut = λ w me kept part input done all here is resulted. node_ranged s.config.nodes w me done all
+        (result_ranged (cut_effect s me part input kept) done
+        (cut_while me kept part w.sent input part.running refl (member w me part all here) (all.parts part (part_has w.nodes me part here)) all.packets is) resulted);
+    stop = λ w me part done all here resulted. node_ranged s.config.nodes w me done all
+        (result_ranged (stop_effect part) done (stops_ranged part part.running (all.parts part (part_has w.nodes me part here))) resulted);
+    restart = λ w me part all here. node_ranged s.config.nodes w me (restart_part part) all (restarted_ranged part part.running (all.parts part (part_has w.nodes me part here)));
     torn = λ w me kept part all here.
         let was = all.parts part (part_has w.nodes me part here) in
         untorn_world (IsRangedWorld s.config.nodes) w me kept part
-        (node_stands s.config.nodes w me (goes_on_as (untorn_part kept part)) all (record { records = was.records; running = was.running }, no_packets));
-    task = λ w t part input done all here is came. task_stands s.config.nodes w t part done all here
-        (if_task_done t (task_effect s.config t part input) done (task_sound s.config w.sent t part input (all.waits t part here) is) came)
-        (for_nodes_if (task_effect s.config t part input) done (input_nodes s.config w.sent t part input is) came);
+        (node_ranged s.config.nodes w me (goes_on_as (untorn_part kept part)) all (record { records = was.records; running = was.running }, no_packets));
+    task = λ w t part input done all here is resulted. task_ranged s.config.nodes w t part done all here
+        (if_task_done t (task_effect s.config t part input) done (task_sound s.config w.sent t part input (all.waits t part here) is) resulted)
+        (for_nodes_if (task_effect s.config t part input) done (input_nodes s.config w.sent t part input is) resulted);
   }
 
 pub opening_ranged : (nodes : ℕ) → IsSoundWorld nodes (opening_world nodes) → IsRangedWorld nodes (opening_world nodes)

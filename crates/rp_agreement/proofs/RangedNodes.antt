@@ -1,4 +1,4 @@
--- What any input comes to at a node is in range.
+-- The result of any input at a node is in range.
 use Rattle.std.proofs.Common.{◌≡◌, ℕ, zero, suc, ◌+◌, ◌-◌, ◌<◌, ◌≤◌, min, Bool, true, false, if◌then◌else◌, Result, Ok, Err, Option, Some, None, List, [], ◌∷◌, ◌++◌, length, take, drop, inl, inr, refl, sym, subst, arith}
 use Rattle.std.specs.Prelude.{nat_lt, nat_le, is_some, IfSome, find, unwrap_or, ◌^◌, ◌||◌, not, nat_eq}
 use Rattle.std.specs.List.{AllByRecursion, list_any}
@@ -51,7 +51,7 @@ use Rattle.rp_agreement.proofs.Leaders.{next_owned}
 use Rattle.rp_agreement.proofs.LogKeeping.{applied_in_log}
 use Rattle.rp_agreement.proofs.TaskEffects.{leb_not}
 use Rattle.rp_agreement.proofs.RangedParts.{AreRecords, learned_ranged, with_ranged, without_ranged, written_ranged, AreProposals, offer_ranged}
-use Rattle.rp_agreement.proofs.RangedTurns.{ArePackets, AreReplies, IsRangedTurn, no_packets, one_packet, both_packets, noted, sending, writing, foreign, choice, said, said_to_all, said_to_others, prepare_ranged, accept_ranged, promise_counted, nack_ranged, adds_ranged, call_ranged, replies_ranged, told_ranged, range_position, prepare_range_ranged, promise_range_counted}
+use Rattle.rp_agreement.proofs.RangedTurns.{ArePackets, AreReplies, IsRangedTurn, no_packets, one_packet, both_packets, noted, sending, writing, foreign, choice, said, said_to_all, said_to_others, prepare_ranged, accept_ranged, promise_counted, nack_ranged, adds_ranged, call_ranged, replies_ranged, ask_ranged, range_position, prepare_range_ranged, promise_range_counted}
 
 -- ---- what is applied
 
@@ -106,7 +106,7 @@ report_length first actions place =
 report_packet : (me first : ℕ) (records : List Rec) → IsNode me → IsPosition first → AreRecords records → IsPacket (report_of me first (applied_of records))
 report_packet me first records mine place all =
     let few : length (applied_of records) ≤ 2 ^ 16 - 1 = applied_few records all in
-    let told = take (report_len first (length (applied_of records))) (drop (first - 1) (applied_of records)) in
+    let stated = take (report_len first (length (applied_of records))) (drop (first - 1) (applied_of records)) in
     record {
       ranges = record { from = mine; to = tt; body = (place, omega (arith, few)) };
       rules = (
@@ -114,7 +114,7 @@ report_packet me first records mine place all =
         tt,
         record {
           len = report_length first (applied_of records) place;
-          right = All-from_recursion IsRight told (each_right told (λ action h.
+          right = All-from_recursion IsRight stated (each_right stated (λ action h.
               applied_right records all action (has_dropped (first - 1) action (applied_of records) (has_taken (report_len first (length (applied_of records))) action _ h))));
         },
       );
@@ -161,7 +161,7 @@ item_right kept others pending (Some item) all is = all item (found_has (is_free
 own_right : (kept : List Action) (others : List Proposal) (pending : List Action) → AllRight pending → IsRight (own_action kept others pending)
 own_right kept others pending all = found_right (find (is_free_item kept others) pending) (item_right kept others pending (find (is_free_item kept others) pending) all refl)
 
--- what a turn comes to, if it is not refused
+-- the result of a turn, if it is not refused
 abbrev pub IsRangedIf : Result Turn Fault → Type 0
 IsRangedIf (Ok turn) = IsRangedTurn turn
 IsRangedIf (Err fault) = Unit {0}
@@ -276,7 +276,7 @@ above_has i [] all e = absurd (both_ways false refl e)
 above_has i (rec ∷ rest) all e =
     elim (or_cases (learns_above i rec) (list_any (learns_above i) rest) e) [
       | inl hit ↦ by_record rec (all rec (inl refl)) hit
-      | inr behind ↦ above_has i rest (λ other h. all other (inr h)) behind
+      | inr following ↦ above_has i rest (λ other h. all other (inr h)) following
     ]
   where
     by_record : (one : Rec) → IsRecord one → learns_above i one ≡ true → i < 2 ^ 16
@@ -299,16 +299,16 @@ asked_ranged me from None mine theirs is = no_packets
 asked_ranged me from (Some i) mine theirs is = one_packet _ (said me from (bodies.Ask i) mine theirs is (tt, tt))
 
 module _ {S : Type 0} (s : Setting S) (fits : (actions : List Action) → AllRight actions → AreReplies (answers_of s actions)) where
-  learns_ranged : (me i : ℕ) (v : Action) (records : List Rec) (running : Running) (packets behind : List Message) → IsNode me → IsPosition i → IsRight v → AreRecords records
-      → IsRangedRunning running → ArePackets packets → ArePackets behind → IsRangedTurn (learns s.next s.answers s.begin me records running i v packets behind)
-  learns_ranged me i v records running packets behind mine place right all runs before after =
+  learns_ranged : (me i : ℕ) (v : Action) (records : List Rec) (running : Running) (packets following : List Message) → IsNode me → IsPosition i → IsRight v → AreRecords records
+      → IsRangedRunning running → ArePackets packets → ArePackets following → IsRangedTurn (learns s.next s.answers s.begin me records running i v packets following)
+  learns_ranged me i v records running packets following mine place right all runs before after =
       let one : IsRecord (Learned i v) = record { ranges = place; right = right } in
       let given = replay_answers s.next s.answers s.begin (applied_of (records ++ Learned i v ∷ [])) in
       let fit : AreReplies given = fits (applied_of (records ++ Learned i v ∷ [])) (applied_right (records ++ Learned i v ∷ []) (written_ranged records (Some (Learned i v)) all one)) in
       let new = drop (length (replay_answers s.next s.answers s.begin (applied_of records))) given in
       writing (Learned i v) _ _ one
       (record { proposals = without_ranged running.proposals i runs.proposals; pending = λ item h. runs.pending item (has_passing _ item running.pending h).0 })
-      (both_packets _ behind (both_packets packets _ before
+      (both_packets _ following (both_packets packets _ before
       (replies_ranged me running.pending new mine runs.pending (λ answer h. fit answer (has_dropped (length (replay_answers s.next s.answers s.begin (applied_of records))) answer given h))))
       after)
 
@@ -317,9 +317,9 @@ module _ {S : Type 0} (s : Setting S) (fits : (actions : List Action) → AllRig
   vote_ranged nodes me from i vote records running (Some learned) few mine place right all runs = noted running runs
   vote_ranged nodes me from i vote records running None few mine place right all runs =
       let heard = with_member same_heard running.heard (from, i, vote) in
-      let told = bodies.Decided i vote.action in
+      let stated = bodies.Decided i vote.action in
       choice (makes_majority nodes i vote heard) _ _
-      (learns_ranged me i vote.action records running (says_to_others nodes me told) [] mine place right all runs (said_to_others nodes me told few mine place (λ k. ((tt, tt), right))) no_packets)
+      (learns_ranged me i vote.action records running (says_to_others nodes me stated) [] mine place right all runs (said_to_others nodes me stated few mine place (λ k. ((tt, tt), right))) no_packets)
       (noted _ (record { proposals = runs.proposals; pending = runs.pending }))
 
   decision_ranged : (me from i : ℕ) (v : Action) (records : List Rec) (running : Running) (learned : Option Action) → IsNode me → IsNode from → IsPosition i → IsRight v
@@ -349,7 +349,7 @@ module _ {S : Type 0} (s : Setting S) (fits : (actions : List Action) → AllRig
       (vote_ranged s.config.nodes me a i (record { ballot = b; action = v }) records running (learned_at records i) right.nodes.1 mine ranges.0 may.1 all runs)
   node_body me a to (bodies.Decided i v) records running right mine theirs ranges may all runs = decision_ranged me a i v records running (learned_at records i) mine theirs ranges may.1 all runs
   node_body me a to (bodies.Ask i) records running right mine theirs ranges may all runs =
-      told_ranged me a i running (learned_at records i) mine theirs ranges (learned_right records i (learned_at records i) all refl) runs
+      ask_ranged me a i running (learned_at records i) mine theirs ranges (learned_right records i (learned_at records i) all refl) runs
   node_body me a to (bodies.Nack i b bound) records running right mine theirs ranges may all runs = nack_ranged s.config.nodes running i b bound runs
   node_body me a to (bodies.Reply number reply) records running right mine theirs ranges may all runs = noted running runs
   node_body me a to (bodies.Report first applied actions) records running right mine theirs ranges may all runs = noted running runs

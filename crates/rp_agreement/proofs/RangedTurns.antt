@@ -43,9 +43,9 @@ use Rattle.rp_machine.specs.Asked.{last_number, kept_reply}
 use Rattle.rp_model.specs.Parts.{Running}
 use Rattle.rp_model.specs.Parts.{Turn}
 use Rattle.rp_model.specs.Says.{says, says_to_all, says_to_others, says_to_task, sends, notes, writes, drops_full, drops_foreign}
-use Rattle.rp_model.specs.Acceptor.{tells_promise, tells_vote, on_prepare, on_accept, tells_range, on_prepare_range}
+use Rattle.rp_model.specs.Acceptor.{answers_prepare, answers_accept, on_prepare, on_accept, answers_prepare_range, on_prepare_range}
 use Rattle.rp_model.specs.Leader.{counts_promise, on_promise_to, on_promise, on_nack, on_promise_range}
-use Rattle.rp_model.specs.Learner.{tells_learned}
+use Rattle.rp_model.specs.Learner.{answers_ask}
 use Rattle.rp_model.specs.Pending.{most_pending, adds_pending, on_numbered, on_call, is_answered_by, replies_to, is_same_call}
 use Rattle.rp_agreement.specs.Ranges.{IsRangedProposal, IsRangedRunning}
 use Rattle.rp_agreement.proofs.AnswerTurns.{kept_is_given}
@@ -69,7 +69,7 @@ pub one_packet : (m : Message) → IsPacket m → ArePackets (m ∷ [])
 one_packet m is k h = elim h [ inl same ↦ subst IsPacket (sym same) is | inr none ↦ absurd none ]
 
 pub both_packets : (ms ks : List Message) → ArePackets ms → ArePackets ks → ArePackets (ms ++ ks)
-both_packets ms ks left right m h = elim (has_split m ms ks h) [ inl before ↦ left m before | inr behind ↦ right m behind ]
+both_packets ms ks left right m h = elim (has_split m ms ks h) [ inl before ↦ left m before | inr following ↦ right m following ]
 
 mapped_packets : {A : Type 0} (f : A → Message) (xs : List A) → ((a : A) → Has a xs → IsPacket (f a)) → ArePackets (map f xs)
 mapped_packets f xs each m h = let hit = mapped_has f m xs h in subst IsPacket (sym hit.2) (each hit.0 hit.1)
@@ -139,21 +139,21 @@ last_vote_ranges : (b : ℕ) (last : Option Vote) → IfSome last (λ vote. IsBa
 last_vote_ranges b None is = (tt, tt)
 last_vote_ranges b (Some vote) is = is
 
-promise_told : (me from i b : ℕ) (running : Running) (answer : PrepareAnswer) → IsNode me → IsNode from → IsPosition i → IsBallot b → IsRangedRunning running
-    → AllowsPromise i b answer → IsRangedTurn (tells_promise me running from i b answer)
-promise_told me from i b running (prepares.Promise last rec) mine theirs place ballot runs allows =
+prepare_answered : (me from i b : ℕ) (running : Running) (answer : PrepareAnswer) → IsNode me → IsNode from → IsPosition i → IsBallot b → IsRangedRunning running
+    → AllowsPromise i b answer → IsRangedTurn (answers_prepare me running from i b answer)
+prepare_answered me from i b running (prepares.Promise last rec) mine theirs place ballot runs allows =
     let votes = last_vote_ranges b last allows.1 in
     writing rec running (says me (bodies.Promise i b last) from ∷ []) (subst IsRecord (sym allows.0) (record { ranges = (place, ballot); right = tt })) runs
     (one_packet _ (said me from (bodies.Promise i b last) mine theirs (place, ballot, votes.0) ((tt, tt), votes.1)))
-promise_told me from i b running (prepares.Nack bound) mine theirs place ballot runs allows =
+prepare_answered me from i b running (prepares.Nack bound) mine theirs place ballot runs allows =
     sending running (says me (bodies.Nack i b bound) from ∷ []) runs
     (one_packet _ (said me from (bodies.Nack i b bound) mine theirs (place, ballot, allows.0) ((tt, tt), allows.1)))
-promise_told me from i b running prepares.Silent mine theirs place ballot runs allows = noted running runs
+prepare_answered me from i b running prepares.Silent mine theirs place ballot runs allows = noted running runs
 
 pub prepare_ranged : (me from i b : ℕ) (records : List Rec) (running : Running) → IsNode me → IsNode from → IsPosition i → IsBallot b → AreRecords records → IsRangedRunning running
     → IsRangedTurn (on_prepare me records running from i b)
 prepare_ranged me from i b records running mine theirs place ballot all runs =
-    promise_told me from i b running (prepare_answer records i b) mine theirs place ballot runs
+    prepare_answered me from i b running (prepare_answer records i b) mine theirs place ballot runs
     (promise_allowed records i b (nat_lt (bound_at records i) b) (nat_lt b (bound_at records i)) all refl refl)
 
 -- ---- PrepareRange
@@ -215,20 +215,20 @@ range_allowed records range b true ranges all is = (
 )
 range_allowed records range b false ranges all is = refusal_allowed records range b (refusing_position records range b) ranges all refl
 
-range_told : (me from : ℕ) (range : Range) (b : ℕ) (running : Running) (answer : RangeAnswer) → IsNode me → IsNode from → IsRange range → IsBallot b → IsRangedRunning running
-    → AllowsRange range b answer → IsRangedTurn (tells_range me running from range b answer)
-range_told me from range b running (range_prepares.Promise votes rec) mine theirs ranges ballot runs allows =
+range_answered : (me from : ℕ) (range : Range) (b : ℕ) (running : Running) (answer : RangeAnswer) → IsNode me → IsNode from → IsRange range → IsBallot b → IsRangedRunning running
+    → AllowsRange range b answer → IsRangedTurn (answers_prepare_range me running from range b answer)
+range_answered me from range b running (range_prepares.Promise votes rec) mine theirs ranges ballot runs allows =
     writing rec running (says me (bodies.PromiseRange range b votes) from ∷ []) (subst IsRecord (sym allows.0) (record { ranges = (ranges, ballot); right = tt })) runs
     (one_packet _ (said me from (bodies.PromiseRange range b votes) mine theirs (ranges, ballot, allows.1) ((tt, tt), allows.2)))
-range_told me from range b running (range_prepares.Nack i bound) mine theirs ranges ballot runs allows =
+range_answered me from range b running (range_prepares.Nack i bound) mine theirs ranges ballot runs allows =
     sending running (says me (bodies.Nack i b bound) from ∷ []) runs
     (one_packet _ (said me from (bodies.Nack i b bound) mine theirs (allows.0, ballot, allows.1) ((tt, tt), allows.2)))
-range_told me from range b running range_prepares.Silent mine theirs ranges ballot runs allows = noted running runs
+range_answered me from range b running range_prepares.Silent mine theirs ranges ballot runs allows = noted running runs
 
 pub prepare_range_ranged : (me from : ℕ) (range : Range) (b : ℕ) (records : List Rec) (running : Running) → IsNode me → IsNode from → IsRange range → IsBallot b → AreRecords records
     → IsRangedRunning running → IsRangedTurn (on_prepare_range me records running from range b)
 prepare_range_ranged me from range b records running mine theirs ranges ballot all runs =
-    range_told me from range b running (range_answer records range b) mine theirs ranges ballot runs (range_allowed records range b (is_above_bounds records range b) ranges all refl)
+    range_answered me from range b running (range_answer records range b) mine theirs ranges ballot runs (range_allowed records range b (is_above_bounds records range b) ranges all refl)
 
 -- ---- Accept
 
@@ -254,23 +254,23 @@ accept_allowed records i b v true all is =
     (bound_ballot records i b all over, over)
 accept_allowed records i b v false all is = vote_allowed i b v (last_vote_at records i)
 
-vote_told : (me from i b : ℕ) (v : Action) (running : Running) (answer : AcceptAnswer) → IsNode me → IsNode from → IsPosition i → IsBallot b → IsRight v → IsRangedRunning running
-    → AllowsVote i b v answer → IsRangedTurn (tells_vote me running from i b v answer)
-vote_told me from i b v running (accepts.Vote rec) mine theirs place ballot right runs allows =
+accept_answered : (me from i b : ℕ) (v : Action) (running : Running) (answer : AcceptAnswer) → IsNode me → IsNode from → IsPosition i → IsBallot b → IsRight v → IsRangedRunning running
+    → AllowsVote i b v answer → IsRangedTurn (answers_accept me running from i b v answer)
+accept_answered me from i b v running (accepts.Vote rec) mine theirs place ballot right runs allows =
     writing rec running (says me (bodies.Accepted i b v) from ∷ []) (subst IsRecord (sym allows) (record { ranges = (place, ballot); right = right })) runs
     (one_packet _ (said me from (bodies.Accepted i b v) mine theirs (place, ballot) ((tt, tt), right)))
-vote_told me from i b v running accepts.Again mine theirs place ballot right runs allows =
+accept_answered me from i b v running accepts.Again mine theirs place ballot right runs allows =
     sending running (says me (bodies.Accepted i b v) from ∷ []) runs
     (one_packet _ (said me from (bodies.Accepted i b v) mine theirs (place, ballot) ((tt, tt), right)))
-vote_told me from i b v running (accepts.Nack bound) mine theirs place ballot right runs allows =
+accept_answered me from i b v running (accepts.Nack bound) mine theirs place ballot right runs allows =
     sending running (says me (bodies.Nack i b bound) from ∷ []) runs
     (one_packet _ (said me from (bodies.Nack i b bound) mine theirs (place, ballot, allows.0) ((tt, tt), allows.1)))
-vote_told me from i b v running accepts.Silent mine theirs place ballot right runs allows = noted running runs
+accept_answered me from i b v running accepts.Silent mine theirs place ballot right runs allows = noted running runs
 
 pub accept_ranged : (me from i b : ℕ) (v : Action) (records : List Rec) (running : Running) → IsNode me → IsNode from → IsPosition i → IsBallot b → IsRight v → AreRecords records
     → IsRangedRunning running → IsRangedTurn (on_accept me records running from i b v)
 accept_ranged me from i b v records running mine theirs place ballot right all runs =
-    vote_told me from i b v running (accept_answer records i b v) mine theirs place ballot right runs (accept_allowed records i b v (nat_lt b (bound_at records i)) all refl)
+    accept_answered me from i b v running (accept_answer records i b v) mine theirs place ballot right runs (accept_allowed records i b v (nat_lt b (bound_at records i)) all refl)
 
 -- ---- Promise and Nack
 
@@ -356,8 +356,8 @@ adds_ranged running item runs right =
 abbrev pub AreReplies : List Answer → Type 0
 AreReplies given = (answer : Answer) → Has answer given → IsReply answer.reply
 
-pub told_task : (me task number : ℕ) (reply : Reply) → IsNode me → IsTask task → IsCount number → IsReply reply → IsPacket (says_to_task me (bodies.Reply number reply) task)
-told_task me task number reply mine theirs count fits = record { ranges = record { from = mine; to = theirs; body = fits }; rules = (tt, tt, count) }
+pub replied_task : (me task number : ℕ) (reply : Reply) → IsNode me → IsTask task → IsCount number → IsReply reply → IsPacket (says_to_task me (bodies.Reply number reply) task)
+replied_task me task number reply mine theirs count fits = record { ranges = record { from = mine; to = theirs; body = fits }; rules = (tt, tt, count) }
 
 numbered_ranged : (me task number : ℕ) (kept : List Action) (given : List Answer) (running : Running) (call : Action) (reply : Option Reply) → kept_reply task number kept given ≡ reply
     → IsNode me → IsTask task → IsCount number → IsRight call → AreReplies given → IsRangedRunning running → IsRangedTurn (on_numbered me kept running task number call reply)
@@ -365,7 +365,7 @@ numbered_ranged me task number kept given running call None is mine theirs count
     choice (nat_lt number (last_number task kept)) (notes running) (adds_pending running call) (noted running runs) (adds_ranged running call runs right)
 numbered_ranged me task number kept given running call (Some reply) is mine theirs count right fit runs =
     sending running (says_to_task me (bodies.Reply number reply) task ∷ []) runs
-    (one_packet _ (told_task me task number reply mine theirs count (fit _ (kept_is_given task number kept given reply is))))
+    (one_packet _ (replied_task me task number reply mine theirs count (fit _ (kept_is_given task number kept given reply is))))
 
 pub call_ranged : (me : ℕ) (kept : List Action) (given : List Answer) (running : Running) (action : Action) → IsNode me → IsRight action → AreReplies given → IsRangedRunning running
     → IsRangedTurn (on_call me kept given running action)
@@ -392,7 +392,7 @@ any_has test [] e = absurd (cc)
 any_has test (item ∷ rest) e =
     elim (or_cases (test item) (list_any test rest) e) [
       | inl hit ↦ (item, inl refl, hit)
-      | inr behind ↦ let later = any_has test rest behind in (later.0, inr later.1, later.2)
+      | inr following ↦ let later = any_has test rest following in (later.0, inr later.1, later.2)
     ]
 
 pub replies_ranged : (me : ℕ) (pending : List Action) (given : List Answer) → IsNode me → ((item : Action) → Has item pending → IsRight item) → AreReplies given
@@ -404,10 +404,10 @@ replies_ranged me pending given mine right fit =
     let passes = has_passing test answer given h in
     let item = any_has (is_answered_by answer) pending passes.1 in
     let names = answered_names answer item.0 item.2 (right item.0 item.1) in
-    told_task me answer.task answer.number answer.reply mine names.0 names.1 (fit answer passes.0))
+    replied_task me answer.task answer.number answer.reply mine names.0 names.1 (fit answer passes.0))
 
-pub told_ranged : (me from i : ℕ) (running : Running) (learned : Option Action) → IsNode me → IsNode from → IsPosition i → IfSome learned IsRight → IsRangedRunning running
-    → IsRangedTurn (tells_learned me running from i learned)
-told_ranged me from i running None mine theirs place right runs = noted running runs
-told_ranged me from i running (Some v) mine theirs place right runs =
+pub ask_ranged : (me from i : ℕ) (running : Running) (learned : Option Action) → IsNode me → IsNode from → IsPosition i → IfSome learned IsRight → IsRangedRunning running
+    → IsRangedTurn (answers_ask me running from i learned)
+ask_ranged me from i running None mine theirs place right runs = noted running runs
+ask_ranged me from i running (Some v) mine theirs place right runs =
     sending running (says me (bodies.Decided i v) from ∷ []) runs (one_packet _ (said me from (bodies.Decided i v) mine theirs place ((tt, tt), right)))

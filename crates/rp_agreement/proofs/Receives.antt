@@ -20,7 +20,7 @@ use Rattle.rp_agreement.proofs.Turns.{IsSoundTurn, quiet, foreign, either}
 use Rattle.rp_agreement.proofs.Acceptors.{prepare_sound, prepare_range_sound, accept_sound}
 use Rattle.rp_agreement.proofs.Leaders.{promise_sound, promise_range_sound, nack_sound}
 use Rattle.rp_agreement.proofs.Learners.{accepted_sound, decided_sound, ask_sound}
-use Rattle.rp_agreement.proofs.Pendings.{told_asked, call_sound}
+use Rattle.rp_agreement.proofs.Pendings.{reply_asked, call_sound}
 
 module _ {S : Type 0} (next : S → Action → S) (answers : S → Action → List Answer) (begin : S) where
   -- what a node says to a node
@@ -54,7 +54,7 @@ module _ {S : Type 0} (next : S → Action → S) (answers : S → Action → Li
   task_body nodes x node sent running t k (bodies.Call action) runs so h =
       let applied = applied_of (node x).records in
       call_sound nodes x (node x).records sent running (kept_of next answers begin applied) (replay_answers next answers begin applied) action runs
-      (told_asked sent t k action so.0 so.1 h)
+      (reply_asked sent t k action so.0 so.1 h)
   task_body nodes x node sent running t k (bodies.Prepare i b) runs so h = absurd so
   task_body nodes x node sent running t k (bodies.Promise i b last) runs so h = absurd so
   task_body nodes x node sent running t k (bodies.Accept i b v) runs so h = absurd so

@@ -13,7 +13,7 @@ use Rattle.rp_base.proofs.MoreRecords.{bound_push, last_below}
 use Rattle.rp_base.proofs.Members.{has_split, has_left}
 use Rattle.rp_codec.specs.Message.{Message}
 use Rattle.rp_model.specs.Parts.{with_record}
-use Rattle.rp_agreement.specs.Founded.{Reports}
+use Rattle.rp_agreement.specs.Justified.{Reports}
 use Rattle.rp_agreement.specs.Steps.{MayWrite}
 use Rattle.rp_agreement.proofs.Lists.{some_same, has_picked, picked_has, highest_has, highest_covers}
 

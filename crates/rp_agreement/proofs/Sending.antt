@@ -1,4 +1,4 @@
--- What packets tell stays as more are sent.
+-- What packets say stays as more are sent.
 use Rattle.std.proofs.Common.{◌≡◌, ℕ, ◌+◌, ◌-◌, Option, Some, None, List, [], ◌∷◌, ◌++◌, length, take, drop, sym, ap, subst, ◌∙◌, arith, length-append}
 use Rattle.std.specs.Prelude.{IfSome}
 use Rattle.std.proofs.lemmas.List.{take-append-le}
@@ -15,8 +15,8 @@ use Rattle.rp_codec.specs.declared.packet.Body.TheVariants as bodies
 use Rattle.rp_model.specs.Parts.{with_record}
 use Rattle.rp_model.proofs.AppliedGrowing.{applied_more}
 use Rattle.rp_model.specs.Facts.{HasPromised, HasVoted, IsOffered, IsDecided}
-use Rattle.rp_agreement.specs.Told.{IsAsked}
-use Rattle.rp_agreement.specs.Founded.{IsFounded}
+use Rattle.rp_agreement.specs.Asked.{IsAsked}
+use Rattle.rp_agreement.specs.Justified.{IsJustified}
 use Rattle.rp_agreement.specs.Sound.{IsSo, IsReported}
 use Rattle.rp_agreement.specs.Steps.{MayWrite}
 use Rattle.rp_agreement.proofs.RecordGrowth.{record_stays, reports_stay}
@@ -43,10 +43,10 @@ decided_more nodes sent after in_after i v d = record {
   voted = λ a h. voted_more sent after in_after a i d.ballot v (d.voted a h);
 }
 
-pub founded_more : (nodes : ℕ) (sent after : List Message) → Within sent after → (i b : ℕ) (v : Action) → IsFounded nodes sent i b v → IsFounded nodes after i b v
-founded_more nodes sent after in_after i b v f = record {
+pub justified_more : (nodes : ℕ) (sent after : List Message) → Within sent after → (i b : ℕ) (v : Action) → IsJustified nodes sent i b v → IsJustified nodes after i b v
+justified_more nodes sent after in_after i b v f = record {
   promises = f.promises;
-  told = λ a last h. promised_more sent after in_after a i b last (f.told a last h);
+  stated = λ a last h. promised_more sent after in_after a i b last (f.stated a last h);
   promisers = f.promisers;
   members = f.members;
   majority = f.majority;
@@ -84,13 +84,13 @@ pub so_sent : (nodes : ℕ) (sent after : List Message) → Within sent after �
 so_sent nodes sent after in_after records (bodies.Call action) so = so
 so_sent nodes sent after in_after records (bodies.Prepare i b) so = so
 so_sent nodes sent after in_after records (bodies.Promise i b last) so = so
-so_sent nodes sent after in_after records (bodies.Accept i b v) so = (so.0, founded_more nodes sent after in_after i b v so.1, asked_more sent after in_after v so.2)
+so_sent nodes sent after in_after records (bodies.Accept i b v) so = (so.0, justified_more nodes sent after in_after i b v so.1, asked_more sent after in_after v so.2)
 so_sent nodes sent after in_after records (bodies.Accepted i b v) so = so
 so_sent nodes sent after in_after records (bodies.Decided i v) so = so
 so_sent nodes sent after in_after records (bodies.Ask i) so = so
 so_sent nodes sent after in_after records (bodies.Nack i b bound) so = so
 so_sent nodes sent after in_after records (bodies.Reply number reply) so = so
-so_sent nodes sent after in_after records (bodies.Report first applied told) so = so
+so_sent nodes sent after in_after records (bodies.Report first applied stated) so = so
 so_sent nodes sent after in_after records (bodies.PrepareRange range b) so = so
 so_sent nodes sent after in_after records (bodies.PromiseRange range b votes) so = so
 
@@ -106,7 +106,7 @@ so_written nodes x sent records written may (bodies.Decided i v) so = record_sta
 so_written nodes x sent records written may (bodies.Ask i) so = so
 so_written nodes x sent records written may (bodies.Nack i b bound) so = so
 so_written nodes x sent records written may (bodies.Reply number reply) so = so
-so_written nodes x sent records written may (bodies.Report first applied told) so = reported_written records written first applied told so
+so_written nodes x sent records written may (bodies.Report first applied stated) so = reported_written records written first applied stated so
 so_written nodes x sent records written may (bodies.PrepareRange range b) so = record_stays (Started b) records written so
 so_written nodes x sent records written may (bodies.PromiseRange range b votes) so =
     (record_stays (PromisedRange range b) records written so.0, λ i covered. reports_stay nodes x sent records written i b (placed_at votes i) may (so.1 i covered))

@@ -1,4 +1,4 @@
--- What a task's input comes to keeps the invariant: it sends nothing but right calls of its own.
+-- The result of a task's input keeps the invariant: it sends nothing but right calls of its own.
 use Rattle.std.proofs.Common.{◌≡◌, ℕ, suc, ◌-◌, ◌<◌, Bool, true, false, if◌then◌else◌, Result, Ok, Err, Option, Some, None, List, [], ◌∷◌, length, inl, inr, refl, sym, subst, arith}
 use Rattle.std.specs.Prelude.{ℤ, nat_le, nat_lt, not, ◌||◌, ◌^◌, FitsSigned}
 use Rattle.std.specs.Int.{w64}
@@ -90,7 +90,7 @@ IsTaskDoneIf t (Err fault) = Unit {0}
 goes_on : (t : ℕ) (part : TaskPart) → WaitsForOwn t part → IsTaskDone t (goes_on_as part)
 goes_on t part waits = record { calls = λ m h. absurd h; waits = waits }
 
--- the test for an operation tells which are right
+-- the test for an operation decides which are right
 operation_right : (operation : Operation) → is_right_operation operation ≡ true → IsRightOperation operation
 operation_right (Function index) e = let both = and_parts _ _ e in (leb-true 1 index both.0, leb-true index 8 both.1)
 operation_right (Procedure index) e = let both = and_parts _ _ e in (leb-true 1 index both.0, leb-true index 8 both.1)
@@ -175,7 +175,7 @@ hears_done t part (bodies.Decided i v) waits = goes_on t part waits
 hears_done t part (bodies.Ask i) waits = goes_on t part waits
 hears_done t part (bodies.Nack i b bound) waits = goes_on t part waits
 hears_done t part (bodies.Reply number reply) waits = reply_done t part number reply waits
-hears_done t part (bodies.Report first applied told) waits = goes_on t part waits
+hears_done t part (bodies.Report first applied stated) waits = goes_on t part waits
 hears_done t part (bodies.PrepareRange range b) waits = goes_on t part waits
 hears_done t part (bodies.PromiseRange range b votes) waits = goes_on t part waits
 
@@ -193,4 +193,4 @@ task_sound config sent t part (Take message) waits fits = hears_done t part mess
 
 -- what was not refused
 pub if_task_done : (t : ℕ) (result : Result (Done TaskPart) Fault) (done : Done TaskPart) → IsTaskDoneIf t result → result ≡ Ok done → IsTaskDone t done
-if_task_done t result done is came = subst (IsTaskDoneIf t) came is
+if_task_done t result done is resulted = subst (IsTaskDoneIf t) resulted is

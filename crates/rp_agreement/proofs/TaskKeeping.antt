@@ -1,4 +1,4 @@
--- A task's step keeps what tasks are told.
+-- A task's step keeps the replies to tasks.
 use Rattle.std.proofs.Common.{◌≡◌, ℕ, suc, Ok, List, [], length, map, inl, inr, refl, sym, subst, ◌∙◌, arith, ◌≤◌}
 use Rattle.std.proofs.lemmas.Bool.{cases_eq}
 use Rattle.std.proofs.lemmas.List.{append-nil}
@@ -16,7 +16,7 @@ use Rattle.rp_model.specs.Parts.{NodePart}
 use Rattle.rp_model.specs.Parts.{TaskPart}
 use Rattle.rp_model.specs.Effect.{Setting, Done}
 use Rattle.rp_model.specs.Tasks.{TaskInput, Take, task_effect}
-use Rattle.rp_agreement.specs.Told.{IsAsked}
+use Rattle.rp_agreement.specs.Asked.{IsAsked}
 use Rattle.rp_agreement.specs.Sound.{SaysSo, IsCall, IsSound}
 use Rattle.rp_agreement.specs.Order.{AllSent}
 use Rattle.rp_agreement.specs.Computed.{order_of}
@@ -27,7 +27,7 @@ use Rattle.rp_agreement.proofs.Computing.{order_is}
 use Rattle.rp_agreement.proofs.Following.{decided_asked}
 use Rattle.rp_agreement.proofs.TaskEffects.{task_keeps, task_sound, if_task_done}
 use Rattle.rp_agreement.proofs.AnswersGrow.{answer_more, still_answered, answers_grow, applied_begins, order_grows, ready_grows}
-use Rattle.rp_agreement.proofs.TaskTelling.{IsAnsweredIf, task_answered, last_replied, WentOn, WentOnIf, task_went, others_ask}
+use Rattle.rp_agreement.proofs.TaskReplies.{IsAnsweredIf, task_answered, last_replied, WentOn, WentOnIf, task_went, others_ask}
 use Rattle.rp_agreement.proofs.Made.{made_stays, made_after, asks_in_turn}
 
 -- what a task says is no reply
@@ -64,13 +64,13 @@ module _ {S : Type 0} (s : Setting S) where
       let there = subst (IsTaskInput sent t) is right in
       reply_by_party node task sent kept message there.0 t there.1 message.from refl
 
-  -- what stands in the order was asked for
+  -- what is in the order was asked for
   pub asked_in_order : (node : ℕ → NodePart) (sent : List Message) → IsSound s.config.nodes node sent → (action : Action) → Has action (order_of s.config.nodes sent) → IsAsked sent action
   asked_in_order node sent sound action h =
       let at = has_get (order_of s.config.nodes sent) action h in
       decided_asked sound (suc at.0) action ((order_is s.config.nodes sent).decided at.0 action at.1)
 
-  -- each call that has its reply is answered by a beginning of the order in which the next does not stand
+  -- each call that has its reply is answered by a beginning of the order in which the next does not occur
   ready_after : (t : ℕ) (part : TaskPart) (done : Done TaskPart) (node : ℕ → NodePart) (sent : List Message) → IsSound s.config.nodes node sent
       → IsAnswered (answers_of s (order_of s.config.nodes sent)) t part → (made : List Action) → AreMade sent t part made
       → ((n : ℕ) → n ≤ length part.replies → IsReady s (order_of s.config.nodes sent) t n)
@@ -84,9 +84,9 @@ module _ {S : Type 0} (s : Setting S) where
           | inl last ↦ subst (IsReady s (order_of s.config.nodes sent) t) (sym last) (record {
             before = order_of s.config.nodes sent;
             begins = ([], sym (append-nil (order_of s.config.nodes sent)));
-            absent = λ stands.
-                let asked = asked_in_order node sent sound stands.0 stands.1 in
-                let below : suc (suc (length part.replies)) ≤ calls_so_far part = asks_in_turn sent t part made are_made stands.0 (asked.asked (named t (suc (suc (length part.replies)))) stands.2) (named t (suc (suc (length part.replies)))) stands.2 in
+            absent = λ occurs.
+                let asked = asked_in_order node sent sound occurs.0 occurs.1 in
+                let below : suc (suc (length part.replies)) ≤ calls_so_far part = asks_in_turn sent t part made are_made occurs.0 (asked.asked (named t (suc (suc (length part.replies)))) occurs.2) (named t (suc (suc (length part.replies)))) occurs.2 in
                 absurd (omega (arith, below, more.1));
             answered = inr (subst (λ (m : ℕ). Has (named t m) (map call_of (answers_of s (order_of s.config.nodes sent)))) more.0 (last_replied (answers_of s (order_of s.config.nodes sent)) t done.part now (omega (arith, more.0))));
           })
@@ -99,13 +99,13 @@ module _ {S : Type 0} (s : Setting S) where
       → IsKept s node task sent → IsTaskInput sent t input → task_effect s.config t (task t) input ≡ Ok done
       → ((k : ℕ) → node' k ≡ node k) → TaskMoves t done task sent task' sent'
       → IsKept s node' task' sent'
-  task_goes_on t input done node task sent node' task' sent' kept right came stays moves =
+  task_goes_on t input done node task sent node' task' sent' kept right resulted stays moves =
       let given = answers_of s (order_of s.config.nodes sent) in
-      let d = if_task_done t (task_effect s.config t (task t) input) done (task_sound s.config sent t (task t) input (kept.own t) right) came in
+      let d = if_task_done t (task_effect s.config t (task t) input) done (task_sound s.config sent t (task t) input (kept.own t) right) resulted in
       let sound = task_keeps s.config.nodes t done.sends node sent node' sent' kept.sound (record { calls = d.calls; stays = stays; sends = moves.sends }) in
       let all : AllSent sent sent' = λ m h. (moves.sends m).1 (inl h) in
-      let now : IsAnswered given t done.part = subst (IsAnsweredIf given t) came (task_answered s.config given t (task t) input (kept.answered t) (input_answered node task sent kept t input right)) in
-      let went : WentOn t (task t) done = subst (WentOnIf t (task t)) came (task_went s.config t (task t) input) in
+      let now : IsAnswered given t done.part = subst (IsAnsweredIf given t) resulted (task_answered s.config given t (task t) input (kept.answered t) (input_answered node task sent kept t input right)) in
+      let went : WentOn t (task t) done = subst (WentOnIf t (task t)) resulted (task_went s.config t (task t) input) in
       let longer = order_grows s.config.nodes node' sent sent' sound all in
       let more = answers_grow s (order_of s.config.nodes sent) (order_of s.config.nodes sent') longer in
       record {

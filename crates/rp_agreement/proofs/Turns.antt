@@ -35,7 +35,7 @@ IsOffer (bodies.Decided i v) = ⊥
 IsOffer (bodies.Ask i) = ⊥
 IsOffer (bodies.Nack i b bound) = ⊥
 IsOffer (bodies.Reply number reply) = ⊥
-IsOffer (bodies.Report first applied told) = ⊥
+IsOffer (bodies.Report first applied stated) = ⊥
 IsOffer (bodies.PrepareRange range b) = ⊥
 IsOffer (bodies.PromiseRange range b votes) = ⊥
 
@@ -57,7 +57,7 @@ one_plain nodes x sent records m is k h = elim h [ inl same ↦ subst (IsPlain n
 
 pub both_plain : (nodes x : ℕ) (sent : List Message) (records : List Rec) (ms ks : List Message) → ArePlain nodes x sent records ms → ArePlain nodes x sent records ks
     → ArePlain nodes x sent records (ms ++ ks)
-both_plain nodes x sent records ms ks left right m h = elim (has_split m ms ks h) [ inl before ↦ left m before | inr behind ↦ right m behind ]
+both_plain nodes x sent records ms ks left right m h = elim (has_split m ms ks h) [ inl before ↦ left m before | inr following ↦ right m following ]
 
 -- the same said to several
 pub mapped_plain : {A : Type 0} (nodes x : ℕ) (sent : List Message) (records : List Rec) (f : A → Message) (xs : List A) → ((a : A) → IsPlain nodes x sent records (f a))

@@ -1,5 +1,5 @@
--- What tasks are told: each reply that a node sent is an answer that its applied list leads to, and each
--- reply that a task took is an answer that the order leads to (this project's own).
+-- The replies to tasks: each reply that a node sent is an answer that its applied list leads to, and each reply that
+-- a task took is an answer that the order leads to.
 use Rattle.std.specs.Prelude.{◌≡◌, ◌⊎◌, ◌↔◌, ℕ, suc, ◌≤◌, Some, is_some, unwrap_or, List, [], ◌∷◌, ◌++◌, length, map}
 use Rattle.std.specs.Prelude.{filter, if◌then◌else◌}
 use Rattle.rp_base.specs.Sets.{Has}
@@ -7,7 +7,7 @@ use Rattle.rp_base.specs.Records.{applied_of}
 use Rattle.rp_base.specs.declared.action.Action.{Action}
 use Rattle.rp_base.specs.declared.config.Config.{Config}
 use Rattle.rp_base.specs.declared.reply.Answer.{Answer}
-use Rattle.rp_base.specs.declared.reply.Reply.{Reply as Told}
+use Rattle.rp_base.specs.declared.reply.Reply.{Reply as CallReply}
 use Rattle.rp_codec.specs.Message.{Message}
 use Rattle.rp_codec.specs.declared.packet.Party.{Party}
 use Rattle.rp_codec.specs.declared.packet.Party.TheVariants.{Node, Task, Audit}
@@ -21,7 +21,7 @@ use Rattle.rp_model.specs.Parts.{fresh_task}
 use Rattle.rp_model.specs.World.{World, part_at}
 use Rattle.rp_model.specs.Parts.{NodePart}
 use Rattle.rp_model.specs.Parts.{TaskPart}
-use Rattle.rp_agreement.specs.Told.{Asks}
+use Rattle.rp_agreement.specs.Asked.{Asks}
 use Rattle.rp_agreement.specs.Order.{Begins}
 use Rattle.rp_agreement.specs.Computed.{order_of}
 use Rattle.rp_agreement.specs.Sound.{IsSound}
@@ -29,7 +29,7 @@ use Rattle.rp_agreement.specs.Inputs.{WaitsForOwn}
 use Rattle.rp_agreement.specs.Worlds.{node_in}
 
 -- the reply of this number to this party is one of these answers
-abbrev pub IsAnswerTo : List Answer → Party → ℕ → Told → Type 0
+abbrev pub IsAnswerTo : List Answer → Party → ℕ → CallReply → Type 0
 IsAnswerTo given (Node k) number reply = ⊥
 IsAnswerTo given (Task t) number reply = Has (record { task = t; number = number; reply = reply }) given
 IsAnswerTo given Audit number reply = ⊥
@@ -98,19 +98,19 @@ pub record AreItsCalls (sent : List Message) (t : ℕ) (part : TaskPart) (action
   pub all_but_last : (made ≡ calls_by t actions)
       ⊎ ((call : Action) × (part.outstanding ≡ Some call) × (made ≡ calls_by t actions ++ call ∷ []))
 
--- the call stands among the actions
-abbrev pub Stands : CallName → List Action → Type 0
-Stands call actions = (action : Action) × Has action actions × Has call (calls_of action)
+-- the call occurs among the actions
+abbrev pub Occurs : CallName → List Action → Type 0
+Occurs call actions = (action : Action) × Has action actions × Has call (calls_of action)
 
--- A beginning of the order leads to the answer to the task's nth call, where n is 1 or more, and the next
--- call does not stand in it.
+-- A beginning of the order leads to the answer to the task's nth call, where n is 1 or more, and the next call does
+-- not occur in it.
 pub record IsReady {S : Type 0} (s : Setting S) (order : List Action) (t n : ℕ) : Type 0 where
   pub before : List Action
   pub begins : Begins before order
-  pub absent : ¬ Stands (named t (suc n)) before
+  pub absent : ¬ Occurs (named t (suc n)) before
   pub answered : (n ≡ 0) ⊎ Has (named t n) (map call_of (answers_of s before))
 
--- The invariant with what tasks are told, over the parts of nodes and tasks and the packets ever sent.
+-- The invariant with the replies to tasks, over the parts of nodes and tasks and the packets ever sent.
 pub record IsKept {S : Type 0} (s : Setting S) (node : ℕ → NodePart) (task : ℕ → TaskPart) (sent : List Message)
     : Type 0 where
   pub sound : IsSound s.config.nodes node sent
@@ -124,7 +124,7 @@ pub record IsKept {S : Type 0} (s : Setting S) (node : ℕ → NodePart) (task :
 abbrev pub task_in : List TaskPart → ℕ → TaskPart
 task_in tasks t = unwrap_or (part_at tasks t) fresh_task
 
--- A world meets it.
+-- A world satisfies it.
 pub record IsKeptWorld {S : Type 0} (s : Setting S) (w : World) : Type 0 where
   pub size : length w.nodes ≡ s.config.nodes
   pub kept : IsKept s (node_in w.nodes) (task_in w.tasks) w.sent

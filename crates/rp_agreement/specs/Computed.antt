@@ -1,4 +1,4 @@
--- The order, read off the packets (this project's own).
+-- The order, read off the packets.
 use Rattle.std.specs.Prelude.{ℕ, zero, suc, nat_eq, ◌&&◌, Option, Some, None, List, [], length, find, filter_map}
 use Rattle.std.specs.Option.{option_map}
 use Rattle.rp_base.specs.Promises.{HeardVote, makes_majority}
@@ -11,7 +11,7 @@ use Rattle.rp_codec.specs.declared.packet.Body.{Body}
 use Rattle.rp_codec.specs.declared.packet.Body.TheVariants.{Call, Prepare, Promise, Accept, Accepted, Decided, Ask}
 use Rattle.rp_codec.specs.declared.packet.Body.TheVariants.{Nack, Reply, Report, PrepareRange, PromiseRange}
 
--- the vote of this node that a body tells, if it tells one
+-- the vote of this node that a body reports, if it reports one
 abbrev pub vote_by : ℕ → Body → Option HeardVote
 vote_by a (Call action) = None
 vote_by a (Prepare position ballot) = None
@@ -26,7 +26,7 @@ vote_by a (Report first applied actions) = None
 vote_by a (PrepareRange range ballot) = None
 vote_by a (PromiseRange range ballot votes) = None
 
--- the vote that a packet from node to node tells
+-- the vote in a packet from node to node
 abbrev pub vote_between : Party → Party → Body → Option HeardVote
 vote_between (Node a) (Node to) body = vote_by a body
 vote_between (Node a) (Task t) body = None
@@ -34,17 +34,17 @@ vote_between (Node a) Audit body = None
 vote_between (Task t) to body = None
 vote_between Audit to body = None
 
--- all votes that were told
-abbrev pub votes_told : List Message → List HeardVote
-votes_told sent = filter_map (λ m. vote_between m.from m.to m.body) sent
+-- all votes that were sent
+abbrev pub votes_sent : List Message → List HeardVote
+votes_sent sent = filter_map (λ m. vote_between m.from m.to m.body) sent
 
--- the action decided at a position: that of a vote which a majority told
+-- the action decided at a position: that of a vote which a majority cast
 abbrev pub decided_at : ℕ → List Message → ℕ → Option Action
 decided_at nodes sent i =
     option_map (λ h. h.2.action)
-    (find (λ h. nat_eq h.1 i && makes_majority nodes i h.2 (votes_told sent)) (votes_told sent))
+    (find (λ h. nat_eq h.1 i && makes_majority nodes i h.2 (votes_sent sent)) (votes_sent sent))
 
--- the actions decided from a position on without a gap, so many at most
+-- the actions decided from a position on without a gap, n at most
 abbrev pub decided_run : ℕ → List Message → ℕ → ℕ → List Action
 decided_run nodes sent zero i = []
 decided_run nodes sent (suc most) i = unless_missing (decided_at nodes sent i) (decided_run nodes sent most (suc i))

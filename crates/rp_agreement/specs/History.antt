@@ -1,4 +1,4 @@
--- What right events lead to (this project's own).
+-- What right events lead to.
 use Rattle.std.specs.Prelude.{List, ◌++◌}
 use Rattle.rp_base.specs.Config.{IsRightConfig}
 use Rattle.rp_base.specs.Sets.{Has}

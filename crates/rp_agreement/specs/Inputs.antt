@@ -1,4 +1,4 @@
--- What an actor may be given, and what its step comes to for all who look (this project's own).
+-- What an actor may be given, and the result of its step for all who look.
 use Rattle.std.specs.Prelude.{◌≡◌, ◌≢◌, ℕ, ◌<◌, ◌^◌, FitsSigned, Some, IfSome, List}
 use Rattle.std.specs.Int.{w64}
 use Rattle.rp_base.specs.Number.{IsNode, IsPosition}
@@ -30,7 +30,7 @@ IsTaskInput sent t (Submit node object operation arg) = IsNode node × FitsSigne
 IsTaskInput sent t (Again node) = IsNode node
 IsTaskInput sent t (Take message) = Has message sent × (message.to ≡ Task t)
 
--- The node x has come to this part and sent these packets; every other node stays as it was.
+-- The node x has reached this part and sent these packets; every other node stays as it was.
 pub record NodeMoves (x : ℕ) (done : Done NodePart) (node : ℕ → NodePart) (sent : List Message)
     (node' : ℕ → NodePart) (sent' : List Message) : Type 0 where
   pub part : node' x ≡ done.part
@@ -41,7 +41,7 @@ pub record NodeMoves (x : ℕ) (done : Done NodePart) (node : ℕ → NodePart) 
 abbrev pub WaitsForOwn : ℕ → TaskPart → Type 0
 WaitsForOwn t part = (call : Action) → part.outstanding ≡ Some call → IsCall t (Call call)
 
--- The task t has come to this part and sent these packets; every other task stays as it was.
+-- The task t has reached this part and sent these packets; every other task stays as it was.
 pub record TaskMoves (t : ℕ) (done : Done TaskPart) (task : ℕ → TaskPart) (sent : List Message)
     (task' : ℕ → TaskPart) (sent' : List Message) : Type 0 where
   pub part : task' t ≡ done.part

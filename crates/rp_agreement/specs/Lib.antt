@@ -1,5 +1,5 @@
-pub mod Told
-pub mod Founded
+pub mod Asked
+pub mod Justified
 pub mod Sound
 pub mod Steps
 pub mod Inputs

@@ -1,4 +1,4 @@
--- Lists of which one begins the other, and lists of decided actions (this project's own).
+-- Lists of which one is a prefix of the other, and lists of decided actions.
 use Rattle.std.specs.Prelude.{◌≡◌, ◌⊎◌, ℕ, suc, Some, List, ◌++◌, slice_get}
 use Rattle.rp_base.specs.Sets.{Has}
 use Rattle.rp_base.specs.declared.action.Action.{Action}
@@ -9,7 +9,7 @@ use Rattle.rp_model.specs.Facts.{IsDecided}
 abbrev pub Begins : {A : Type 0} → List A → List A → Type 0
 Begins {A} xs ys = (rest : List A) × (ys ≡ xs ++ rest)
 
--- of two lists one begins the other
+-- of two lists one is a prefix of the other
 abbrev pub AreAlike : {A : Type 0} → List A → List A → Type 0
 AreAlike xs ys = Begins xs ys ⊎ Begins ys xs
 

@@ -1,4 +1,4 @@
--- A world whose numbers are within the ranges of their types: each packet of it is one (this project's own).
+-- A world whose numbers are within the ranges of their types: each packet of it is one.
 use Rattle.std.specs.Prelude.{◌≡◌, ℕ, false, Some, IfSome, length}
 use Rattle.rp_base.specs.Action.{IsRight}
 use Rattle.rp_base.specs.Ballot.{IsBallot}
@@ -47,7 +47,7 @@ pub record IsRangedWorld (nodes : ℕ) (w : World) : Type 0 where
   pub waits : (t : ℕ) (part : TaskPart) → part_at w.tasks t ≡ Some part → WaitsForOwn t part
   pub packets : (m : Message) → Has m w.sent → IsPacket m
 
--- what a step of a node comes to is so, and each packet that it sends is one, from that node
+-- the result of a step of a node is so, and each packet that it sends is one, from that node
 pub record IsRangedStep (x : ℕ) (done : Done NodePart) : Type 0 where
   pub part : IsRangedPart done.part
   pub packets : (m : Message) → Has m done.sends → IsPacket m

@@ -1,6 +1,6 @@
--- The invariant: what every packet says is so, by the records of who sent it; what a node wrote and what
--- it knows while it runs is founded on packets that were sent. Each fact speaks of a position and a
--- ballot. Lamport, "Paxos Made Simple", section 2; the list of facts is this project's own.
+-- The invariant: what every packet says is so, by the records of who sent it; what a node wrote and what it knows
+-- while it runs is justified by packets that were sent. Each fact speaks of a position and a ballot. Lamport, "Paxos
+-- Made Simple", section 2; the list of facts is ours.
 use Rattle.std.specs.Prelude.{◌≡◌, ℕ, ◌-◌, ◌≤◌, true, Option, Some, IfSome, List, length, map, take, drop}
 use Rattle.rp_base.specs.Action.{IsRight}
 use Rattle.rp_base.specs.Ballot.{owner_of}
@@ -23,14 +23,14 @@ use Rattle.rp_codec.specs.declared.packet.Body.TheVariants.{Nack, Reply, Report,
 use Rattle.rp_model.specs.Facts.{HasPromised, HasVoted, IsOffered, IsDecided}
 use Rattle.rp_model.specs.Parts.{Running}
 use Rattle.rp_model.specs.Parts.{NodePart}
-use Rattle.rp_agreement.specs.Told.{IsAsked}
-use Rattle.rp_agreement.specs.Founded.{Reports, IsFounded}
+use Rattle.rp_agreement.specs.Asked.{IsAsked}
+use Rattle.rp_agreement.specs.Justified.{Reports, IsJustified}
 
 -- x is one of the nodes 1 to n
 abbrev pub IsMember : ℕ → ℕ → Type 0
 IsMember nodes x = (1 ≤ x) × (x ≤ nodes)
 
--- so many actions were applied, and these are the ones from a position on, as many as a report tells
+-- n actions were applied, and these are the ones from a position on, as many as a report has
 abbrev pub IsReported : List Action → ℕ → ℕ → List Action → Type 0
 IsReported all first applied actions =
     (applied ≤ length all) × (actions ≡ take (report_len first applied) (drop (first - 1) (take applied all)))
@@ -40,7 +40,7 @@ abbrev pub IsSo : ℕ → List Message → List Rec → Body → Type 0
 IsSo nodes sent records (Call action) = ⊥
 IsSo nodes sent records (Prepare i b) = Has (Started b) records
 IsSo nodes sent records (Promise i b last) = Has (Promised i b) records × Reports records i b last
-IsSo nodes sent records (Accept i b v) = Has (Started b) records × IsFounded nodes sent i b v × IsAsked sent v
+IsSo nodes sent records (Accept i b v) = Has (Started b) records × IsJustified nodes sent i b v × IsAsked sent v
 IsSo nodes sent records (Accepted i b v) = Has (Voted i b v) records
 IsSo nodes sent records (Decided i v) = Has (Learned i v) records
 IsSo nodes sent records (Ask i) = Unit {0}

@@ -1,5 +1,4 @@
--- What a step of a node comes to for all who look, and what it owes for the invariant (this project's
--- own).
+-- The result of a step of a node for all who look, and its obligations for the invariant.
 use Rattle.std.specs.Prelude.{◌≡◌, ◌≢◌, ◌↔◌, ◌⊎◌, ℕ, ◌<◌, ◌≤◌, Option, Some, None, List}
 use Rattle.rp_base.specs.Ballot.{owner_of}
 use Rattle.rp_base.specs.Sets.{Has}
@@ -47,7 +46,7 @@ MayWrite nodes sent x records (Some (Voted i b v)) = IsOffered sent i b v × (bo
 MayWrite nodes sent x records (Some (Learned i v)) = IsDecided nodes sent i v
 MayWrite nodes sent x records (Some (PromisedRange range b)) = Unit {0}
 
--- What a node's step owes, by its own records and the packets sent before. (What it sends itself founds
+-- The obligations of a node's step, by its own records and the packets sent before. (What it sends itself justifies
 -- no offer yet, counts in no proposal, and is no vote that it heard.)
 pub record IsSoundStep (nodes x : ℕ) (records : List Rec) (sent : List Message) (written : Option Rec)
     (running : Option Running) (packets : List Message) : Type 0 where

@@ -11,7 +11,7 @@ use Rattle.rp_agreement.specs.Inputs.{WaitsForOwn}
 abbrev pub node_in : List NodePart → ℕ → NodePart
 node_in nodes k = unwrap_or (part_at nodes k) fresh_node
 
--- A world of n nodes meets the invariant.
+-- A world of n nodes satisfies the invariant.
 pub record IsSoundWorld (nodes : ℕ) (w : World) : Type 0 where
   pub size : length w.nodes ≡ nodes
   pub sound : IsSound nodes (node_in w.nodes) w.sent

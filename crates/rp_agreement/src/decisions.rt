@@ -13,10 +13,10 @@ ghost use Rattle.rp_model.specs.Parts.{NodePart};
 ghost use Rattle.rp_agreement.specs.Decided.{IsCast};
 ghost use Rattle.rp_agreement.specs.Order.{AllSent};
 ghost use Rattle.rp_agreement.specs.Sound.{IsSound};
-ghost use Rattle.rp_agreement.specs.Told.{IsAsked, Says};
+ghost use Rattle.rp_agreement.specs.Asked.{IsAsked, Says};
 
 /// At a position one action at most is decided, whether votes are counted in the packets or in what
-/// the nodes wrote; and what the packets tell decided the nodes wrote.
+/// the nodes wrote; and what is decided by packets the nodes wrote.
 pub fn decisions_are_one()
     ensures decided { (nodes : ℕ) (node : ℕ → NodePart) (sent : List Message)
         → IsSound nodes node sent
@@ -42,7 +42,7 @@ pub fn only_decided_actions_are_learned()
         → IsSound nodes node sent
         → (x i : ℕ) (v : Action)
         → Has (Learned i v) (node x).records → IsDecided nodes sent i v }
-    ensures told { (nodes : ℕ) (node : ℕ → NodePart) (sent : List Message)
+    ensures stated { (nodes : ℕ) (node : ℕ → NodePart) (sent : List Message)
         → IsSound nodes node sent
         → (x i : ℕ) (v : Action) → Says sent x (Decided i v) → IsDecided nodes sent i v }
     ensures one { (nodes : ℕ) (node : ℕ → NodePart) (sent : List Message)

@@ -19,7 +19,7 @@ ghost use Rattle.rp_agreement.specs.Worlds.{IsSoundWorld};
 use crate::opening::the_opening_is_sound;
 use rp_machine::Machine;
 
-/// Every history leads to a world that meets the invariant.
+/// Every history leads to a world that satisfies the invariant.
 pub fn histories_are_sound<M: Machine>()
     ensures { (setting : Setting M) (events : List Event) (world : World)
         → IsHistory setting events world → IsSoundWorld setting.config.nodes world }
@@ -29,8 +29,8 @@ pub fn histories_are_sound<M: Machine>()
 
 /// At two moments of a history, now and later: at a position one action at most is decided, and it
 /// stays decided; the order grows at its end alone; of what two nodes have applied, the one now and
-/// the other later, one begins the other; and where they have applied equally many actions they are
-/// in one state, with the same answers given.
+/// the other later, one is a prefix of the other; and where they have applied equally many actions
+/// they are in one state, with the same answers given.
 pub fn histories_agree<M: Machine>()
     ensures decided { (setting : Setting M) (now later : World) → AreMoments setting now later
         → let nodes = setting.config.nodes in

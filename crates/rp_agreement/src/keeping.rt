@@ -11,7 +11,7 @@ ghost use Rattle.rp_model.specs.Effect.{Setting, Done, NodeInput, goes_on_as, un
 ghost use Rattle.rp_model.specs.Effect.{node_effect, cut_effect, stop_effect, restart_part};
 ghost use Rattle.rp_model.specs.Events.{Event, IsEvent};
 ghost use Rattle.rp_model.specs.Tasks.{TaskInput, task_effect};
-ghost use Rattle.rp_model.specs.World.{World, Happening, event_effect};
+ghost use Rattle.rp_model.specs.World.{World, Transition, event_effect};
 ghost use Rattle.rp_model.specs.declared.effect.Effect.{Effect};
 ghost use Rattle.rp_model.specs.Parts.{NodePart};
 ghost use Rattle.rp_model.specs.Parts.{TaskPart};
@@ -22,8 +22,8 @@ ghost use Rattle.rp_agreement.specs.Worlds.{IsSoundWorld};
 
 use rp_machine::Machine;
 
-/// What an input comes to at a node keeps the invariant; so do a stop within that step, however
-/// many bytes of its record are kept, a stop, a restart, and torn bytes that are cut off where a
+/// The result of an input at a node keeps the invariant; so do a stop within that step, however
+/// many bytes of its record are kept, a stop, a restart, and torn bytes that are truncated where a
 /// restart fails.
 pub fn node_events_keep<M: Machine>()
     ensures input { (setting : Setting M) (x : ℕ) (input : NodeInput) (done : Done NodePart)
@@ -56,7 +56,7 @@ pub fn node_events_keep<M: Machine>()
         → IsSound nodes after later }
 {}
 
-/// What an input comes to at a task keeps the invariant, and the task waits for nothing but a right
+/// The result of an input at a task keeps the invariant, and the task waits for nothing but a right
 /// call of its own.
 pub fn task_events_keep()
     ensures sound { (config : Config) (nodes t : ℕ) (part : TaskPart) (input : TaskInput)
@@ -72,14 +72,14 @@ pub fn task_events_keep()
         → WaitsForOwn t done.part }
 {}
 
-/// What an event of a world leads to meets the invariant, and so does the world that a step leaves
-/// whatever it answers: also where memory is wanting, or a device fails within the step.
+/// What an event of a world leads to satisfies the invariant, and so does the world that a step
+/// leaves whatever it answers: also if memory runs out, or a device fails within the step.
 pub fn events_keep<M: Machine>()
-    ensures effect { (setting : Setting M) (world : World) (event : Event) (happening : Happening)
+    ensures effect { (setting : Setting M) (world : World) (event : Event) (transition : Transition)
         → IsRightConfig setting.config → IsSoundWorld setting.config.nodes world
         → IsEvent event
-        → event_effect setting world event ≡ Ok happening
-        → IsSoundWorld setting.config.nodes happening.world }
+        → event_effect setting world event ≡ Ok transition
+        → IsSoundWorld setting.config.nodes transition.world }
     ensures answer { (setting : Setting M) (world after : World) (event : Event)
         (answer : Result Effect Fault)
         → IsRightConfig setting.config → IsSoundWorld setting.config.nodes world
@@ -88,7 +88,7 @@ pub fn events_keep<M: Machine>()
         → IsSoundWorld setting.config.nodes after }
 {}
 
-/// Any history of events leads from a world that meets the invariant to one that does.
+/// Any history of events leads from a world that satisfies the invariant to one that does.
 pub fn histories_keep<M: Machine>()
     ensures { (setting : Setting M) (world after : World) (events : List Event)
         → IsRightConfig setting.config → IsSoundWorld setting.config.nodes world

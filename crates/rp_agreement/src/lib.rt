@@ -2,17 +2,17 @@
 //! has applied begins one order.
 //!
 //! Each law is the contract of a function that does nothing. It speaks of the parts of the nodes 1
-//! to `nodes`, `node`, and of all packets ever sent, `sent`, that meet the invariant `IsSound`.
+//! to `nodes`, `node`, and of all packets ever sent, `sent`, that satisfy the invariant `IsSound`.
 //!
 //! In reading order:
-//! - `packets`: what a node says stands in its records
+//! - `packets`: what a node says is in its records
 //! - `offers`: what is offered in one ballot, and above a decided one
 //! - `decisions`: what is decided, and what is learned
 //! - `order`: what is applied, and where that leads a machine
 //! - `opening`: the invariant holds where nothing has happened
 //! - `keeping`: each event keeps it
 //! - `histories`: nodes agree in every history
-//! - `replies`: what tasks are told
+//! - `replies`: the replies to tasks
 //! - `ranges`: numbers stay within their ranges
 //! - `sends`: what one actor sends
 #![tactic(auto)]
@@ -37,7 +37,7 @@ pub use keeping::{events_keep, histories_keep, node_events_keep, task_events_kee
 pub use offers::{offers_are_one, offers_follow_decisions};
 pub use opening::the_opening_is_sound;
 pub use order::{
-    applied_lists_are_alike, applied_lists_begin_the_order, reports_tell_the_order,
+    applied_lists_are_alike, applied_lists_begin_the_order, reports_follow_the_order,
     states_are_alike, the_order_exists, the_order_grows, the_order_is_one,
 };
 pub use packets::packets_say_so;
@@ -46,8 +46,8 @@ pub use ranges::{
     votes_are_in_the_window,
 };
 pub use replies::{
-    answers_are_one, calls_count_in_turn, calls_count_where_they_first_stand, events_keep_replies,
+    answers_are_one, calls_count_in_order, calls_count_where_they_first_occur, events_keep_replies,
     node_events_keep_replies, only_made_calls_count, replies_answer_calls_that_count,
-    replies_tell_the_order, task_events_keep_replies,
+    replies_follow_the_order, task_events_keep_replies,
 };
 pub use sends::{nodes_send_right_packets, tasks_send_right_packets};

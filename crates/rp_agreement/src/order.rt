@@ -11,7 +11,7 @@ ghost use Rattle.rp_model.specs.Parts.{NodePart};
 ghost use Rattle.rp_agreement.specs.Computed.{order_of};
 ghost use Rattle.rp_agreement.specs.Order.{Begins, AreAlike, AllSent};
 ghost use Rattle.rp_agreement.specs.Sound.{IsReported, IsSound};
-ghost use Rattle.rp_agreement.specs.Told.{Says};
+ghost use Rattle.rp_agreement.specs.Asked.{Says};
 
 use rp_machine::Machine;
 
@@ -61,7 +61,7 @@ pub fn states_are_alike<M: Machine>()
 {}
 
 /// What a node reports is what the order holds at those positions.
-pub fn reports_tell_the_order()
+pub fn reports_follow_the_order()
     ensures { (nodes : ℕ) (node : ℕ → NodePart) (sent : List Message) → IsSound nodes node sent
         → (order : List Action) → IsOrder nodes sent order
         → (x first applied : ℕ) (actions : List Action)

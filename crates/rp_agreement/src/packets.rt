@@ -1,19 +1,19 @@
-//! What a node says stands in its records.
+//! What a node says is in its records.
 
 ghost use Rattle.std.specs.Prelude.{ℕ, Option, List};
 ghost use Rattle.rp_base.specs.declared.record.Vote.{Vote};
 ghost use Rattle.rp_codec.specs.Message.{Message};
 ghost use Rattle.rp_codec.specs.declared.packet.Body.{Body};
 ghost use Rattle.rp_model.specs.Parts.{NodePart};
-ghost use Rattle.rp_agreement.specs.Told.{Says};
+ghost use Rattle.rp_agreement.specs.Asked.{Says};
 ghost use Rattle.rp_model.specs.Facts.{HasPromised};
-ghost use Rattle.rp_agreement.specs.Founded.{Reports, HasWritten};
+ghost use Rattle.rp_agreement.specs.Justified.{Reports, HasWritten};
 ghost use Rattle.rp_agreement.specs.Sound.{IsMember, IsSo, IsSound};
 
 /// What a node says is so, by what it has written down by now and by what was sent: a vote or a
-/// decision is among its records, a promise too, which reports its last vote, an offer is founded on a
-/// majority's promises, and a report tells what it has applied. Who says something as a node is one of
-/// the nodes 1 to n.
+/// decision is among its records, a promise too, which reports its last vote, an offer is justified
+/// by a majority's promises, and a report says what it has applied. Who says something as a node is
+/// one of the nodes 1 to n.
 pub fn packets_say_so()
     ensures said { (nodes : ℕ) (node : ℕ → NodePart) (sent : List Message)
         → IsSound nodes node sent

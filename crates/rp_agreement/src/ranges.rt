@@ -13,7 +13,7 @@ ghost use Rattle.rp_model.specs.declared.effect.Effect.{Effect};
 ghost use Rattle.rp_model.specs.Effect.{Setting};
 ghost use Rattle.rp_model.specs.Events.{Event, IsEvent};
 ghost use Rattle.rp_model.specs.Parts.{is_in_log};
-ghost use Rattle.rp_model.specs.World.{World, Happening, opening_world, part_at, event_effect};
+ghost use Rattle.rp_model.specs.World.{World, Transition, opening_world, part_at, event_effect};
 ghost use Rattle.rp_model.specs.Parts.{NodePart};
 ghost use Rattle.rp_agreement.specs.Answered.{setting_for};
 ghost use Rattle.rp_agreement.specs.History.{IsHistory};
@@ -43,16 +43,16 @@ pub fn votes_are_in_the_window<M: Machine>()
         → IsHistory setting events world → AreVotesNear world }
 {}
 
-/// Behind any history an event sends fewer than 2^32 - 1 packets, so that a `u32` numbers them: a
+/// After any history an event sends fewer than 2^32 - 1 packets, so that a `u32` numbers them: a
 /// task sends one at most, a node at most one to each node, one question, and as many answers as it
 /// has applied actions.
 pub fn few_packets_are_sent<M: Machine>()
     ensures { (config : Config) (program : M.Program) (events : List Event) (world : World)
-        (event : Event) (happening : Happening)
+        (event : Event) (transition : Transition)
         → let setting = setting_for M.next M.answers M.begin config program in
         IsHistory setting events world → IsEvent event
-        → event_effect setting world event ≡ Ok happening
-        → length happening.sends < 2 ^ 32 - 1 }
+        → event_effect setting world event ≡ Ok transition
+        → length transition.sends < 2 ^ 32 - 1 }
 {
     the_opening_is_sound();
     answers_are_few::<M>();
@@ -75,11 +75,11 @@ pub fn packets_are_right<M: Machine>()
 pub fn events_keep_ranges<M: Machine>()
     ensures opening { (nodes : ℕ) → IsRangedWorld nodes (opening_world nodes) }
     ensures effect { (config : Config) (program : M.Program) (world : World) (event : Event)
-        (happening : Happening)
+        (transition : Transition)
         → let setting = setting_for M.next M.answers M.begin config program in
         IsRightConfig config → IsRangedWorld config.nodes world → IsEvent event
-        → event_effect setting world event ≡ Ok happening
-        → IsRangedWorld config.nodes happening.world }
+        → event_effect setting world event ≡ Ok transition
+        → IsRangedWorld config.nodes transition.world }
     ensures answer { (config : Config) (program : M.Program) (world after : World) (event : Event)
         (answer : Result Effect Fault)
         → let setting = setting_for M.next M.answers M.begin config program in

@@ -15,7 +15,7 @@ ghost use Rattle.rp_model.specs.Effect.{Setting, Done, NodeInput, goes_on_as, un
 ghost use Rattle.rp_model.specs.Effect.{node_effect, cut_effect, stop_effect, restart_part};
 ghost use Rattle.rp_model.specs.Events.{Event, IsEvent};
 ghost use Rattle.rp_model.specs.Tasks.{TaskInput, task_effect};
-ghost use Rattle.rp_model.specs.World.{World, Happening, part_at, event_effect};
+ghost use Rattle.rp_model.specs.World.{World, Transition, part_at, event_effect};
 ghost use Rattle.rp_model.specs.declared.effect.Effect.{Effect};
 ghost use Rattle.rp_model.specs.Parts.{NodePart};
 ghost use Rattle.rp_model.specs.Parts.{TaskPart};
@@ -23,14 +23,14 @@ ghost use Rattle.rp_agreement.specs.Computed.{order_of};
 ghost use Rattle.rp_agreement.specs.History.{IsHistory};
 ghost use Rattle.rp_agreement.specs.Inputs.{IsInput, IsTaskInput, NodeMoves, TaskMoves};
 ghost use Rattle.rp_agreement.specs.Sound.{IsMember};
-ghost use Rattle.rp_agreement.specs.Answered.{calls_so_far, named, setting_for, Stands, AreItsCalls, IsKept, IsKeptWorld};
+ghost use Rattle.rp_agreement.specs.Answered.{calls_so_far, named, setting_for, Occurs, AreItsCalls, IsKept, IsKeptWorld};
 
 use crate::opening::the_opening_is_sound;
 use rp_machine::{Machine, a_call_has_one_answer, an_answered_call_has_one_place};
 
-/// What an input comes to at a node keeps the invariant with what tasks are told; so do a stop
+/// The result of an input at a node keeps the invariant with the replies to tasks; so do a stop
 /// within that step, however many bytes of its record are kept, a stop, a restart, and torn bytes
-/// that are cut off where a restart fails.
+/// that are truncated where a restart fails.
 pub fn node_events_keep_replies<M: Machine>()
     ensures input { (setting : Setting M) (x : ℕ) (input : NodeInput) (done : Done NodePart)
         (node after : ℕ → NodePart) (task : ℕ → TaskPart) (sent later : List Message)
@@ -64,24 +64,24 @@ pub fn node_events_keep_replies<M: Machine>()
         → IsKept setting after task later }
 {}
 
-/// What an input comes to at a task keeps the invariant with what tasks are told.
+/// The result of an input at a task keeps the invariant with the replies to tasks.
 pub fn task_events_keep_replies<M: Machine>()
     ensures { (setting : Setting M) (t : ℕ) (input : TaskInput) (done : Done TaskPart)
-        (node after : ℕ → NodePart) (task told : ℕ → TaskPart) (sent later : List Message)
+        (node after : ℕ → NodePart) (task moved : ℕ → TaskPart) (sent later : List Message)
         → IsKept setting node task sent → IsTaskInput sent t input
         → task_effect setting.config t (task t) input ≡ Ok done
-        → ((k : ℕ) → after k ≡ node k) → TaskMoves t done task sent told later
-        → IsKept setting after told later }
+        → ((k : ℕ) → after k ≡ node k) → TaskMoves t done task sent moved later
+        → IsKept setting after moved later }
 {}
 
-/// What an event of a world leads to keeps what tasks are told, and so does the world that a step
+/// What an event of a world leads to keeps the replies to tasks, and so does the world that a step
 /// leaves whatever it answers.
 pub fn events_keep_replies<M: Machine>()
-    ensures effect { (setting : Setting M) (world : World) (event : Event) (happening : Happening)
+    ensures effect { (setting : Setting M) (world : World) (event : Event) (transition : Transition)
         → IsRightConfig setting.config → IsKeptWorld setting world
         → IsEvent event
-        → event_effect setting world event ≡ Ok happening
-        → IsKeptWorld setting happening.world }
+        → event_effect setting world event ≡ Ok transition
+        → IsKeptWorld setting transition.world }
     ensures answer { (setting : Setting M) (world after : World) (event : Event)
         (answer : Result Effect Fault)
         → IsRightConfig setting.config → IsKeptWorld setting world
@@ -90,10 +90,10 @@ pub fn events_keep_replies<M: Machine>()
         → IsKeptWorld setting after }
 {}
 
-/// Every history, whatever stops, is cut short or starts again, leads to a world that keeps what
-/// tasks are told. There the kth reply that a task took answers its kth call, and is an answer that
-/// the order gives to it.
-pub fn replies_tell_the_order<M: Machine>()
+/// Every history, whatever stops, is cut short or starts again, leads to a world that keeps the
+/// replies to tasks. There the kth reply that a task took answers its kth call, and is an answer
+/// that the order gives to it.
+pub fn replies_follow_the_order<M: Machine>()
     ensures histories { (setting : Setting M) (events : List Event) (world : World)
         → IsHistory setting events world → IsKeptWorld setting world }
     ensures replies { (setting : Setting M) (node : ℕ → NodePart) (task : ℕ → TaskPart)
@@ -129,26 +129,26 @@ pub fn replies_answer_calls_that_count<M: Machine>()
         (t k : ℕ) (answer : Answer) → slice_get (task t).replies k ≡ Some answer
         → HasReply M.next M.answers (M.begin program) order (named t (suc k)) answer }
 {
-    replies_tell_the_order::<M>();
+    replies_follow_the_order::<M>();
     an_answered_call_has_one_place::<M>();
 }
 
-/// At a program of a machine the first standing of a call in the order is its place, where it
-/// counts. So no call is passed over; and what stands again later counts no more.
-pub fn calls_count_where_they_first_stand<M: Machine>()
+/// At a program of a machine the first occurrence of a call in the order is its place, where it
+/// counts. So no call is passed over; and later ones do not count.
+pub fn calls_count_where_they_first_occur<M: Machine>()
     ensures { (config : Config) (program : M.Program) (node : ℕ → NodePart)
         (task : ℕ → TaskPart) (sent : List Message)
         → IsKept (setting_for M.next M.answers M.begin config program) node task sent
         → let order = order_of config.nodes sent in
         (t n k : ℕ) (action : Action)
         → slice_get order k ≡ Some action → calls_of action ≡ named t n ∷ []
-        → ¬ Stands (named t n) (take k order)
+        → ¬ Occurs (named t n) (take k order)
         → IsPlace M.next M.answers (M.begin program) order (named t n) (suc k) }
 {}
 
 /// At a program of a machine the calls of a task that count in the order are those that the task
 /// made, in order: all of them, or all but the one that it waits for.
-pub fn calls_count_in_turn<M: Machine>()
+pub fn calls_count_in_order<M: Machine>()
     ensures { (config : Config) (program : M.Program) (node : ℕ → NodePart)
         (task : ℕ → TaskPart) (sent : List Message)
         → IsKept (setting_for M.next M.answers M.begin config program) node task sent
@@ -165,5 +165,5 @@ pub fn only_made_calls_count<M: Machine>()
         (t n place : ℕ) → IsPlace M.next M.answers (M.begin program) order (named t n) place
         → (1 ≤ n) × (n ≤ calls_so_far (task t)) }
 {
-    calls_count_in_turn::<M>();
+    calls_count_in_order::<M>();
 }

@@ -17,7 +17,7 @@ ghost use Rattle.rp_agreement.specs.Sound.{IsMember, IsSound};
 
 use rp_machine::{Machine, replies_fit};
 
-/// What an input comes to at a node keeps the node's numbers within their ranges, and each packet
+/// The result of an input at a node keeps the node's numbers within their ranges, and each packet
 /// that it sends is a right one of its own; so does a stop within that step.
 pub fn nodes_send_right_packets<M: Machine>()
     ensures input { (config : Config) (program : M.Program) (x : ℕ) (input : NodeInput)
@@ -40,7 +40,7 @@ pub fn nodes_send_right_packets<M: Machine>()
     replies_fit::<M>();
 }
 
-/// Each packet that an input comes to at a task is a right one of its own.
+/// Each packet that an input results in at a task is a right one of its own.
 pub fn tasks_send_right_packets()
     ensures { (config : Config) (t : ℕ) (input : TaskInput) (part : TaskPart)
         (done : Done TaskPart) (sent : List Message)

@@ -1,4 +1,4 @@
-pub mod SetsMeet
+pub mod SetsIntersect
 pub mod Members
 pub mod Sameness
 pub mod Masks

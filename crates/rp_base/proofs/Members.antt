@@ -97,7 +97,7 @@ member_stays same decides x seen (y ∷ xs) h =
       | inr later ↦ member_stays same decides x (with_member same seen y) xs later
     ]
 
--- one member more, behind the others
+-- one member more, after the others
 pub with_members-append : {A : Type 0} (same : A → A → Bool) (x : A) (seen xs : List A) → with_members same seen (xs ++ x ∷ []) ≡ with_member same (with_members same seen xs) x
 with_members-append same x seen [] = refl
 with_members-append same x seen (y ∷ xs) = with_members-append same x (with_member same seen y) xs
@@ -115,7 +115,7 @@ has_members same decides x seen (y ∷ xs) h =
       | inr later ↦ inr (inr later)
     ]
 
--- one member more, behind the others, leaves a set
+-- one member more, after the others, leaves a set
 pub set_more : {A : Type 0} (xs : List A) (x : A) → IsSet xs → ¬ Has x xs → IsSet (xs ++ x ∷ [])
 set_more [] x set none = (λ h. h, tt)
 set_more (y ∷ xs) x set none = (
@@ -161,7 +161,7 @@ drop_one x (y ∷ ys) h =
           (y ∷ rest.0, ap suc rest.1, λ z m n. elim m [ inl same ↦ inl same | inr more ↦ inr (rest.2 z more n) ])
     ]
 
--- a set whose members all stand in a list is not longer
+-- a set whose members all are in a list is not longer
 pub set_fits : (xs ys : List ℕ) → IsSet xs → ((x : ℕ) → Has x xs → Has x ys) → length xs ≤ length ys
 set_fits [] ys set inside = omega arith
 set_fits (x ∷ xs) ys set inside =

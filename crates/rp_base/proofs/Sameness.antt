@@ -1,4 +1,4 @@
--- The derived tests for equality tell which actions and votes are equal.
+-- The derived tests for equality decide which actions and votes are equal.
 use Rattle.std.proofs.Common.{◌≡◌, ℕ, Bool, true, refl, ap, subst}
 use Rattle.std.specs.Bool.{Decides}
 use Rattle.std.proofs.lemmas.Bool.{false≢true, eqb-true, eq-eqb, and_parts, and_from}

@@ -2,7 +2,7 @@
 use Rattle.std.proofs.Common.{◌≡◌, ℕ, suc, ◌+◌, ◌-◌, ◌<◌, ◌∷◌, refl, subst, arith}
 use Rattle.std.specs.List.{range_with_len}
 
--- the positions from an index on are the one there and those behind it
+-- the positions from an index on are the one there and those after it
 pub range_next : (first count index : ℕ) → index < count
     → range_with_len (first + index) (count - index) ≡ (first + index) ∷ range_with_len (first + (index + 1)) (count - (index + 1))
 range_next first count index within =

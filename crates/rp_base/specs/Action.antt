@@ -1,4 +1,4 @@
--- Which actions keep the rules of their fields (the limits are this project's own).
+-- Which actions keep the rules of their fields (the limits are ours).
 use Rattle.std.specs.Prelude.{ℕ, ◌<◌, ◌≤◌, ◌^◌, FitsSigned, Bool, true, false, nat_eq, nat_le, ◌&&◌}
 use Rattle.std.specs.Ordering.{int_eq}
 use Rattle.std.specs.Int.{w64}
@@ -63,7 +63,8 @@ same_operation _ _ = false
 -- the actions are the same
 abbrev pub same_action : Action → Action → Bool
 same_action Noop Noop = true
-same_action (Call t n o p a) (Call u m q r b) = nat_eq t u && nat_eq n m && nat_eq o q && same_operation p r && int_eq a b
+same_action (Call t n o p a) (Call u m q r b) =
+    nat_eq t u && nat_eq n m && nat_eq o q && same_operation p r && int_eq a b
 same_action (Interrupt s n) (Interrupt t m) = nat_eq s t && nat_eq n m
 same_action (Tick a) (Tick b) = nat_eq a b
 same_action _ _ = false

@@ -1,5 +1,5 @@
--- Ballots. Lamport, "Paxos Made Simple", section 2.2: proposers draw their numbers from disjoint sets.
--- The form of the number is this project's own.
+-- Ballots. Lamport, "Paxos Made Simple", section 2.2: proposers draw their numbers from disjoint sets. The form of
+-- the number is ours.
 use Rattle.std.specs.Prelude.{◌≡◌, ℕ, ◌+◌, ◌-◌, ◌*◌, ◌/◌, ◌%◌, ◌<◌, ◌≤◌, ◌^◌, max, Option, Some, unwrap_or}
 use Rattle.rp_base.specs.Number.{IsNode}
 

@@ -1,5 +1,4 @@
--- A task's calls. Their numbers count up from 1, and one call at a time has no reply yet (this
--- project's own).
+-- A task's calls. Their numbers count up from 1, and one call at a time has no reply yet.
 use Rattle.std.specs.Prelude.{ℕ, suc, ◌-◌, ◌^◌, ℤ, Bool, ◌&&◌, nat_eq, nat_lt, nat_le, Option, Some, None}
 use Rattle.rp_base.specs.declared.action.Action.{Action}
 use Rattle.rp_base.specs.declared.action.Action.TheVariants.{Noop, Call, Interrupt, Tick}
@@ -9,13 +8,13 @@ use Rattle.rp_base.specs.declared.action.Operation.{Operation}
 abbrev pub greatest_number : ℕ
 greatest_number = 2 ^ 32 - 1
 
--- the next call of a task that has made so many
+-- the next call of a task that has made n
 abbrev pub next_call : ℕ → ℕ → ℕ → Operation → ℤ → Action
 next_call task made object operation arg = Call task (suc made) object operation arg
 
--- a task that has made so many calls has no number for another
-abbrev pub are_spent : ℕ → Bool
-are_spent made = nat_le greatest_number made
+-- a task that has made n calls has no number for another
+abbrev pub are_exhausted : ℕ → Bool
+are_exhausted made = nat_le greatest_number made
 
 -- the number of the call that a task waits for, 0 where it waits for none
 abbrev pub outstanding_number : Option Action → ℕ

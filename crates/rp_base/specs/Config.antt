@@ -1,4 +1,4 @@
--- The sizes that a cluster may have (this project's own).
+-- The sizes that a cluster may have.
 use Rattle.std.specs.Prelude.{◌<◌, ◌≤◌, ◌^◌}
 use Rattle.rp_base.specs.declared.config.Config.{Config}
 

@@ -1,7 +1,9 @@
--- The number and the name of each fault (this project's own).
+-- The number and the name of each fault.
 use Rattle.std.specs.Prelude.{ℕ, List, codes}
 use Rattle.rp_base.specs.declared.fault.Fault.{Fault}
-use Rattle.rp_base.specs.declared.fault.Fault.TheVariants.{OutOfMemory, Device, Failed, BadPacket, NotRunning, BallotsSpent, LogFull, NoSuchMessage, TaskBusy, NumbersSpent, BadDeck, BadConfig, Io}
+use Rattle.rp_base.specs.declared.fault.Fault.TheVariants.{OutOfMemory, Device, Failed, BadPacket, NotRunning}
+use Rattle.rp_base.specs.declared.fault.Fault.TheVariants.{BallotsSpent, LogFull, NoSuchMessage, TaskBusy, NumbersSpent}
+use Rattle.rp_base.specs.declared.fault.Fault.TheVariants.{BadDeck, BadConfig, Io}
 
 -- its number
 abbrev pub code_of : Fault → ℕ

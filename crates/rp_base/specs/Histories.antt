@@ -1,4 +1,4 @@
--- A list that memory does not hold, as contracts see it (this project's own).
+-- A list that memory does not hold, as contracts see it.
 use Rattle.std.specs.Prelude.{List, [], ◌∷◌, ◌++◌}
 use Rattle.rp_base.specs.declared.history.Last.{Last}
 use Rattle.rp_base.specs.declared.history.Last.TheVariants.{Nothing, After}

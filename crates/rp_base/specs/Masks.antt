@@ -1,4 +1,4 @@
--- A set of nodes as a mask: bit k is set where node k is in the set (this project's own).
+-- A set of nodes as a mask: bit k is set where node k is in the set.
 use Rattle.std.specs.Prelude.{ℕ, ◌-◌, ◌/◌, ◌^◌, nat_eq, List, [], ◌∷◌, filter}
 use Rattle.std.specs.Int.{bit_at}
 

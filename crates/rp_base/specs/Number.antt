@@ -1,4 +1,4 @@
--- Which numbers name nodes, tasks and positions (this project's own limits).
+-- Which numbers name nodes, tasks and positions (the limits are ours).
 use Rattle.std.specs.Prelude.{ℕ, Bool, ◌<◌, ◌≤◌, ◌^◌, ◌&&◌, nat_le}
 
 -- a node is 1 to 7

@@ -1,7 +1,8 @@
 -- What a proposer makes of the promises, and a learner of the votes, that came. Lamport, "Paxos Made
 -- Simple", section 2.2: the value of the highest-numbered proposal among the responses, or any value
 -- if they report none; and section 2.3: a value is learned once a majority of acceptors accepted it.
-use Rattle.std.specs.Prelude.{ℕ, Bool, true, false, not, ◌&&◌, nat_eq, Option, Some, None, unwrap_or, List, [], map, filter, filter_map}
+use Rattle.std.specs.Prelude.{ℕ, Bool, true, false, not, ◌&&◌, nat_eq, Option, Some, None, unwrap_or, List, [], map}
+use Rattle.std.specs.Prelude.{filter, filter_map}
 use Rattle.rp_base.specs.declared.action.Action.{Action}
 use Rattle.rp_base.specs.declared.action.Action.TheVariants.{Noop}
 use Rattle.rp_base.specs.declared.record.Vote.{Vote}
@@ -56,7 +57,8 @@ same_heard h k = nat_eq h.0 k.0 && nat_eq h.1 k.1 && same_vote h.2 k.2
 
 -- who cast this vote at this position, each once
 abbrev pub voters_of : ℕ → Vote → List HeardVote → List ℕ
-voters_of i vote heard = with_members nat_eq [] (map (λ h. h.0) (filter (λ h. nat_eq h.1 i && same_vote h.2 vote) heard))
+voters_of i vote heard =
+    with_members nat_eq [] (map (λ h. h.0) (filter (λ h. nat_eq h.1 i && same_vote h.2 vote) heard))
 
 -- those who cast this vote at this position are a majority of n nodes
 abbrev pub makes_majority : ℕ → ℕ → Vote → List HeardVote → Bool

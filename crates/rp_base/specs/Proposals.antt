@@ -1,7 +1,8 @@
 -- Proposals that run at a node, one for each position. Lamport, "Paxos Made Simple", section 2.2: a
 -- proposer asks for promises in its ballot, and with a majority of them offers one action; section 3:
 -- one proposal for each position of the log.
-use Rattle.std.specs.Prelude.{ℕ, Bool, true, false, not, ◌&&◌, ◌||◌, nat_eq, Option, Some, None, List, [], ◌∷◌, filter, find, if◌then◌else◌}
+use Rattle.std.specs.Prelude.{ℕ, Bool, true, false, not, ◌&&◌, ◌||◌, nat_eq, Option, Some, None, List, [], ◌∷◌, filter}
+use Rattle.std.specs.Prelude.{find, if◌then◌else◌}
 use Rattle.rp_base.specs.declared.action.Action.{Action}
 use Rattle.rp_base.specs.declared.proposal.Phase.{Phase}
 use Rattle.rp_base.specs.declared.proposal.Phase.TheVariants.{Preparing, Offering}
@@ -42,7 +43,7 @@ proposal_at proposals i = find (λ p. nat_eq p.position i) proposals
 abbrev pub without_proposal : List Proposal → ℕ → List Proposal
 without_proposal proposals i = filter (λ p. not (nat_eq p.position i)) proposals
 
--- the proposals, this one in place of the one at its position, or behind them where none runs there
+-- the proposals, this one in place of the one at its position, or after them where none runs there
 abbrev pub with_proposal : List Proposal → Proposal → List Proposal
 with_proposal [] p = p ∷ []
 with_proposal (q ∷ rest) p = if nat_eq q.position p.position then p ∷ rest else q ∷ with_proposal rest p

@@ -1,6 +1,7 @@
 -- What a node's records say. Lamport, "Paxos Made Simple", section 2.2: an acceptor needs to remember
 -- only the highest-numbered proposal that it accepted and the highest number that it promised.
-use Rattle.std.specs.Prelude.{ℕ, zero, suc, max, nat_eq, nat_lt, Option, Some, None, List, [], ◌∷◌, length, filter_map, if◌then◌else◌}
+use Rattle.std.specs.Prelude.{ℕ, zero, suc, max, nat_eq, nat_lt, Option, Some, None, List, [], ◌∷◌, length, filter_map}
+use Rattle.std.specs.Prelude.{if◌then◌else◌}
 use Rattle.rp_base.specs.declared.action.Action.{Action}
 use Rattle.rp_base.specs.declared.record.Vote.{Vote}
 use Rattle.rp_base.specs.declared.record.Rec.{Rec}
@@ -47,7 +48,8 @@ highest (vote ∷ rest) = Some (higher_vote vote (highest rest))
 abbrev pub vote_in : ℕ → Rec → Option Vote
 vote_in i (Started ballot) = None
 vote_in i (Promised position ballot) = None
-vote_in i (Voted position ballot action) = if nat_eq position i then Some (record { ballot = ballot; action = action }) else None
+vote_in i (Voted position ballot action) =
+    if nat_eq position i then Some (record { ballot = ballot; action = action }) else None
 vote_in i (Learned position action) = None
 vote_in i (PromisedRange range ballot) = None
 
@@ -78,7 +80,7 @@ abbrev pub unless_missing : Option Action → List Action → List Action
 unless_missing None rest = []
 unless_missing (Some action) rest = action ∷ rest
 
--- the actions learned from a position on without a gap, so many at most
+-- the actions learned from a position on without a gap, n at most
 abbrev pub learned_run : List Rec → ℕ → ℕ → List Action
 learned_run records zero i = []
 learned_run records (suc most) i = unless_missing (learned_at records i) (learned_run records most (suc i))

@@ -1,4 +1,4 @@
--- Which replies, votes and records keep the rules of their fields (this project's own).
+-- Which replies, votes and records keep the rules of their fields.
 use Rattle.std.specs.Prelude.{FitsSigned}
 use Rattle.std.specs.Int.{w64}
 use Rattle.rp_base.specs.Action.{IsRight}

@@ -1,13 +1,13 @@
--- Finite sets, as lists in which nothing stands twice.
+-- Finite sets, as lists in which nothing is twice.
 use Rattle.std.specs.Prelude.{◌≡◌, ◌↔◌, ◌⊎◌, Bool, List, [], ◌∷◌, ◌++◌, if◌then◌else◌}
 use Rattle.std.specs.List.{list_any}
 
--- x stands in the list
+-- x is in the list
 abbrev pub Has : {A : Type 0} → A → List A → Type 0
 Has x [] = ⊥
 Has x (y ∷ ys) = (x ≡ y) ⊎ Has x ys
 
--- nothing stands twice
+-- nothing is twice
 abbrev pub IsSet : {A : Type 0} → List A → Type 0
 IsSet [] = Unit {0}
 IsSet (x ∷ xs) = (¬ Has x xs) × IsSet xs

@@ -1,6 +1,5 @@
--- What an acceptor answers, by its records. Lamport, "Paxos Made Simple", section 2.2, phases 1b and 2b.
--- That a lower ballot is answered by the bound, an equal one by nothing, and a vote that was cast by the
--- same again, is this project's own.
+-- What an acceptor answers, by its records. Lamport, "Paxos Made Simple", section 2.2, phases 1b and 2b. That a lower
+-- ballot is answered by the bound, an equal one by nothing, and a vote that was cast by the same again, is ours.
 use Rattle.std.specs.Prelude.{ℕ, nat_eq, nat_lt, Option, Some, None, Bool, List, find, if◌then◌else◌}
 use Rattle.std.specs.List.{list_all}
 use Rattle.rp_base.specs.declared.action.Action.{Action}

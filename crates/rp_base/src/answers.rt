@@ -67,7 +67,7 @@ impl Answers {
         self.len == MOST_ANSWERS
     }
 
-    /// Adds an answer behind the others.
+    /// Adds an answer after the others.
     pub fn push(&mut self, answer: Answer)
         requires { length self.old < 8 }
         ensures { self.new ≡ self.old ++ answer ∷ [] }

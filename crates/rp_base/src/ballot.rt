@@ -90,7 +90,7 @@ impl Ballot {
     pub fn next_for(node: NodeId, above: Option<Ballot>) -> Result<Self, Fault>
         ensures next { IfOk result (IsNext node (number_of above)) }
         ensures value { IfOk result (λ b. b ≡ next_ballot node (number_of above)) }
-        ensures spent { IsErrOf result Fault.BallotsSpent ↔ ((b : ℕ)
+        ensures exhausted { IsErrOf result Fault.BallotsSpent ↔ ((b : ℕ)
             → ¬ IsAbove node (number_of above) b) }
         ensures full { IsErrOf result Fault.BallotsSpent
             ↔ (2 ^ 32 ≤ round_of (next_ballot node (number_of above))) }

@@ -46,7 +46,7 @@ impl<T: Drop> History<T> {
         }
     }
 
-    /// Adds an item behind the others, in constant time and with no memory.
+    /// Adds an item after the others, in constant time and with no memory.
     pub fn push(&mut self, item: T)
         ensures { self.new ≡ self.old ++ item ∷ [] }
     {

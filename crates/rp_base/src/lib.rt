@@ -42,7 +42,7 @@ pub use ballot::Ballot;
 pub use config::Config;
 pub use fault::{DeckReason, Fault, PacketReason};
 pub use history::History;
-pub use majorities::{majorities_meet, majority};
+pub use majorities::{majorities_intersect, majority};
 pub use number::{NodeId, Position, TaskId};
 pub use placed::{PlacedVote, RangeVotes};
 pub use proposal::Phase;

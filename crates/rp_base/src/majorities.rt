@@ -13,7 +13,7 @@ pub fn majority(nodes: u8) -> u8
 }
 
 /// Two majorities of the same nodes have a node in common (Lamport, section 2.2).
-pub fn majorities_meet()
+pub fn majorities_intersect()
     ensures { (nodes : ℕ) (xs ys : List ℕ) → AreNodes nodes xs → AreNodes nodes ys
         → majority_of nodes ≤ length xs → majority_of nodes ≤ length ys
         → (node : ℕ) × Has node xs × Has node ys }

@@ -34,9 +34,9 @@ pub enum RangeAnswer {
 /// The answer to an `Accept`.
 #[derive(Clone, Copy, Debug, PartialEq, Eq)]
 pub enum AcceptAnswer {
-    /// A vote. The record is to be written, and then noted, before the vote is told.
+    /// A vote. The record is to be written, and then noted, before the vote is sent.
     Vote { rec: Rec },
-    /// The last vote is this one: it is told again, and nothing is written.
+    /// The last vote is this one: it is sent again, and nothing is written.
     Again,
     /// The ballot is below the bound, which is this.
     Nack(Ballot),

@@ -27,8 +27,8 @@ not_first q = grind (arith, nat_tests)
 first_only : (k : ℕ) → (0 == suc k) ≡ false
 first_only k = grind (arith, nat_tests)
 
-behind : (q k : ℕ) → (q == k) ≡ (suc q == suc k)
-behind q k = grind (arith, nat_tests)
+following : (q k : ℕ) → (q == k) ≡ (suc q == suc k)
+following q k = grind (arith, nat_tests)
 
 module _ {X : Type 0} where
   -- the entries of the map are the elements with their places
@@ -58,7 +58,7 @@ module _ {X : Type 0} where
       ap (λ b. cond b (Some x) (find nat_cmp (n + suc q) (enumerate_from (n + 1) xs))) (unsigned_tied (n + suc q) n ∙ later n q)
       ∙ ap (λ m. find nat_cmp m (enumerate_from (n + 1) xs)) there ∙ find-places (n + 1) xs q
 
-  -- at a place stands the element
+  -- at a place is there the element
   pub get-by_place : (xs : List X) (q : ℕ) → get (by_place xs) q ≡ slice_get xs q
   get-by_place xs q =
       let here : q ≡ 0 + q = omega arith in
@@ -69,13 +69,13 @@ module _ {X : Type 0} where
   slice_get-set (y ∷ ys) zero x zero h = refl
   slice_get-set (y ∷ ys) zero x (suc q) h = ap (λ b. cond b (Some x) (slice_get ys q)) (sym (not_first q))
   slice_get-set (y ∷ ys) (suc k) x zero h = ap (λ b. cond b (Some x) (Some y)) (sym (first_only k))
-  slice_get-set (y ∷ ys) (suc k) x (suc q) h = slice_get-set ys k x q (omega arith) ∙ ap (λ b. cond b (Some x) (slice_get ys q)) (behind q k)
+  slice_get-set (y ∷ ys) (suc k) x (suc q) h = slice_get-set ys k x q (omega arith) ∙ ap (λ b. cond b (Some x) (slice_get ys q)) (following q k)
 
   slice_get-push : (xs : List X) (x : X) (q : ℕ) → slice_get (xs ++ x ∷ []) q ≡ cond (q == length xs) (Some x) (slice_get xs q)
   slice_get-push [] x zero = refl
   slice_get-push [] x (suc q) = ap (λ b. cond b (Some x) None) (sym (not_first q))
   slice_get-push (y ∷ ys) x zero = ap (λ b. cond b (Some x) (Some y)) (sym (first_only (length ys)))
-  slice_get-push (y ∷ ys) x (suc q) = slice_get-push ys x q ∙ ap (λ b. cond b (Some x) (slice_get ys q)) (behind q (length ys))
+  slice_get-push (y ∷ ys) x (suc q) = slice_get-push ys x q ∙ ap (λ b. cond b (Some x) (slice_get ys q)) (following q (length ys))
 
   inserted : (xs ys : List X) (k : ℕ) (x : X) → ((q : ℕ) → slice_get ys q ≡ cond (q == k) (Some x) (slice_get xs q)) → by_place ys ≡ insert (by_place xs) k x
   inserted xs ys k x is = same_map nat_cmp_total nat_cmp-IsAntisymmetric (by_place ys) (insert (by_place xs) k x) (λ q.
@@ -86,7 +86,7 @@ module _ {X : Type 0} where
   pub by_place-set : (xs : List X) (k : ℕ) (x : X) → k < length xs → by_place (set xs k x) ≡ insert (by_place xs) k x
   by_place-set xs k x h = inserted xs (set xs k x) k x (λ q. slice_get-set xs k x q h)
 
-  -- an element that is added behind the others
+  -- an element that is added after the others
   pub by_place-push : (xs : List X) (x : X) → by_place (xs ++ x ∷ []) ≡ insert (by_place xs) (length xs) x
   by_place-push xs x = inserted xs (xs ++ x ∷ []) (length xs) x (λ q. slice_get-push xs x q)
 
@@ -116,13 +116,13 @@ module _ {X : Type 0} where
   pub counted : (n : ℕ) (xs : List X) → n ≤ 8 → length xs ≡ 8 → len (by_place (take n xs)) ≡ n
   counted n xs h e = len-by_place (take n xs) ∙ front_length n xs h e
 
-  -- at a place among them stands the element
+  -- at a place among them is the element
   pub at_place : (n : ℕ) (xs : List X) (k : ℕ) (d : X) → n ≤ 8 → length xs ≡ 8 → k < n → get (by_place (take n xs)) k ≡ Some (get_or xs k d)
   at_place n xs k d h e l =
       let here : k < length (take n xs) = omega (arith, front_length n xs h e) in
       get-by_place (take n xs) k ∙ slice_get-get_or (take n xs) k d here ∙ ap Some (get_or-take n xs k d l)
 
-  -- past them stands none
+  -- past them is none
   pub past_place : (n : ℕ) (xs : List X) (k : ℕ) → n ≤ 8 → length xs ≡ 8 → n ≤ k → get (by_place (take n xs)) k ≡ None
   past_place n xs k h e l =
       let past : length (take n xs) ≤ k = omega (arith, front_length n xs h e) in

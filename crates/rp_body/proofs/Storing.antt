@@ -1,4 +1,4 @@
--- How the arrays of the components stand for the maps by name.
+-- How the arrays of the components represent the maps by name.
 use Rattle.std.proofs.Common.{◌≡◌, ℕ, ◌+◌, ◌<◌, ◌≤◌, ℤ, pos, Bool, true, false, cond, Option, Some, None, List, length, take, set, get_or, unwrap_or, refl, sym, ◌∙◌, ap, ap₂, IsTrue, arith, length-set}
 use Rattle.std.specs.Prelude.{option_map}
 use Rattle.std.specs.FinMap.{get, insert, len, contains_key, len-insert}
@@ -8,7 +8,7 @@ use Rattle.rp_body.specs.declared.components.Limits.{Limits}
 use Rattle.rp_body.specs.Store.{Store, by_place, limits_of, int_value, bool_value, is_within, with_found, with_int, with_bool}
 use Rattle.rp_body.proofs.Places.{counted, at_place, past_place, written, pushed}
 
--- the components that the first m numbers and the first n Booleans stand for
+-- the components that the first m numbers and the first n Booleans denote
 abbrev pub shown : ℕ → List Ranged → ℕ → List Bool → Store
 shown m is n bs = record { ints = by_place (take m is); bools = by_place (take n bs) }
 
@@ -37,8 +37,8 @@ module _ {m : ℕ} {is : List Ranged} {n : ℕ} {bs : List Bool} {store : Store}
   pub bools_counted : len store.bools ≡ n
   bools_counted = ap (λ (s : Store). len s.bools) (sym h.shows) ∙ counted n bs h.few_bools h.bools_room
 
-  pub limits_told : (l : Limits) → l.ints ≡ m → l.bools ≡ n → l ≡ limits_of store
-  limits_told l p q =
+  pub limits_are : (l : Limits) → l.ints ≡ m → l.bools ≡ n → l ≡ limits_of store
+  limits_are l p q =
       let ints = p ∙ sym ints_counted in
       let bools = q ∙ sym bools_counted in
       λ i. record { ints = ints i; bools = bools i }
@@ -112,13 +112,13 @@ pub counts_after_int : {m : ℕ} {is : List Ranged} {n : ℕ} {bs : List Bool} {
 counts_after_int {m} {is} {n} {bs} {store} h k x =
     let after : Holds m (set is k x) n bs (shown m (set is k x) n bs) = record { shows = refl; few_ints = h.few_ints; few_bools = h.few_bools; ints_room = length-set is k x ∙ h.ints_room; bools_room = h.bools_room } in
     let counts : Limits = record { ints = m; bools = n } in
-    sym (limits_told after counts refl refl) ∙ limits_told h counts refl refl
+    sym (limits_are after counts refl refl) ∙ limits_are h counts refl refl
 
 pub counts_after_bool : {m : ℕ} {is : List Ranged} {n : ℕ} {bs : List Bool} {store : Store} → Holds m is n bs store → (k : ℕ) (x : Bool) → limits_of (shown m is n (set bs k x)) ≡ limits_of store
 counts_after_bool {m} {is} {n} {bs} {store} h k x =
     let after : Holds m is n (set bs k x) (shown m is n (set bs k x)) = record { shows = refl; few_ints = h.few_ints; few_bools = h.few_bools; ints_room = h.ints_room; bools_room = length-set bs k x ∙ h.bools_room } in
     let counts : Limits = record { ints = m; bools = n } in
-    sym (limits_told after counts refl refl) ∙ limits_told h counts refl refl
+    sym (limits_are after counts refl refl) ∙ limits_are h counts refl refl
 
 at_most : (b : Bool) (a n : ℕ) → a ≡ cond b n (n + 1) → a ≤ n + 1
 at_most true a n e = omega arith

@@ -1,11 +1,12 @@
--- Which bodies keep the limits of the language (this project's own).
+-- Which bodies keep the limits of the language.
 use Rattle.std.specs.Prelude.{ℕ, ◌+◌, ◌≤◌, max, nat_lt, nat_le, Bool, true, ◌&&◌, IsTrue, List, [], ◌∷◌, map, sum}
 use Rattle.std.specs.List.{list_all}
 use Rattle.rp_body.specs.declared.components.Limits.{Limits}
 use Rattle.rp_body.specs.declared.expression.Expr.{Expr}
 use Rattle.rp_body.specs.declared.expression.Expr.TheVariants.{Number, Arg, Out, Int, Add', Sub'}
 use Rattle.rp_body.specs.declared.expression.Cond.{Cond}
-use Rattle.rp_body.specs.declared.expression.Cond.TheVariants.{Constant, Bool as Named, Less, LessOrEqual, Equal, Not', And', Or'}
+use Rattle.rp_body.specs.declared.expression.Cond.TheVariants.{Constant, Bool as Named, Less, LessOrEqual, Equal, Not'}
+use Rattle.rp_body.specs.declared.expression.Cond.TheVariants.{And', Or'}
 use Rattle.rp_body.specs.declared.statement.Stmt.{Stmt}
 use Rattle.rp_body.specs.declared.statement.Stmt.TheOpen.{Stmt-F}
 use Rattle.rp_body.specs.declared.statement.Stmt.TheFolds.{fold-Stmt}
@@ -58,7 +59,7 @@ expr_fits limits expr = nat_le (expr_nodes expr) 32 && expr_names limits expr
 abbrev pub cond_fits : Limits → Cond → Bool
 cond_fits limits cond = nat_le (cond_nodes cond) 32 && cond_names limits cond
 
--- the statements of one statement, where each one inside it stands as its own number
+-- the statements of one statement, where each one inside it is given as its own number
 abbrev pub count_step : Stmt-F ℕ → ℕ
 count_step (Stmt-F.Set name expr) = 1
 count_step (Stmt-F.Put name cond) = 1
@@ -78,7 +79,7 @@ abbrev pub greatest : List ℕ → ℕ
 greatest [] = 0
 greatest (n ∷ rest) = max n (greatest rest)
 
--- how deep one statement is, where each one inside it stands as its own depth
+-- how deep one statement is, where each one inside it is given as its own depth
 abbrev pub depth_step : Stmt-F ℕ → ℕ
 depth_step (Stmt-F.Set name expr) = 1
 depth_step (Stmt-F.Put name cond) = 1
@@ -97,7 +98,7 @@ depth_of body = greatest (map stmt_depth body)
 abbrev pub all_hold : List Bool → Bool
 all_hold = list_all (λ holds. holds)
 
--- whether one statement fits, where each one inside it stands as whether it fits itself
+-- whether one statement fits, where each one inside it is given as whether it fits itself
 abbrev pub fits_step : Limits → Stmt-F Bool → Bool
 fits_step limits (Stmt-F.Set name expr) = nat_lt name limits.ints && expr_fits limits expr
 fits_step limits (Stmt-F.Put name cond) = nat_lt name limits.bools && cond_fits limits cond

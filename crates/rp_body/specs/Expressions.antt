@@ -1,14 +1,15 @@
--- What expressions and conditions mean: exact whole numbers and truth values. The operators are those of
--- the Ada Reference Manual, sections 4.5.1 to 4.5.3 and 4.5.6, on numbers without bounds (this project's own).
+-- What expressions and conditions mean: exact whole numbers and truth values. The operators are those of the Ada
+-- Reference Manual, sections 4.5.1 to 4.5.3 and 4.5.6, on numbers without bounds.
 use Rattle.std.specs.Prelude.{◌-◌, ◌^◌, ℤ, pos, negsuc, ◌+ℤ◌, ◌-ℤ◌, int_lt, int_le, Bool, ◌&&◌, ◌||◌, not}
 use Rattle.std.specs.Ordering.{int_eq}
 use Rattle.rp_body.specs.declared.expression.Expr.{Expr}
 use Rattle.rp_body.specs.declared.expression.Expr.TheVariants.{Number, Arg, Out, Int, Add', Sub'}
 use Rattle.rp_body.specs.declared.expression.Cond.{Cond}
-use Rattle.rp_body.specs.declared.expression.Cond.TheVariants.{Constant, Bool as Named, Less, LessOrEqual, Equal, Not', And', Or'}
+use Rattle.rp_body.specs.declared.expression.Cond.TheVariants.{Constant, Bool as Named, Less, LessOrEqual, Equal, Not'}
+use Rattle.rp_body.specs.declared.expression.Cond.TheVariants.{And', Or'}
 use Rattle.rp_body.specs.Store.{Store, int_value, bool_value, is_within}
 
--- what an expression stands for, given the components, the argument and the out value
+-- the value of an expression, given the components, the argument and the out value
 abbrev pub value_of : Expr → Store → ℤ → ℤ → ℤ
 value_of (Number n) store arg out = n
 value_of Arg store arg out = arg

@@ -1,5 +1,5 @@
--- What a body does to the components of its object. A body is a sequence of statements (Ada Reference Manual,
--- section 5.1) with assignments (5.2) and choices (5.3); `out` is this project's own.
+-- What a body does to the components of its object. A body is a sequence of statements (Ada Reference Manual, section
+-- 5.1) with assignments (5.2) and choices (5.3); `out` is ours.
 use Rattle.std.specs.Prelude.{ℤ, pos, true, false, Bool, List, [], ◌∷◌, map, if◌then◌else◌}
 use Rattle.rp_body.specs.declared.statement.Stmt.{Stmt}
 use Rattle.rp_body.specs.declared.statement.Stmt.TheOpen.{Stmt-F}
@@ -9,7 +9,8 @@ use Rattle.rp_body.specs.declared.statement.Outcome.TheVariants.{Out, Raised}
 use Rattle.rp_body.specs.Store.{Store, with_int, with_bool}
 use Rattle.rp_body.specs.Expressions.{value_of, truth_of, fits_64}
 
--- what a part of a body does: from the components and the out value to the components, and the out value or Constraint_Error
+-- what a part of a body does: from the components and the out value to the components, and the out value or
+-- Constraint_Error
 abbrev pub Effect : Type 0
 Effect = Store → ℤ → Store × Outcome
 
@@ -28,7 +29,7 @@ abbrev pub assigned : ℤ → Store × Bool → Store × Outcome
 assigned out (store, true) = (store, Out out)
 assigned out (store, false) = (store, Raised)
 
--- what one statement does, where each statement inside an `if` stands as what it does itself
+-- what one statement does, where each statement inside an `if` is given as what it does itself
 abbrev pub effect_of_step : ℤ → Stmt-F Effect → Effect
 effect_of_step arg (Stmt-F.Set name expr) store out = assigned out (with_int store name (value_of expr store arg out))
 effect_of_step arg (Stmt-F.Put name cond) store out = (with_bool store name (truth_of cond store arg out), Out out)

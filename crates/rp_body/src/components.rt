@@ -93,7 +93,7 @@ impl Components {
         }
     }
 
-    /// Adds a whole number behind the others, named by their number. Its value is not held against
+    /// Adds a whole number after the others, named by their number. Its value is not held against
     /// its range.
     pub fn add_int(&mut self, component: Ranged)
         requires room { len self.old.ints < 8 }
@@ -105,7 +105,7 @@ impl Components {
         self.int_count += 1;
     }
 
-    /// Adds a Boolean behind the others, named by their number.
+    /// Adds a Boolean after the others, named by their number.
     pub fn add_bool(&mut self, value: bool)
         requires room { len self.old.bools < 8 }
         ensures { self.new ≡ record self.old {
@@ -165,7 +165,7 @@ impl Components {
         self.bools[usize::from(name)]
     }
 
-    /// Gives a whole number this value where it lies in its range, and tells whether it does.
+    /// Gives a whole number this value if it is in its range, and returns whether it is.
     pub(crate) fn set_int(&mut self, name: u8, value: i128) -> bool
         requires { name < len self.old.ints }
         ensures value { (self.new, result) ≡ with_int self.old name value }

@@ -49,7 +49,7 @@ pub enum Cond {
 }
 
 impl Expr {
-    /// What is left of so many nodes once this expression has taken its own, if it has no more.
+    /// What is left of n nodes once this expression has taken its own, if it has no more.
     fn nodes_left(&self, left: u8) -> Option<u8>
         ensures { MatchOption result (left < expr_nodes self.now)
             (λ rest. rest + expr_nodes self.now ≡ left) }
@@ -99,7 +99,7 @@ impl Expr {
 }
 
 impl Cond {
-    /// What is left of so many nodes once this condition has taken its own, if it has no more.
+    /// What is left of n nodes once this condition has taken its own, if it has no more.
     fn nodes_left(&self, left: u8) -> Option<u8>
         ensures { MatchOption result (left < cond_nodes self.now)
             (λ rest. rest + cond_nodes self.now ≡ left) }

@@ -73,7 +73,7 @@ impl Stmt {
         }
     }
 
-    /// What is left of so many statements once this one has taken its own, if it has no more.
+    /// What is left of n statements once this one has taken its own, if it has no more.
     #[cycle(counting)]
     fn count_left(&self, left: u8) -> Option<u8>
         ensures { MatchOption result (left < stmt_count self.now)
@@ -118,7 +118,7 @@ impl Stmt {
     }
 }
 
-/// What is left of so many statements once those of the body have been taken, if it has no more.
+/// What is left of n statements once those of the body have been taken, if it has no more.
 #[cycle(counting)]
 fn count_left(body: &[Stmt], most: u8) -> Option<u8>
     ensures { MatchOption result (most < statement_count body.now)

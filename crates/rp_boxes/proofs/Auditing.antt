@@ -1,4 +1,4 @@
--- What the audit knows is told by the reports that it got.
+-- What the audit knows is reported by the reports that it got.
 use Rattle.std.proofs.Common.{◌≡◌, ℕ, zero, suc, ◌+◌, ◌-◌, ◌^◌, ◌<◌, ◌≤◌, Bool, true, false, if◌then◌else◌, nat_lt, Some, Vec, Result, Ok, Err, List, [], ◌∷◌, ◌++◌, length, map, replicate, take, slice_get, slice_set, get_or, inl, inr, refl, sym, ap, subst, ◌∙◌, arith, length-append, length-set}
 use Rattle.std.specs.Prelude.{OnErr, unwrap_or, vec_len}
 use Rattle.std.proofs.lemmas.List.{length-take, map-set}
@@ -11,33 +11,33 @@ use Rattle.rp_base.proofs.Members.{has_left}
 use Rattle.rp_codec.specs.Message.{Message, IsPacket}
 use Rattle.rp_model.specs.World.{with_part}
 use Rattle.rp_boxes.specs.Parts.{Part, with_got}
-use Rattle.rp_boxes.specs.Audits.{Audited, IsTold, AreTold, IsJoined, known_of, report, with_reported}
+use Rattle.rp_boxes.specs.Audits.{Audited, ReportSays, AreAllReported, IsJoined, known_of, report, with_reported}
 use Rattle.rp_boxes.specs.declared.audit.Added.TheVariants as added
 use Rattle.rp_boxes.proofs.Listed.{at_appended, at_taken}
 use Rattle.rp_boxes.proofs.Opening.{always_at}
 
 -- ---- a packet is got
 
-pub told_still : (part : Part) (known : List (List Action)) (m : Message) → AreTold part known → AreTold (with_got m part) known
-told_still part known m are = record {
+pub stated_still : (part : Part) (known : List (List Action)) (m : Message) → AreAllReported part known → AreAllReported (with_got m part) known
+stated_still part known m are = record {
   seven = are.seven;
-  told = λ node before action is. let by = are.told node before action is in record {
+  stated = λ node before action is. let by = are.stated node before action is in record {
     first = by.first;
     applied = by.applied;
     actions = by.actions;
     got = has_left (report node by.first by.applied by.actions) part.got (m ∷ []) by.got;
     at = by.at;
     place = by.place;
-    tells = by.tells;
+    describes = by.describes;
   };
   few = are.few;
 }
 
 -- nothing is known of any node
-pub none_told : (part : Part) (known : List (List Action)) → known ≡ replicate 7 [] → AreTold part known
-none_told part known none = subst (AreTold part) (sym none) (record {
+pub none_stated : (part : Part) (known : List (List Action)) → known ≡ replicate 7 [] → AreAllReported part known
+none_stated part known none = subst (AreAllReported part) (sym none) (record {
   seven = refl;
-  told = λ node before action is. absurd (none-some action (subst (λ (list : List Action). slice_get list before ≡ Some action) (always_at [] 7 node) is));
+  stated = λ node before action is. absurd (none-some action (subst (λ (list : List Action). slice_get list before ≡ Some action) (always_at [] 7 node) is));
   few = λ node. subst (λ (list : List Action). length list < 2 ^ 16) (sym (always_at [] 7 node)) (omega arith);
 })
 
@@ -68,7 +68,7 @@ either_of : (P : List Action → Type 0) (b : Bool) (new old : List Action) → 
 either_of P true new old here there = here
 either_of P false new old here there = there
 
-module _ (part : Part) (known : List (List Action)) (are : AreTold part known) (node first applied : ℕ) (actions : List Action)
+module _ (part : Part) (known : List (List Action)) (are : AreAllReported part known) (node first applied : ℕ) (actions : List Action)
     (got : Has (report node first applied actions) part.got) (right : IsPacket (report node first applied actions)) (joins : first ≤ length (known_of known node) + 1) where
   abbrev old : List Action
   old = known_of known node
@@ -79,9 +79,9 @@ module _ (part : Part) (known : List (List Action)) (are : AreTold part known) (
   kept : length (take (first - 1) old) ≡ first - 1
   kept = omega (arith, length-take (first - 1) old, joins)
 
-  told_put : (before : ℕ) (action : Action) → slice_get put before ≡ Some action → IsTold part node before action
-  told_put before action is = elim (at_appended (take (first - 1) old) actions before action is) [
-    | inl front ↦ are.told node before action (at_taken (first - 1) old before action front)
+  stated_put : (before : ℕ) (action : Action) → slice_get put before ≡ Some action → ReportSays part node before action
+  stated_put before action is = elim (at_appended (take (first - 1) old) actions before action is) [
+    | inl front ↦ are.stated node before action (at_taken (first - 1) old before action front)
     | inr back ↦ record {
       first = first;
       applied = applied;
@@ -89,7 +89,7 @@ module _ (part : Part) (known : List (List Action)) (are : AreTold part known) (
       got = got;
       at = back.0;
       place = let at = back.1 in omega (arith, at, kept);
-      tells = back.2;
+      describes = back.2;
     }
   ]
 
@@ -99,11 +99,11 @@ module _ (part : Part) (known : List (List Action)) (are : AreTold part known) (
   abbrev new : List Action
   new = with_reported old first actions
 
-  pub told_after : AreTold part (with_part known node new)
-  told_after = record {
+  pub stated_after : AreAllReported part (with_part known node new)
+  stated_after = record {
     seven = same_count known node new ∙ are.seven;
-    told = each_with (λ x list. (before : ℕ) (action : Action) → slice_get list before ≡ Some action → IsTold part x before action) known node new are.told
-        (either_of (λ list. (before : ℕ) (action : Action) → slice_get list before ≡ Some action → IsTold part node before action) (nat_lt (length old) (length put)) put old told_put (are.told node));
+    stated = each_with (λ x list. (before : ℕ) (action : Action) → slice_get list before ≡ Some action → ReportSays part x before action) known node new are.stated
+        (either_of (λ list. (before : ℕ) (action : Action) → slice_get list before ≡ Some action → ReportSays part node before action) (nat_lt (length old) (length put)) put old stated_put (are.stated node));
     few = each_with (λ x list. length list < 2 ^ 16) known node new are.few
         (either_of (λ list. length list < 2 ^ 16) (nat_lt (length old) (length put)) put old few_put (are.few node));
   }
@@ -152,7 +152,7 @@ pub known_here : (known : List (List Action)) (node place : ℕ) (list : List Ac
 known_here known node place list seven numbered small =
     subst (λ (k : ℕ). known_of (with_part known k list) k ≡ list) (sym numbered) (set_here known place list (omega (arith, seven, numbered, small)))
 
--- ---- what a report comes to
+-- ---- what a report results in
 
 module _ {P : Type 0} (old : Audited P) (node first : ℕ) (actions : List Action) (count : ℕ) where
   pub leaves_gap : count ≡ length (known_of old.known node) → count + 1 < first → IsJoined old node first actions old (added.Gap node count)

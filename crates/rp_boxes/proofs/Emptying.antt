@@ -45,7 +45,7 @@ module _ {S : Type 0} (s : Setting S) (slots id x y : ℕ) (p : Part) (less : x 
         got = by_sender;
         alike = λ other apart. record {
           fills = as_it_is;
-          takes = none_both (λ h. subst (λ (held : List ℕ). Has other held) free h) (held_alone b other apart);
+          takes = none_both (λ h. subst (λ (replica : List ℕ). Has other replica) free h) (held_alone b other apart);
           sent = λ m h. h;
         };
       }
@@ -90,7 +90,7 @@ module _ {S : Type 0} (s : Setting S) (slots id x y : ℕ) (p : Part) (less : x 
   -- the receiver took the packet out of the box that it claimed
   cleared : p.takes ≡ b ∷ [] → (slot : Slot) → IsVacant slot → (t : State Slot View) (r : Ruled s t) → 256 ≤ length t.homes → get_elem? t.views id ≡ some ((y, p) ∷ [])
       → Ruled s record { words = set t.words b 0; homes = set t.homes b (some slot); views = set t.views id ((y, emptied p) ∷ []) }
-  cleared holds slot vacant t r roomy here =
+  cleared holds slot vacant t r buffer here =
       boxed s t r id y p (emptied p) here x y 0 (set t.homes b (some slot)) less fewer step (λ other apart. set_else t.homes b other (some slot) apart) box
     where
       step : IsBoxStep r.parts y b p (emptied p)
@@ -101,7 +101,7 @@ module _ {S : Type 0} (s : Setting S) (slots id x y : ℕ) (p : Part) (less : x 
         got = λ m h. inl h;
         alike = λ other apart. record {
           fills = as_it_is;
-          takes = none_both (λ h. held_alone b other apart (subst (λ (held : List ℕ). Has other held) holds h)) (λ h. h);
+          takes = none_both (λ h. held_alone b other apart (subst (λ (replica : List ℕ). Has other replica) holds h)) (λ h. h);
           sent = λ m h. h;
         };
       }
@@ -110,7 +110,7 @@ module _ {S : Type 0} (s : Setting S) (slots id x y : ℕ) (p : Part) (less : x 
       after = now s t r id y p (emptied p) here
 
       was_emptying : slice_index t.words b ≡ 3
-      was_emptying = (r.boxes x y less fewer).emptying.1 (subst (λ (q : Part). Has b q.takes) (sym (was s t r id y p (emptied p) here)) (subst (λ (held : List ℕ). Has b held) (sym holds) (inl refl)))
+      was_emptying = (r.boxes x y less fewer).emptying.1 (subst (λ (q : Part). Has b q.takes) (sym (was s t r id y p (emptied p) here)) (subst (λ (replica : List ℕ). Has b replica) (sym holds) (inl refl)))
 
       not_filling : ¬ Has b (r.parts x).fills
       not_filling h = let e : slice_index t.words b ≡ 1 = (r.boxes x y less fewer).filling.1 h in omega (arith, e, was_emptying)
@@ -119,9 +119,9 @@ module _ {S : Type 0} (s : Setting S) (slots id x y : ℕ) (p : Part) (less : x 
       same_fills = from_each r.parts y p (emptied p) (λ q q'. q'.fills ≡ q.fills) (was s t r id y p (emptied p) here) refl (λ q. refl)
 
       inside : b < length t.homes
-      inside = omega (arith, less, fewer, roomy)
+      inside = omega (arith, less, fewer, buffer)
 
-      box : IsBox after x y 0 (λ held. get_elem? (set t.homes b (some slot)) b ≡ some (some held))
+      box : IsBox after x y 0 (λ replica. get_elem? (set t.homes b (some slot)) b ≡ some (some replica))
       box = record {
         empty = λ e. (slot, set_here t.homes b (some slot) inside, vacant);
         filling = none_both (λ e. omega (arith, e)) (λ h. not_filling (subst (Has b) (same_fills x) h));
@@ -131,4 +131,4 @@ module _ {S : Type 0} (s : Setting S) (slots id x y : ℕ) (p : Part) (less : x 
 
   pub clear_allows : 256 ≤ slots → p.takes ≡ b ∷ [] → (slot : Slot) → IsVacant slot
       → Allows (Ruled s) slots id ((y, p) ∷ [], (b, slot) ∷ []) b (λ n. 0) (λ found me. Cleared ((y, p) ∷ [], (b, slot) ∷ []) me)
-  clear_allows roomy holds slot vacant = λ t r size here fits. ((y, emptied p) ∷ [], gives, tt, cleared holds slot vacant t r (omega (arith, size, roomy)) here, refl)
+  clear_allows buffer holds slot vacant = λ t r size here fits. ((y, emptied p) ∷ [], gives, tt, cleared holds slot vacant t r (omega (arith, size, buffer)) here, refl)

@@ -32,7 +32,7 @@ module _ {S : Type 0} (s : Setting S) (slots id x y : ℕ) (p : Part) (less : x 
         sent = refl;
         got = λ m h. inl h;
         alike = λ other apart. record {
-          fills = none_both (λ h. subst (λ (held : List ℕ). Has other held) free h) (held_alone b other apart);
+          fills = none_both (λ h. subst (λ (replica : List ℕ). Has other replica) free h) (held_alone b other apart);
           takes = as_it_is;
           sent = λ m h. h;
         };
@@ -72,7 +72,7 @@ module _ {S : Type 0} (s : Setting S) (slots id x y : ℕ) (p : Part) (less : x 
   -- the sender put a packet into the box that it claimed
   published : p.fills ≡ b ∷ [] → (m : Message) (text : Vec ℕ Global) → Has m p.sent → IsCarried x y text.items m → (t : State Slot View) (r : Ruled s t) → 256 ≤ length t.homes
       → get_elem? t.views id ≡ some ((x, p) ∷ []) → Ruled s record { words = set t.words b 2; homes = set t.homes b (some (Some text)); views = set t.views id ((x, filled p) ∷ []) }
-  published holds m text sent carried t r roomy here =
+  published holds m text sent carried t r buffer here =
       boxed s t r id x p (filled p) here x y 2 (set t.homes b (some (Some text))) less fewer step (λ other apart. set_else t.homes b other (some (Some text)) apart) box
     where
       step : IsBoxStep r.parts x b p (filled p)
@@ -82,7 +82,7 @@ module _ {S : Type 0} (s : Setting S) (slots id x y : ℕ) (p : Part) (less : x 
         sent = refl;
         got = λ m h. inl h;
         alike = λ other apart. record {
-          fills = none_both (λ h. held_alone b other apart (subst (λ (held : List ℕ). Has other held) holds h)) (λ h. h);
+          fills = none_both (λ h. held_alone b other apart (subst (λ (replica : List ℕ). Has other replica) holds h)) (λ h. h);
           takes = as_it_is;
           sent = λ m h. h;
         };
@@ -92,7 +92,7 @@ module _ {S : Type 0} (s : Setting S) (slots id x y : ℕ) (p : Part) (less : x 
       after = now s t r id x p (filled p) here
 
       was_filling : slice_index t.words b ≡ 1
-      was_filling = (r.boxes x y less fewer).filling.1 (subst (λ (q : Part). Has b q.fills) (sym (was s t r id x p (filled p) here)) (subst (λ (held : List ℕ). Has b held) (sym holds) (inl refl)))
+      was_filling = (r.boxes x y less fewer).filling.1 (subst (λ (q : Part). Has b q.fills) (sym (was s t r id x p (filled p) here)) (subst (λ (replica : List ℕ). Has b replica) (sym holds) (inl refl)))
 
       not_taken : ¬ Has b (r.parts y).takes
       not_taken h = let e : slice_index t.words b ≡ 3 = (r.boxes x y less fewer).emptying.1 h in omega (arith, e, was_filling)
@@ -104,7 +104,7 @@ module _ {S : Type 0} (s : Setting S) (slots id x y : ℕ) (p : Part) (less : x 
       new_part = part_now s t r id x p (filled p) here
 
       inside : b < length t.homes
-      inside = omega (arith, less, fewer, roomy)
+      inside = omega (arith, less, fewer, buffer)
 
       box : IsBox after x y 2 (λ slot. get_elem? (set t.homes b (some (Some text))) b ≡ some (some slot))
       box = record {
@@ -117,9 +117,9 @@ module _ {S : Type 0} (s : Setting S) (slots id x y : ℕ) (p : Part) (less : x 
   pub publish_allows : 256 ≤ slots → p.fills ≡ b ∷ [] → (m : Message) (text : Vec ℕ Global) → Has m p.sent → IsCarried x y text.items m
       → (says : Type 0) → ((t : State Slot View) → IsMoment s ((x, filled p) ∷ []) t → slice_index t.words b ≡ 2 → get_elem? t.homes b ≡ some (some (Some text)) → says)
       → Allows (Ruled s) slots id (holding x p b (Some text)) b (λ n. 2) (λ found me. Published (holding x p b (Some text)) me × says)
-  publish_allows roomy holds m text sent carried says follows = λ t r size here fits.
-      let after = published holds m text sent carried t r (omega (arith, size, roomy)) here in
+  publish_allows buffer holds m text sent carried says follows = λ t r size here fits.
+      let after = published holds m text sent carried t r (omega (arith, size, buffer)) here in
       let word : slice_index (set t.words b 2) b ≡ 2 = get_or-set_same t.words b 2 0 (rw r.long (omega (arith, less, fewer))) in
-      let slot : get_elem? (set t.homes b (some (Some text))) b ≡ some (some (Some text)) = set_here t.homes b (some (Some text)) (omega (arith, less, fewer, size, roomy)) in
+      let slot : get_elem? (set t.homes b (some (Some text))) b ≡ some (some (Some text)) = set_here t.homes b (some (Some text)) (omega (arith, less, fewer, size, buffer)) in
       let sees = set_here t.views id ((x, filled p) ∷ []) (at_below t.views id ((x, p) ∷ []) here) in
       ((x, filled p) ∷ [], gives, tt, after, (refl, follows _ (record { rule = after; seat = id; sees = sees }) word slot))

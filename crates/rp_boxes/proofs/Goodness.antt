@@ -27,9 +27,9 @@ node_good s x done node after task sent later good step moves kept = record {
   packets = all_packets done.sends sent later moves.sends good.packets step.packets;
 }
 
-pub task_good : {S : Type 0} (s : Setting S) (t : ℕ) (done : Done TaskPart) (node : ℕ → NodePart) (task told : ℕ → TaskPart) (sent later : List Message)
-    → IsGood s node task sent → ((m : Message) → Has m done.sends → IsPacket m) → TaskMoves t done task sent told later → IsKept s node told later → IsGood s node told later
-task_good s t done node task told sent later good packets moves kept = record {
+pub task_good : {S : Type 0} (s : Setting S) (t : ℕ) (done : Done TaskPart) (node : ℕ → NodePart) (task moved : ℕ → TaskPart) (sent later : List Message)
+    → IsGood s node task sent → ((m : Message) → Has m done.sends → IsPacket m) → TaskMoves t done task sent moved later → IsKept s node moved later → IsGood s node moved later
+task_good s t done node task moved sent later good packets moves kept = record {
   kept = kept;
   ranged = good.ranged;
   packets = all_packets done.sends sent later moves.sends good.packets packets;

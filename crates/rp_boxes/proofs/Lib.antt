@@ -15,7 +15,7 @@ pub mod Listed
 pub mod Auditing
 pub mod WorldLooks
 pub mod TaskTurns
-pub mod TaskTells
+pub mod TaskOrder
 pub mod Joining
-pub mod AuditTells
+pub mod AuditOrder
 pub mod OneWorld

@@ -1,4 +1,4 @@
--- What stands at a place of a list, and lists of which one begins the other.
+-- What is at a place of a list, and lists of which one is a prefix of the other.
 use Rattle.std.proofs.Common.{◌≡◌, ◌⊎◌, ℕ, zero, suc, ◌+◌, Option, Some, List, [], ◌∷◌, ◌++◌, length, take, drop, slice_get, inl, inr, refl, ap, subst, arith}
 use Rattle.std.specs.Prelude.{unwrap_or}
 use Rattle.std.proofs.lemmas.Option.{none-some}

@@ -12,15 +12,15 @@ use Rattle.rp_model.specs.Parts.{NodePart}
 use Rattle.rp_agreement.specs.Computed.{order_of}
 use Rattle.rp_agreement.specs.Order.{Begins}
 use Rattle.rp_agreement.specs.Sound.{IsSound}
-use Rattle.rp_boxes.specs.Audits.{Audited, AreTold, known_of, report}
+use Rattle.rp_boxes.specs.Audits.{Audited, AreAllReported, known_of, report}
 use Rattle.rp_boxes.specs.Looks.{IsWorldOf}
 use Rattle.rp_boxes.specs.Parts.{Part, View, node_of}
 use Rattle.rp_boxes.specs.Plays.{Sight, alone}
 use Rattle.rp_boxes.specs.Rule.{node_among, all_sent}
-use Rattle.rp_boxes.specs.Seats.{Chair, setting_at}
+use Rattle.rp_boxes.specs.Seats.{SeatState, setting_at}
 use Rattle.rp_boxes.specs.Together.{AreTogether, HasReported, IsNodeOf, IsTaskOf, of_node, of_task}
-use Rattle.rp_boxes.proofs.AuditTells.{OrderExists, ReportsTell, known_begins, replies_answer}
-use Rattle.rp_boxes.proofs.TaskTells.{RepliesTell, CallsCount, calls_told}
+use Rattle.rp_boxes.proofs.AuditOrder.{OrderExists, ReportsFollow, known_begins, replies_answer}
+use Rattle.rp_boxes.proofs.TaskOrder.{RepliesFollow, CallsCount, calls_ordered}
 use Rattle.rp_boxes.proofs.Worlds.{is_sent}
 
 -- ---- places are taken in, one after the other
@@ -49,50 +49,50 @@ abbrev pub AppliedBegin : Type 0
 AppliedBegin = (nodes : ℕ) (node : ℕ → NodePart) (sent : List Message) → IsSound nodes node sent → (order : List Action) → IsOrder nodes sent order
     → (x : ℕ) → Begins (applied_of (node x).records) order
 
-module _ {S P : Type 0} (next : S → Action → S) (answers : S → Action → List Answer) (begin : P → S) (audit : Audited P) (nodes tasks : List (Chair P)) where
+module _ {S P : Type 0} (next : S → Action → S) (answers : S → Action → List Answer) (begin : P → S) (audit : Audited P) (nodes tasks : List (SeatState P)) where
   abbrev s : Setting S
   s = setting_at next answers begin audit.seat
 
   abbrev view : View
   view = ((0, audit.seat.part) ∷ map of_node nodes) ++ map of_task tasks
 
-  module _ (parts : ℕ → Part) (world : IsWorldOf s view parts) (exists : OrderExists) (tell : ReportsTell) where
+  module _ (parts : ℕ → Part) (world : IsWorldOf s view parts) (exists : OrderExists) (follow : ReportsFollow) where
     abbrev order : List Action
     order = order_of s.config.nodes (all_sent parts 16)
 
-    node_here : (seat : Chair P) → Has seat nodes → Has (seat.number, seat.part) view
+    node_here : (seat : SeatState P) → Has seat nodes → Has (seat.number, seat.part) view
     node_here seat has =
         has_left (seat.number, seat.part) ((0, audit.seat.part) ∷ map of_node nodes) (map of_task tasks) (inr (has_mapped of_node seat nodes has))
 
-    task_here : (seat : Chair P) → Has seat tasks → Has (7 + seat.number, seat.part) view
+    task_here : (seat : SeatState P) → Has seat tasks → Has (7 + seat.number, seat.part) view
     task_here seat has =
         has_right (7 + seat.number, seat.part) ((0, audit.seat.part) ∷ map of_node nodes) (map of_task tasks) (has_mapped of_task seat tasks has)
 
     -- what is known of a node is what it has reported
-    has_reported : AreTold audit.seat.part audit.known → (seat : Chair P) → Has seat nodes → (before : ℕ) (action : Action)
+    has_reported : AreAllReported audit.seat.part audit.known → (seat : SeatState P) → Has seat nodes → (before : ℕ) (action : Action)
         → slice_get (known_of audit.known seat.number) before ≡ Some action → HasReported seat before action
     has_reported are seat has before action is =
-        let told = are.told seat.number before action is in
-        let packet = report seat.number told.first told.applied told.actions in
-        let got : Has packet (parts 0).got = subst (λ (p : Part). Has packet p.got) (sym (world.knows 0 audit.seat.part (inl refl)).0) told.got in
+        let stated = are.stated seat.number before action is in
+        let packet = report seat.number stated.first stated.applied stated.actions in
+        let got : Has packet (parts 0).got = subst (λ (p : Part). Has packet p.got) (sym (world.knows 0 audit.seat.part (inl refl)).0) stated.got in
         let by = is_sent parts 16 packet (world.gets 0 (omega arith) packet got).1 in
         let from : seat.number ≡ by.0 = world.sends by.0 by.1 packet by.2 in
         let sent : Has packet (parts seat.number).sent = subst (λ (k : ℕ). Has packet (parts k).sent) (sym from) by.2 in
         let own = (world.knows seat.number seat.part (node_here seat has)).0 in
         record {
-          first = told.first;
-          applied = told.applied;
-          actions = told.actions;
+          first = stated.first;
+          applied = stated.applied;
+          actions = stated.actions;
           sent = subst (λ (p : Part). Has packet p.sent) own sent;
-          at = told.at;
-          place = told.place;
-          tells = told.tells;
+          at = stated.at;
+          place = stated.place;
+          describes = stated.describes;
         }
 
-    pub together : AppliedBegin → RepliesTell s → CallsCount s → AreTold audit.seat.part audit.known → AreTogether next answers begin audit nodes tasks
+    pub together : AppliedBegin → RepliesFollow s → CallsCount s → AreAllReported audit.seat.part audit.known → AreTogether next answers begin audit nodes tasks
     together applied replies calls are = record {
       order = order;
-      known = known_begins s view parts world exists tell audit.seat.part (inl refl) audit.known are;
+      known = known_begins s view parts world exists follow audit.seat.part (inl refl) audit.known are;
       nodes_are = all_members (IsNodeOf order audit.known) nodes (λ seat has. record {
         applied = subst (λ (p : Part). Begins (applied_of (node_of p.role).records) order) (world.knows seat.number seat.part (node_here seat has)).0
             (applied s.config.nodes (node_among parts) (all_sent parts 16) world.good.kept.sound order (exists s.config.nodes (all_sent parts 16)) seat.number);
@@ -100,6 +100,6 @@ module _ {S P : Type 0} (next : S → Action → S) (answers : S → Action → 
       });
       tasks_are = all_members (IsTaskOf next answers (begin audit.seat.program) order) tasks (λ seat has. record {
         replies = replies_answer s view parts world replies seat.number seat.part (task_here seat has);
-        calls = calls_told s view parts world seat.number seat.part (task_here seat has) calls;
+        calls = calls_ordered s view parts world seat.number seat.part (task_here seat has) calls;
       });
     }

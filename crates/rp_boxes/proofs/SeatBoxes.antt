@@ -14,13 +14,13 @@ use Rattle.rp_codec.specs.declared.packet.Party.{Party}
 use Rattle.rp_codec.specs.declared.packet.Party.TheVariants.{Node, Task, Audit}
 use Rattle.rp_model.specs.Effect.{Setting}
 use Rattle.rp_agreement.specs.Answered.{setting_for}
-use Rattle.rp_replica.specs.Held.{Held}
+use Rattle.rp_replica.specs.State.{ReplicaState}
 use Rattle.rp_boxes.specs.Looks.{IsWorldOf, WasSent}
 use Rattle.rp_boxes.specs.Moments.{WasFull, WasInUse, WasNotFull, WasPut, WasWord}
 use Rattle.rp_boxes.specs.Parts.{Part, View, actor_of, box_of, part_in, with_got}
 use Rattle.rp_boxes.specs.Plays.{Sight, alone}
 use Rattle.rp_boxes.specs.Rule.{IsCarried, HasOwnPackets}
-use Rattle.rp_boxes.specs.Seats.{Chair, IsAtTable, IsNodePlace, IsSentText, IsFetched}
+use Rattle.rp_boxes.specs.Seats.{SeatState, IsAtTable, IsNodePlace, IsSentText, IsFetched}
 use Rattle.rp_boxes.proofs.Worlds.{is_sent}
 
 -- ---- parties
@@ -46,7 +46,7 @@ carries k to part bytes own sent named =
     let right = own.sent sent.0 sent.1 in
     (sent.0, sent.1, record { text = sent.2; packet = right.0; from = right.1; to = sym (named sent.0 right.0 sent.2) })
 
--- ---- the seat behind a step
+-- ---- the seat after a step
 
 -- the seat stays as it is
 pub at_same : (table mine mine' : TableId) (k : ℕ) (me me' : Sight) → IsAtTable table mine k me → mine' ≡ mine → me' ≡ me → IsAtTable table mine' k me'
@@ -91,21 +91,21 @@ pub same_role : (x k : ℕ) (me me' : Sight) (found : Option (Vec ℕ Global)) �
 same_role x k me me' None nothing some = ap (λ (seen : Sight). (part_in seen.0).role) nothing
 same_role x k me me' (Some text) nothing some = ap (λ (seen : Sight). (part_in seen.0).role) some.2
 
-pub node_stays : {S : Type 0} (config : Config) (begin : S) (number : ℕ) (held : Held S) (part part' : Part) → part'.role ≡ part.role
-    → IsNodePlace config begin number held part → IsNodePlace config begin number held part'
-node_stays config begin number held part part' same sits = record { member = sits.member; node = sits.node; is = same ∙ sits.is; stands = sits.stands }
+pub node_stays : {S : Type 0} (config : Config) (begin : S) (number : ℕ) (replica : ReplicaState S) (part part' : Part) → part'.role ≡ part.role
+    → IsNodePlace config begin number replica part → IsNodePlace config begin number replica part'
+node_stays config begin number replica part part' same sits = record { member = sits.member; node = sits.node; is = same ∙ sits.is; represents = sits.represents }
 
 -- ---- what the seat is to a contract then
 
 module _ {P : Type 0} (config : Config) (program : P) (number failures k : ℕ) (mine mine' : TableId) (me me' : Sight) (same : mine' ≡ mine) where
-  abbrev chair : TableId → Part → Chair P
-  chair table part = record { table = table; config = config; program = program; number = number; failures = failures; part = part }
+  abbrev seat_state : TableId → Part → SeatState P
+  seat_state table part = record { table = table; config = config; program = program; number = number; failures = failures; part = part }
 
-  pub same_chair : me' ≡ me → chair mine' (part_in me'.0) ≡ chair mine (part_in me.0)
-  same_chair sees = λ i. chair (same i) (part_in (sees i).0)
+  pub same_state : me' ≡ me → seat_state mine' (part_in me'.0) ≡ seat_state mine (part_in me.0)
+  same_state sees = λ i. seat_state (same i) (part_in (sees i).0)
 
   module _ (from to : Party) (right_from : IsParty from) (right_to : IsParty to) (own : actor_of to ≡ k) where
-    fetched : (text : Vec ℕ Global) → Finds (actor_of from) k me me' text → IsFetched from to text.items (chair mine (part_in me.0)) (chair mine' (part_in me'.0))
+    fetched : (text : Vec ℕ Global) → Finds (actor_of from) k me me' text → IsFetched from to text.items (seat_state mine (part_in me.0)) (seat_state mine' (part_in me'.0))
     fetched text found =
         let carried = found.1 in record {
           packet = found.0;
@@ -113,17 +113,17 @@ module _ {P : Type 0} (config : Config) (program : P) (number failures k : ℕ) 
           text = carried.text;
           sender = same_party found.0.from from carried.packet.ranges.from right_from carried.from;
           receiver = same_party found.0.to to carried.packet.ranges.to right_to (carried.to ∙ sym own);
-          after = λ i. chair (same i) (part_in (found.2 i).0);
+          after = λ i. seat_state (same i) (part_in (found.2 i).0);
         }
 
-    pub fetched_chair : (found : Option (Vec ℕ Global)) → IfSome found (Finds (actor_of from) k me me')
-        → IfSome found (λ text. IsFetched from to text.items (chair mine (part_in me.0)) (chair mine' (part_in me'.0)))
-    fetched_chair None is = tt
-    fetched_chair (Some text) is = fetched text is
+    pub fetched_state : (found : Option (Vec ℕ Global)) → IfSome found (Finds (actor_of from) k me me')
+        → IfSome found (λ text. IsFetched from to text.items (seat_state mine (part_in me.0)) (seat_state mine' (part_in me'.0)))
+    fetched_state None is = tt
+    fetched_state (Some text) is = fetched text is
 
-  pub unfetched_chair : (found : Option (Vec ℕ Global)) → IfNone found (me' ≡ me) → IfNone found (chair mine' (part_in me'.0) ≡ chair mine (part_in me.0))
-  unfetched_chair None is = same_chair is
-  unfetched_chair (Some text) is = tt
+  pub unfetched_state : (found : Option (Vec ℕ Global)) → IfNone found (me' ≡ me) → IfNone found (seat_state mine' (part_in me'.0) ≡ seat_state mine (part_in me.0))
+  unfetched_state None is = same_state is
+  unfetched_state (Some text) is = tt
 
   -- what it got was sent by the other party
   module _ {S : Type 0} (next : S → Action → S) (answers : S → Action → List Answer) (begin : P → S) (from to : Party) (own : actor_of to ≡ k) where
@@ -131,7 +131,7 @@ module _ {P : Type 0} (config : Config) (program : P) (number failures k : ℕ) 
     abbrev pub Sees : Vec ℕ Global → Type 0
     Sees text = (parts : ℕ → Part) × IsWorldOf (setting_for next answers begin config program) me'.0 parts
 
-    was_sent : (text : Vec ℕ Global) → Finds (actor_of from) k me me' text → Sees text → WasSent next answers begin from to text.items (chair mine' (part_in me'.0))
+    was_sent : (text : Vec ℕ Global) → Finds (actor_of from) k me me' text → Sees text → WasSent next answers begin from to text.items (seat_state mine' (part_in me'.0))
     was_sent text found seen =
         let m = found.0 in
         let part = part_in me'.0 in
@@ -150,10 +150,10 @@ module _ {P : Type 0} (config : Config) (program : P) (number failures k : ℕ) 
           sent = subst (λ (j : ℕ). Has m (seen.0 j).sent) is sender.2;
         }
 
-    pub sent_chair : (found : Option (Vec ℕ Global)) → IfSome found (Finds (actor_of from) k me me') → IfSome found Sees
-        → IfSome found (λ text. WasSent next answers begin from to text.items (chair mine' (part_in me'.0)))
-    sent_chair None found seen = tt
-    sent_chair (Some text) found seen = was_sent text found seen
+    pub sent_state : (found : Option (Vec ℕ Global)) → IfSome found (Finds (actor_of from) k me me') → IfSome found Sees
+        → IfSome found (λ text. WasSent next answers begin from to text.items (seat_state mine' (part_in me'.0)))
+    sent_state None found seen = tt
+    sent_state (Some text) found seen = was_sent text found seen
 
   -- the boxes that it stepped on
   module _ {S : Type 0} (next : S → Action → S) (answers : S → Action → List Answer) (begin : P → S) (sees : me' ≡ alone k (part_in me'.0)) where
@@ -168,11 +168,11 @@ module _ {P : Type 0} (config : Config) (program : P) (number failures k : ℕ) 
       this_box : box_of k to ≡ box_of (actor_of from) (actor_of m.to)
       this_box = λ i. box_of (sym own i) (named i)
 
-      pub put_chair : WasFull s me'.0 (box_of k to) bytes → WasPut next answers begin from bytes (chair mine' (part_in me'.0))
-      put_chair full = record { packet = m; text = text; box = subst (λ (z : View × ℕ). WasFull s z.0 z.1 bytes) (λ i. (seen_by from own i, this_box i)) full }
+      pub put_state : WasFull s me'.0 (box_of k to) bytes → WasPut next answers begin from bytes (seat_state mine' (part_in me'.0))
+      put_state full = record { packet = m; text = text; box = subst (λ (z : View × ℕ). WasFull s z.0 z.1 bytes) (λ i. (seen_by from own i, this_box i)) full }
 
-      pub used_chair : WasWord s me'.0 (box_of k to) (λ word. word ≢ 0) → WasInUse next answers begin from bytes (chair mine' (part_in me'.0))
-      used_chair used = record { packet = m; text = text; box = subst (λ (z : View × ℕ). WasWord s z.0 z.1 (λ word. word ≢ 0)) (λ i. (seen_by from own i, this_box i)) used }
+      pub used_state : WasWord s me'.0 (box_of k to) (λ word. word ≢ 0) → WasInUse next answers begin from bytes (seat_state mine' (part_in me'.0))
+      used_state used = record { packet = m; text = text; box = subst (λ (z : View × ℕ). WasWord s z.0 z.1 (λ word. word ≢ 0)) (λ i. (seen_by from own i, this_box i)) used }
 
   -- the box that was not full
   module _ {S : Type 0} (next : S → Action → S) (answers : S → Action → List Answer) (begin : P → S) (at : me ≡ alone k (part_in me.0)) (from to : Party) (own : actor_of to ≡ k) where
@@ -180,9 +180,9 @@ module _ {P : Type 0} (config : Config) (program : P) (number failures k : ℕ) 
     abbrev pub Misses : Type 0
     Misses = WasWord (setting_for next answers begin config program) me'.0 (box_of (actor_of from) k) (λ word. word ≢ 2)
 
-    pub missed_chair : (found : Option (Vec ℕ Global)) → IfNone found (me' ≡ me) → IfNone found Misses → IfNone found (WasNotFull next answers begin from to (chair mine' (part_in me'.0)))
-    missed_chair None stays missed =
+    pub missed_state : (found : Option (Vec ℕ Global)) → IfNone found (me' ≡ me) → IfNone found Misses → IfNone found (WasNotFull next answers begin from to (seat_state mine' (part_in me'.0)))
+    missed_state None stays missed =
         let sees : me' ≡ alone k (part_in me'.0) = subst (λ (z : Sight). z ≡ alone k (part_in z.0)) (sym stays) at in
         subst (λ (z : View × ℕ). WasWord (setting_for next answers begin config program) z.0 z.1 (λ word. word ≢ 2))
         (λ i. (seen_by next answers begin sees to own i, box_of (actor_of from) (sym own i))) missed
-    missed_chair (Some text) stays missed = tt
+    missed_state (Some text) stays missed = tt

@@ -12,25 +12,25 @@ use Rattle.rp_codec.specs.Reading.{all_of}
 use Rattle.rp_codec.specs.Text.{text_of}
 use Rattle.rp_store.specs.Disk.{Disk}
 use Rattle.rp_model.specs.Effect as nodes
-use Rattle.rp_model.specs.Effect.{Setting, Done, NodeInput, node_effect, cut_effect, cut_if, cut_part, turned, turned_if, goes_on_as}
+use Rattle.rp_model.specs.Effect.{Setting, Done, NodeInput, node_effect, cut_effect, cut_if, cut_part, turn_done, turn_done_if, goes_on_as}
 use Rattle.rp_model.specs.Parts.{NodePart, Running, Turn}
 use Rattle.rp_agreement.specs.Answered.{setting_for}
 use Rattle.rp_agreement.specs.Inputs.{IsInput}
-use Rattle.rp_replica.specs.Held.{Held, with_text}
+use Rattle.rp_replica.specs.State.{ReplicaState, with_text}
 use Rattle.rp_replica.specs.Inputs.{IsRightInput, packet_given, given_by, effect_if_given, input_effect}
 use Rattle.rp_replica.specs.Turning.{TurnsIf, FailsAt, Stops, StopsIf, effect_of}
 use Rattle.rp_replica.specs.declared.input.Input.{Input}
 use Rattle.rp_replica.specs.declared.input.Input.TheVariants.{Receive, Lead, LeadRange, Interrupt, Tick, Report}
 use Rattle.rp_replica.specs.declared.sent.Sent.{Sent}
 use Rattle.rp_world.specs.Nodes.{Member, member_of, RunsAs}
-use Rattle.rp_world.proofs.Standing.{stands, stands_failed, as_running, as_resting}
+use Rattle.rp_world.proofs.Represented.{represents, represents_failed, as_running, as_resting}
 use Rattle.rp_world.proofs.Turning.{same_effect, is_cut, taken, false_true}
 use Rattle.rp_boxes.specs.Parts.{Part, Role, OfNode, part_in, part_after}
 use Rattle.rp_boxes.specs.Rule.{HasOwnPackets}
-use Rattle.rp_boxes.specs.Plays.{Sight, Turned, alone}
-use Rattle.rp_boxes.specs.Seats.{Chair, IsAtTable, IsNodePlace, HasInputRanges, IsGot, IsReason, IsTurn, IsCutTurn, IsNoTurn}
+use Rattle.rp_boxes.specs.Plays.{Sight, IsNoted, alone}
+use Rattle.rp_boxes.specs.Seats.{SeatState, IsAtTable, IsNodePlace, HasInputRanges, IsGot, IsReason, IsTurn, IsCutTurn, IsNoTurn}
 use Rattle.rp_boxes.specs.Steps.{IsEvent}
-use Rattle.rp_boxes.specs.Counting.{HasTurned, HasStopped}
+use Rattle.rp_boxes.specs.Counting.{HasStepped, HasStopped}
 
 -- a record that is written is no failure
 written_failures : (written : Option Rec) (disk : Disk) → (with_text disk written).failures ≡ disk.failures
@@ -60,9 +60,9 @@ input_given texts k part (Interrupt source occurrence) own right ranges got = re
 input_given texts k part (Tick now) own right ranges got = record { given = nodes.Tick now; gives = refl; is = ranges }
 input_given texts k part (Report first) own right ranges got = record { given = nodes.Report first; gives = refl; is = ranges }
 
--- ---- what comes of it
+-- ---- the result
 
-module _ {S P : Type 0} (next : S → Action → S) (answers : S → Action → List Answer) (begin : P → S) (config : Config) (program : P) (number : ℕ) (before : Part) (old : Held S)
+module _ {S P : Type 0} (next : S → Action → S) (answers : S → Action → List Answer) (begin : P → S) (config : Config) (program : P) (number : ℕ) (before : Part) (old : ReplicaState S)
     (sits : IsNodePlace config (begin program) number old before) (input : Input) (is : IsGiven before input) where
   abbrev s : Setting S
   s = setting_for next answers begin config program
@@ -73,46 +73,46 @@ module _ {S P : Type 0} (next : S → Action → S) (answers : S → Action → 
   same_input : input_effect next answers old input ≡ effect_of next answers old is.given
   same_input = ap (effect_if_given next answers old) is.gives
 
-  -- a chair whose part this is
-  abbrev chair : TableId → ℕ → Part → Chair P
-  chair table failures part = record { table = table; config = config; program = program; number = number; failures = failures; part = part }
+  -- a seat state whose part this is
+  abbrev seat_state : TableId → ℕ → Part → SeatState P
+  seat_state table failures part = record { table = table; config = config; program = program; number = number; failures = failures; part = part }
 
   -- the step of its node
   abbrev step : Result (Done NodePart) Fault
   step = node_effect s number sits.node is.given
 
   -- the node's device had failed
-  pub was_stopped : old.failed ≡ true → (table : TableId) → IsNoTurn next answers begin (chair table old.disk.failures before) input (chair table old.disk.failures before) Failed
+  pub was_stopped : old.failed ≡ true → (table : TableId) → IsNoTurn next answers begin (seat_state table old.disk.failures before) input (seat_state table old.disk.failures before) Failed
   was_stopped failed table = record {
     unchanged = refl;
     given = is.given;
     gives = is.gives;
     node = sits.node;
     was = sits.is;
-    why = subst (λ (running : Option Running). IsReason running step Failed) (sym (as_resting member old sits.node failed sits.stands).stopped) refl;
+    why = subst (λ (running : Option Running). IsReason running step Failed) (sym (as_resting member old sits.node failed sits.represents).stopped) refl;
   }
 
-  module _ (working : old.failed ≡ false) (new : Held S) where
+  module _ (working : old.failed ≡ false) (new : ReplicaState S) where
     runs : RunsAs member old sits.node
-    runs = as_running member old sits.node working sits.stands
+    runs = as_running member old sits.node working sits.represents
 
-    comes_so : (turn : Turn) → effect_of next answers old is.given ≡ Ok turn → step ≡ Ok (turned sits.node turn)
-    comes_so turn came = same_effect next answers member old sits.node runs is.given ∙ ap (turned_if sits.node) came
+    results_so : (turn : Turn) → effect_of next answers old is.given ≡ Ok turn → step ≡ Ok (turn_done sits.node turn)
+    results_so turn resulted = same_effect next answers member old sits.node runs is.given ∙ ap (turn_done_if sits.node) resulted
 
     -- the turn took effect
-    pub has_turned : (sent : Sent) → TurnsIf (input_effect next answers old input) old new sent
-        → (after : Part) × IsEvent s number before after × HasTurned s number before input new sent after
-    has_turned sent turns =
+    pub has_stepped : (sent : Sent) → TurnsIf (input_effect next answers old input) old new sent
+        → (after : Part) × IsEvent s number before after × HasStepped s number before input new sent after
+    has_stepped sent turns =
         let t = taken next answers member old sits.node runs is.given new sent (effect_of next answers old is.given) refl
         (subst (λ (r : Result Turn Fault). TurnsIf r old new sent) same_input turns) in (
           part_after before (OfNode t.0.part) t.0.sends,
-          inl (record { member = sits.member; part = sits.node; was = sits.is; input = is.given; given = is.is; done = t.0; comes = inl t.1; is = refl }),
-          record { given = is.given; gives = is.gives; node = sits.node; was = sits.is; done = t.0; comes = t.1; stands = stands member new t.0.part t.2; tells = t.3; is = refl },
+          inl (record { member = sits.member; part = sits.node; was = sits.is; input = is.given; given = is.is; done = t.0; results = inl t.1; is = refl }),
+          record { given = is.given; gives = is.gives; node = sits.node; was = sits.is; done = t.0; results = t.1; represents = represents member new t.0.part t.2; describes = t.3; is = refl },
         )
 
     -- no call of the device failed then
     failures_stay : (effect : Result Turn Fault) (sent : Sent) → TurnsIf effect old new sent → new.disk.failures ≡ old.disk.failures
-    failures_stay (Ok turn) sent turns = ap (λ (h : Held S). h.disk.failures) turns.0.goes ∙ written_failures turn.written old.disk
+    failures_stay (Ok turn) sent turns = ap (λ (h : ReplicaState S). h.disk.failures) turns.0.goes ∙ written_failures turn.written old.disk
     failures_stay (Err refusal) sent turns = absurd turns
 
     pub has_not_failed : (sent : Sent) → TurnsIf (input_effect next answers old input) old new sent → new.disk.failures ≡ old.disk.failures
@@ -123,43 +123,43 @@ module _ {S P : Type 0} (next : S → Action → S) (answers : S → Action → 
     HasStoppedSo fault = (fault ≡ Device) × (old.disk.failures < new.disk.failures) × (after : Part) × IsEvent s number before after × HasStopped s number before input new after
 
     stopped_by : (turn : Turn) → effect_of next answers old is.given ≡ Ok turn → FailsAt turn.written old new → HasStoppedSo Device
-    stopped_by turn came fails =
+    stopped_by turn resulted fails =
         let kept = fails.holds.0 in
         let left = cut_part kept sits.node turn.written in
-        let cut : cut_effect s number sits.node is.given kept ≡ Ok (goes_on_as left) = ap (cut_if kept sits.node) (comes_so turn came) in (
+        let cut : cut_effect s number sits.node is.given kept ≡ Ok (goes_on_as left) = ap (cut_if kept sits.node) (results_so turn resulted) in (
           refl,
           fails.disk.cause,
           part_after before (OfNode left) [],
-          inl (record { member = sits.member; part = sits.node; was = sits.is; input = is.given; given = is.is; done = goes_on_as left; comes = inr (kept, cut); is = refl }),
+          inl (record { member = sits.member; part = sits.node; was = sits.is; input = is.given; given = is.is; done = goes_on_as left; results = inr (kept, cut); is = refl }),
           record {
             given = is.given;
             gives = is.gives;
             node = sits.node;
             was = sits.is;
-            whole = turned sits.node turn;
-            step = comes_so turn came;
+            whole = turn_done sits.node turn;
+            step = results_so turn resulted;
             written = fails.rec;
             writes = fails.is;
             kept = kept;
             done = goes_on_as left;
-            comes = cut;
-            stands = stands_failed member new left (ap (λ (h : Held S). h.failed) fails.goes) (is_cut next answers member old sits.node runs kept turn.written new.disk fails.holds.1);
+            results = cut;
+            represents = represents_failed member new left (ap (λ (h : ReplicaState S). h.failed) fails.goes) (is_cut next answers member old sits.node runs kept turn.written new.disk fails.holds.1);
             is = refl;
           },
         )
 
     unchanged_works : new ≡ old → new.failed ≡ false
-    unchanged_works same = ap (λ (h : Held S). h.failed) same ∙ working
+    unchanged_works same = ap (λ (h : ReplicaState S). h.failed) same ∙ working
 
     stopped_while : (turn : Turn) → effect_of next answers old is.given ≡ Ok turn → new.failed ≡ true → (fault : Fault) → Stops turn.written old new fault → HasStoppedSo fault
-    stopped_while turn came failed OutOfMemory stops = absurd (false_true (unchanged_works stops.0) failed)
-    stopped_while turn came failed Device stops = stopped_by turn came stops.0
-    stopped_while turn came failed Failed stops = absurd (false_true (unchanged_works stops.0) failed)
-    stopped_while turn came failed _ stops = absurd stops
+    stopped_while turn resulted failed OutOfMemory stops = absurd (false_true (unchanged_works stops.0) failed)
+    stopped_while turn resulted failed Device stops = stopped_by turn resulted stops.0
+    stopped_while turn resulted failed Failed stops = absurd (false_true (unchanged_works stops.0) failed)
+    stopped_while turn resulted failed _ stops = absurd stops
 
     stopped_if : (effect : Result Turn Fault) → effect_of next answers old is.given ≡ effect → new.failed ≡ true → (fault : Fault) → StopsIf effect old new fault → HasStoppedSo fault
-    stopped_if (Ok turn) came failed fault stops = stopped_while turn came failed fault stops
-    stopped_if (Err refusal) came failed fault stops = absurd (false_true (unchanged_works stops.0) failed)
+    stopped_if (Ok turn) resulted failed fault stops = stopped_while turn resulted failed fault stops
+    stopped_if (Err refusal) resulted failed fault stops = absurd (false_true (unchanged_works stops.0) failed)
 
     pub has_stopped : (fault : Fault) → StopsIf (input_effect next answers old input) old new fault → new.failed ≡ true → HasStoppedSo fault
     has_stopped fault stops failed =
@@ -171,22 +171,22 @@ module _ {S P : Type 0} (next : S → Action → S) (answers : S → Action → 
 
     -- since the node runs, its step gives the reason
     by_step : (effect : Result (Done NodePart) Fault) (fault : Fault) → step ≡ effect → IsReason (Some old.running) effect fault → IsWhy fault
-    by_step effect fault came why =
+    by_step effect fault resulted why =
         subst (λ (running : Option Running). IsReason running step fault) (sym (ap (λ (p : NodePart). p.running) runs.known))
-        (subst (λ (e : Result (Done NodePart) Fault). IsReason (Some old.running) e fault) (sym came) why)
+        (subst (λ (e : Result (Done NodePart) Fault). IsReason (Some old.running) e fault) (sym resulted) why)
 
     why_while : (turn : Turn) → effect_of next answers old is.given ≡ Ok turn → new.failed ≡ false → (fault : Fault) → Stops turn.written old new fault → (new ≡ old) × IsWhy fault
-    why_while turn came works OutOfMemory stops = (stops.0, by_step (Ok (turned sits.node turn)) OutOfMemory (comes_so turn came) refl)
-    why_while turn came works Device stops = absurd (false_true works (ap (λ (h : Held S). h.failed) stops.0.goes))
-    why_while turn came works Failed stops = absurd (false_true working stops.1)
-    why_while turn came works _ stops = absurd stops
+    why_while turn resulted works OutOfMemory stops = (stops.0, by_step (Ok (turn_done sits.node turn)) OutOfMemory (results_so turn resulted) refl)
+    why_while turn resulted works Device stops = absurd (false_true works (ap (λ (h : ReplicaState S). h.failed) stops.0.goes))
+    why_while turn resulted works Failed stops = absurd (false_true working stops.1)
+    why_while turn resulted works _ stops = absurd stops
 
     why_if : (effect : Result Turn Fault) → effect_of next answers old is.given ≡ effect → new.failed ≡ false → (fault : Fault) → StopsIf effect old new fault → (new ≡ old) × IsWhy fault
-    why_if (Ok turn) came works fault stops = why_while turn came works fault stops
-    why_if (Err refusal) came works fault stops = (
+    why_if (Ok turn) resulted works fault stops = why_while turn resulted works fault stops
+    why_if (Err refusal) resulted works fault stops = (
       stops.0,
       elim stops.1 [
-        | inl told ↦ by_step (Err refusal) fault (same_effect next answers member old sits.node runs is.given ∙ ap (turned_if sits.node) came) told.0
+        | inl stated ↦ by_step (Err refusal) fault (same_effect next answers member old sits.node runs is.given ∙ ap (turn_done_if sits.node) resulted) stated.0
         | inr gone ↦ absurd (false_true working gone.1)
       ],
     )
@@ -197,7 +197,7 @@ module _ {S P : Type 0} (next : S → Action → S) (answers : S → Action → 
 
   -- ---- the seat once a turn is counted
 
-  module _ (table mine mine' : TableId) (me me' : Sight) (at : IsAtTable table mine number me) (is_part : part_in me.0 ≡ before) (same : mine' ≡ mine) (new : Held S) where
+  module _ (table mine mine' : TableId) (me me' : Sight) (at : IsAtTable table mine number me) (is_part : part_in me.0 ≡ before) (same : mine' ≡ mine) (new : ReplicaState S) where
     -- the seat of the part after an event
     pub at_after : (role : Role) (sends : List Message) (q : Part) → q ≡ part_after before role sends → me' ≡ alone number q → HasOwnPackets number q → IsAtTable table mine' number me'
     at_after role sends q after sees own =
@@ -215,38 +215,38 @@ module _ {S P : Type 0} (next : S → Action → S) (answers : S → Action → 
     sees_part : (q : Part) → me' ≡ alone number q → part_in me'.0 ≡ q
     sees_part q sees = ap (λ (seen : Sight). part_in seen.0) sees
 
-    new_chair : (failures failures' : ℕ) → failures' ≡ failures → (q : Part) → me' ≡ alone number q → chair mine' failures' (part_in me'.0) ≡ chair mine failures q
-    new_chair failures failures' stay q sees = λ i. chair (same i) (stay i) (sees_part q sees i)
+    new_state : (failures failures' : ℕ) → failures' ≡ failures → (q : Part) → me' ≡ alone number q → seat_state mine' failures' (part_in me'.0) ≡ seat_state mine failures q
+    new_state failures failures' stay q sees = λ i. seat_state (same i) (stay i) (sees_part q sees i)
 
-    module _ (sent : Sent) (t : Turned (HasTurned s number before input new sent) number me') where
-      pub turned_seat : IsAtTable table mine' number me' × IsNodePlace config (begin program) number new (part_in me'.0)
-      turned_seat = (
+    module _ (sent : Sent) (t : IsNoted (HasStepped s number before input new sent) number me') where
+      pub stepped_seat : IsAtTable table mine' number me' × IsNodePlace config (begin program) number new (part_in me'.0)
+      stepped_seat = (
         at_after (OfNode t.said.done.part) t.said.done.sends t.part t.said.is t.is t.own,
-        record { member = sits.member; node = t.said.done.part; is = ap (λ (p : Part). p.role) (sees_part t.part t.is ∙ t.said.is); stands = t.said.stands },
+        record { member = sits.member; node = t.said.done.part; is = ap (λ (p : Part). p.role) (sees_part t.part t.is ∙ t.said.is); represents = t.said.represents },
       )
 
-      pub turned_chair : new.disk.failures ≡ old.disk.failures → IsTurn next answers begin (chair mine old.disk.failures before) input (chair mine' new.disk.failures (part_in me'.0)) sent
-      turned_chair stay = record {
+      pub stepped_state : new.disk.failures ≡ old.disk.failures → IsTurn next answers begin (seat_state mine old.disk.failures before) input (seat_state mine' new.disk.failures (part_in me'.0)) sent
+      stepped_state stay = record {
         given = t.said.given;
         gives = t.said.gives;
         node = t.said.node;
         was = t.said.was;
         done = t.said.done;
-        comes = t.said.comes;
-        after = new_chair old.disk.failures new.disk.failures stay t.part t.is ∙ ap (chair mine old.disk.failures) t.said.is;
-        tells = t.said.tells;
+        results = t.said.results;
+        after = new_state old.disk.failures new.disk.failures stay t.part t.is ∙ ap (seat_state mine old.disk.failures) t.said.is;
+        describes = t.said.describes;
       }
 
-    module _ (t : Turned (HasStopped s number before input new) number me') where
+    module _ (t : IsNoted (HasStopped s number before input new) number me') where
       pub stopped_seat : IsAtTable table mine' number me' × IsNodePlace config (begin program) number new (part_in me'.0)
       stopped_seat = (
         at_after (OfNode t.said.done.part) t.said.done.sends t.part t.said.is t.is t.own,
-        record { member = sits.member; node = t.said.done.part; is = ap (λ (p : Part). p.role) (sees_part t.part t.is ∙ t.said.is); stands = t.said.stands },
+        record { member = sits.member; node = t.said.done.part; is = ap (λ (p : Part). p.role) (sees_part t.part t.is ∙ t.said.is); represents = t.said.represents },
       )
 
-      pub stopped_chair : (fault : Fault) → fault ≡ Device → old.disk.failures < new.disk.failures
-          → IsCutTurn next answers begin (chair mine old.disk.failures before) input (chair mine' new.disk.failures (part_in me'.0)) fault
-      stopped_chair fault device failed = record {
+      pub stopped_state : (fault : Fault) → fault ≡ Device → old.disk.failures < new.disk.failures
+          → IsCutTurn next answers begin (seat_state mine old.disk.failures before) input (seat_state mine' new.disk.failures (part_in me'.0)) fault
+      stopped_state fault device failed = record {
         device = device;
         failed = failed;
         given = t.said.given;
@@ -259,18 +259,18 @@ module _ {S P : Type 0} (next : S → Action → S) (answers : S → Action → 
         writes = t.said.writes;
         kept = t.said.kept;
         done = t.said.done;
-        comes = t.said.comes;
-        after = new_chair new.disk.failures new.disk.failures refl t.part t.is ∙ ap (chair mine new.disk.failures) t.said.is;
+        results = t.said.results;
+        after = new_state new.disk.failures new.disk.failures refl t.part t.is ∙ ap (seat_state mine new.disk.failures) t.said.is;
       }
 
   -- the seat where nothing happened
-  pub unturned_seat : (new : Held S) → new ≡ old → IsNodePlace config (begin program) number new before
-  unturned_seat new same = subst (λ (h : Held S). IsNodePlace config (begin program) number h before) (sym same) sits
+  pub unturned_seat : (new : ReplicaState S) → new ≡ old → IsNodePlace config (begin program) number new before
+  unturned_seat new same = subst (λ (h : ReplicaState S). IsNodePlace config (begin program) number h before) (sym same) sits
 
-  pub unturned_chair : (working : old.failed ≡ false) (new : Held S) (fault : Fault) → StopsIf (input_effect next answers old input) old new fault → new.failed ≡ false → (table : TableId)
-      → IsNoTurn next answers begin (chair table old.disk.failures before) input (chair table new.disk.failures before) fault
-  unturned_chair working new fault stops works table = record {
-    unchanged = ap (λ (h : Held S). chair table h.disk.failures before) (no_turn working new fault stops works).0;
+  pub unstepped_state : (working : old.failed ≡ false) (new : ReplicaState S) (fault : Fault) → StopsIf (input_effect next answers old input) old new fault → new.failed ≡ false → (table : TableId)
+      → IsNoTurn next answers begin (seat_state table old.disk.failures before) input (seat_state table new.disk.failures before) fault
+  unstepped_state working new fault stops works table = record {
+    unchanged = ap (λ (h : ReplicaState S). seat_state table h.disk.failures before) (no_turn working new fault stops works).0;
     given = is.given;
     gives = is.gives;
     node = sits.node;

@@ -3,12 +3,12 @@ use Rattle.std.proofs.Common.{◌≡◌, ℕ, zero, suc, ◌+◌, ◌<◌, ◌�
 use Rattle.atomic_table.specs.Seated.{TableId}
 use Rattle.rp_base.specs.declared.config.Config.{Config}
 use Rattle.rp_model.specs.Parts.{fresh_node}
-use Rattle.rp_replica.specs.Held.{Held}
+use Rattle.rp_replica.specs.State.{ReplicaState}
 use Rattle.rp_world.specs.Nodes.{member_of, RunsAs}
-use Rattle.rp_world.proofs.Standing.{stands}
+use Rattle.rp_world.proofs.Represented.{represents}
 use Rattle.rp_boxes.specs.Parts.{Part, View, OfNode, first_role, first_part, first_from, part_in}
 use Rattle.rp_boxes.specs.Plays.{Sight, IsSized, alone}
-use Rattle.rp_boxes.specs.Seats.{Chair, IsAtTable, IsNodePlace}
+use Rattle.rp_boxes.specs.Seats.{SeatState, IsAtTable, IsNodePlace}
 use Rattle.rp_boxes.specs.Making.{AreFirstSeats, AreSeats, IsRest, Unseated, after_seats, others_in, first_seat}
 
 -- ---- the rest of the actors
@@ -70,33 +70,33 @@ known_part : (actor : ℕ) (me : Sight) → me ≡ alone actor (first_part actor
 known_part actor me is = ap (λ (sight : Sight). part_in sight.0) is
 
 -- a replica that is fresh is the node that its place knows
-pub fresh_place : {S : Type 0} (config : Config) (begin : S) (number : ℕ) (held : Held S) (me : Sight) → 1 ≤ number → number ≤ config.nodes → config.nodes ≤ 7
-    → me ≡ alone number (first_part number) → RunsAs (member_of number config begin) held fresh_node → IsNodePlace config begin number held (part_in me.0)
-fresh_place config begin number held me least most seven is runs = record {
+pub fresh_place : {S : Type 0} (config : Config) (begin : S) (number : ℕ) (replica : ReplicaState S) (me : Sight) → 1 ≤ number → number ≤ config.nodes → config.nodes ≤ 7
+    → me ≡ alone number (first_part number) → RunsAs (member_of number config begin) replica fresh_node → IsNodePlace config begin number replica (part_in me.0)
+fresh_place config begin number replica me least most seven is runs = record {
   member = (least, most);
   node = fresh_node;
   is = ap (λ (part : Part). part.role) (known_part number me is) ∙ node_role number least (omega (arith, most, seven));
-  stands = stands (member_of number config begin) held fresh_node runs;
+  represents = represents (member_of number config begin) replica fresh_node runs;
 }
 
 -- ---- one more seat
 
-module _ {P : Type 0} (old self : Unseated P) (seats : List (Chair P)) (same : self ≡ after_seats (length seats) old) where
+module _ {P : Type 0} (old self : Unseated P) (seats : List (SeatState P)) (same : self ≡ after_seats (length seats) old) where
   next_is : self.next ≡ old.next + length seats
   next_is = ap (λ (unseated : Unseated P). unseated.next) same
 
-  pub after_one : (self' : Unseated P) (grown : List (Chair P)) (seat : Chair P) → self' ≡ after_seats 1 self → grown ≡ seats ++ seat ∷ [] → self' ≡ after_seats (length grown) old
+  pub after_one : (self' : Unseated P) (grown : List (SeatState P)) (seat : SeatState P) → self' ≡ after_seats 1 self → grown ≡ seats ++ seat ∷ [] → self' ≡ after_seats (length grown) old
   after_one self' grown seat one is =
       let count : old.next + length seats + 1 ≡ old.next + length grown = omega (arith, ap length is, length-append seats (seat ∷ [])) in
       one ∙ (ap (after_seats 1) same ∙ ap (λ (next : ℕ). let unseated : Unseated P = record old { next = next } in unseated) count)
 
-  pub seat_is : (seat : Chair P) (number actor failures number' actor' failures' : ℕ) → seat ≡ first_seat self.table self.config self.program number actor failures
+  pub seat_is : (seat : SeatState P) (number actor failures number' actor' failures' : ℕ) → seat ≡ first_seat self.table self.config self.program number actor failures
       → number ≡ number' → actor ≡ actor' → failures ≡ failures' → seat ≡ first_seat old.table old.config old.program number' actor' failures'
-  seat_is seat number actor failures number' actor' failures' told named which failed =
-      told ∙ (λ i. first_seat (same i).table (same i).config (same i).program (named i) (which i) (failed i))
+  seat_is seat number actor failures number' actor' failures' stated named which failed =
+      stated ∙ (λ i. first_seat (same i).table (same i).config (same i).program (named i) (which i) (failed i))
 
 -- no seat yet
-pub after_none : {P : Type 0} (old : Unseated P) (seats : List (Chair P)) → seats ≡ [] → old ≡ after_seats (length seats) old
+pub after_none : {P : Type 0} (old : Unseated P) (seats : List (SeatState P)) → seats ≡ [] → old ≡ after_seats (length seats) old
 after_none {P} old seats none =
     let count : old.next ≡ old.next + length seats = omega (arith, ap length none) in
     ap (λ (next : ℕ). let unseated : Unseated P = record old { next = next } in unseated) count
@@ -114,7 +114,7 @@ at_drop (y ∷ ys) (suc n) x rest is = at_drop ys n x rest is
 abbrev shared : {P : Type 0} → Unseated P → TableId × Config × P
 shared unseated = (unseated.table, unseated.config, unseated.program)
 
-module _ {P : Type 0} (first later left last : Unseated P) (config : Config) (program : P) (failures : List ℕ) (nodes tasks : List (Chair P)) (audit : Chair P)
+module _ {P : Type 0} (first later left last : Unseated P) (config : Config) (program : P) (failures : List ℕ) (nodes tasks : List (SeatState P)) (audit : SeatState P)
     (configured : first.config ≡ config) (begun : first.program ≡ program) (audit_is : audit ≡ first_seat first.table first.config first.program 0 0 0)
     (one : later ≡ after_seats 1 first) (more : left ≡ after_seats later.config.nodes later) (passed : last ≡ record left { next = 8 }) where
   same_later : shared later ≡ shared first
@@ -124,19 +124,19 @@ module _ {P : Type 0} (first later left last : Unseated P) (config : Config) (pr
   same_last = ap shared passed ∙ (ap shared more ∙ same_later)
 
   same_table : first.table ≡ audit.table
-  same_table = sym (ap (λ (chair : Chair P). chair.table) audit_is)
+  same_table = sym (ap (λ (seat_state : SeatState P). seat_state.table) audit_is)
 
-  told : shared first ≡ (audit.table, config, program)
-  told = λ i. (same_table i, configured i, begun i)
+  stated : shared first ≡ (audit.table, config, program)
+  stated = λ i. (same_table i, configured i, begun i)
 
-  seats_at : (unseated : Unseated P) (actor : ℕ) (failed : List ℕ) (seats : List (Chair P)) → shared unseated ≡ shared first
+  seats_at : (unseated : Unseated P) (actor : ℕ) (failed : List ℕ) (seats : List (SeatState P)) → shared unseated ≡ shared first
       → AreFirstSeats unseated.table unseated.config unseated.program actor failed seats → AreFirstSeats audit.table config program actor failed seats
-  seats_at unseated actor failed seats same are = subst (λ (z : TableId × Config × P). AreFirstSeats z.0 z.1 z.2 actor failed seats) (same ∙ told) are
+  seats_at unseated actor failed seats same are = subst (λ (z : TableId × Config × P). AreFirstSeats z.0 z.1 z.2 actor failed seats) (same ∙ stated) are
 
   pub all_seats : length nodes ≡ later.config.nodes → AreFirstSeats later.table later.config later.program 1 failures nodes
       → length tasks ≡ 8 → AreFirstSeats last.table last.config last.program 8 [] tasks → AreSeats config program failures nodes tasks audit
   all_seats size nodes_are eight tasks_are = record {
-    size = size ∙ ap (λ (z : TableId × Config × P). z.1.nodes) (same_later ∙ told);
+    size = size ∙ ap (λ (z : TableId × Config × P). z.1.nodes) (same_later ∙ stated);
     nodes_are = seats_at later 1 failures nodes same_later nodes_are;
     eight = eight;
     tasks_are = seats_at last 8 [] tasks same_last tasks_are;

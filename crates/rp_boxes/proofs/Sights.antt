@@ -19,9 +19,9 @@ sees_written k b p slot slot' old new is written = written ∙ ap (λ (me : Sigh
 
 pub sees_published : (k b : ℕ) (p : Part) (slot : Slot) (old new : Sight) → p.fills ≡ [] → old ≡ holding k (filling b p) b slot → Published old new → new ≡ alone k p
 sees_published k b p slot old new free is published =
-    published ∙ (ap (λ (me : Sight). (on_first filled me.0, rest me.1)) is ∙ ap (λ (held : List ℕ). alone k (record p { fills = held })) (sym free))
+    published ∙ (ap (λ (me : Sight). (on_first filled me.0, rest me.1)) is ∙ ap (λ (replica : List ℕ). alone k (record p { fills = replica })) (sym free))
 
--- what was taken came through this box
+-- what was taken went through this box
 pub sees_taken : (x y : ℕ) (p : Part) (old new : Sight) (found : ℕ) → x < 16 → y < 16 → old ≡ alone y p → Took (box_of x y) old found new → found ≡ 2
     → (m : Message) × (text : Vec ℕ Global) × IsCarried x y text.items m × (new ≡ holding y (emptying (box_of x y) m p) (box_of x y) (Some text))
 sees_taken x y p old new found less fewer is took hit =
@@ -35,7 +35,7 @@ sees_taken x y p old new found less fewer is took hit =
 
 pub sees_cleared : (k b : ℕ) (p : Part) (m : Message) (slot : Slot) (old new : Sight) → p.takes ≡ [] → old ≡ holding k (emptying b m p) b slot → Cleared old new → new ≡ alone k (with_got m p)
 sees_cleared k b p m slot old new free is cleared =
-    cleared ∙ (ap (λ (me : Sight). (on_first emptied me.0, rest me.1)) is ∙ ap (λ (held : List ℕ). alone k (record (with_got m p) { takes = held })) (sym free))
+    cleared ∙ (ap (λ (me : Sight). (on_first emptied me.0, rest me.1)) is ∙ ap (λ (replica : List ℕ). alone k (record (with_got m p) { takes = replica })) (sym free))
 
 pub out_with : (k b : ℕ) (p : Part) (slot : Slot) (me : Sight) → me ≡ holding k p b slot → me.1 ≡ (b, slot) ∷ rest me.1
 out_with k b p slot me is = subst (λ (seen : Sight). seen.1 ≡ (b, slot) ∷ rest seen.1) (sym is) refl
@@ -45,6 +45,6 @@ abbrev first_out : List (ℕ × Slot) → Slot
 first_out [] = None
 first_out (out ∷ others) = out.1
 
--- it is the one that came out
-pub came_out : (k b at : ℕ) (p : Part) (slot out : Slot) (me : Sight) → me ≡ holding k p b slot → me.1 ≡ (at, out) ∷ rest me.1 → out ≡ slot
-came_out k b at p slot out me is came = ap first_out (sym came ∙ ap (λ (seen : Sight). seen.1) is)
+-- it is the one that was taken out
+pub taken_out : (k b at : ℕ) (p : Part) (slot out : Slot) (me : Sight) → me ≡ holding k p b slot → me.1 ≡ (at, out) ∷ rest me.1 → out ≡ slot
+taken_out k b at p slot out me is resulted = ap first_out (sym resulted ∙ ap (λ (seen : Sight). seen.1) is)

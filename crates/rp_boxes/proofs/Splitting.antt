@@ -13,7 +13,7 @@ use Rattle.rp_boxes.specs.Parts.{Part, View}
 use Rattle.rp_boxes.specs.Rule.{IsSeating, Ruled}
 use Rattle.rp_boxes.proofs.Worlds.{with_value, value_here, value_else, at_each, at_below}
 
--- what stands in a list with one more at its end
+-- what is in a list with one more at its end
 at_end : {A : Type 0} (l : List A) (a : A) (j : ℕ) (b : A) → get_elem? (l ++ a ∷ []) j ≡ some b → (get_elem? l j ≡ some b) ⊎ ((j ≡ length l) × (a ≡ b))
 at_end [] a zero b e = inr (refl, some-injective a b e)
 at_end [] a (suc j) b e = absurd (some-ne-none b (sym e))
@@ -48,7 +48,7 @@ module _ (views : List View) (parts : ℕ → Part) (owner : ℕ → ℕ) (seati
   below : id < length views
   below = at_below views id whole here
 
-  -- an actor that is known to another seat, or behind the first one
+  -- an actor that is known to another seat, or after the first one
   knows_else : (other j : ℕ) (q : Part) → j ≢ k → (owner j ≡ other) × (parts j ≡ q) × (j < 16) → (owner' j ≡ other) × (parts j ≡ q) × (j < 16)
   knows_else other j q differ old = (value_else owner k (length views) j differ ∙ old.0, old.1, old.2)
 

@@ -3,7 +3,7 @@ use Rattle.std.proofs.Common.{◌≡◌, ℕ, ◌+◌, ◌++◌, Bool, true, fal
 use Rattle.std.specs.Prelude.{ℤ, nat_lt, not, ◌||◌, IfErr, IsErrAnd}
 use Rattle.atomic_table.specs.Seated.{TableId}
 use Rattle.rp_base.specs.Action.{is_right}
-use Rattle.rp_base.specs.Calls.{are_spent}
+use Rattle.rp_base.specs.Calls.{are_exhausted}
 use Rattle.rp_base.specs.Number.{IsTask}
 use Rattle.rp_base.specs.Sets.{Has}
 use Rattle.rp_base.specs.declared.action.Action.{Action}
@@ -26,14 +26,14 @@ use Rattle.rp_agreement.specs.Sound.{IsCall}
 use Rattle.rp_agreement.proofs.Lists.{some_same}
 use Rattle.rp_replica.specs.declared.sent.Sent.{Sent}
 use Rattle.rp_world.specs.Callers.{Caller}
-use Rattle.rp_world.specs.Going.{reply_told}
+use Rattle.rp_world.specs.Going.{reply_in}
 use Rattle.rp_boxes.specs.Parts.{Part, OfTask, part_in, part_after}
-use Rattle.rp_boxes.specs.Plays.{Sight, Turned, alone}
-use Rattle.rp_boxes.specs.Seats.{Chair, IsAtTable}
+use Rattle.rp_boxes.specs.Plays.{Sight, IsNoted, alone}
+use Rattle.rp_boxes.specs.Seats.{SeatState, IsAtTable}
 use Rattle.rp_boxes.specs.Steps.{IsEvent}
-use Rattle.rp_boxes.specs.TaskSeats.{IsTaskSeat, asked_of, TellsPackets, IsTaskTurn, IsNoTaskTurn, told_effect, IsReplyTurn}
+use Rattle.rp_boxes.specs.TaskSeats.{IsTaskSeat, asked_of, DescribesPackets, IsTaskTurn, IsNoTaskTurn, reply_effect, IsReplyTurn}
 
--- ---- what an input comes to
+-- ---- the result of an input
 
 -- what a task may call is this call
 abbrev IsMadeIf : Action → Result Action Fault → Type 0
@@ -47,7 +47,7 @@ made_if call false fault other holds = holds
 made : (config : Config) (node : ℕ) (part : TaskPart) (call : Action) (waiting : Option Action) → IsMadeIf call (may_call config node part call waiting)
 made config node part call (Some other) = tt
 made config node part call None =
-    made_if call (are_spent (length part.replies)) NumbersSpent _ (made_if call (nat_lt config.nodes node || not (is_right call)) BadConfig _ refl)
+    made_if call (are_exhausted (length part.replies)) NumbersSpent _ (made_if call (nat_lt config.nodes node || not (is_right call)) BadConfig _ refl)
 
 -- the part of a task that waits for this call
 abbrev pub waiting_for : TaskPart → Action → TaskPart
@@ -76,16 +76,16 @@ module _ (config : Config) (number : ℕ) (caller : Caller) (same : caller.task 
 
   module _ (call : Action) (is : may_call config node caller.part next caller.part.outstanding ≡ Ok call) where
     -- the task makes the call
-    pub call_comes : task_effect config number caller.part submit ≡ Ok (asking_done number node (waiting_for caller.part call) (Some call))
-    call_comes = may_effect (Ok call) is
+    pub call_results : task_effect config number caller.part submit ≡ Ok (asking_done number node (waiting_for caller.part call) (Some call))
+    call_results = may_effect (Ok call) is
 
     pub call_is_next : call ≡ next
     call_is_next = subst (IsMadeIf next) is (made config node caller.part next caller.part.outstanding)
 
 -- the task asks once more
-pub again_comes : (config : Config) (number node : ℕ) (part : TaskPart) → nat_lt config.nodes node ≡ false
+pub again_results : (config : Config) (number node : ℕ) (part : TaskPart) → nat_lt config.nodes node ≡ false
     → task_effect config number part (tasks.Again node) ≡ Ok (asking_done number node part part.outstanding)
-again_comes config number node part within =
+again_results config number node part within =
     ap (λ (b : Bool). let r : Result (Done TaskPart) Fault = if b then Err BadConfig else Ok (asks_again number node part part.outstanding) in r) within
     ∙ ap (λ (d : Done TaskPart). let r : Result (Done TaskPart) Fault = Ok d in r) (as_asked part.outstanding)
   where
@@ -97,33 +97,33 @@ pub again_above : (config : Config) (number node : ℕ) (part : TaskPart) → na
 again_above config number node part over =
     ap (λ (b : Bool). let r : Result (Done TaskPart) Fault = if b then Err BadConfig else Ok (asks_again number node part part.outstanding) in r) over
 
--- a packet comes to the task
-pub tells_effect : (number : ℕ) (part : TaskPart) (body : Body) → told_effect number part (reply_told body) ≡ task_hears number part body
-tells_effect number part (bodies.Call action) = refl
-tells_effect number part (bodies.Prepare position ballot) = refl
-tells_effect number part (bodies.Promise position ballot last) = refl
-tells_effect number part (bodies.Accept position ballot action) = refl
-tells_effect number part (bodies.Accepted position ballot action) = refl
-tells_effect number part (bodies.Decided position action) = refl
-tells_effect number part (bodies.Ask position) = refl
-tells_effect number part (bodies.Nack position ballot bound) = refl
-tells_effect number part (bodies.Reply n reply) = refl
-tells_effect number part (bodies.Report first applied actions) = refl
-tells_effect number part (bodies.PrepareRange range ballot) = refl
-tells_effect number part (bodies.PromiseRange range ballot votes) = refl
+-- a packet arrives at the task
+pub reply_effect_is : (number : ℕ) (part : TaskPart) (body : Body) → reply_effect number part (reply_in body) ≡ task_hears number part body
+reply_effect_is number part (bodies.Call action) = refl
+reply_effect_is number part (bodies.Prepare position ballot) = refl
+reply_effect_is number part (bodies.Promise position ballot last) = refl
+reply_effect_is number part (bodies.Accept position ballot action) = refl
+reply_effect_is number part (bodies.Accepted position ballot action) = refl
+reply_effect_is number part (bodies.Decided position action) = refl
+reply_effect_is number part (bodies.Ask position) = refl
+reply_effect_is number part (bodies.Nack position ballot bound) = refl
+reply_effect_is number part (bodies.Reply n reply) = refl
+reply_effect_is number part (bodies.Report first applied actions) = refl
+reply_effect_is number part (bodies.PrepareRange range ballot) = refl
+reply_effect_is number part (bodies.PromiseRange range ballot votes) = refl
 
-pub told_comes : (config : Config) (number : ℕ) (part : TaskPart) (m : Message) (told : Option (ℕ × Reply)) → told ≡ reply_told m.body
-    → task_effect config number part (tasks.Take m) ≡ Ok (told_effect number part told)
-told_comes config number part m told is =
-    ap (λ (d : Done TaskPart). let r : Result (Done TaskPart) Fault = Ok d in r) (sym (ap (told_effect number part) is ∙ tells_effect number part m.body))
+pub reply_results : (config : Config) (number : ℕ) (part : TaskPart) (m : Message) (stated : Option (ℕ × Reply)) → stated ≡ reply_in m.body
+    → task_effect config number part (tasks.Take m) ≡ Ok (reply_effect number part stated)
+reply_results config number part m stated is =
+    ap (λ (d : Done TaskPart). let r : Result (Done TaskPart) Fault = Ok d in r) (sym (ap (reply_effect number part) is ∙ reply_effect_is number part m.body))
 
 -- it asks nothing
-pub told_quiet : (number : ℕ) (part : TaskPart) (told : Option (ℕ × Reply)) → (told_effect number part told).sends ≡ []
-told_quiet number part None = refl
-told_quiet number part (Some told) =
-    let answer : Answer = record { task = number; number = told.0; reply = told.1 } in
+pub reply_quiet : (number : ℕ) (part : TaskPart) (stated : Option (ℕ × Reply)) → (reply_effect number part stated).sends ≡ []
+reply_quiet number part None = refl
+reply_quiet number part (Some stated) =
+    let answer : Answer = record { task = number; number = stated.0; reply = stated.1 } in
     let after : TaskPart = record { outstanding = None; replies = part.replies ++ answer ∷ [] } in
-    elim (takes part told.0) as (λ b. (if b then record (goes_on_as after) { taken = Some answer } else goes_on_as part).sends ≡ []) [ true ↦ refl | false ↦ refl ]
+    elim (takes part stated.0) as (λ b. (if b then record (goes_on_as after) { taken = Some answer } else goes_on_as part).sends ≡ []) [ true ↦ refl | false ↦ refl ]
 
 -- ---- the event
 
@@ -132,13 +132,13 @@ abbrev pub BecomesPart : Part → TaskPart → List Message → Part → Type 0
 BecomesPart before task sends after = after ≡ part_after before (OfTask task) sends
 
 module _ {S : Type 0} (s : Setting S) (number : ℕ) (before : Part) (caller : Caller) (range : IsTask number) (is : before.role ≡ OfTask caller.part) (input : TaskInput) (given : IsTaskInput before.got number input)
-    (done : Done TaskPart) (comes : task_effect s.config number caller.part input ≡ Ok done) where
+    (done : Done TaskPart) (results : task_effect s.config number caller.part input ≡ Ok done) where
   -- it may be counted
   pub task_event : (now : TaskPart) (sends : List Message) → now ≡ done.part → sends ≡ done.sends
       → (after : Part) × IsEvent s (7 + number) before after × BecomesPart before now sends after
   task_event now sends part packets = (
     part_after before (OfTask done.part) done.sends,
-    inr (number, refl, record { task = range; part = caller.part; was = is; input = input; given = given; done = done; comes = comes; is = refl }),
+    inr (number, refl, record { task = range; part = caller.part; was = is; input = input; given = given; done = done; results = results; is = refl }),
     λ i. part_after before (OfTask (sym part i)) (sym packets i),
   )
 
@@ -146,9 +146,9 @@ module _ {S : Type 0} (s : Setting S) (number : ℕ) (before : Part) (caller : C
 
 module _ {P : Type 0} (config mine : Config) (program : P) (number : ℕ) (table its its' : TableId) (me me' : Sight) (caller new : Caller)
     (at : IsAtTable table its (7 + number) me) (sits : IsTaskSeat number config mine caller (part_in me.0)) (same : its' ≡ its)
-    (sends : List Message) (t : Turned (BecomesPart (part_in me.0) new.part sends) (7 + number) me') where
-  abbrev chair : TableId → Part → Chair P
-  chair id part = record { table = id; config = config; program = program; number = number; failures = 0; part = part }
+    (sends : List Message) (t : IsNoted (BecomesPart (part_in me.0) new.part sends) (7 + number) me') where
+  abbrev seat_state : TableId → Part → SeatState P
+  seat_state id part = record { table = id; config = config; program = program; number = number; failures = 0; part = part }
 
   sees : part_in me'.0 ≡ part_after (part_in me.0) (OfTask new.part) sends
   sees = ap (λ (seen : Sight). part_in seen.0) t.is ∙ t.said
@@ -179,47 +179,47 @@ module _ {P : Type 0} (config mine : Config) (program : P) (number : ℕ) (table
   )
 
   module _ (done : Done TaskPart) (now : new.part ≡ done.part) (packets : sends ≡ done.sends) where
-    after_is : chair its' (part_in me'.0) ≡ chair its (part_after (part_in me.0) (OfTask done.part) done.sends)
-    after_is = (λ i. chair (same i) (sees i)) ∙ (λ i. chair its (part_after (part_in me.0) (OfTask (now i)) (packets i)))
+    after_is : seat_state its' (part_in me'.0) ≡ seat_state its (part_after (part_in me.0) (OfTask done.part) done.sends)
+    after_is = (λ i. seat_state (same i) (sees i)) ∙ (λ i. seat_state its (part_after (part_in me.0) (OfTask (now i)) (packets i)))
 
-    pub asked_chair : (input : TaskInput) (sent : Sent) → task_effect config number caller.part input ≡ Ok done → TellsPackets sent sends
-        → IsTaskTurn (chair its (part_in me.0)) input (chair its' (part_in me'.0)) sent
-    asked_chair input sent comes tells = record {
+    pub asked_state : (input : TaskInput) (sent : Sent) → task_effect config number caller.part input ≡ Ok done → DescribesPackets sent sends
+        → IsTaskTurn (seat_state its (part_in me.0)) input (seat_state its' (part_in me'.0)) sent
+    asked_state input sent results describes = record {
       task = caller.part;
       was = sits.place.is;
       done = done;
-      comes = comes;
+      results = results;
       after = after_is;
-      tells = subst (TellsPackets sent) packets tells;
+      describes = subst (DescribesPackets sent) packets describes;
     }
 
-    pub told_chair : (m : Message) (bytes : List ℕ) (taken : Option Answer) → Has m (part_in me.0).got → bytes ≡ text_of m → task_effect config number caller.part (tasks.Take m) ≡ Ok done → taken ≡ done.taken
-        → IsReplyTurn (chair its (part_in me.0)) bytes (chair its' (part_in me'.0)) taken
-    told_chair m bytes taken got text comes told = record {
+    pub replied_state : (m : Message) (bytes : List ℕ) (taken : Option Answer) → Has m (part_in me.0).got → bytes ≡ text_of m → task_effect config number caller.part (tasks.Take m) ≡ Ok done → taken ≡ done.taken
+        → IsReplyTurn (seat_state its (part_in me.0)) bytes (seat_state its' (part_in me'.0)) taken
+    replied_state m bytes taken got text results stated = record {
       packet = m;
       got = got;
       text = text;
       task = caller.part;
       was = sits.place.is;
       done = done;
-      comes = comes;
+      results = results;
       after = after_is;
-      told = told;
+      stated = stated;
     }
 
 -- ---- the seat where nothing happened
 
 -- what holds at the fault that an answer is
 pub at_fault : {A : Type 0} (Q : Fault → Type 0) (fault : Fault) (r : Result A Fault) → IsErrAnd r (λ e. e ≡ fault) → Q fault → IfErr r Q
-at_fault Q fault (Ok told) is q = tt
+at_fault Q fault (Ok stated) is q = tt
 at_fault Q fault (Err other) is q = subst Q (sym is) q
 
-module _ {P : Type 0} (chair : Chair P) (caller : Caller) (was : chair.part.role ≡ OfTask caller.part) (input : TaskInput) where
-  pub refused_chair : (fault : Fault) → task_effect chair.config chair.number caller.part input ≡ Err fault → IsNoTaskTurn chair input chair fault
-  refused_chair fault comes = record { unchanged = refl; task = caller.part; was = was; why = inr comes }
+module _ {P : Type 0} (seat_state : SeatState P) (caller : Caller) (was : seat_state.part.role ≡ OfTask caller.part) (input : TaskInput) where
+  pub refused_state : (fault : Fault) → task_effect seat_state.config seat_state.number caller.part input ≡ Err fault → IsNoTaskTurn seat_state input seat_state fault
+  refused_state fault results = record { unchanged = refl; task = caller.part; was = was; why = inr results }
 
-  pub wanting_chair : (fault : Fault) (done : Done TaskPart) → fault ≡ OutOfMemory → task_effect chair.config chair.number caller.part input ≡ Ok done → IsNoTaskTurn chair input chair fault
-  wanting_chair fault done memory comes = record { unchanged = refl; task = caller.part; was = was; why = inl (memory, done, comes) }
+  pub no_memory_state : (fault : Fault) (done : Done TaskPart) → fault ≡ OutOfMemory → task_effect seat_state.config seat_state.number caller.part input ≡ Ok done → IsNoTaskTurn seat_state input seat_state fault
+  no_memory_state fault done memory results = record { unchanged = refl; task = caller.part; was = was; why = inl (memory, done, results) }
 
 -- the seat where only a box was stepped on
 pub task_stays : (number : ℕ) (config mine : Config) (caller : Caller) (part part' : Part) → part'.role ≡ part.role

@@ -17,9 +17,9 @@ use Rattle.rp_model.specs.Parts.{TaskPart}
 use Rattle.rp_agreement.specs.Inputs.{IsInput, IsTaskInput, NodeMoves, TaskMoves}
 use Rattle.rp_boxes.specs.Parts.{Part, View, Role, OfNode, OfTask, actor_of, box_of, node_of, task_of, part_after}
 use Rattle.rp_boxes.specs.Rule.{Slot, IsGood, IsBox, Ruled, HasOwnPackets, node_among, task_among, all_sent}
-use Rattle.rp_boxes.specs.Steps.{ComesTo, IsNodeEvent, IsTaskEvent, IsEvent}
+use Rattle.rp_boxes.specs.Steps.{ResultsIn, IsNodeEvent, IsTaskEvent, IsEvent}
 use Rattle.rp_boxes.specs.Laws.{EventsKeep}
-use Rattle.rp_boxes.specs.Plays.{alone, Turned}
+use Rattle.rp_boxes.specs.Plays.{alone, IsNoted}
 use Rattle.rp_boxes.proofs.Worlds.{with_value, value_here, value_else, at_each, from_each, was_part, is_actor, seating_after, sent_by, is_sent}
 
 -- ---- what an actor got was sent
@@ -98,7 +98,7 @@ module _ {S : Type 0} (s : Setting S) (keep : EventsKeep s) (right : IsRightConf
       } in
       let kept = keep.nodes k event.input event.done (node_among parts) (node_among after) (task_among parts) (all_sent parts 16) (all_sent after 16) right event.member good
       (inputs_sent p.got (all_sent parts 16) got event.input event.given)
-      (subst (λ (q : NodePart). ComesTo s k q event.input event.done) (sym here) event.comes) moves in
+      (subst (λ (q : NodePart). ResultsIn s k q event.input event.done) (sym here) event.results) moves in
       record {
         role = OfNode event.done.part;
         sends = event.done.sends;
@@ -122,7 +122,7 @@ module _ {S : Type 0} (s : Setting S) (keep : EventsKeep s) (right : IsRightConf
       } in
       let kept = keep.tasks t event.input event.done (node_among parts) (task_among parts) (task_among after) (all_sent parts 16) (all_sent after 16) good
       (task_inputs_sent p.got (all_sent parts 16) got t event.input event.given)
-      (subst (λ (q : TaskPart). task_effect s.config t q event.input ≡ Ok event.done) (sym here) event.comes) moves in
+      (subst (λ (q : TaskPart). task_effect s.config t q event.input ≡ Ok event.done) (sym here) event.results) moves in
       record {
         role = OfTask event.done.part;
         sends = event.done.sends;
@@ -236,9 +236,9 @@ own_packets s t r k small = record {
   got = λ m h. let old = r.gets k small m h in (r.good.packets m old.1, old.0);
 }
 
--- an actor's word may count one event more, where the seat of that actor alone knows what the event comes to
+-- an actor's word may count one event more, where the seat of that actor alone knows the result of the event
 pub turn_allows : {S : Type 0} (s : Setting S) → EventsKeep s → (slots id k : ℕ) (p p' : Part) → IsEvent s k p p' → (says : Part → Type 0) → says p'
-    → Allows (Ruled s) slots id (alone k p) (256 + k) (λ n. (n + 1) % 2 ^ 64) (λ found me. Turned says k me)
+    → Allows (Ruled s) slots id (alone k p) (256 + k) (λ n. (n + 1) % 2 ^ 64) (λ found me. IsNoted says k me)
 unfolding turned
 turn_allows s keep slots id k p p' event says so = λ t r size here fits.
     let after = turned s keep t r id k p p' here event in

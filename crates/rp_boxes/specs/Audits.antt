@@ -1,4 +1,4 @@
--- What the audit knows of the nodes, by the reports that it got (this project's own).
+-- What the audit knows of the nodes, by the reports that it got.
 use Rattle.std.specs.Prelude.{◌≡◌, ℕ, ◌+◌, ◌-◌, ◌^◌, ◌<◌, ◌≤◌, nat_lt, Some, unwrap_or, List, [], ◌++◌, length, take}
 use Rattle.std.specs.Prelude.{slice_get, if◌then◌else◌}
 use Rattle.rp_base.specs.Sets.{Has}
@@ -9,13 +9,13 @@ use Rattle.rp_codec.specs.declared.packet.Body.TheVariants.{Report}
 use Rattle.rp_codec.specs.declared.packet.Party.TheVariants.{Node, Audit}
 use Rattle.rp_model.specs.World.{part_at, with_part}
 use Rattle.rp_boxes.specs.Parts.{Part}
-use Rattle.rp_boxes.specs.Seats.{Chair}
+use Rattle.rp_boxes.specs.Seats.{SeatState}
 use Rattle.rp_boxes.specs.declared.audit.Added.{Added}
 use Rattle.rp_boxes.specs.declared.audit.Added.TheVariants as added
 
 -- The audit's seat, and for each of the nodes 1 to 7 the actions that are known of it.
 pub record Audited (P : Type 0) : Type 0 where
-  pub seat : Chair P
+  pub seat : SeatState P
   pub known : List (List Action)
 
 -- what is known of a node
@@ -26,21 +26,21 @@ known_of known node = unwrap_or (part_at known node) []
 abbrev pub report : ℕ → ℕ → ℕ → List Action → Message
 report node first applied actions = record { from = Node node; to = Audit; body = Report first applied actions }
 
--- A report of the node, which the actor got, tells that the node has applied this action next after so many others.
-pub record IsTold (part : Part) (node before : ℕ) (action : Action) : Type 0 where
+-- A report of the node, which the actor got, says that the node has applied this action next after n others.
+pub record ReportSays (part : Part) (node before : ℕ) (action : Action) : Type 0 where
   pub first : ℕ
   pub applied : ℕ
   pub actions : List Action
   pub got : Has (report node first applied actions) part.got
   pub at : ℕ
   pub place : before ≡ first - 1 + at
-  pub tells : slice_get actions at ≡ Some action
+  pub describes : slice_get actions at ≡ Some action
 
--- Each known action is told by a report that the actor got.
-pub record AreTold (part : Part) (known : List (List Action)) : Type 0 where
+-- Each known action is in a report that the actor got.
+pub record AreAllReported (part : Part) (known : List (List Action)) : Type 0 where
   pub seven : length known ≡ 7
-  pub told : (node before : ℕ) (action : Action) → slice_get (known_of known node) before ≡ Some action
-      → IsTold part node before action
+  pub stated : (node before : ℕ) (action : Action) → slice_get (known_of known node) before ≡ Some action
+      → ReportSays part node before action
   pub few : (node : ℕ) → length (known_of known node) < 2 ^ 16
 
 -- ---- a report is added
@@ -60,7 +60,7 @@ IsGotReport part bytes =
     × Has (report node first applied actions) part.got
     × (bytes ≡ text_of (report node first applied actions))
 
--- What comes of actions that a node reports, from this position on. Where they leave a gap behind what is known of the
+-- The result of actions that a node reports, from this position on. Where they leave a gap after what is known of the
 -- node nothing changes; else that becomes the longer of itself and of what the report makes it.
 pub record IsJoined {P : Type 0} (old : Audited P) (node first : ℕ) (actions : List Action) (new : Audited P)
     (outcome : Added) : Type 0 where

@@ -3,24 +3,24 @@ use Rattle.std.specs.Prelude.{◌≡◌, ℕ, Some, Ok}
 use Rattle.rp_base.specs.declared.record.Rec.{Rec}
 use Rattle.rp_model.specs.Effect.{Setting, Done, NodeInput, node_effect, cut_effect}
 use Rattle.rp_model.specs.Parts.{NodePart}
-use Rattle.rp_replica.specs.Held.{Held}
+use Rattle.rp_replica.specs.State.{ReplicaState}
 use Rattle.rp_replica.specs.Inputs.{given_by}
 use Rattle.rp_replica.specs.declared.input.Input.{Input}
 use Rattle.rp_replica.specs.declared.sent.Sent.{Sent}
-use Rattle.rp_world.specs.Nodes.{member_of, StandsWhile, TellsSent}
+use Rattle.rp_world.specs.Nodes.{member_of, RepresentsWhile, DescribesSent}
 use Rattle.rp_boxes.specs.Parts.{Part, OfNode, part_after}
 
-module _ {S : Type 0} (s : Setting S) (number : ℕ) (before : Part) (input : Input) (held : Held S) where
-  -- what the input came to, as the replica now is and as it told
-  pub record HasTurned (sent : Sent) (after : Part) : Type 0 where
+module _ {S : Type 0} (s : Setting S) (number : ℕ) (before : Part) (input : Input) (replica : ReplicaState S) where
+  -- the result of the input, as the replica now is and as it reported
+  pub record HasStepped (sent : Sent) (after : Part) : Type 0 where
     pub given : NodeInput
     pub gives : given_by input ≡ Ok given
     pub node : NodePart
     pub was : before.role ≡ OfNode node
     pub done : Done NodePart
-    pub comes : node_effect s number node given ≡ Ok done
-    pub stands : StandsWhile (member_of number s.config s.begin) held done.part held.failed
-    pub tells : TellsSent sent done
+    pub results : node_effect s number node given ≡ Ok done
+    pub represents : RepresentsWhile (member_of number s.config s.begin) replica done.part replica.failed
+    pub describes : DescribesSent sent done
     pub is : after ≡ part_after before (OfNode done.part) done.sends
 
   -- the device failed while the step wrote its record
@@ -35,6 +35,6 @@ module _ {S : Type 0} (s : Setting S) (number : ℕ) (before : Part) (input : In
     pub writes : whole.written ≡ Some written
     pub kept : ℕ
     pub done : Done NodePart
-    pub comes : cut_effect s number node given kept ≡ Ok done
-    pub stands : StandsWhile (member_of number s.config s.begin) held done.part held.failed
+    pub results : cut_effect s number node given kept ≡ Ok done
+    pub represents : RepresentsWhile (member_of number s.config s.begin) replica done.part replica.failed
     pub is : after ≡ part_after before (OfNode done.part) done.sends

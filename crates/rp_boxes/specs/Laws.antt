@@ -11,7 +11,7 @@ use Rattle.rp_model.specs.Parts.{TaskPart}
 use Rattle.rp_agreement.specs.Inputs.{IsInput, IsTaskInput, NodeMoves, TaskMoves}
 use Rattle.rp_agreement.specs.Sound.{IsMember}
 use Rattle.rp_boxes.specs.Rule.{IsGood}
-use Rattle.rp_boxes.specs.Steps.{ComesTo}
+use Rattle.rp_boxes.specs.Steps.{ResultsIn}
 
 -- an event of a node keeps the invariant, and what the node sends is from it
 abbrev pub NodesKeep : {S : Type 0} → Setting S → Type 0
@@ -19,18 +19,18 @@ NodesKeep s =
     (x : ℕ) (input : NodeInput) (done : Done NodePart) (node after : ℕ → NodePart) (task : ℕ → TaskPart)
     (sent later : List Message)
     → IsRightConfig s.config → IsMember s.config.nodes x → IsGood s node task sent → IsInput sent input
-    → ComesTo s x (node x) input done
+    → ResultsIn s x (node x) input done
     → NodeMoves x done node sent after later
     → IsGood s after task later × ((m : Message) → Has m done.sends → m.from ≡ Node x)
 
 -- an event of a task keeps the invariant, and what the task sends is from it
 abbrev pub TasksKeep : {S : Type 0} → Setting S → Type 0
 TasksKeep s =
-    (t : ℕ) (input : TaskInput) (done : Done TaskPart) (node : ℕ → NodePart) (task told : ℕ → TaskPart)
+    (t : ℕ) (input : TaskInput) (done : Done TaskPart) (node : ℕ → NodePart) (task moved : ℕ → TaskPart)
     (sent later : List Message)
     → IsGood s node task sent → IsTaskInput sent t input → task_effect s.config t (task t) input ≡ Ok done
-    → TaskMoves t done task sent told later
-    → IsGood s node told later × ((m : Message) → Has m done.sends → m.from ≡ Task t)
+    → TaskMoves t done task sent moved later
+    → IsGood s node moved later × ((m : Message) → Has m done.sends → m.from ≡ Task t)
 
 -- both
 pub record EventsKeep {S : Type 0} (s : Setting S) : Type 0 where

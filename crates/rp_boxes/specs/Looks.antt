@@ -1,4 +1,4 @@
--- What a look at the table shows a seat (this project's own).
+-- What a look at the table shows a seat.
 use Rattle.std.specs.Prelude.{◌≡◌, ℕ, ◌<◌, List, [], ◌∷◌}
 use Rattle.rp_base.specs.Config.{IsRightConfig}
 use Rattle.rp_base.specs.Sets.{Has}
@@ -10,7 +10,7 @@ use Rattle.rp_codec.specs.declared.packet.Party.{Party}
 use Rattle.rp_model.specs.Effect.{Setting}
 use Rattle.rp_boxes.specs.Parts.{Part, View, actor_of}
 use Rattle.rp_boxes.specs.Rule.{IsGood, node_among, task_among, all_sent}
-use Rattle.rp_boxes.specs.Seats.{Chair, setting_at}
+use Rattle.rp_boxes.specs.Seats.{SeatState, setting_at}
 
 -- A world that keeps the rule, of which a view is a piece.
 pub record IsWorldOf {S : Type 0} (s : Setting S) (view : View) (parts : ℕ → Part) : Type 0 where
@@ -23,7 +23,7 @@ pub record IsWorldOf {S : Type 0} (s : Setting S) (view : View) (parts : ℕ →
 -- There is a world that keeps the rule, of which what the seat of one party knows is a piece, and in which the other
 -- party has sent the packet of this text.
 pub record WasSent {S P : Type 0} (next : S → Action → S) (answers : S → Action → List Answer) (begin : P → S)
-    (from to : Party) (bytes : List ℕ) (seat : Chair P) : Type 0 where
+    (from to : Party) (bytes : List ℕ) (seat : SeatState P) : Type 0 where
   pub parts : ℕ → Part
   pub world : IsWorldOf (setting_at next answers begin seat) ((actor_of to, seat.part) ∷ []) parts
   pub packet : Message

@@ -1,4 +1,4 @@
--- The making of the seats: actors get seats one after another, in the order of their numbers (this project's own).
+-- The making of the seats: actors get seats one after another, in the order of their numbers.
 use Rattle.std.specs.Prelude.{◌≡◌, ◌⊎◌, ℕ, suc, ◌+◌, ◌<◌, IfSome, List, [], ◌∷◌, length, map, slice_get, slice_index}
 use Rattle.atomic_table.specs.Seated.{TableId}
 use Rattle.rp_base.specs.declared.config.Config.{Config}
@@ -7,7 +7,7 @@ use Rattle.rp_base.specs.declared.fault.Fault.TheVariants.{OutOfMemory, Device}
 use Rattle.rp_store.specs.Disk.{Disk}
 use Rattle.rp_boxes.specs.Parts.{View, first_part, first_from}
 use Rattle.rp_boxes.specs.Plays.{Sight, IsSized, alone}
-use Rattle.rp_boxes.specs.Seats.{Chair}
+use Rattle.rp_boxes.specs.Seats.{SeatState}
 
 -- the first actor of a view alone, and the others
 abbrev pub first_in : View → View
@@ -25,13 +25,13 @@ pub record Unseated (P : Type 0) : Type 0 where
   pub program : P
   pub next : ℕ
 
--- once so many more actors have seats
+-- once n more actors have seats
 abbrev pub after_seats : {P : Type 0} → ℕ → Unseated P → Unseated P
 after_seats count unseated = record unseated { next = unseated.next + count }
 
--- the seat of an actor that did nothing, which has this number among the nodes or the tasks, and of whose device so
--- many calls have failed
-abbrev pub first_seat : {P : Type 0} → TableId → Config → P → ℕ → ℕ → ℕ → Chair P
+-- the seat of an actor that did nothing, which has this number among the nodes or the tasks, and of whose device n
+-- calls have failed
+abbrev pub first_seat : {P : Type 0} → TableId → Config → P → ℕ → ℕ → ℕ → SeatState P
 first_seat table config program number actor failures = record {
   table = table;
   config = config;
@@ -56,24 +56,24 @@ pub record IsFirstPlace (table mine : TableId) (actor : ℕ) (me : Sight) : Type
 
 -- These are the seats of the actors from this one on, which did nothing. Their numbers are those from 1 on, and the
 -- list says how many calls of the device of each have failed, 0 after its end.
-abbrev pub AreFirstSeats : {P : Type 0} → TableId → Config → P → ℕ → List ℕ → List (Chair P) → Type 0
+abbrev pub AreFirstSeats : {P : Type 0} → TableId → Config → P → ℕ → List ℕ → List (SeatState P) → Type 0
 AreFirstSeats table config program actor failures seats =
     (place : ℕ) → IfSome (slice_get seats place) (λ seat.
     seat ≡ first_seat table config program (suc place) (actor + place) (slice_index failures place))
 
 -- Each node of the configuration, each of the eight tasks and the audit has a seat at one table, and did nothing. Of
--- the devices of the nodes so many calls have failed.
+-- the devices of the nodes n calls have failed.
 pub record AreSeats {P : Type 0} (config : Config) (program : P) (failures : List ℕ)
-    (nodes tasks : List (Chair P)) (audit : Chair P) : Type 0 where
+    (nodes tasks : List (SeatState P)) (audit : SeatState P) : Type 0 where
   pub size : length nodes ≡ config.nodes
   pub nodes_are : AreFirstSeats audit.table config program 1 failures nodes
   pub eight : length tasks ≡ 8
   pub tasks_are : AreFirstSeats audit.table config program 8 [] tasks
   pub audit_is : audit ≡ first_seat audit.table config program 0 0 0
 
--- what else may be wanting: memory, or a device that works
-abbrev pub IsWanting : Fault → Type 0
-IsWanting fault = (fault ≡ OutOfMemory) ⊎ (fault ≡ Device)
+-- what else may be missing: memory, or a device that works
+abbrev pub IsResourceFault : Fault → Type 0
+IsResourceFault fault = (fault ≡ OutOfMemory) ⊎ (fault ≡ Device)
 
 -- how many calls of each device have failed
 abbrev pub failures_of : {D : Type 0} → (D → Disk) → List D → List ℕ

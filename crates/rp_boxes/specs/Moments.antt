@@ -1,4 +1,4 @@
--- What a step at a box shows its seat of the table at that moment (this project's own).
+-- What a step at a box shows its seat of the table at that moment.
 use Rattle.std.specs.Prelude.{◌≡◌, ◌≢◌, ℕ, Vec, Some, List, [], ◌∷◌, slice_index}
 use Rattle.std.specs.declared.alloc.Global.{Global}
 use mathlib.Core.Option.{some}
@@ -12,7 +12,7 @@ use Rattle.rp_codec.specs.declared.packet.Party.{Party}
 use Rattle.rp_model.specs.Effect.{Setting}
 use Rattle.rp_boxes.specs.Parts.{View, actor_of, box_of}
 use Rattle.rp_boxes.specs.Rule.{Slot, Ruled}
-use Rattle.rp_boxes.specs.Seats.{Chair, setting_at}
+use Rattle.rp_boxes.specs.Seats.{SeatState, setting_at}
 
 -- The table at a moment: it keeps the rule, and some seat knows this.
 pub record IsMoment {S : Type 0} (s : Setting S) (view : View) (table : State Slot View) : Type 0 where
@@ -37,21 +37,21 @@ pub record WasFull {S : Type 0} (s : Setting S) (view : View) (b : ℕ) (bytes :
 
 module _ {S P : Type 0} (next : S → Action → S) (answers : S → Action → List Answer) (begin : P → S) where
   -- The packet of this text was in the box from the seat's party to its receiver.
-  pub record WasPut (from : Party) (bytes : List ℕ) (seat : Chair P) : Type 0 where
+  pub record WasPut (from : Party) (bytes : List ℕ) (seat : SeatState P) : Type 0 where
     pub packet : Message
     pub text : bytes ≡ text_of packet
     pub box : WasFull (setting_at next answers begin seat) ((actor_of from, seat.part) ∷ [])
         (box_of (actor_of from) (actor_of packet.to)) bytes
 
   -- The box from the seat's party to the receiver of the packet of this text was not empty.
-  pub record WasInUse (from : Party) (bytes : List ℕ) (seat : Chair P) : Type 0 where
+  pub record WasInUse (from : Party) (bytes : List ℕ) (seat : SeatState P) : Type 0 where
     pub packet : Message
     pub text : bytes ≡ text_of packet
     pub box : WasWord (setting_at next answers begin seat) ((actor_of from, seat.part) ∷ [])
         (box_of (actor_of from) (actor_of packet.to)) (λ word. word ≢ 0)
 
   -- The box from a party to that of the seat was not full.
-  abbrev pub WasNotFull : Party → Party → Chair P → Type 0
+  abbrev pub WasNotFull : Party → Party → SeatState P → Type 0
   WasNotFull from to seat =
       WasWord (setting_at next answers begin seat) ((actor_of to, seat.part) ∷ [])
       (box_of (actor_of from) (actor_of to)) (λ word. word ≢ 2)

@@ -1,4 +1,4 @@
--- What a seat knows of an actor, and the numbers by which the table knows actors and boxes (this project's own).
+-- What a seat knows of an actor, and the numbers by which the table knows actors and boxes.
 --
 -- | Actor          | Its number | Its word |
 -- | the audit      | 0          | 256      |
@@ -68,7 +68,7 @@ first_role k = if nat_eq k 0 then OfAudit else if nat_lt k 8 then OfNode fresh_n
 abbrev pub first_part : ℕ → Part
 first_part k = fresh_part (first_role k)
 
--- the actors from a number on, so many, as they are at first
+-- n actors from a number on, as they are at first
 abbrev pub first_from : ℕ → ℕ → View
 first_from k zero = []
 first_from k (suc more) = (k, first_part k) ∷ first_from (suc k) more

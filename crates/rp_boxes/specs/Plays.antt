@@ -1,4 +1,4 @@
--- What one atomic step tells a seat that knows one actor (this project's own).
+-- What a seat that knows one actor learns from one atomic step.
 use Rattle.std.specs.Prelude.{◌≡◌, ◌≢◌, ℕ, ◌<◌, Vec, Some, [], ◌∷◌}
 use Rattle.std.specs.declared.alloc.Global.{Global}
 use Rattle.atomic_table.specs.Table.{Me, rest}
@@ -52,7 +52,7 @@ abbrev pub Cleared : Sight → Sight → Type 0
 Cleared old new = new ≡ (on_first emptied old.0, rest old.1)
 
 -- an event happened, of which this is said
-pub record Turned (says : Part → Type 0) (k : ℕ) (new : Sight) : Type 0 where
+pub record IsNoted (says : Part → Type 0) (k : ℕ) (new : Sight) : Type 0 where
   pub part : Part
   pub is : new ≡ alone k part
   pub own : HasOwnPackets k part

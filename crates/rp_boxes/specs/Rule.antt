@@ -1,5 +1,4 @@
--- The rule of the table: between any two atomic steps there is a world, of which each seat's view is a piece
--- (this project's own).
+-- The rule of the table: between any two atomic steps there is a world, of which each seat's view is a piece.
 use Rattle.std.specs.Prelude.{◌≡◌, ◌↔◌, ℕ, zero, suc, ◌+◌, ◌%◌, ◌^◌, ◌<◌, Vec, Option, Some, IfSome, List, [], ◌++◌}
 use Rattle.std.specs.Prelude.{length, map, slice_index}
 use Rattle.std.specs.declared.alloc.Global.{Global}
@@ -32,12 +31,12 @@ node_among parts x = node_of (parts x).role
 abbrev pub task_among : (ℕ → Part) → ℕ → TaskPart
 task_among parts t = task_of (parts (7 + t)).role
 
--- all that the first so many actors sent
+-- all that the first n actors sent
 abbrev pub all_sent : (ℕ → Part) → ℕ → List Message
 all_sent parts zero = []
 all_sent parts (suc k) = all_sent parts k ++ (parts k).sent
 
--- the invariant of a world: that of agreement with what tasks are told, and numbers within their ranges
+-- the invariant of a world: that of agreement with the replies to tasks, and numbers within their ranges
 pub record IsGood {S : Type 0} (s : Setting S) (node : ℕ → NodePart) (task : ℕ → TaskPart) (sent : List Message)
     : Type 0 where
   pub kept : IsKept s node task sent
@@ -67,8 +66,9 @@ pub record IsSeating (views : List View) (parts : ℕ → Part) (owner : ℕ →
   pub apart : (id : ℕ) (v : View) → get_elem? views id ≡ some v → IsSet (map (λ known. known.0) v)
   pub seated : (k : ℕ) → k < 16 → (v : View) × (get_elem? views (owner k) ≡ some v) × Has (k, parts k) v
 
--- The parts that the seats know, and all packets that these sent, are a world that meets the invariant. An actor's word
--- is the number of its events modulo 2^64; what an actor sent is from it, and what it got was sent, to it.
+-- The parts that the seats know, and all packets that these sent, are a world that satisfies the invariant. An
+-- actor's word is the number of its events modulo 2^64; what an actor sent is from it, and what it got was sent, to
+-- it.
 pub record Ruled {S : Type 0} (s : Setting S) (t : State Slot View) : Type 0 where
   pub parts : ℕ → Part
   pub owner : ℕ → ℕ

@@ -1,4 +1,4 @@
--- What a seat is to a contract, and what its calls come to (this project's own).
+-- What a seat is to a contract, and the results of its calls.
 use Rattle.std.specs.Prelude.{◌≡◌, ℕ, ◌<◌, ◌^◌, Option, Some, None, IfSome, IsSome, Result, Ok, Err, List, [], ◌∷◌}
 use Rattle.std.specs.Prelude.{length}
 use Rattle.atomic_table.specs.Seated.{TableId}
@@ -20,20 +20,20 @@ use Rattle.rp_model.specs.declared.effect.Dropped.TheVariants.{No}
 use Rattle.rp_model.specs.Parts.{NodePart, Running}
 use Rattle.rp_agreement.specs.Answered.{setting_for}
 use Rattle.rp_agreement.specs.Sound.{IsMember}
-use Rattle.rp_replica.specs.Held.{Held}
+use Rattle.rp_replica.specs.State.{ReplicaState}
 use Rattle.rp_replica.specs.Inputs.{given_by}
 use Rattle.rp_replica.specs.declared.input.Input.{Input}
 use Rattle.rp_replica.specs.declared.input.Input.TheVariants.{Receive, Lead, LeadRange, Interrupt, Tick, Report}
 use Rattle.rp_replica.specs.declared.sent.Sent.{Sent}
 use Rattle.rp_world.specs.Callers.{Caller}
-use Rattle.rp_world.specs.Nodes.{member_of, StandsWhile, TellsSent}
+use Rattle.rp_world.specs.Nodes.{member_of, RepresentsWhile, DescribesSent}
 use Rattle.rp_boxes.specs.Parts.{Part, OfNode, OfTask, part_in, part_after, with_got}
 use Rattle.rp_boxes.specs.Rule.{HasOwnPackets}
 use Rattle.rp_boxes.specs.Plays.{Sight, IsSized, alone}
 
 -- The table that a seat is at, what all nodes of that table share, the number of the seat's node or task (0 for the
 -- audit), how many calls of its device have failed (0 where it has none), and what the seat knows of its actor.
-pub record Chair (P : Type 0) : Type 0 where
+pub record SeatState (P : Type 0) : Type 0 where
   pub table : TableId
   pub config : Config
   pub program : P
@@ -42,8 +42,9 @@ pub record Chair (P : Type 0) : Type 0 where
   pub part : Part
 
 -- what the nodes at the table share
-abbrev pub setting_at : {S P : Type 0} → (S → Action → S) → (S → Action → List Answer) → (P → S) → Chair P → Setting S
-setting_at next answers begin chair = setting_for next answers begin chair.config chair.program
+abbrev pub setting_at : {S P : Type 0} → (S → Action → S) → (S → Action → List Answer) → (P → S) → SeatState P
+    → Setting S
+setting_at next answers begin seat_state = setting_for next answers begin seat_state.config seat_state.program
 
 -- The place of a seat that knows one actor and holds no box.
 pub record IsAtTable (table mine : TableId) (actor : ℕ) (me : Sight) : Type 0 where
@@ -56,12 +57,12 @@ pub record IsAtTable (table mine : TableId) (actor : ℕ) (me : Sight) : Type 0 
   pub own : HasOwnPackets actor (part_in me.0)
 
 -- The replica is the node that the seat knows; where its device failed, that node is stopped.
-pub record IsNodePlace {S : Type 0} (config : Config) (begin : S) (number : ℕ) (held : Held S) (part : Part)
+pub record IsNodePlace {S : Type 0} (config : Config) (begin : S) (number : ℕ) (replica : ReplicaState S) (part : Part)
     : Type 0 where
   pub member : IsMember config.nodes number
   pub node : NodePart
   pub is : part.role ≡ OfNode node
-  pub stands : StandsWhile (member_of number config begin) held node held.failed
+  pub represents : RepresentsWhile (member_of number config begin) replica node replica.failed
 
 -- The stub is the task that the seat knows.
 pub record IsTaskPlace (caller : Caller) (part : Part) : Type 0 where
@@ -97,19 +98,19 @@ IsReason (Some running) (Ok done) fault = fault ≡ OutOfMemory
 IsReason (Some running) (Err refusal) fault = fault ≡ refusal
 
 module _ {S P : Type 0} (next : S → Action → S) (answers : S → Action → List Answer) (begin : P → S) where
-  -- One event: what the input comes to at the node, and its packets.
-  pub record IsTurn (old : Chair P) (input : Input) (new : Chair P) (sent : Sent) : Type 0 where
+  -- One event: the result of the input at the node, and its packets.
+  pub record IsTurn (old : SeatState P) (input : Input) (new : SeatState P) (sent : Sent) : Type 0 where
     pub given : NodeInput
     pub gives : given_by input ≡ Ok given
     pub node : NodePart
     pub was : old.part.role ≡ OfNode node
     pub done : Done NodePart
-    pub comes : node_effect (setting_at next answers begin old) old.number node given ≡ Ok done
+    pub results : node_effect (setting_at next answers begin old) old.number node given ≡ Ok done
     pub after : new ≡ record old { part = part_after old.part (OfNode done.part) done.sends }
-    pub tells : TellsSent sent done
+    pub describes : DescribesSent sent done
 
   -- One event: the device failed while the step wrote its record, of which some bytes were kept, and the node stopped.
-  pub record IsCutTurn (old : Chair P) (input : Input) (new : Chair P) (fault : Fault) : Type 0 where
+  pub record IsCutTurn (old : SeatState P) (input : Input) (new : SeatState P) (fault : Fault) : Type 0 where
     pub device : fault ≡ Device
     pub failed : old.failures < new.failures
     pub given : NodeInput
@@ -122,14 +123,14 @@ module _ {S P : Type 0} (next : S → Action → S) (answers : S → Action → 
     pub writes : whole.written ≡ Some written
     pub kept : ℕ
     pub done : Done NodePart
-    pub comes : cut_effect (setting_at next answers begin old) old.number node given kept ≡ Ok done
+    pub results : cut_effect (setting_at next answers begin old) old.number node given kept ≡ Ok done
     pub after : new ≡ record old {
       part = part_after old.part (OfNode done.part) done.sends;
       failures = new.failures;
     }
 
   -- No event: the node is stopped, memory ran out, or the step is refused.
-  pub record IsNoTurn (old : Chair P) (input : Input) (new : Chair P) (fault : Fault) : Type 0 where
+  pub record IsNoTurn (old : SeatState P) (input : Input) (new : SeatState P) (fault : Fault) : Type 0 where
     pub unchanged : new ≡ old
     pub given : NodeInput
     pub gives : given_by input ≡ Ok given
@@ -144,7 +145,7 @@ abbrev pub IsSentText : Part → List ℕ → Type 0
 IsSentText part bytes = (m : Message) × Has m part.sent × (bytes ≡ text_of m)
 
 -- A packet from one party to another was taken out of their box: these bytes are its text, and it is got.
-pub record IsFetched {P : Type 0} (from to : Party) (bytes : List ℕ) (old new : Chair P) : Type 0 where
+pub record IsFetched {P : Type 0} (from to : Party) (bytes : List ℕ) (old new : SeatState P) : Type 0 where
   pub packet : Message
   pub right : IsPacket packet
   pub text : bytes ≡ text_of packet
@@ -154,7 +155,7 @@ pub record IsFetched {P : Type 0} (from to : Party) (bytes : List ℕ) (old new 
 
 -- A report of the actions that the node has applied, from a position on: it is the one packet of the step, and nothing
 -- else changes.
-pub record IsReport {P : Type 0} (first : ℕ) (old new : Chair P) (sent : Sent) : Type 0 where
+pub record IsReport {P : Type 0} (first : ℕ) (old new : SeatState P) (sent : Sent) : Type 0 where
   pub node : NodePart
   pub was : old.part.role ≡ OfNode node
   pub text : sent.bytes.items ≡ text_of (report_of old.number first (applied_of node.records))
@@ -165,7 +166,7 @@ pub record IsReport {P : Type 0} (first : ℕ) (old new : Chair P) (sent : Sent)
         (report_of old.number first (applied_of node.records) ∷ []);
   }
 
--- so many actions are applied, if the node runs
+-- n actions are applied, if the node runs
 abbrev pub HasApplied : Part → ℕ → Type 0
 HasApplied part count =
     (node : NodePart) × (part.role ≡ OfNode node) × IsSome node.running × (count ≡ length (applied_of node.records))

@@ -1,4 +1,4 @@
--- What a step of a seat comes to (this project's own).
+-- The result of a step of a seat.
 use Rattle.std.specs.Prelude.{◌≡◌, ◌⊎◌, ℕ, ◌+◌, Ok}
 use Rattle.rp_base.specs.Number.{IsTask}
 use Rattle.rp_model.specs.Effect.{Setting, Done, NodeInput, node_effect, cut_effect}
@@ -9,12 +9,12 @@ use Rattle.rp_agreement.specs.Inputs.{IsInput, IsTaskInput}
 use Rattle.rp_agreement.specs.Sound.{IsMember}
 use Rattle.rp_boxes.specs.Parts.{Part, OfNode, OfTask, part_after}
 
--- an input comes to this at the node, or the node stops within that step
-abbrev pub ComesTo : {S : Type 0} → Setting S → ℕ → NodePart → NodeInput → Done NodePart → Type 0
-ComesTo s x part input done =
+-- an input results in this at the node, or the node stops within that step
+abbrev pub ResultsIn : {S : Type 0} → Setting S → ℕ → NodePart → NodeInput → Done NodePart → Type 0
+ResultsIn s x part input done =
     (node_effect s x part input ≡ Ok done) ⊎ ((kept : ℕ) × (cut_effect s x part input kept ≡ Ok done))
 
--- One event of node x: an input that it may be given, by the packets that it got, and what comes of it.
+-- One event of node x: an input that it may be given, by the packets that it got, and the result.
 pub record IsNodeEvent {S : Type 0} (s : Setting S) (x : ℕ) (before after : Part) : Type 0 where
   pub member : IsMember s.config.nodes x
   pub part : NodePart
@@ -22,7 +22,7 @@ pub record IsNodeEvent {S : Type 0} (s : Setting S) (x : ℕ) (before after : Pa
   pub input : NodeInput
   pub given : IsInput before.got input
   pub done : Done NodePart
-  pub comes : ComesTo s x part input done
+  pub results : ResultsIn s x part input done
   pub is : after ≡ part_after before (OfNode done.part) done.sends
 
 -- one event of task t
@@ -33,7 +33,7 @@ pub record IsTaskEvent {S : Type 0} (s : Setting S) (t : ℕ) (before after : Pa
   pub input : TaskInput
   pub given : IsTaskInput before.got t input
   pub done : Done TaskPart
-  pub comes : task_effect s.config t part input ≡ Ok done
+  pub results : task_effect s.config t part input ≡ Ok done
   pub is : after ≡ part_after before (OfTask done.part) done.sends
 
 -- one event of actor k

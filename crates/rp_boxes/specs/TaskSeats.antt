@@ -1,4 +1,4 @@
--- What the calls of a task's seat come to (this project's own).
+-- The results of the calls of a task's seat.
 use Rattle.std.specs.Prelude.{◌≡◌, ◌⊎◌, ℕ, suc, Option, Some, None, Ok, Err, List, [], ◌∷◌, length, slice_get}
 use Rattle.rp_base.specs.Sets.{Has}
 use Rattle.rp_base.specs.declared.action.Action.{Action}
@@ -21,7 +21,7 @@ use Rattle.rp_replica.specs.Packets.{texts_of}
 use Rattle.rp_replica.specs.declared.sent.Sent.{Sent}
 use Rattle.rp_world.specs.Callers.{Caller}
 use Rattle.rp_boxes.specs.Parts.{Part, OfTask, task_of, part_after}
-use Rattle.rp_boxes.specs.Seats.{Chair, IsTaskPlace}
+use Rattle.rp_boxes.specs.Seats.{SeatState, IsTaskPlace}
 
 -- The seat of the task of this number: it knows what all nodes share, and waits for a right call of its own.
 pub record IsTaskSeat (number : ℕ) (config mine : Config) (caller : Caller) (part : Part) : Type 0 where
@@ -38,22 +38,22 @@ asked_of task node None = []
 asked_of task node (Some call) = asks task node call ∷ []
 
 -- these packets were sent, and the bytes are their texts
-pub record TellsPackets (sent : Sent) (packets : List Message) : Type 0 where
+pub record DescribesPackets (sent : Sent) (packets : List Message) : Type 0 where
   pub bytes : sent.bytes.items ≡ texts_of packets
   pub count : sent.packets ≡ length packets
   pub dropped : sent.dropped ≡ No
 
-module _ {P : Type 0} (old : Chair P) (input : TaskInput) (new : Chair P) where
-  -- One event: what the input comes to at the task, and its packets.
+module _ {P : Type 0} (old : SeatState P) (input : TaskInput) (new : SeatState P) where
+  -- One event: the result of the input at the task, and its packets.
   pub record IsTaskTurn (sent : Sent) : Type 0 where
     pub task : TaskPart
     pub was : old.part.role ≡ OfTask task
     pub done : Done TaskPart
-    pub comes : task_effect old.config old.number task input ≡ Ok done
+    pub results : task_effect old.config old.number task input ≡ Ok done
     pub after : new ≡ record old { part = part_after old.part (OfTask done.part) done.sends }
-    pub tells : TellsPackets sent done.sends
+    pub describes : DescribesPackets sent done.sends
 
-  -- No event: memory was wanting for what the input comes to, or the input is refused.
+  -- No event: memory ran out for the result of the input, or the input is refused.
   pub record IsNoTaskTurn (fault : Fault) : Type 0 where
     pub unchanged : new ≡ old
     pub task : TaskPart
@@ -64,13 +64,13 @@ module _ {P : Type 0} (old : Chair P) (input : TaskInput) (new : Chair P) where
 
 -- ---- replies
 
--- what a task makes of what it is told: the number of a call and the reply to it, or nothing
-abbrev pub told_effect : ℕ → TaskPart → Option (ℕ × Reply) → Done TaskPart
-told_effect task part None = goes_on_as part
-told_effect task part (Some told) = takes_reply task part told.0 told.1
+-- what a task makes of a reply: the number of a call and the reply to it, or nothing
+abbrev pub reply_effect : ℕ → TaskPart → Option (ℕ × Reply) → Done TaskPart
+reply_effect task part None = goes_on_as part
+reply_effect task part (Some stated) = takes_reply task part stated.0 stated.1
 
--- One event: the packet of this text, which the seat got, comes to the task, and this answer is taken.
-pub record IsReplyTurn {P : Type 0} (old : Chair P) (bytes : List ℕ) (new : Chair P) (taken : Option Answer)
+-- One event: the packet of this text, which the seat got, arrives at the task, and this answer is taken.
+pub record IsReplyTurn {P : Type 0} (old : SeatState P) (bytes : List ℕ) (new : SeatState P) (taken : Option Answer)
     : Type 0 where
   pub packet : Message
   pub got : Has packet old.part.got
@@ -78,13 +78,14 @@ pub record IsReplyTurn {P : Type 0} (old : Chair P) (bytes : List ℕ) (new : Ch
   pub task : TaskPart
   pub was : old.part.role ≡ OfTask task
   pub done : Done TaskPart
-  pub comes : task_effect old.config old.number task (Take packet) ≡ Ok done
+  pub results : task_effect old.config old.number task (Take packet) ≡ Ok done
   pub after : new ≡ record old { part = part_after old.part (OfTask done.part) done.sends }
-  pub told : taken ≡ done.taken
+  pub stated : taken ≡ done.taken
 
 -- There is an order of actions in which each reply of the task answers its call, which takes effect at one place; and
 -- its calls that count there are those that it made, in order: all of them, or all but the one that it waits for.
-pub record IsTold {S : Type 0} (next : S → Action → S) (answers : S → Action → List Answer) (begin : S) (number : ℕ)
+pub record HasOneOrder {S : Type 0} (next : S → Action → S) (answers : S → Action → List Answer) (begin : S)
+    (number : ℕ)
     (part : Part) : Type 0 where
   pub order : List Action
   pub replies : (k : ℕ) (answer : Answer) → slice_get (task_of part.role).replies k ≡ Some answer

@@ -1,4 +1,4 @@
--- What the last look at the table, of all its seats as one, says (this project's own).
+-- What the last look at the table, of all its seats as one, says.
 use Rattle.std.specs.Prelude.{◌≡◌, ℕ, suc, ◌+◌, ◌-◌, Some, All, List, slice_get}
 use Rattle.rp_base.specs.Records.{applied_of}
 use Rattle.rp_base.specs.Sets.{Has}
@@ -10,28 +10,28 @@ use Rattle.rp_agreement.specs.Answered.{named, AreItsCalls}
 use Rattle.rp_agreement.specs.Order.{Begins}
 use Rattle.rp_boxes.specs.Audits.{Audited, known_of, report}
 use Rattle.rp_boxes.specs.Parts.{Part, node_of, task_of}
-use Rattle.rp_boxes.specs.Seats.{Chair}
+use Rattle.rp_boxes.specs.Seats.{SeatState}
 
 -- what the place of a node's seat knows, and of a task's
-abbrev pub of_node : {P : Type 0} → Chair P → ℕ × Part
+abbrev pub of_node : {P : Type 0} → SeatState P → ℕ × Part
 of_node seat = (seat.number, seat.part)
 
-abbrev pub of_task : {P : Type 0} → Chair P → ℕ × Part
+abbrev pub of_task : {P : Type 0} → SeatState P → ℕ × Part
 of_task seat = (7 + seat.number, seat.part)
 
--- The node of this seat has reported, in a packet that it sent, that it applied this action next after so many others.
-pub record HasReported {P : Type 0} (seat : Chair P) (before : ℕ) (action : Action) : Type 0 where
+-- The node of this seat has reported, in a packet that it sent, that it applied this action next after n others.
+pub record HasReported {P : Type 0} (seat : SeatState P) (before : ℕ) (action : Action) : Type 0 where
   pub first : ℕ
   pub applied : ℕ
   pub actions : List Action
   pub sent : Has (report seat.number first applied actions) seat.part.sent
   pub at : ℕ
   pub place : before ≡ first - 1 + at
-  pub tells : slice_get actions at ≡ Some action
+  pub describes : slice_get actions at ≡ Some action
 
 -- What the node of this seat has applied begins the order, and each action that the audit knows of it is one that it
 -- reported.
-pub record IsNodeOf {P : Type 0} (order : List Action) (known : List (List Action)) (seat : Chair P) : Type 0 where
+pub record IsNodeOf {P : Type 0} (order : List Action) (known : List (List Action)) (seat : SeatState P) : Type 0 where
   pub applied : Begins (applied_of (node_of seat.part.role).records) order
   pub reported : (before : ℕ) (action : Action) → slice_get (known_of known seat.number) before ≡ Some action
       → HasReported seat before action
@@ -40,7 +40,7 @@ pub record IsNodeOf {P : Type 0} (order : List Action) (known : List (List Actio
 -- task's calls that count in the order are those that it made, in order: all of them, or all but the one that it
 -- waits for.
 pub record IsTaskOf {S P : Type 0} (next : S → Action → S) (answers : S → Action → List Answer) (begin : S)
-    (order : List Action) (seat : Chair P) : Type 0 where
+    (order : List Action) (seat : SeatState P) : Type 0 where
   pub replies : (k : ℕ) (answer : Answer) → slice_get (task_of seat.part.role).replies k ≡ Some answer
       → HasReply next answers begin order (named seat.number (suc k)) answer
   pub calls : AreItsCalls seat.part.sent seat.number (task_of seat.part.role) (kept_of next answers begin order)
@@ -48,7 +48,7 @@ pub record IsTaskOf {S P : Type 0} (next : S → Action → S) (answers : S → 
 -- One list of actions for all: what the audit knows of each node begins it, and so does what each node has applied, and
 -- it answers the calls of all tasks.
 pub record AreTogether {S P : Type 0} (next : S → Action → S) (answers : S → Action → List Answer) (begin : P → S)
-    (audit : Audited P) (nodes tasks : List (Chair P)) : Type 0 where
+    (audit : Audited P) (nodes tasks : List (SeatState P)) : Type 0 where
   pub order : List Action
   pub known : (node : ℕ) → Begins (known_of audit.known node) order
   pub nodes_are : All (IsNodeOf order audit.known) nodes

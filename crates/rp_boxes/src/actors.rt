@@ -8,7 +8,7 @@ ghost use Rattle.rp_boxes.specs.Parts.{actor_of};
 
 use rp_codec::Party;
 
-/// Where the number of a packet's receiver stands in its text.
+/// Where the number of a packet's receiver is in its text.
 const RECEIVER: usize = 3;
 
 /// The actor that a party is.

@@ -5,7 +5,7 @@ ghost use Rattle.rp_base.specs.Sets.{Has};
 ghost use Rattle.rp_base.specs.declared.fault.Fault.TheVariants as faults;
 ghost use Rattle.rp_codec.specs.Message.{IsPacket};
 ghost use Rattle.rp_codec.specs.declared.packet.Party.TheVariants as parties;
-ghost use Rattle.rp_boxes.specs.Audits.{AreTold, IsAdded, IsGotReport, IsJoined, known_of, report, with_reported};
+ghost use Rattle.rp_boxes.specs.Audits.{AreAllReported, IsAdded, IsGotReport, IsJoined, known_of, report, with_reported};
 ghost use Rattle.rp_boxes.specs.Looks.{WasSent};
 ghost use Rattle.rp_boxes.specs.Moments.{WasNotFull};
 ghost use Rattle.rp_boxes.specs.Meeting.{AreOfOneOrder, IsMet};
@@ -14,7 +14,8 @@ ghost use Rattle.rp_boxes.specs.Seats.{IsFetched};
 use crate::audit_seat::AuditSeat;
 use crate::task_seat::TaskSeat;
 use rp_agreement::{
-    calls_count_in_turn, replies_answer_calls_that_count, reports_tell_the_order, the_order_exists,
+    calls_count_in_order, replies_answer_calls_that_count, reports_follow_the_order,
+    the_order_exists,
 };
 use rp_base::{Action, Fault, NodeId, Position};
 use rp_codec::{Body, Party, decode};
@@ -22,7 +23,7 @@ use rp_machine::Machine;
 use std::alloc::{AllocError, Global};
 use std::marker::Model;
 
-/// What a report came to: it was added to what is known of its node, or it left a gap behind that.
+/// The outcome of a report: it was added to what is known of its node, or it left a gap after that.
 /// `known` is how many actions are known of the node then.
 #[derive(Clone, Copy, Debug, PartialEq, Eq)]
 pub enum Added {
@@ -39,15 +40,15 @@ pub struct Audit<M: Machine> {
 
 impl<M: Machine> Model for Audit<M> {
     ghost use Rattle.std.specs.Prelude.{map};
-    ghost use Rattle.rp_boxes.specs.Audits.{Audited, AreTold};
-    ghost use Rattle.rp_boxes.specs.Meeting.{TellOneOrder};
+    ghost use Rattle.rp_boxes.specs.Audits.{Audited, AreAllReported};
+    ghost use Rattle.rp_boxes.specs.Meeting.{ReportOneOrder};
 
     ghost Value = { Audited M.Program };
 
     ghost view = { λ a. record { seat = a.seat; known = map (λ list. list.items) a.known } };
 
-    ghost invariant = { λ a. AreTold a.seat.part (map (λ list. list.items) a.known)
-        × TellOneOrder a.seat.part };
+    ghost invariant = { λ a. AreAllReported a.seat.part (map (λ list. list.items) a.known)
+        × ReportOneOrder a.seat.part };
 }
 
 /// Puts these actions in place of those from a position on, where that makes the list longer.
@@ -73,7 +74,7 @@ impl<M: Machine> Audit<M> {
         ensures { result ≡ record { seat = seat; known = replicate 7 [] } }
     {
         the_order_exists();
-        reports_tell_the_order();
+        reports_follow_the_order();
         let mut seat = seat;
         seat.look();
         Audit {
@@ -106,7 +107,7 @@ impl<M: Machine> Audit<M> {
         ensures known { self.new.known ≡ self.old.known }
     {
         the_order_exists();
-        reports_tell_the_order();
+        reports_follow_the_order();
         self.seat.fetch(from)
     }
 
@@ -166,11 +167,11 @@ impl<M: Machine> Audit<M> {
         })
     }
 
-    /// The actions that are known of a node, in order. Each was told by a report that the audit got,
-    /// and what is known of any two nodes begins one list of actions.
+    /// The actions that are known of a node, in order. Each was in a report that the audit got, and
+    /// what is known of any two nodes begins one list of actions.
     pub fn known(&self, node: NodeId) -> &[Action]
         ensures value { result.now ≡ known_of self.now.known node }
-        ensures told { AreTold self.now.seat.part self.now.known }
+        ensures stated { AreAllReported self.now.seat.part self.now.known }
         ensures one { AreOfOneOrder self.now.known }
     {
         self.known[usize::from(node.get()) - 1].as_slice()
@@ -183,7 +184,7 @@ impl<M: Machine> Audit<M> {
         ensures one { AreOfOneOrder self.new.known }
     {
         the_order_exists();
-        reports_tell_the_order();
+        reports_follow_the_order();
         self.seat.look();
     }
 
@@ -196,9 +197,9 @@ impl<M: Machine> Audit<M> {
         ensures met { IsMet M.next M.answers M.begin result.0.known result.1 }
     {
         the_order_exists();
-        reports_tell_the_order();
+        reports_follow_the_order();
         replies_answer_calls_that_count::<M>();
-        calls_count_in_turn::<M>();
+        calls_count_in_order::<M>();
         let Audit { seat, known } = self;
         let (seat, task) = seat.meet(task);
         (Audit { seat, known }, task)

@@ -30,9 +30,9 @@ impl<M: Machine> Model for AuditSeat<M> {
     ghost use Rattle.std.specs.Prelude.{◌≡◌};
     ghost use Rattle.std.specs.Arc.{arc_value};
     ghost use Rattle.rp_boxes.specs.Parts.{OfAudit, part_in};
-    ghost use Rattle.rp_boxes.specs.Seats.{Chair, IsAtTable};
+    ghost use Rattle.rp_boxes.specs.Seats.{SeatState, IsAtTable};
 
-    ghost Value = { Chair M.Program };
+    ghost Value = { SeatState M.Program };
 
     ghost view = { λ s. record {
       table = s.place.table_id;
@@ -43,7 +43,8 @@ impl<M: Machine> Model for AuditSeat<M> {
       part = part_in s.place.me.0;
     } };
 
-    ghost invariant = { λ s. IsAtTable (arc_value s.board).shared.table_id s.place.table_id 0 s.place.me
+    ghost invariant = { λ s. IsAtTable
+        (arc_value s.board).shared.table_id s.place.table_id 0 s.place.me
         × ((part_in s.place.me.0).role ≡ OfAudit) };
 }
 

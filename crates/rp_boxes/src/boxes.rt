@@ -15,7 +15,7 @@ ghost use Rattle.rp_boxes.specs.Plays.{IsSized, alone, holding};
 ghost use Rattle.rp_boxes.specs.Rule.{IsCarried, IsVacant, Slot};
 
 use crate::board::{Known, Place, Slots};
-use crate::events::Saying;
+use crate::events::Fact;
 use crate::looking::look;
 use crate::spares::spare;
 use atomic_table::Play;
@@ -36,7 +36,7 @@ struct Claim<J> {
     of: PhantomData<J>,
 }
 
-impl<J: Saying> Play<Option<Vec<u8>>, Known> for Claim<J> {
+impl<J: Fact> Play<Option<Vec<u8>>, Known> for Claim<J> {
     ghost use Rattle.std.specs.Prelude.{◌≢◌};
     ghost use Rattle.rp_boxes.specs.Parts.{part_in};
     ghost use Rattle.rp_boxes.specs.Plays.{Claimed};
@@ -50,7 +50,7 @@ struct Publish<J> {
     of: PhantomData<J>,
 }
 
-impl<J: Saying> Play<Option<Vec<u8>>, Known> for Publish<J> {
+impl<J: Fact> Play<Option<Vec<u8>>, Known> for Publish<J> {
     ghost use Rattle.rp_boxes.specs.Parts.{part_in};
     ghost use Rattle.rp_boxes.specs.Plays.{Published};
 
@@ -62,7 +62,7 @@ struct Take<J> {
     of: PhantomData<J>,
 }
 
-impl<J: Saying> Play<Option<Vec<u8>>, Known> for Take<J> {
+impl<J: Fact> Play<Option<Vec<u8>>, Known> for Take<J> {
     ghost use Rattle.std.specs.Prelude.{◌≢◌};
     ghost use Rattle.rp_boxes.specs.Parts.{part_in};
     ghost use Rattle.rp_boxes.specs.Plays.{Took};
@@ -81,7 +81,7 @@ impl Play<Option<Vec<u8>>, Known> for Clear {
 }
 
 /// Claims the box to another actor, if it is empty. Of one that is not, what its caller picks is so.
-fn claim_empty<M: Machine, J: Saying>(
+fn claim_empty<M: Machine, J: Fact>(
     slots: &Slots<M>,
     place: &mut Place,
     from: usize,
@@ -93,7 +93,8 @@ fn claim_empty<M: Machine, J: Saying>(
     requires to { to < 16 }
     requires place { place.old.me ≡ alone from (part_in place.old.me.0) }
     requires free { (part_in place.old.me.0).fills ≡ [] }
-    requires follows { (table : State Slot View) → IsMoment (setting_for M.next M.answers M.begin slots.now.key.config
+    requires follows { (table : State Slot View)
+        → IsMoment (setting_for M.next M.answers M.begin slots.now.key.config
         slots.now.key.program.value) place.old.me.0 table
         → slice_index table.words (box_of from to) ≢ 0 → J.says (part_in place.old.me.0) }
     ensures table { place.new.table_id ≡ place.old.table_id }
@@ -107,7 +108,7 @@ fn claim_empty<M: Machine, J: Saying>(
 
 /// Puts a packet that the actor sent into the box that it claimed, and lets go of it. The buffer that
 /// was in the box, if there was one. What its caller picks is so of the full box.
-fn deliver<M: Machine, J: Saying>(
+fn deliver<M: Machine, J: Fact>(
     slots: &Slots<M>,
     place: &mut Place,
     from: usize,
@@ -123,7 +124,8 @@ fn deliver<M: Machine, J: Saying>(
     requires fills { (part_in place.old.me.0).fills ≡ box_of from to ∷ [] }
     requires packet { (m : Message) × Has m (part_in place.old.me.0).sent
         × IsCarried from to packet.items m }
-    requires follows { (table : State Slot View) → IsMoment (setting_for M.next M.answers M.begin slots.now.key.config
+    requires follows { (table : State Slot View)
+        → IsMoment (setting_for M.next M.answers M.begin slots.now.key.config
         slots.now.key.program.value)
         ((from, filled (part_in place.old.me.0)) ∷ []) table
         → slice_index table.words (box_of from to) ≡ 2
@@ -163,7 +165,8 @@ pub(crate) fn fill<M: Machine>(
         slots.now.key.program.value) place.new.me.0 (box_of from to) packet.items) }
     ensures vacant { IfOk result IsVacant }
     ensures back { IfErr result (λ back. back ≡ packet) }
-    ensures used { IfErr result (λ back. WasWord (setting_for M.next M.answers M.begin slots.now.key.config
+    ensures used { IfErr result
+        (λ back. WasWord (setting_for M.next M.answers M.begin slots.now.key.config
         slots.now.key.program.value) place.new.me.0 (box_of from to)
         (λ word. word ≢ 0)) }
 {
@@ -174,7 +177,7 @@ pub(crate) fn fill<M: Machine>(
 }
 
 /// Claims the box from another actor, if it is full. Of one that is not, what its caller picks is so.
-fn claim_full<M: Machine, J: Saying>(
+fn claim_full<M: Machine, J: Fact>(
     slots: &Slots<M>,
     place: &mut Place,
     from: usize,
@@ -186,7 +189,8 @@ fn claim_full<M: Machine, J: Saying>(
     requires to { to < 16 }
     requires place { place.old.me ≡ alone to (part_in place.old.me.0) }
     requires free { (part_in place.old.me.0).takes ≡ [] }
-    requires follows { (table : State Slot View) → IsMoment (setting_for M.next M.answers M.begin slots.now.key.config
+    requires follows { (table : State Slot View)
+        → IsMoment (setting_for M.next M.answers M.begin slots.now.key.config
         slots.now.key.program.value) place.old.me.0 table
         → slice_index table.words (box_of from to) ≢ 2 → J.says (part_in place.old.me.0) }
     ensures table { place.new.table_id ≡ place.old.table_id }
@@ -217,7 +221,8 @@ pub(crate) fn empty<M: Machine>(
     requires free { (part_in place.old.me.0).takes ≡ [] }
     ensures table { place.new.table_id ≡ place.old.table_id }
     ensures none { IfNone result (place.new.me ≡ place.old.me) }
-    ensures missed { IfNone result (WasWord (setting_for M.next M.answers M.begin slots.now.key.config
+    ensures missed { IfNone result
+        (WasWord (setting_for M.next M.answers M.begin slots.now.key.config
         slots.now.key.program.value) place.new.me.0 (box_of from to)
         (λ word. word ≢ 2)) }
     ensures some { IfSome result (λ text. (m : Message) × IsCarried from to text.items m

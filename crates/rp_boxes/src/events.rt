@@ -3,7 +3,7 @@
 ghost use Rattle.std.specs.Prelude.{◌≡◌, ◌<◌};
 ghost use Rattle.rp_agreement.specs.Answered.{setting_for};
 ghost use Rattle.rp_boxes.specs.Parts.{Part, part_in};
-ghost use Rattle.rp_boxes.specs.Plays.{IsSized, Turned, alone};
+ghost use Rattle.rp_boxes.specs.Plays.{IsSized, IsNoted, alone};
 ghost use Rattle.rp_boxes.specs.Steps.{IsEvent};
 
 use crate::board::{Known, Place, Slots};
@@ -13,13 +13,13 @@ use rp_machine::Machine;
 use std::marker::{Brand, PhantomData};
 
 /// What is said of an actor's part once its event happened. Each call picks it.
-pub(crate) trait Saying {
+pub(crate) trait Fact {
     ghost use Rattle.rp_boxes.specs.Parts.{Part};
 
     ghost says: { Part → Type 0 };
 }
 
-impl Saying for Brand {
+impl Fact for Brand {
     ghost says = { λ part. Unit {0} };
 }
 
@@ -28,16 +28,16 @@ pub(crate) struct Turns<J> {
     of: PhantomData<J>,
 }
 
-impl<J: Saying> Play<Option<Vec<u8>>, Known> for Turns<J> {
+impl<J: Fact> Play<Option<Vec<u8>>, Known> for Turns<J> {
     ghost use Rattle.rp_boxes.specs.Parts.{actor_in};
-    ghost use Rattle.rp_boxes.specs.Plays.{Turned};
+    ghost use Rattle.rp_boxes.specs.Plays.{IsNoted};
 
-    ghost then = { λ step old found new. Turned J.says (actor_in old.0) new };
+    ghost then = { λ step old found new. IsNoted J.says (actor_in old.0) new };
 }
 
 /// Counts an event of the actor whose part the place knows: it becomes some part of which this is
 /// said.
-pub(crate) fn note<M: Machine, J: Saying>(slots: &Slots<M>, place: &mut Place, actor: usize)
+pub(crate) fn note<M: Machine, J: Fact>(slots: &Slots<M>, place: &mut Place, actor: usize)
     requires table { place.old.table_id ≡ slots.now.table_id }
     requires sized { IsSized slots.now.table_id }
     requires actor { actor < 16 }
@@ -47,7 +47,7 @@ pub(crate) fn note<M: Machine, J: Saying>(slots: &Slots<M>, place: &mut Place, a
         slots.now.key.program.value) actor (part_in place.old.me.0) part
         × J.says part }
     ensures table { place.new.table_id ≡ place.old.table_id }
-    ensures turned { Turned J.says actor place.new.me }
+    ensures turned { IsNoted J.says actor place.new.me }
 {
     events_keep::<M>();
     slots.fetch_add::<Turns<J>>(place, 256 + actor, 1);

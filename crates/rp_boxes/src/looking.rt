@@ -7,7 +7,7 @@ ghost use Rattle.rp_boxes.specs.Parts.{Part, part_in};
 ghost use Rattle.rp_boxes.specs.Plays.{IsSized};
 
 use crate::board::{Known, Place, Slots};
-use crate::events::Saying;
+use crate::events::Fact;
 use atomic_table::Play;
 use rp_machine::Machine;
 use std::marker::PhantomData;
@@ -17,7 +17,7 @@ struct Looks<J> {
     of: PhantomData<J>,
 }
 
-impl<J: Saying> Play<Option<Vec<u8>>, Known> for Looks<J> {
+impl<J: Fact> Play<Option<Vec<u8>>, Known> for Looks<J> {
     ghost use Rattle.std.specs.Prelude.{◌≡◌};
     ghost use Rattle.rp_boxes.specs.Parts.{part_in};
 
@@ -25,7 +25,7 @@ impl<J: Saying> Play<Option<Vec<u8>>, Known> for Looks<J> {
 }
 
 /// Looks at the table. What is so in each world of which the seat's view is a piece is so.
-pub(crate) fn look<M: Machine, J: Saying>(slots: &Slots<M>, place: &mut Place)
+pub(crate) fn look<M: Machine, J: Fact>(slots: &Slots<M>, place: &mut Place)
     requires table { place.old.table_id ≡ slots.now.table_id }
     requires sized { IsSized slots.now.table_id }
     requires follows { (parts : ℕ → Part)

@@ -3,7 +3,7 @@
 ghost use Rattle.std.specs.Prelude.{◌≡◌, ◌+◌, ◌≤◌, ◌<◌, ◌⊎◌, ◌↔◌, ℕ, ◌∷◌, [], All, length, IfOk, IfErr, OnOk, IsErrOf};
 ghost use Rattle.rp_base.specs.Config.{IsRightConfig};
 ghost use Rattle.rp_base.specs.declared.fault.Fault.TheVariants as faults;
-ghost use Rattle.rp_boxes.specs.Making.{AreFirstSeats, AreSeats, CanFail, IsFirstPlace, IsRest, IsWanting, after_seats, failures_of, first_in, first_seat, others_in};
+ghost use Rattle.rp_boxes.specs.Making.{AreFirstSeats, AreSeats, CanFail, IsFirstPlace, IsRest, IsResourceFault, after_seats, failures_of, first_in, first_seat, others_in};
 ghost use Rattle.rp_boxes.specs.Parts.{Part, View};
 ghost use Rattle.rp_boxes.specs.Plays.{IsSized};
 
@@ -12,7 +12,7 @@ use crate::board::{Board, Known, Law, Place, Setup, Slots};
 use crate::node_seat::NodeSeat;
 use crate::task_seat::TaskSeat;
 use atomic_table::{Split, Table};
-use rp_agreement::replies_tell_the_order;
+use rp_agreement::replies_follow_the_order;
 use rp_base::{Config, Fault, NodeId, TaskId};
 use rp_machine::Machine;
 use rp_replica::{Opening, Replica};
@@ -65,15 +65,15 @@ pub(crate) fn split<M: Machine>(slots: &Slots<M>, place: &mut Place) -> Place
 }
 
 /// The table, with nothing in any box, and the place that knows all actors.
-fn laid<M: Machine>(alloc: Global, setup: &Setup<M>) -> Result<(Board<M>, Place), AllocError>
+fn new_table<M: Machine>(alloc: Global, setup: &Setup<M>) -> Result<(Board<M>, Place), AllocError>
     requires config { IsRightConfig setup.now.config }
-    ensures table { IfOk result (λ laid.
-        IsRest laid.0.shared.table_id laid.1.table_id 0 laid.1.me) }
-    ensures shared { IfOk result (λ laid. laid.0.shared.key ≡ setup.now) }
+    ensures table { IfOk result (λ new_table.
+        IsRest new_table.0.shared.table_id new_table.1.table_id 0 new_table.1.me) }
+    ensures shared { IfOk result (λ new_table. new_table.0.shared.key ≡ setup.now) }
 {
-    replies_tell_the_order::<M>();
-    let laid = Table::vacant(alloc, &[0u64; WORDS], SLOTS, setup)?;
-    Ok(laid)
+    replies_follow_the_order::<M>();
+    let new_table = Table::vacant(alloc, &[0u64; WORDS], SLOTS, setup)?;
+    Ok(new_table)
 }
 
 /// A table, and the place of the actors that have no seat yet.
@@ -101,7 +101,8 @@ impl<M: Machine> Model for Unseated<M> {
       next = u.next;
     } };
 
-    ghost invariant = { λ u. IsRest (arc_value u.board).shared.table_id u.rest.table_id u.next u.rest.me
+    ghost invariant = { λ u. IsRest
+        (arc_value u.board).shared.table_id u.rest.table_id u.next u.rest.me
         × IsRightConfig u.config × ((arc_value u.board).shared.key.config ≡ u.config) };
 }
 
@@ -117,7 +118,7 @@ impl<M: Machine> Unseated<M> {
             config,
             program: Snapshot::of(program),
         };
-        let (table, rest) = laid::<M>(alloc, &setup)?;
+        let (table, rest) = new_table::<M>(alloc, &setup)?;
         Ok(Unseated {
             config,
             next: 0,
@@ -177,7 +178,7 @@ impl<M: Machine> Unseated<M> {
         ensures ok { IfOk result (λ seat. seat ≡ first_seat self.old.table self.old.config
             self.old.program self.old.next self.old.next (D.disk device).failures) }
         ensures rest { OnOk result (self.new ≡ after_seats 1 self.old) }
-        ensures only { IfErr result IsWanting }
+        ensures only { IfErr result IsResourceFault }
         ensures device { IsErrOf result Fault.Device → CanFail D.disk }
     {
         let board = Arc::try_clone(&self.board)?;
@@ -213,7 +214,7 @@ impl<M: Machine> Unseated<M> {
         ensures seats { IfOk result (λ seats. AreFirstSeats self.old.table self.old.config
             self.old.program 1 (failures_of D.disk devices.items) seats.items) }
         ensures rest { OnOk result (self.new ≡ after_seats self.old.config.nodes self.old) }
-        ensures only { IfErr result IsWanting }
+        ensures only { IfErr result IsResourceFault }
         ensures device { IsErrOf result Fault.Device → CanFail D.disk }
     {
         let mut seats = Vec::new(alloc);
@@ -260,7 +261,7 @@ impl<M: Machine> Unseated<M> {
     }
 }
 
-/// The seats, where nothing stands against them.
+/// The seats, if nothing prevents it.
 fn made<M: Machine, D: Device>(
     alloc: Global,
     config: Config,
@@ -272,7 +273,7 @@ fn made<M: Machine, D: Device>(
     requires empty { All (λ device. (D.disk device).contents ≡ []) devices.items }
     ensures opened { IfOk result (λ all. AreSeats config program.now
         (failures_of D.disk devices.items) all.nodes.items all.tasks.items all.audit) }
-    ensures only { IfErr result IsWanting }
+    ensures only { IfErr result IsResourceFault }
     ensures device { IsErrOf result Fault.Device → CanFail D.disk }
 {
     let mut unseated = Unseated::<M>::new(alloc, config, program)?;
@@ -301,7 +302,7 @@ pub fn seats<M: Machine, D: Device>(
     ensures refused { IsErrOf result Fault.BadConfig
         ↔ (¬ (IsRightConfig config × (length devices.items ≡ config.nodes)
         × All (λ device. (D.disk device).contents ≡ []) devices.items)) }
-    ensures only { IfErr result (λ fault. (fault ≡ Fault.BadConfig) ⊎ IsWanting fault) }
+    ensures only { IfErr result (λ fault. (fault ≡ Fault.BadConfig) ⊎ IsResourceFault fault) }
     ensures device { IsErrOf result Fault.Device → CanFail D.disk }
 {
     if !config.is_right() || devices.len() != usize::from(config.nodes) || !are_empty(&devices) {

@@ -44,9 +44,9 @@ pub struct NodeSeat<M: Machine, D: Device> {
 impl<M: Machine, D: Device> Model for NodeSeat<M, D> {
     ghost use Rattle.std.specs.Arc.{arc_value};
     ghost use Rattle.rp_boxes.specs.Parts.{part_in};
-    ghost use Rattle.rp_boxes.specs.Seats.{Chair, IsAtTable, IsNodePlace};
+    ghost use Rattle.rp_boxes.specs.Seats.{SeatState, IsAtTable, IsNodePlace};
 
-    ghost Value = { Chair M.Program };
+    ghost Value = { SeatState M.Program };
 
     ghost view = { λ s. record {
       table = s.place.table_id;
@@ -57,8 +57,11 @@ impl<M: Machine, D: Device> Model for NodeSeat<M, D> {
       part = part_in s.place.me.0;
     } };
 
-    ghost invariant = { λ s. IsAtTable (arc_value s.board).shared.table_id s.place.table_id s.node s.place.me
-        × IsNodePlace (arc_value s.board).shared.key.config (M.begin (arc_value s.board).shared.key.program.value) s.node s.replica (part_in s.place.me.0) };
+    ghost invariant = { λ s. IsAtTable
+        (arc_value s.board).shared.table_id s.place.table_id s.node s.place.me
+        × IsNodePlace (arc_value s.board).shared.key.config
+        (M.begin (arc_value s.board).shared.key.program.value) s.node s.replica
+        (part_in s.place.me.0) };
 }
 
 impl<M: Machine, D: Device> NodeSeat<M, D> {

@@ -3,20 +3,20 @@
 ghost use Rattle.std.specs.Prelude.{◌≡◌};
 ghost use Rattle.rp_agreement.specs.Answered.{setting_for};
 ghost use Rattle.rp_boxes.specs.Parts.{Part, part_in};
-ghost use Rattle.rp_boxes.specs.Plays.{Turned};
+ghost use Rattle.rp_boxes.specs.Plays.{IsNoted};
 ghost use Rattle.rp_boxes.specs.Seats.{IsAtTable};
 ghost use Rattle.rp_boxes.specs.Steps.{IsEvent};
 
 use crate::board::{Place, Slots};
-use crate::events::{Saying, note};
+use crate::events::{Fact, note};
 use rp_base::NodeId;
 use rp_machine::Machine;
 use rp_replica::{Input, Replica, Sent};
 use rp_store::Device;
 
-/// Counts a turn that a replica has made, and tells of the node's part what the call picks by the
+/// Counts a turn that a replica has made, and states of the node's part what the call picks by the
 /// replica as it now is, the input and what was sent.
-pub(crate) fn note_turn<M: Machine, D: Device, J: Saying>(
+pub(crate) fn note_turn<M: Machine, D: Device, J: Fact>(
     slots: &Slots<M>,
     place: &mut Place,
     node: NodeId,
@@ -30,13 +30,13 @@ pub(crate) fn note_turn<M: Machine, D: Device, J: Saying>(
         slots.now.key.program.value) node (part_in place.old.me.0) part
         × J.says part }
     ensures table { place.new.table_id ≡ place.old.table_id }
-    ensures turned { Turned J.says node place.new.me }
+    ensures turned { IsNoted J.says node place.new.me }
 {
     note::<M, J>(slots, place, usize::from(node.get()));
 }
 
 /// The same where the replica's device failed within the step.
-pub(crate) fn note_stop<M: Machine, D: Device, J: Saying>(
+pub(crate) fn note_stop<M: Machine, D: Device, J: Fact>(
     slots: &Slots<M>,
     place: &mut Place,
     node: NodeId,
@@ -49,7 +49,7 @@ pub(crate) fn note_stop<M: Machine, D: Device, J: Saying>(
         slots.now.key.program.value) node (part_in place.old.me.0) part
         × J.says part }
     ensures table { place.new.table_id ≡ place.old.table_id }
-    ensures turned { Turned J.says node place.new.me }
+    ensures turned { IsNoted J.says node place.new.me }
 {
     note::<M, J>(slots, place, usize::from(node.get()));
 }

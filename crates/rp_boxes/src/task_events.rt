@@ -3,19 +3,19 @@
 ghost use Rattle.std.specs.Prelude.{◌≡◌, ◌+◌};
 ghost use Rattle.rp_agreement.specs.Answered.{setting_for};
 ghost use Rattle.rp_boxes.specs.Parts.{Part, part_in};
-ghost use Rattle.rp_boxes.specs.Plays.{Turned};
+ghost use Rattle.rp_boxes.specs.Plays.{IsNoted};
 ghost use Rattle.rp_boxes.specs.Seats.{IsAtTable};
 ghost use Rattle.rp_boxes.specs.Steps.{IsEvent};
 
 use crate::board::{Place, Slots};
-use crate::events::{Saying, note};
+use crate::events::{Fact, note};
 use rp_base::{Action, NodeId, TaskId};
 use rp_machine::Machine;
 use rp_world::Task;
 
-/// Counts an event by which a task asked a node for a call, if there was one, and tells of the
+/// Counts an event by which a task asked a node for a call, if there was one, and states of the
 /// task's part what the caller picks by the task as it now is.
-pub(crate) fn note_asking<M: Machine, J: Saying>(
+pub(crate) fn note_asking<M: Machine, J: Fact>(
     slots: &Slots<M>,
     place: &mut Place,
     number: TaskId,
@@ -29,13 +29,13 @@ pub(crate) fn note_asking<M: Machine, J: Saying>(
         slots.now.key.program.value) (7 + number) (part_in place.old.me.0) part
         × J.says part }
     ensures table { place.new.table_id ≡ place.old.table_id }
-    ensures turned { Turned J.says (7 + number) place.new.me }
+    ensures turned { IsNoted J.says (7 + number) place.new.me }
 {
     note::<M, J>(slots, place, 7 + usize::from(number.get()));
 }
 
-/// The same of an event by which a packet came to a task.
-pub(crate) fn note_telling<M: Machine, J: Saying>(
+/// The same of an event by which a packet arrived at a task.
+pub(crate) fn note_reply<M: Machine, J: Fact>(
     slots: &Slots<M>,
     place: &mut Place,
     number: TaskId,
@@ -47,7 +47,7 @@ pub(crate) fn note_telling<M: Machine, J: Saying>(
         slots.now.key.program.value) (7 + number) (part_in place.old.me.0) part
         × J.says part }
     ensures table { place.new.table_id ≡ place.old.table_id }
-    ensures turned { Turned J.says (7 + number) place.new.me }
+    ensures turned { IsNoted J.says (7 + number) place.new.me }
 {
     note::<M, J>(slots, place, 7 + usize::from(number.get()));
 }

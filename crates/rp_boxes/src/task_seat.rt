@@ -8,13 +8,13 @@ ghost use Rattle.rp_codec.specs.Message.{Message, IsPacket, IsCallBy};
 ghost use Rattle.rp_codec.specs.Text.{text_of};
 ghost use Rattle.rp_codec.specs.declared.packet.Party.TheVariants as parties;
 ghost use Rattle.rp_model.specs.Tasks.{Submit, Again};
-ghost use Rattle.rp_world.specs.Going.{reply_told};
+ghost use Rattle.rp_world.specs.Going.{reply_in};
 ghost use Rattle.rp_boxes.specs.Looks.{WasSent};
 ghost use Rattle.rp_boxes.specs.Moments.{WasInUse, WasNotFull, WasPut};
 ghost use Rattle.rp_boxes.specs.Parts.{task_of};
 ghost use Rattle.rp_boxes.specs.Seats.{IsSentText, IsFetched};
-ghost use Rattle.rp_boxes.specs.TaskSeats.{IsTaskTurn, IsNoTaskTurn, IsReplyTurn, IsTold};
-ghost use Rattle.rp_boxes.specs.TaskSeats.{asked_of, TellsPackets, told_effect};
+ghost use Rattle.rp_boxes.specs.TaskSeats.{IsTaskTurn, IsNoTaskTurn, IsReplyTurn, HasOneOrder};
+ghost use Rattle.rp_boxes.specs.TaskSeats.{asked_of, DescribesPackets, reply_effect};
 
 use crate::actors::{actor_of, receiver};
 use crate::board::{Board, Place};
@@ -22,9 +22,9 @@ use crate::boxes::{empty, fill};
 use crate::input::node_keeps_range;
 use crate::looking::look;
 use crate::spares::{keep, keep_left, spare_buffer};
-use crate::task_events::{note_asking, note_telling};
+use crate::task_events::{note_asking, note_reply};
 use rp_agreement::{
-    calls_count_in_turn, replies_answer_calls_that_count, tasks_send_right_packets,
+    calls_count_in_order, replies_answer_calls_that_count, tasks_send_right_packets,
 };
 use rp_base::{Action, Answer, Config, Fault, NodeId, Operation, Reply, TaskId};
 use rp_codec::{Body, Party, decode, encode_onto};
@@ -56,10 +56,10 @@ impl<M: Machine> Model for TaskSeat<M> {
     ghost use Rattle.std.specs.Prelude.{◌+◌};
     ghost use Rattle.std.specs.Arc.{arc_value};
     ghost use Rattle.rp_boxes.specs.Parts.{part_in};
-    ghost use Rattle.rp_boxes.specs.Seats.{Chair, IsAtTable};
+    ghost use Rattle.rp_boxes.specs.Seats.{SeatState, IsAtTable};
     ghost use Rattle.rp_boxes.specs.TaskSeats.{IsTaskSeat};
 
-    ghost Value = { Chair M.Program };
+    ghost Value = { SeatState M.Program };
 
     ghost view = { λ s. record {
       table = s.place.table_id;
@@ -70,8 +70,10 @@ impl<M: Machine> Model for TaskSeat<M> {
       part = part_in s.place.me.0;
     } };
 
-    ghost invariant = { λ s. IsAtTable (arc_value s.board).shared.table_id s.place.table_id (7 + s.number) s.place.me
-        × IsTaskSeat s.number (arc_value s.board).shared.key.config s.config s.task (part_in s.place.me.0) };
+    ghost invariant = { λ s. IsAtTable (arc_value s.board).shared.table_id s.place.table_id
+        (7 + s.number) s.place.me
+        × IsTaskSeat s.number (arc_value s.board).shared.key.config s.config s.task
+        (part_in s.place.me.0) };
 }
 
 impl<M: Machine> TaskSeat<M> {
@@ -132,22 +134,23 @@ impl<M: Machine> TaskSeat<M> {
         Ok(sent)
     }
 
-    /// A packet that the seat got comes to the task, as its text. It is one event. A reply to the
+    /// A packet that the seat got arrives at the task, as its text. It is one event. A reply to the
     /// call that waits is taken, and ends it; any other packet changes neither calls nor replies.
-    /// There is then one order of actions that all replies of the task come from. Refused for
-    /// memory, nothing has happened.
+    /// There is then one order of actions which all replies of the task follow. Refused for memory,
+    /// nothing has happened.
     pub fn reply(&mut self, alloc: Global, packet: &[u8]) -> Result<Option<Answer>, Fault>
         requires got { (m : Message) × Has m self.old.part.got × (packet.now ≡ text_of m) }
         ensures ok { IfOk result (λ taken. IsReplyTurn self.old packet.now self.new taken) }
-        ensures told { IfOk result (λ taken. IsTold M.next M.answers (M.begin self.new.program)
+        ensures stated { IfOk result
+            (λ taken. HasOneOrder M.next M.answers (M.begin self.new.program)
             self.new.number self.new.part) }
         ensures err { IfErr result (λ fault. (fault ≡ OutOfMemory) × (self.new ≡ self.old)) }
     {
         replies_answer_calls_that_count::<M>();
-        calls_count_in_turn::<M>();
-        let told = read_reply(alloc, packet)?;
-        let taken = take(&mut self.task, told)?;
-        note_telling::<M, Brand>(&self.board.shared, &mut self.place, self.number, &self.task);
+        calls_count_in_order::<M>();
+        let stated = read_reply(alloc, packet)?;
+        let taken = take(&mut self.task, stated)?;
+        note_reply::<M, Brand>(&self.board.shared, &mut self.place, self.number, &self.task);
         look::<M, Brand>(&self.board.shared, &mut self.place);
         Ok(taken)
     }
@@ -242,7 +245,7 @@ fn asking(
     requires empty { buffer.items ≡ [] }
     requires own { IfSome call.now (λ action. IsCallBy task action) }
     requires right { IfSome call.now IsRight }
-    ensures { IfOk result (λ sent. TellsPackets sent (asked_of task node call.now)) }
+    ensures { IfOk result (λ sent. DescribesPackets sent (asked_of task node call.now)) }
 {
     let mut bytes = buffer;
     match call {
@@ -264,10 +267,10 @@ fn asking(
     }
 }
 
-/// The number and the reply that the text of a packet tells, if it is a reply.
+/// The number and the reply in the text of a packet, if it is a reply.
 fn read_reply(alloc: Global, text: &[u8]) -> Result<Option<(u32, Reply)>, AllocError>
-    ensures { IfOk result (λ told. (m : Message) → IsPacket m → text.now ≡ text_of m
-        → told ≡ reply_told m.body) }
+    ensures { IfOk result (λ stated. (m : Message) → IsPacket m → text.now ≡ text_of m
+        → stated ≡ reply_in m.body) }
 {
     let Ok(packet) = decode(alloc, text)? else {
         return Ok(None);
@@ -278,16 +281,16 @@ fn read_reply(alloc: Global, text: &[u8]) -> Result<Option<(u32, Reply)>, AllocE
     }
 }
 
-/// The task takes what it is told, if it is told anything. Refused for memory, nothing changes.
-fn take(task: &mut Task, told: Option<(u32, Reply)>) -> Result<Option<Answer>, AllocError>
+/// The task takes a reply, if there is one. Refused for memory, nothing changes.
+fn take(task: &mut Task, stated: Option<(u32, Reply)>) -> Result<Option<Answer>, AllocError>
     ensures part { IfOk result (λ taken. task.new ≡ record task.old {
-      part = (told_effect task.old.task task.old.part told).part;
+      part = (reply_effect task.old.task task.old.part stated).part;
     }) }
     ensures taken { IfOk result (λ taken. taken
-        ≡ (told_effect task.old.task task.old.part told).taken) }
+        ≡ (reply_effect task.old.task task.old.part stated).taken) }
     ensures err { OnErr result (task.new ≡ task.old) }
 {
-    match told {
+    match stated {
         Some((number, reply)) => task.take(number, reply),
         None => Ok(None),
     }

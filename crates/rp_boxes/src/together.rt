@@ -16,8 +16,8 @@ use crate::meeting::Both;
 use crate::node_seat::NodeSeat;
 use crate::task_seat::TaskSeat;
 use rp_agreement::{
-    applied_lists_begin_the_order, calls_count_in_turn, replies_answer_calls_that_count,
-    reports_tell_the_order, the_order_exists,
+    applied_lists_begin_the_order, calls_count_in_order, replies_answer_calls_that_count,
+    reports_follow_the_order, the_order_exists,
 };
 use rp_machine::Machine;
 use rp_store::Device;
@@ -132,10 +132,10 @@ impl<M: Machine> Audit<M> {
         ensures { AreTogether M.next M.answers M.begin self nodes.items tasks.items }
     {
         the_order_exists();
-        reports_tell_the_order();
+        reports_follow_the_order();
         applied_lists_begin_the_order();
         replies_answer_calls_that_count::<M>();
-        calls_count_in_turn::<M>();
+        calls_count_in_order::<M>();
         let Audit {
             seat,
             known: _known,

@@ -1,11 +1,11 @@
--- What the run of a deck answers (this project's own).
+-- What the run of a deck answers.
 use Rattle.std.specs.Prelude.{◌≡◌, ◌⊎◌, ◌<◌, ℕ, Bool, Some, Err, List, [], ◌++◌, length, drop}
 use Rattle.rp_base.specs.declared.fault.Fault.TheVariants as faults
 use Rattle.rp_base.specs.declared.fault.DeckReason.{DeckReason}
 use Rattle.rp_deck.specs.Meaning.{meaning_of}
 use Rattle.rp_deck.specs.declared.deck.Mode.TheVariants.{Script}
 use Rattle.rp_script.specs.Agreeing.{ScriptPrints}
-use Rattle.rp_script.specs.FaultLine.{fault_line_of, with_line_feed}
+use Rattle.rp_script.specs.FaultMessage.{fault_message_of, with_line_feed}
 use Rattle.rp_script.specs.Stream.{most_bytes}
 use Rattle.rp_c.specs.declared.status.Status.{Status}
 use Rattle.rp_c.specs.declared.status.Status.TheVariants.{Done, OutOfMemory, BadPacket, BadDeck, Io, ShortAnswer}
@@ -18,7 +18,7 @@ IsOutput traced bytes text = ScriptPrints traced (Some bytes) (Some []) (Some te
 abbrev pub IsBadLine : List ℕ → List ℕ → Type 0
 IsBadLine bytes text = (line : ℕ) × (reason : DeckReason)
     × (meaning_of Script bytes ≡ Err (record { line = line; reason = reason }))
-    × (text ≡ with_line_feed (fault_line_of (faults.BadDeck line reason)))
+    × (text ≡ with_line_feed (fault_message_of (faults.BadDeck line reason)))
 
 -- The text is at the front of the buffer, whose other bytes are as they were, and its length was written.
 pub record IsPut (text old new : List ℕ) (used : ℕ) : Type 0 where

@@ -1,4 +1,4 @@
--- What the calls on packets answer (this project's own).
+-- What the calls on packets answer.
 use Rattle.std.specs.Prelude.{◌≡◌, ℕ, List, length, Err}
 use Rattle.rp_base.specs.declared.fault.PacketReason.{PacketReason}
 use Rattle.rp_codec.specs.Decoding.{BeginsWithPacket, IsLongText}

@@ -1,4 +1,4 @@
--- The numbers that a C caller gets (this project's own).
+-- The numbers that a C caller gets.
 use Rattle.std.specs.Prelude.{ℕ}
 use Rattle.rp_base.specs.Fault.{code_of}
 use Rattle.rp_base.specs.declared.fault.Fault.TheVariants as faults

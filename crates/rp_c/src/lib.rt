@@ -1,5 +1,5 @@
 //! What C and Ada call: packets checked, and decks run, as bytes in and bytes out. `include/rp.h`
-//! declares it, with what each call owes.
+//! declares it, with the obligations of each call.
 //!
 //! In reading order:
 //! - `status`: how a call ends, as a number

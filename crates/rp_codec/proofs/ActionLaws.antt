@@ -138,7 +138,7 @@ action_took v bytes h =
     (λ _. when (TookAction v bytes) (eqb tag.0 2) _ _ (λ e. interrupt_took v bytes tag.1 (begins 2 e) t.rest)
     (λ _. when (TookAction v bytes) (eqb tag.0 3) _ _ (λ e. tick_took v bytes tag.1 (begins 3 e) t.rest) (λ _. tt)))))
 
--- the text of a call, and what stands behind it, field by field
+-- the text of a call, and what is after it, field by field
 call_parts : (v : Version) (task number object : ℕ) (operation : Operation) (arg : ℤ) (rest : List ℕ)
     → action_text_at v (actions.Call task number object operation arg) ++ rest ≡ 1 ∷ task ∷ (number_text w32 number ++ (object ∷ (operation_text_at v operation ++ (signed_text arg ++ rest))))
 call_parts v task number object operation arg rest = simp append_assoc
@@ -192,11 +192,11 @@ own_call_again v Audit action rest own right = absurd own
 
 -- ---- lists of actions
 
--- the texts of the actions, one behind the other
+-- the texts of the actions, one after the other
 abbrev pub each_text : Version → List Action → List ℕ
 each_text v actions = flat_map (action_text_at v) actions
 
--- so many right actions
+-- n right actions
 abbrev pub AreRight : Version → ℕ → List Action → Type 0
 AreRight v count actions = (length actions ≡ count) × All IsRight actions × All (HasActionText v) actions
 

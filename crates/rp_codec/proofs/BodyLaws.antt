@@ -289,7 +289,7 @@ kind_of_body (bodies.Report first applied actions) = Report
 kind_of_body (bodies.PrepareRange range ballot) = PrepareRange
 kind_of_body (bodies.PromiseRange range ballot votes) = PromiseRange
 
--- three fields, one behind the other
+-- three fields, one after the other
 regroup : (x y z rest : List ℕ) → (x ++ y ++ z) ++ rest ≡ x ++ (y ++ (z ++ rest))
 regroup x y z rest = simp append_assoc
 
@@ -312,17 +312,17 @@ body_again v from to (bodies.Nack position ballot bound) rest ranges rules has =
 body_again v from to (bodies.Reply number reply) rest ranges rules has =
     ap answer_at (append_assoc (number_text w32 number) (reply_text reply) rest) ∙ rw (count_again number (reply_text reply ++ rest) rules.2, reply_again reply rest ranges) refl
 body_again v from to (bodies.Report first applied actions) rest ranges rules has =
-    let told = rules.2 in
+    let stated = rules.2 in
     let parts : body_text_at v (bodies.Report first applied actions) ++ rest ≡ position_text first ++ (number_text w16 applied ++ (length actions ∷ (each_text v actions ++ rest))) = simp append_assoc in
-    ap (report_at v) parts ∙ rw (position_again first (number_text w16 applied ++ (length actions ∷ (each_text v actions ++ rest))) ranges.0, number16_again applied (length actions ∷ (each_text v actions ++ rest)) ranges.1, eq-eqb _ _ told.len, actions_again v actions rest told.right has) refl
+    ap (report_at v) parts ∙ rw (position_again first (number_text w16 applied ++ (length actions ∷ (each_text v actions ++ rest))) ranges.0, number16_again applied (length actions ∷ (each_text v actions ++ rest)) ranges.1, eq-eqb _ _ stated.len, actions_again v actions rest stated.right has) refl
 body_again v from to (bodies.PrepareRange range ballot) rest ranges rules has =
     ap prepare_range_at (append_assoc (range_text range) (ballot_text ballot) rest) ∙ rw (range_again range (ballot_text ballot ++ rest) ranges.0, ballot_again ballot rest ranges.1) refl
 body_again v from to (bodies.PromiseRange range ballot votes) rest ranges rules has =
     let reported = rules.1 in
-    let behind : List ℕ = votes_text_at v votes ++ rest in
+    let following : List ℕ = votes_text_at v votes ++ rest in
     ap (promise_range_at v) (regroup (range_text range) (ballot_text ballot) (votes_text_at v votes) rest)
     ∙ rw (
-      range_again range (ballot_text ballot ++ behind) ranges.0,
-      ballot_again ballot behind ranges.1,
+      range_again range (ballot_text ballot ++ following) ranges.0,
+      ballot_again ballot following ranges.1,
       reported_again v range ballot votes rest ranges.0 (record { len = refl; rising = reported.rising; ballots = ranges.2; below = reported.below; right = reported.right; has = has }),
     ) refl

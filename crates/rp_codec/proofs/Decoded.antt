@@ -18,7 +18,7 @@ use Rattle.rp_codec.specs.Decoding.{HasOtherVersion, HasNoKind, IsTooLong, IsDec
 use Rattle.rp_codec.specs.declared.content.Content.{Content}
 use Rattle.rp_codec.specs.declared.content.Content.TheVariants.{Whole as WholeBody, Listed, Voted}
 use Rattle.rp_codec.specs.declared.content.Found.{Found}
-use Rattle.rp_codec.specs.Found.{StandsFor, IsList, with_body}
+use Rattle.rp_codec.specs.Found.{IsContentOf, IsList, with_body}
 use Rattle.rp_codec.specs.Reading.{◌>>=◌, Read, said_at, known, kind_at, packet_at, all_of}
 use Rattle.rp_codec.proofs.Steps.{IsBytes, Yields}
 use Rattle.rp_codec.proofs.BodyLaws.{number_of}
@@ -241,12 +241,12 @@ front_none bytes e none (p, rest, packet, text) = no_fault (p, rest) e (sym (pac
 
 -- ---- a packet that takes memory
 
-long_body : (content : Content) (after : List ℕ) (body : Body) → IsList content → StandsFor content after body → IsLongBody body
-long_body (WholeBody whole) after body list stands = absurd list
+long_body : (content : Content) (after : List ℕ) (body : Body) → IsList content → IsContentOf content after body → IsLongBody body
+long_body (WholeBody whole) after body list is_content = absurd list
 long_body (Listed version first applied count text) after body list (actions, read, same) = subst IsLongBody (sym same) tt
 long_body (Voted version range ballot text) after body list (votes, read, same) = subst IsLongBody (sym same) tt
 
-pub long_text : (bytes : List ℕ) (found : Found) (body : Body) (after : List ℕ) → IsBytes bytes → IsList found.content → StandsFor found.content after body → all_of bytes ≡ Ok (with_body found body) → IsLongText bytes
-long_text bytes found body after h list stands e =
+pub long_text : (bytes : List ℕ) (found : Found) (body : Body) (after : List ℕ) → IsBytes bytes → IsList found.content → IsContentOf found.content after body → all_of bytes ≡ Ok (with_body found body) → IsLongText bytes
+long_text bytes found body after h list is_content e =
     let packet = whole_found bytes (Ok (with_body found body)) h (sym e) in
-    (with_body found body, packet.0, long_body found.content after body list stands, packet.1)
+    (with_body found body, packet.0, long_body found.content after body list is_content, packet.1)

@@ -1,4 +1,4 @@
--- A packet's text is as long as its kind and a byte or two of it tell.
+-- A packet's text is as long as its kind and a byte or two of it say.
 use Rattle.std.proofs.Common.{◌≡◌, ◌≢◌, ℕ, ◌+◌, ◌<◌, Bool, true, false, cond, List, ◌∷◌, ◌++◌, length, get_or, Some, None, refl, sym, ap, subst, ◌∙◌, arith, length-append}
 use Rattle.std.specs.Prelude.{◌==◌, if◌then◌else◌}
 use Rattle.std.proofs.lemmas.Bool.{eq-eqb, ne_eqb}
@@ -82,24 +82,24 @@ body_long v from to f t (bodies.Report first applied actions) rest rules = refl
 body_long v from to f t (bodies.PrepareRange range ballot) rest rules = refl
 body_long v from to f t (bodies.PromiseRange range ballot votes) rest rules = refl
 
-pub told : (kind : ℕ) (bytes : List ℕ) → get_or bytes 1 0 ≡ kind → (p : Message) (rest : List ℕ) → IsPacket p → IsTextBefore p rest bytes
+pub stated : (kind : ℕ) (bytes : List ℕ) → get_or bytes 1 0 ≡ kind → (p : Message) (rest : List ℕ) → IsPacket p → IsTextBefore p rest bytes
     → length_at kind bytes (length (text_of p)) ≡ length (text_of p)
-told kind bytes is p rest packet (v, has, parts) =
+stated kind bytes is p rest packet (v, has, parts) =
     let same : kind ≡ kind_number p.body = sym is ∙ ap (λ (l : List ℕ). get_or l 1 0) parts in
     subst (λ (n : ℕ). length_at kind bytes n ≡ n) (text_same v p)
     (ap (λ (k : ℕ). length_at k bytes (length (text_at v p))) same
     ∙ ap (λ (l : List ℕ). length_at (kind_number p.body) l (length (text_at v p))) parts
     ∙ body_long v p.from p.to (party_number p.from) (party_number p.to) p.body rest packet.rules)
 
-pub told_empty : (bytes : List ℕ) → get_or bytes 1 0 ≡ 3 → get_or bytes 14 0 ≡ 0 → (p : Message) (rest : List ℕ) → IsPacket p → IsTextBefore p rest bytes → 15 ≡ length (text_of p)
-told_empty bytes is flag p rest packet text =
-    subst (λ (b : Bool). cond b 15 (23 + action_length (get_or bytes 23 0)) ≡ length (text_of p)) (eq-eqb _ _ flag) (told 3 bytes is p rest packet text)
+pub kind_empty : (bytes : List ℕ) → get_or bytes 1 0 ≡ 3 → get_or bytes 14 0 ≡ 0 → (p : Message) (rest : List ℕ) → IsPacket p → IsTextBefore p rest bytes → 15 ≡ length (text_of p)
+kind_empty bytes is flag p rest packet text =
+    subst (λ (b : Bool). cond b 15 (23 + action_length (get_or bytes 23 0)) ≡ length (text_of p)) (eq-eqb _ _ flag) (stated 3 bytes is p rest packet text)
 
-pub told_voted : (bytes : List ℕ) → get_or bytes 1 0 ≡ 3 → get_or bytes 14 0 ≢ 0 → (p : Message) (rest : List ℕ) → IsPacket p → IsTextBefore p rest bytes → 23 + action_length (get_or bytes 23 0) ≡ length (text_of p)
-told_voted bytes is flag p rest packet text =
-    subst (λ (b : Bool). cond b 15 (23 + action_length (get_or bytes 23 0)) ≡ length (text_of p)) (ne_eqb _ _ flag) (told 3 bytes is p rest packet text)
+pub kind_voted : (bytes : List ℕ) → get_or bytes 1 0 ≡ 3 → get_or bytes 14 0 ≢ 0 → (p : Message) (rest : List ℕ) → IsPacket p → IsTextBefore p rest bytes → 23 + action_length (get_or bytes 23 0) ≡ length (text_of p)
+kind_voted bytes is flag p rest packet text =
+    subst (λ (b : Bool). cond b 15 (23 + action_length (get_or bytes 23 0)) ≡ length (text_of p)) (ne_eqb _ _ flag) (stated 3 bytes is p rest packet text)
 
--- ---- the bytes that tell it are there
+-- ---- the bytes that say so are there
 
 positive_action : (v : Version) (action : Action) → 0 < length (action_text_at v action)
 positive_action v actions.Noop = omega arith
@@ -145,7 +145,7 @@ within kind bytes is p rest v parts =
     let same : kind_number p.body ≡ kind = ap (λ (l : List ℕ). get_or l 1 0) (sym parts) ∙ is in
     subst (λ (l : List ℕ). place_of kind < length l) (sym parts) (subst (λ (k : ℕ). place_of k < length (text_at v p ++ rest)) same (body_within v (party_number p.from) (party_number p.to) p.body rest))
 
--- the vote of a promise that tells one
+-- the vote of a promise that reports one
 abbrev vote_place : ℕ → ℕ → ℕ
 vote_place kind flag = if kind == 3 then (if flag == 0 then 0 else 23) else 0
 

@@ -12,12 +12,12 @@ use Rattle.rp_codec.specs.Message.{report_len}
 use Rattle.rp_codec.specs.declared.packet.Body.TheVariants.{Report}
 use Rattle.rp_codec.specs.Reading.{◌>>=◌, Read, byte_at, number_at, position_at, action_at, actions_at, report_at}
 
--- what is read behind a list that was read
+-- what is read after a list that was read
 abbrev pub prefixed : {A : Type 0} → List A → Read (List A) → Read (List A)
 prefixed front (Ok x) = Ok (front ++ x.0, x.1)
 prefixed front (Err e) = Err e
 
--- so many were read, and the others stand where the rest begins
+-- n were read, and the others are where the rest begins
 pub record HasRead (v : Version) (count : ℕ) (bytes : List ℕ) (done : ℕ) (front : List Action) (rest : List ℕ) : Type 0 where
   pub read : actions_at v count bytes ≡ prefixed front (actions_at v (count - done) rest)
 
@@ -81,12 +81,12 @@ same_list {A} read list rest e items after f =
     ap (λ (p : List A × List ℕ). p.0) same
 
 -- a report, field by field
-pub report_found : (v : Version) (bytes after_first after_applied text told after : List ℕ) (first applied count : ℕ) (actions : List Action)
+pub report_found : (v : Version) (bytes after_first after_applied text stated after : List ℕ) (first applied count : ℕ) (actions : List Action)
     → position_at bytes ≡ Ok (first, after_first) → number_at w16 after_first ≡ Ok (applied, after_applied) → byte_at after_applied ≡ Ok (count, text)
-    → count ≡ report_len first applied → told ≡ text → actions_at v count text ≡ Ok (actions, after)
-    → (actions_at v count told ≡ Ok (actions, after)) × (report_at v bytes ≡ Ok (Report first applied actions, after))
+    → count ≡ report_len first applied → stated ≡ text → actions_at v count text ≡ Ok (actions, after)
+    → (actions_at v count stated ≡ Ok (actions, after)) × (report_at v bytes ≡ Ok (Report first applied actions, after))
 unfolding report_at
-report_found v bytes after_first after_applied text told after first applied count actions e1 e2 e3 counted same e4 =
+report_found v bytes after_first after_applied text stated after first applied count actions e1 e2 e3 counted same e4 =
     (ap (actions_at v count) same ∙ e4, rw (e1, e2, e3, eq-eqb _ _ counted, e4) refl)
 
 -- ---- and written

@@ -1,5 +1,5 @@
--- A packet that is read is the packet that was written, what was written is read again, and each
--- reason tells what the bytes are.
+-- A packet that is read is the packet that was written, what was written is read again, and each reason says what the
+-- bytes are.
 use Rattle.std.proofs.Common.{◌≡◌, ℕ, ◌+◌, ◌-◌, ◌≤◌, leb, eqb, ◌&&◌, List, ◌∷◌, ◌++◌, Some, Ok, refl, ap, ◌∙◌, append_assoc, arith}
 use Rattle.std.proofs.lemmas.Bool.{and_parts, eqb-true, leb-true, le-leb}
 use Rattle.rp_codec.specs.declared.packet.Party.{Party}
@@ -141,7 +141,7 @@ to_again Report party rest range to = audit_again party rest to
 to_again PrepareRange party rest range to = node_again party rest range to
 to_again PromiseRange party rest range to = node_again party rest range to
 
--- ---- what stands behind the kind
+-- ---- what is after the kind
 
 abbrev pub said_text : Version → Message → List ℕ
 said_text v m = party_text m.from ++ party_text m.to ++ body_text_at v m.body

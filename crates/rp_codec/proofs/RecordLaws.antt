@@ -25,7 +25,7 @@ TookRecordAt v bytes = Took (record_text_at v) (λ r. IsRecord r × HasRecordTex
 abbrev pub TookRecord : List ℕ → Rec × List ℕ → Type 0
 TookRecord bytes x = (v : Version) × TookRecordAt v bytes x
 
--- what stands behind the version and the kind
+-- what is after the version and the kind
 abbrev Begins : Version → ℕ → List ℕ → List ℕ → Type 0
 Begins v kind rest bytes = bytes ≡ version_number v ∷ kind ∷ rest
 
@@ -190,7 +190,7 @@ front_length bytes rest r h e =
     let (is, (v, has, parts)) = front_found bytes rest r h e in
     ap length parts ∙ length-append (record_text_at v r) rest ∙ ap (λ (n : ℕ). n + length rest) (record_long_at v r)
 
--- no other stands there
+-- no other is there
 pub front_only : (bytes rest : List ℕ) (r : Rec) → record_at bytes ≡ Ok (r, rest) → (s : Rec) (after : List ℕ) → IsRecord s → IsRecordTextBefore s after bytes → r ≡ s
 front_only bytes rest r e s after is text =
     ap (λ (p : Rec × List ℕ). p.0) (done_once (r, rest) (s, after) (sym e ∙ record_read s after bytes is text))

@@ -1,4 +1,4 @@
--- What the tests of the fields tell.
+-- What the tests of the fields decide.
 use Rattle.std.proofs.Common.{ℕ, arith}
 use Rattle.std.specs.Bool.{Decides}
 use Rattle.std.proofs.lemmas.Bool.Decides.{nat_tests}

@@ -1,4 +1,4 @@
--- A text that was taken apart at known places is the text of the fields that stand there.
+-- A text that was taken apart at known places is the text of the fields that are there.
 use Rattle.std.proofs.Common.{◌≡◌, ℕ, ℤ, ◌+◌, List, [], ◌∷◌, ◌++◌, length, get_or, take, drop, refl, sym, ap, ◌∙◌, arith, append_assoc}
 use Rattle.std.specs.Int.{w32}
 use Rattle.std.proofs.lemmas.List.{append-nil, length-take, take-append-drop}
@@ -30,7 +30,7 @@ pub call_joined : (bytes front b1 number b2 middle b3 arg b4 : List ℕ) (task n
 call_joined bytes front b1 number b2 middle b3 arg b4 task n object operation z e1 e2 e3 e4 e5 f k m a =
     rw (e1, e2, e3, e4, e5, f, k, m, a) (simp (append_assoc, append-nil))
 
--- what stands before the action: who, at which position, in which ballot
+-- what is before the action: who, at which position, in which ballot
 pub place_joined : (front head r1 position r2 ballot r3 : List ℕ) (kind from to : ℕ) (position_text ballot_text : List ℕ)
     → front ≡ head ++ r1 → r1 ≡ position ++ r2 → r2 ≡ ballot ++ r3 → r3 ≡ []
     → head ≡ 2 ∷ kind ∷ from ∷ to ∷ [] → position ≡ position_text → ballot ≡ ballot_text

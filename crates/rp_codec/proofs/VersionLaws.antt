@@ -1,4 +1,4 @@
--- What the versions have in common, and what tells them apart.
+-- What the versions have in common, and what distinguishes them.
 use Rattle.std.proofs.Common.{◌≡◌, ◌≢◌, ℕ, Bool, true, false, cond, eqb, List, [], ◌∷◌, ◌++◌, length, Option, Some, None, refl, sym, ap, ◌∙◌, arith, length-append}
 use Rattle.std.specs.Prelude.{All, IfSome, flat_map}
 use Rattle.std.proofs.lemmas.Bool.{eqb-true, eqb-false}
@@ -37,7 +37,7 @@ from_choice n true two v first second e = let same : V1 ≡ v = cc in first refl
 from_choice n false true v first second e = let same : V2 ≡ v = cc in second refl ∙ ap version_number same
 from_choice n false false v first second e = absurd cc
 
--- a first byte that tells a version is its number
+-- a first byte that says a version is its number
 pub number_from_version : (n : ℕ) (v : Version) → version_of n ≡ Some v → n ≡ version_number v
 number_from_version n v e = from_choice n (eqb n 1) (eqb n 2) v (λ t. eqb-true n 1 t) (λ t. eqb-true n 2 t) e
 

@@ -51,11 +51,11 @@ placed_again v ballot end first placed rest right =
 
 -- ---- the votes
 
--- the texts of the votes, one behind the other
+-- the texts of the votes, one after the other
 abbrev pub each_placed : Version → List PlacedVote → List ℕ
 each_placed v votes = flat_map (placed_text_at v) votes
 
--- so many right votes at positions that rise
+-- n right votes at positions that rise
 pub record AreVotes (v : Version) (ballot end first count : ℕ) (votes : List PlacedVote) : Type 0 where
   pub len : length votes ≡ count
   pub rising : AreRising first end votes

@@ -10,7 +10,7 @@ use Rattle.rp_codec.specs.declared.packet.Body.TheVariants.{PromiseRange}
 use Rattle.rp_codec.specs.Reading.{◌>>=◌, Read, ruled, byte_at, ballot_at, range_at, reported_at, votes_at, reported_votes_at, promise_range_at}
 use Rattle.rp_codec.proofs.ListReading.{prefixed, prefixed_nil, joined}
 
--- so many were read, the others are at positions from the next on, and stand where the rest begins
+-- n were read, the others are at positions from the next on, and are where the rest begins
 pub record HasVotes (v : Version) (ballot end first count : ℕ) (bytes : List ℕ) (done next : ℕ) (front : List PlacedVote) (rest : List ℕ) : Type 0 where
   pub read : votes_at v ballot end first count bytes ≡ prefixed front (votes_at v ballot end next (count - done) rest)
 
@@ -65,7 +65,7 @@ wrong (Err other) reason e ok = absurd cc
 pub begun : (v : Version) (ballot end first count : ℕ) (bytes : List ℕ) (next : ℕ) → next ≡ first → HasVotes v ballot end first count bytes 0 next [] bytes
 begun v ballot end first count bytes next same = subst (λ (n : ℕ). HasVotes v ballot end first count bytes 0 n [] bytes) (sym same) (no_votes_read v ballot end first count bytes)
 
--- what stands behind the count, where the whole is read
+-- what is after the count, where the whole is read
 through : {A B : Type 0} (b : Bool) (x : A) (f : A → Result B PacketReason) (y : B) → (ruled b x >>= f) ≡ Ok y → f x ≡ Ok y
 through true x f y e = e
 through {A} {B} false x f y e = absurd cc
@@ -95,9 +95,9 @@ no_votes_fault v range ballot end bytes text count reason e same fault ok =
     (subst (λ (r : Read ℕ). IsOk (r >>= λ n. ruled (leb n.0 range.count) n >>= λ count. votes_at v ballot (end_of range) range.first count.0 count.1)) e ok)
 
 -- a promise for a range, field by field
-pub promise_range_found : (v : Version) (bytes after_range text told after : List ℕ) (range : Range) (ballot : ℕ) (votes : List PlacedVote)
-    → range_at bytes ≡ Ok (range, after_range) → ballot_at after_range ≡ Ok (ballot, text) → told ≡ text → reported_votes_at v range ballot text ≡ Ok (votes, after)
-    → (reported_votes_at v range ballot told ≡ Ok (votes, after)) × (promise_range_at v bytes ≡ Ok (PromiseRange range ballot votes, after))
+pub promise_range_found : (v : Version) (bytes after_range text stated after : List ℕ) (range : Range) (ballot : ℕ) (votes : List PlacedVote)
+    → range_at bytes ≡ Ok (range, after_range) → ballot_at after_range ≡ Ok (ballot, text) → stated ≡ text → reported_votes_at v range ballot text ≡ Ok (votes, after)
+    → (reported_votes_at v range ballot stated ≡ Ok (votes, after)) × (promise_range_at v bytes ≡ Ok (PromiseRange range ballot votes, after))
 unfolding promise_range_at
-promise_range_found v bytes after_range text told after range ballot votes e1 e2 same e3 =
+promise_range_found v bytes after_range text stated after range ballot votes e1 e2 same e3 =
     (ap (reported_votes_at v range ballot) same ∙ e3, rw (e1, e2, e3) refl)

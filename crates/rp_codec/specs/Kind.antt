@@ -1,7 +1,8 @@
 -- The kinds of packets, and their numbers.
 use Rattle.std.specs.Prelude.{ℕ, ◌==◌, if◌then◌else◌, Option, Some, None, IsSome}
 use Rattle.rp_codec.specs.declared.kind.Kind.{Kind}
-use Rattle.rp_codec.specs.declared.kind.Kind.TheVariants.{Call, Prepare, Promise, Accept, Accepted, Decided, Ask, Nack, Reply, Report, PrepareRange, PromiseRange}
+use Rattle.rp_codec.specs.declared.kind.Kind.TheVariants.{Call, Prepare, Promise, Accept, Accepted, Decided, Ask, Nack}
+use Rattle.rp_codec.specs.declared.kind.Kind.TheVariants.{Reply, Report, PrepareRange, PromiseRange}
 
 -- the kind of a number
 abbrev pub kind_of : ℕ → Option Kind

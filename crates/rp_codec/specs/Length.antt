@@ -1,4 +1,4 @@
--- How long a text is, by the byte that tells what it is.
+-- How long a text is, by the byte that says what it is.
 use Rattle.std.specs.Prelude.{ℕ, ◌==◌, if◌then◌else◌}
 
 -- an action's, by its first byte

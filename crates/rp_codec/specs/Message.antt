@@ -1,4 +1,4 @@
--- What a packet says, and which of it may be said (the rules are this project's own).
+-- What a packet says, and which of it may be said (the rules are ours).
 use Rattle.std.specs.Prelude.{◌≡◌, ℕ, ◌+◌, ◌-◌, ◌^◌, ◌<◌, min, List, length, All, IfSome}
 use Rattle.rp_base.specs.Number.{IsNode, IsTask, IsPosition}
 use Rattle.rp_base.specs.Ballot.{IsBallot}
@@ -12,7 +12,8 @@ use Rattle.rp_base.specs.declared.record.Vote.{Vote}
 use Rattle.rp_codec.specs.declared.packet.Party.{Party}
 use Rattle.rp_codec.specs.declared.packet.Party.TheVariants.{Node, Task, Audit}
 use Rattle.rp_codec.specs.declared.packet.Body.{Body}
-use Rattle.rp_codec.specs.declared.packet.Body.TheVariants.{Call, Prepare, Promise, Accept, Accepted, Decided, Ask, Nack, Reply as Answer, Report, PrepareRange, PromiseRange}
+use Rattle.rp_codec.specs.declared.packet.Body.TheVariants.{Call, Prepare, Promise, Accept, Accepted, Decided, Ask}
+use Rattle.rp_codec.specs.declared.packet.Body.TheVariants.{Nack, Reply as Answer, Report, PrepareRange, PromiseRange}
 
 pub record Message : Type 0 where
   pub from : Party
@@ -30,7 +31,8 @@ IsParty Audit = Unit {0}
 abbrev pub IsBody : Body → Type 0
 IsBody (Call action) = Unit {0}
 IsBody (Prepare position ballot) = IsPosition position × IsBallot ballot
-IsBody (Promise position ballot last) = IsPosition position × IsBallot ballot × IfSome last (λ vote. IsBallot vote.ballot)
+IsBody (Promise position ballot last) =
+    IsPosition position × IsBallot ballot × IfSome last (λ vote. IsBallot vote.ballot)
 IsBody (Accept position ballot action) = IsPosition position × IsBallot ballot
 IsBody (Accepted position ballot action) = IsPosition position × IsBallot ballot
 IsBody (Decided position action) = IsPosition position
@@ -39,9 +41,10 @@ IsBody (Nack position ballot bound) = IsPosition position × IsBallot ballot × 
 IsBody (Answer number reply) = IsReply reply
 IsBody (Report first applied actions) = IsPosition first × (applied < 2 ^ 16)
 IsBody (PrepareRange range ballot) = IsRange range × IsBallot ballot
-IsBody (PromiseRange range ballot votes) = IsRange range × IsBallot ballot × All (λ placed. IsBallot placed.vote.ballot) votes
+IsBody (PromiseRange range ballot votes) =
+    IsRange range × IsBallot ballot × All (λ placed. IsBallot placed.vote.ballot) votes
 
--- ---- what who makes a packet owes
+-- ---- the obligations of who makes a packet
 
 abbrev pub IsNodeParty : Party → Type 0
 IsNodeParty (Node n) = Unit {0}
@@ -77,11 +80,11 @@ BetweenNodes from to = IsNodeParty from × IsNodeParty to
 abbrev pub IsVoteBelow : ℕ → Vote → Type 0
 IsVoteBelow ballot vote = (vote.ballot < ballot) × IsRight vote.action
 
--- how many actions a report tells: those applied from the first position on, and at most 200
+-- how many actions a report has: those applied from the first position on, and at most 200
 abbrev pub report_len : ℕ → ℕ → ℕ
 report_len first applied = min 200 (applied + 1 - first)
 
--- what a report tells of the actions that were applied
+-- what a report says of the actions that were applied
 pub record IsReport (first applied : ℕ) (actions : List Action) : Type 0 where
   pub len : length actions ≡ report_len first applied
   pub right : All IsRight actions

@@ -1,8 +1,10 @@
--- Reading from left to right, with the first fault that is met.
-use Rattle.std.specs.Prelude.{◌≡◌, ℕ, zero, suc, ◌+◌, ◌-◌, ◌^◌, ◌%◌, Bool, true, false, ◌&&◌, List, [], ◌∷◌, length, take, drop, Option, Some, None, Result, Ok, Err, nat_lt, nat_le, ◌==◌, if◌then◌else◌, ℤ}
+-- Reading from left to right, up to the first fault.
+use Rattle.std.specs.Prelude.{◌≡◌, ℕ, zero, suc, ◌+◌, ◌-◌, ◌^◌, ◌%◌, Bool, true, false, ◌&&◌, List, [], ◌∷◌, length}
+use Rattle.std.specs.Prelude.{take, drop, Option, Some, None, Result, Ok, Err, nat_lt, nat_le, ◌==◌, if◌then◌else◌, ℤ}
 use Rattle.std.specs.Int.{Width, w16, w32, w64, byte_len, from_be_bytes, cast_signed}
 use Rattle.rp_base.specs.declared.fault.PacketReason.{PacketReason}
-use Rattle.rp_base.specs.declared.fault.PacketReason.TheVariants.{Short, Long, Version as UnknownVersion, Kind as UnknownKind, Field}
+use Rattle.rp_base.specs.declared.fault.PacketReason.TheVariants.{Short, Long, Version as UnknownVersion}
+use Rattle.rp_base.specs.declared.fault.PacketReason.TheVariants.{Kind as UnknownKind, Field}
 use Rattle.rp_base.specs.declared.action.Operation.{Operation}
 use Rattle.rp_base.specs.declared.action.Operation.TheVariants as operations
 use Rattle.rp_base.specs.declared.action.Action.{Action}
@@ -18,7 +20,8 @@ use Rattle.rp_codec.specs.declared.packet.Party.TheVariants.{Node, Task, Audit}
 use Rattle.rp_codec.specs.declared.packet.Body.{Body}
 use Rattle.rp_codec.specs.declared.packet.Body.TheVariants as bodies
 use Rattle.rp_codec.specs.declared.kind.Kind.{Kind}
-use Rattle.rp_codec.specs.declared.kind.Kind.TheVariants.{Call, Prepare, Promise, Accept, Accepted, Decided, Ask, Nack, Reply as Answer, Report, PrepareRange, PromiseRange}
+use Rattle.rp_codec.specs.declared.kind.Kind.TheVariants.{Call, Prepare, Promise, Accept, Accepted, Decided, Ask, Nack}
+use Rattle.rp_codec.specs.declared.kind.Kind.TheVariants.{Reply as Answer, Report, PrepareRange, PromiseRange}
 use Rattle.rp_codec.specs.Kind.{kind_of}
 use Rattle.rp_codec.specs.declared.version.Version.{Version}
 use Rattle.rp_codec.specs.declared.version.Version.TheVariants.{V1, V2}
@@ -51,7 +54,8 @@ byte_at (b ∷ rest) = Ok (b, rest)
 
 unfoldable pub number_at : Width → List ℕ → Read ℕ
 number_at w bytes =
-    if nat_lt (length bytes) (byte_len w) then Err Short else Ok (from_be_bytes w (take (byte_len w) bytes), drop (byte_len w) bytes)
+    if nat_lt (length bytes) (byte_len w)
+    then Err Short else Ok (from_be_bytes w (take (byte_len w) bytes), drop (byte_len w) bytes)
 
 unfoldable pub signed_at : List ℕ → Read ℤ
 signed_at bytes = do
@@ -90,7 +94,7 @@ ballot_at bytes = do
   n ← number_at w64 bytes
   ruled (is_ballot n.0) n
 
--- so many positions from the first on are a range
+-- n positions from the first on are a range
 abbrev pub is_range : ℕ → ℕ → Bool
 is_range first count = in_range 1 64 count && nat_le (first + count) (2 ^ 16)
 
@@ -137,7 +141,7 @@ operation_at version bytes = do
   kind ← byte_at bytes
   operation_of_kind version kind.0 kind.1
 
--- a task's call, behind its task
+-- a task's call, after its task
 unfoldable pub call_at : Version → ℕ → List ℕ → Read Action
 call_at version task bytes = do
   number ← count_at bytes
@@ -189,7 +193,7 @@ own_call_at version from bytes = do
   own ← ruled (is_task from task.0) task
   call_at version own.0 own.1
 
--- so many actions, one behind the other
+-- n actions, one after the other
 unfoldable pub actions_at : Version → ℕ → List ℕ → Read (List Action)
 actions_at version zero bytes = Ok ([], bytes)
 actions_at version (suc more) bytes = do
@@ -342,7 +346,7 @@ reported_at version ballot end first bytes = do
   action ← action_at version lower.1
   Ok (record { position = position.0; vote = record { ballot = lower.0; action = action.0 } }, action.1)
 
--- so many such votes, each at a position above the one before
+-- n such votes, each at a position above the one before
 unfoldable pub votes_at : Version → ℕ → ℕ → ℕ → ℕ → List ℕ → Read (List PlacedVote)
 votes_at version ballot end first zero bytes = Ok ([], bytes)
 votes_at version ballot end first (suc more) bytes = do
@@ -429,7 +433,7 @@ to_at Report bytes = audit_at bytes
 to_at PrepareRange bytes = node_at bytes
 to_at PromiseRange bytes = node_at bytes
 
--- what stands behind the kind
+-- what is after the kind
 unfoldable pub said_at : Version → Kind → List ℕ → Read Message
 said_at version kind bytes = do
   from ← from_at kind bytes

@@ -1,4 +1,4 @@
--- The text of each record in each version, and which records have one (the format is this project's own).
+-- The text of each record in each version, and which records have one (the format is ours).
 use Rattle.std.specs.Prelude.{◌≡◌, ℕ, List, [], ◌∷◌, ◌++◌}
 use Rattle.rp_base.specs.Number.{IsPosition}
 use Rattle.rp_base.specs.Ballot.{IsBallot}
@@ -35,7 +35,7 @@ HasRecordText version (Voted position ballot action) = HasActionText version act
 HasRecordText version (Learned position action) = HasActionText version action
 HasRecordText version (PromisedRange range ballot) = Unit {0}
 
--- the bytes are a text of the record, and others behind it
+-- the bytes are a text of the record, and others after it
 abbrev pub IsRecordTextBefore : Rec → List ℕ → List ℕ → Type 0
 IsRecordTextBefore rec rest bytes =
     (version : Version) × HasRecordText version rec × (bytes ≡ record_text_at version rec ++ rest)

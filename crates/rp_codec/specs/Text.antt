@@ -1,6 +1,7 @@
--- The text of each packet, and of its parts, in each version. Numbers stand with their highest byte first. What
--- is written is of version 2; in version 1 an entry's index is 0, and a value with another entry than 1 has no text.
-use Rattle.std.specs.Prelude.{◌≡◌, ℕ, ℤ, ◌+◌, Bool, true, false, List, [], ◌∷◌, ◌++◌, length, flat_map, All, IfSome, Option, Some, None}
+-- The text of each packet, and of its parts, in each version. Numbers have their highest byte first. What is written
+-- is of version 2; in version 1 an entry's index is 0, and a value with another entry than 1 has no text.
+use Rattle.std.specs.Prelude.{◌≡◌, ℕ, ℤ, ◌+◌, Bool, true, false, List, [], ◌∷◌, ◌++◌, length, flat_map, All, IfSome}
+use Rattle.std.specs.Prelude.{Option, Some, None}
 use Rattle.std.specs.Int.{Width, w16, w32, w64, to_be_bytes, cast_unsigned}
 use Rattle.rp_base.specs.declared.action.Operation.{Operation}
 use Rattle.rp_base.specs.declared.action.Operation.TheVariants as operations
@@ -14,7 +15,8 @@ use Rattle.rp_base.specs.Ranges.{Range}
 use Rattle.rp_codec.specs.declared.packet.Party.{Party}
 use Rattle.rp_codec.specs.declared.packet.Party.TheVariants.{Node, Task, Audit}
 use Rattle.rp_codec.specs.declared.packet.Body.{Body}
-use Rattle.rp_codec.specs.declared.packet.Body.TheVariants.{Call, Prepare, Promise, Accept, Accepted, Decided, Ask, Nack, Reply as Answer, Report, PrepareRange, PromiseRange}
+use Rattle.rp_codec.specs.declared.packet.Body.TheVariants.{Call, Prepare, Promise, Accept, Accepted, Decided, Ask}
+use Rattle.rp_codec.specs.declared.packet.Body.TheVariants.{Nack, Reply as Answer, Report, PrepareRange, PromiseRange}
 use Rattle.rp_codec.specs.declared.version.Version.{Version}
 use Rattle.rp_codec.specs.declared.version.Version.TheVariants.{V1, V2}
 use Rattle.rp_codec.specs.Version.{version_number}
@@ -38,7 +40,7 @@ ballot_text ballot = number_text w64 ballot
 abbrev pub range_text : Range → List ℕ
 range_text range = position_text range.first ++ range.count ∷ []
 
--- what stands for an entry's index
+-- the byte for an entry's index
 abbrev pub entry_byte : Version → ℕ → ℕ
 entry_byte V1 index = 0
 entry_byte V2 index = index
@@ -116,11 +118,11 @@ party_number Audit = 32
 abbrev pub party_text : Party → List ℕ
 party_text party = party_number party ∷ []
 
--- a report's actions behind what stands before them
+-- a report's actions after what is before them
 abbrev pub listed_text : List ℕ → List Action → List ℕ
 listed_text front actions = front ++ actions_text actions
 
--- the votes of a promise for a range behind what stands before them
+-- the votes of a promise for a range after what is before them
 abbrev pub reported_text : List ℕ → List PlacedVote → List ℕ
 reported_text front votes = front ++ votes_text votes
 
@@ -231,6 +233,6 @@ HasText version m = HasBodyText version m.body
 abbrev pub IsTextOf : Message → List ℕ → Type 0
 IsTextOf m bytes = (version : Version) × HasText version m × (bytes ≡ text_at version m)
 
--- the bytes are a text of the packet, and others behind it
+-- the bytes are a text of the packet, and others after it
 abbrev pub IsTextBefore : Message → List ℕ → List ℕ → Type 0
 IsTextBefore m rest bytes = (version : Version) × HasText version m × (bytes ≡ text_at version m ++ rest)

@@ -1,6 +1,6 @@
-//! Actions as bytes, behind a byte that says which they are: 0 `Noop`, 1 `Call`, 2 `Interrupt`,
-//! 3 `Tick`. In a call, a byte says which operation it is: 1 `Function`, 2 `Procedure`, 3 `Entry`,
-//! 4 `SetTimer`, 5 `CancelTimer`. The index follows, in version 1 0 for an entry.
+//! Actions as bytes, after a byte that says which they are: 0 `Noop`, 1 `Call`, 2 `Interrupt`, 3
+//! `Tick`. In a call, a byte says which operation it is: 1 `Function`, 2 `Procedure`, 3 `Entry`, 4
+//! `SetTimer`, 5 `CancelTimer`. The index follows, in version 1 0 for an entry.
 
 ghost use Rattle.std.specs.Prelude.{◌≡◌, ◌+◌, ◌≤◌, ◌++◌, length};
 ghost use Rattle.rp_codec.specs.Text.{operation_text, action_text};

@@ -9,7 +9,7 @@ use rp_base::{Ballot, Position, PositionRange};
 #[derive(Drop)]
 pub(crate) enum Content<'a> {
     Whole(Body),
-    /// A report, whose actions are the first `count` of what stands at `actions`.
+    /// A report, whose actions are the first `count` of what is at `actions`.
     Listed {
         version: Version,
         first: Position,
@@ -17,7 +17,7 @@ pub(crate) enum Content<'a> {
         count: u8,
         actions: Reader<'a>,
     },
-    /// A promise for a range. How many votes it reports, and then each of them, stand at `votes`.
+    /// A promise for a range. How many votes it reports, and then each of them, are at `votes`.
     Voted {
         version: Version,
         range: PositionRange,

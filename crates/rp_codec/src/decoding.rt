@@ -234,8 +234,8 @@ fn with_task_of(bytes: &[u8]) -> Option<Packet>
     }
 }
 
-/// What the bytes are, where they are no packet between nodes that is read in one piece. It stands
-/// apart from `decode` so that the other, more frequent packets are read faster.
+/// What the bytes are, where they are no packet between nodes that is read in one piece. It is a
+/// function apart from `decode` so that the other, more frequent packets are read faster.
 #[inline(never)]
 fn decode_others(alloc: Global, bytes: &[u8]) -> Result<Result<Packet, PacketReason>, AllocError>
     ensures answer { IfOk result (λ answer. IsDecoded bytes.now answer) }

@@ -45,7 +45,7 @@ fn party_number(party: Party) -> u8
     }
 }
 
-/// What stands before the body.
+/// What is before the body.
 #[inline(always)]
 fn head_of(packet: &Packet) -> [u8; 4]
     ensures { result ≡ head_text packet.now }
@@ -71,7 +71,8 @@ pub fn text_of_packet(packet: &Packet) -> ShortText
     text
 }
 
-/// Puts the packet's one text of version 2 behind the bytes. Where memory is refused, the bytes stay.
+/// Puts the packet's one text of version 2 after the bytes. Where memory is refused, the bytes
+/// stay.
 #[inline(always)]
 pub fn encode_onto(packet: &Packet, out: &mut Vec<u8>) -> Result<(), AllocError>
     ensures ok { OnOk result (out.new.items ≡ out.old.items ++ text_of packet.now) }
@@ -104,7 +105,7 @@ pub fn encode(alloc: Global, packet: &Packet) -> Result<Vec<u8>, AllocError>
     Ok(out)
 }
 
-/// No packet's text of version 2 begins another's, whatever stands behind the two.
+/// No packet's text of version 2 begins another's, whatever is after the two.
 pub fn one_text()
     ensures { (p q : Message) (x y : List ℕ) → IsPacket p → IsPacket q
         → text_of p ++ x ≡ text_of q ++ y → (p ≡ q) × (x ≡ y) }

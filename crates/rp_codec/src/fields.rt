@@ -1,5 +1,5 @@
-//! The fields that stand in more than one text: numbers, positions and ballots. A reader answers
-//! the field's value and the bytes after it.
+//! The fields that are in more than one text: numbers, positions and ballots. A reader answers the
+//! field's value and the bytes after it.
 
 ghost use Rattle.std.specs.Prelude.{◌≡◌, ◌+◌, ◌≤◌, ◌++◌, length};
 ghost use Rattle.std.specs.Int.{w16, w32, w64};

@@ -9,7 +9,7 @@
 //! - `kind`: the kinds of packets
 //! - `version`: the versions of texts
 //! - `reader`: bytes that are read from the front
-//! - `fields`: the fields that stand in more than one text: numbers, positions and ballots
+//! - `fields`: the fields that are in more than one text: numbers, positions and ballots
 //! - `action_text`: actions as bytes
 //! - `reply_text`: replies as bytes
 //! - `report_text`: reports as bytes

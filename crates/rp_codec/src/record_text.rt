@@ -144,7 +144,7 @@ pub fn decode_front(bytes: &[u8]) -> Option<(Rec, usize)>
     }
 }
 
-/// No record's text of version 2 begins another's, whatever stands behind the two.
+/// No record's text of version 2 begins another's, whatever is after the two.
 pub fn one_record_text()
     ensures { (r s : Rec) (x y : List ℕ) → IsRecord r → IsRecord s
         → record_text r ++ x ≡ record_text s ++ y → (r ≡ s) × (x ≡ y) }

@@ -1,5 +1,5 @@
-//! Replies as bytes, behind a byte that says which they are: 1 `Value`, 2 `Truth`,
-//! 3 `ConstraintError`, 4 `ProgramError`, 5 `NoSuchOperation`.
+//! Replies as bytes, after a byte that says which they are: 1 `Value`, 2 `Truth`, 3
+//! `ConstraintError`, 4 `ProgramError`, 5 `NoSuchOperation`.
 
 ghost use Rattle.std.specs.Prelude.{◌≡◌, ◌+◌, ◌≤◌, ◌++◌, length};
 ghost use Rattle.rp_codec.specs.Text.{reply_text};

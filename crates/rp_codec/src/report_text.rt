@@ -1,5 +1,5 @@
-//! Reports as bytes: the first position, how many actions are applied, how many are told, and each
-//! of those.
+//! Reports as bytes: the first position, how many actions are applied, how many are reported, and
+//! each of those.
 
 ghost use Rattle.std.specs.Prelude.{◌≡◌, ◌<◌, ◌++◌, length, take, IsOk, IfOk, OnOk, OnErr};
 ghost use Rattle.rp_codec.specs.Text.{listed_text};
@@ -17,7 +17,7 @@ use crate::version::Version;
 use rp_base::{Action, PacketReason};
 use std::alloc::{AllocError, Global};
 
-/// Reads so many actions, and keeps none.
+/// Reads n actions, and keeps none.
 fn skip_actions(reader: &mut Reader, version: Version, count: u8) -> Result<(), PacketReason>
     ensures { Skips result reader.new (actions_at version count reader.old) }
 {
@@ -52,7 +52,7 @@ pub(crate) fn read_report<'a>(
     Ok(content)
 }
 
-/// The first so many actions of what is left.
+/// The first n actions of what is left.
 pub(crate) fn list_actions(
     alloc: Global,
     mut reader: Reader,
@@ -72,7 +72,7 @@ pub(crate) fn list_actions(
     Ok(Actions::from_vec(actions))
 }
 
-/// Where memory is refused, some of the text may stand behind the bytes.
+/// Where memory is refused, some of the text may be after the bytes.
 fn put_actions(out: &mut Vec<u8>, front: &ShortText, actions: &[Action]) -> Result<(), AllocError>
     requires { length actions.now < 256 }
     ensures ok { OnOk result (out.new.items ≡ out.old.items ++ listed_text front.now actions.now) }
@@ -88,7 +88,7 @@ fn put_actions(out: &mut Vec<u8>, front: &ShortText, actions: &[Action]) -> Resu
     Ok(())
 }
 
-/// Puts a report's text behind the bytes: its front, and then its actions. Where memory is refused,
+/// Puts a report's text after the bytes: its front, and then its actions. Where memory is refused,
 /// the bytes stay.
 #[inline(never)]
 pub(crate) fn put_report(

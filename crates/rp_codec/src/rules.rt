@@ -11,7 +11,7 @@ ghost use Rattle.rp_base.specs.PlacedVotes.{AreRising, AreReported};
 use crate::packet::{Body, Party};
 use rp_base::{Action, Ballot, PlacedVote, Position, PositionRange, Reply, TaskId, Vote};
 
-/// How many actions the longest report tells.
+/// How many actions the longest report has.
 const MOST_ACTIONS: u32 = 200;
 
 /// Shows that a party's number is within its range.
@@ -183,7 +183,7 @@ fn is_call(from: &Party, to: &Party, action: &Action) -> bool
     is_task_party(from) && is_node_party(to) && is_call_of(from, action) && action.is_right()
 }
 
-/// How many actions a report from this position on tells, where the actions up to the position
+/// How many actions a report from this position on has, where the actions up to the position
 /// `applied` are applied: those that there are, and at most 200.
 pub fn report_len(first: Position, applied: u16) -> u8
     ensures { result ≡ report_len first applied }

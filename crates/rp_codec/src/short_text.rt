@@ -46,7 +46,7 @@ impl ShortText {
         ShortText { bytes, len: N }
     }
 
-    /// Adds bytes behind the others.
+    /// Adds bytes after the others.
     #[inline(always)]
     pub(crate) fn put<const N: usize>(&mut self, piece: &[u8; N])
         requires { length self.old + N ≤ 40 }

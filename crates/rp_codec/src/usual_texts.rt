@@ -12,7 +12,7 @@ use crate::packet::{Body, Packet, Party};
 use crate::rules::is_call_of;
 use rp_base::{Action, Ballot, NodeId, Operation, Position, Reply, TaskId, Vote};
 
-/// What stands before the action in most packets between nodes.
+/// What is before the action in most packets between nodes.
 #[derive(Clone, Copy)]
 struct Place {
     from: NodeId,
@@ -160,7 +160,7 @@ pub(crate) fn prepare_of(bytes: &[u8]) -> Option<Packet>
     Some(Packet::new(Party::Node(place.from), Party::Node(place.to), body))
 }
 
-/// A promise that tells of no vote.
+/// A promise that reports no vote.
 #[inline(always)]
 pub(crate) fn promise_of(bytes: &[u8]) -> Option<Packet>
     ensures { IfSome result (λ packet. bytes.now ≡ text_of packet) }

@@ -40,7 +40,7 @@ fn read_reported(
     Ok((position, lower, action))
 }
 
-/// Reads so many votes, and keeps none.
+/// Reads n votes, and keeps none.
 fn skip_each(
     reader: &mut Reader,
     version: Version,
@@ -138,7 +138,7 @@ fn put_placed(text: &mut ShortText, placed: &PlacedVote)
     put_action(text, &placed.vote.action);
 }
 
-/// Where memory is refused, some of the text may stand behind the bytes.
+/// Where memory is refused, some of the text may be after the bytes.
 fn put_votes(out: &mut Vec<u8>, front: &ShortText, votes: &[PlacedVote]) -> Result<(), AllocError>
     requires { length votes.now < 256 }
     ensures ok { OnOk result (out.new.items ≡ out.old.items ++ reported_text front.now votes.now) }

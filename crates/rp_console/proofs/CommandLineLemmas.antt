@@ -19,18 +19,18 @@ or_else_second : (first second : Kinds) → or_else first second ≡ [] → seco
 or_else_second [] second e = e
 or_else_second (k ∷ ks) second e = cc
 
--- where a subcommand is wanted and nothing is missing, one was used
-last_check : (used shows given : Bool) (wanted : Bool) (wants : Bool) → wanted ≡ true → shows ≡ false
-    → check_kinds (not used && (shows && given)) (not used && wanted) wants ≡ [] → used ≡ true
-last_check true shows given wanted wants is_wanted is_quiet e = refl
-last_check false false given true wants is_wanted is_quiet e = cc
-last_check false true given wanted wants is_wanted is_quiet e = cc
-last_check false false given false wants is_wanted is_quiet e = cc
+-- where a subcommand is required and nothing is missing, one was used
+last_check : (used shows given : Bool) (expected : Bool) (expects : Bool) → expected ≡ true → shows ≡ false
+    → check_kinds (not used && (shows && given)) (not used && expected) expects ≡ [] → used ≡ true
+last_check true shows given expected expects is_expected is_quiet e = refl
+last_check false false given true expects is_expected is_quiet e = cc
+last_check false true given expected expects is_expected is_quiet e = cc
+last_check false false given false expects is_expected is_quiet e = cc
 
--- a level of the parse that wants a subcommand and has no fault used one
+-- a level of the parse that requires a subcommand and has no fault used one
 level_used : (s : Shape) (names : Names) (h : Held) (words : List Text) (used : Bool) (below : Kinds)
     → s.subcommand_required ≡ true → s.arg_required_else_help ≡ false → level_fault s names h words used below ≡ [] → used ≡ true
-level_used s names h words used below wanted quiet e =
+level_used s names h words used below expected quiet e =
     let end = (walk s.rules names h words).held in
     let last = check_fault s (finished s.rules end) used in
     let defaults = defaults_fault (settled s.rules end).rows s.rules in
@@ -38,7 +38,7 @@ level_used s names h words used below wanted quiet e =
     let none : last ≡ [] = or_else_second defaults last (or_else_second settle (or_else defaults last)
     (or_else_second below (or_else settle (or_else defaults last))
     (or_else_second (walk_fault s names (walk_from h) words) (or_else below (or_else settle (or_else defaults last))) e))) in
-    last_check used s.arg_required_else_help _ s.subcommand_required _ wanted quiet none
+    last_check used s.arg_required_else_help _ s.subcommand_required _ expected quiet none
 
 one_entered : (first second : Bool) (s t : Shape) (words : List Text)
     → let found : Option (Text × List Row) = option_map (λ x. rows_at x words) (cond first (Some s) (cond second (Some t) None)) in
@@ -57,7 +57,7 @@ map_map : {A B C : Type 0} (f : B → C) (g : A → B) (o : Option A) → option
 map_map f g None = refl
 map_map f g (Some x) = refl
 
--- the name of the subcommand that a parse met, by what it has of it
+-- the name of the subcommand that a parse used, by what it has of it
 pub name_of_rows : (m : ArgMatches) → option_map (λ found. found.0) (subcommand_rows_of m) ≡ subcommand_name_of m
 name_of_rows m = map_map _ _ (out-ArgMatches m).subcommand
 
@@ -96,14 +96,14 @@ pub has_fault : (a : App) (words : List Text) (e : Error) → a ≡ console → 
 has_fault a words e same refused = subst (λ b. HasKind (fault_of b words) e) same (refused (ap is_simple_and_free same ∙ is_free_console))
 
 module _ (a : App) (words : List Text) (m : ArgMatches) (rows : Type 0) (same : a ≡ console) (met : is_simple a ≡ true → rows × (subcommand_rows_of m ≡ subcommand_of a words)) where
-  -- the subcommand that the parse met is the one that the words name
+  -- the subcommand that the parse used is the one that the words name
   met_rows : subcommand_rows_of m ≡ subcommand_of console words
   met_rows = (met (ap is_simple same ∙ is_simple_console)).1 ∙ ap (λ b. subcommand_of b words) same
 
   pub met_name : option_map (λ found. found.0) (subcommand_of console words) ≡ subcommand_name_of m
   met_name = ap (option_map (λ found. found.0)) (sym met_rows) ∙ name_of_rows m
 
-  -- a parse without fault met one of the two
+  -- a parse without fault used one of the two
   pub met_one : fault_of console words ≡ [] → (subcommand_name_of m ≡ Some (codes "script")) ⊎ (subcommand_name_of m ≡ Some (codes "live"))
   met_one none = elim (subcommand_name words none) [
     | inl script ↦ inl (sym met_name ∙ script)

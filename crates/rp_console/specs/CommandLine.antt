@@ -1,4 +1,4 @@
--- The command line (this project's own).
+-- The command line.
 use Rattle.std.specs.Prelude.{◌≡◌, ℕ, ◌^◌, ◌<◌, true, Option, Some, None, List, [], ◌∷◌, pos, codes, option_and_then}
 use Rattle.std.specs.Prelude.{if◌then◌else◌}
 use Rattle.std.specs.Str.{bytes_eq}
@@ -13,7 +13,7 @@ use Rattle.clap.specs.declared.builder.value_parser.ValueParser.TheVariants.{Sig
 use Rattle.rp_console.specs.declared.args.Args.{Args}
 use Rattle.rp_console.specs.declared.args.Args.TheVariants.{Script, Live}
 
--- a command that has a version and wants one of its subcommands, which `help` is not
+-- a command that has a version and requires one of its subcommands, which `help` is not
 abbrev pub with_choice : Shape → Shape
 with_choice s = record s { subcommand_required = true; disable_help_subcommand = true; has_version = true }
 
@@ -61,7 +61,7 @@ option_of name option words =
     option_and_then (λ found. if bytes_eq found.0 name then one_of option found.1 else None)
     (subcommand_of console words)
 
--- of `--trace`: `true` where it stands among them, else `false`
+-- of `--trace`: `true` where it is among them, else `false`
 abbrev pub trace_of : List Text → Option Text
 trace_of words = option_of (codes "script") (codes "trace") words
 
@@ -73,7 +73,7 @@ seed_of words = option_of (codes "live") (codes "seed") words
 abbrev pub turns_of : List Text → Option Text
 turns_of words = option_of (codes "live") (codes "turns") words
 
--- the text is decimal digits, behind one plus at most, that write this number of 32 bits
+-- the text is decimal digits, after one plus at most, that write this number of 32 bits
 pub record IsNumberText (text : Text) (number : ℕ) : Type 0 where
   pub digits : IsNumeral 10 (without_leading_plus text)
   pub value : number ≡ digits_value 10 (without_leading_plus text)

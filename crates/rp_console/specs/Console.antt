@@ -17,7 +17,7 @@ use Rattle.rp_script.specs.Figures.{figures_line_of}
 use Rattle.rp_script.specs.Given.{IsMeant}
 use Rattle.rp_script.specs.LiveRun.{LiveBegins, LivePrints}
 use Rattle.rp_console.specs.Status.{status_after, status_of}
-use Rattle.rp_script.specs.FaultLine.{fault_line_of, with_line_feed}
+use Rattle.rp_script.specs.FaultMessage.{fault_message_of, with_line_feed}
 use Rattle.rp_console.specs.declared.args.Args.{Args}
 use Rattle.rp_console.specs.declared.args.Args.TheVariants.{Script, Live}
 use Rattle.rp_console.specs.declared.console.Ending.{Ending}
@@ -52,7 +52,7 @@ mode_of (Live seed turns) = modes.Live
 abbrev pub report_of : Result (Option FiguresLine) Fault → List ℕ
 report_of (Ok None) = []
 report_of (Ok (Some figures)) = with_line_feed (figures_line_of figures)
-report_of (Err fault) = with_line_feed (fault_line_of fault)
+report_of (Err fault) = with_line_feed (fault_message_of fault)
 
 -- What the words ask for was run, with the deck that the bytes given to it mean. It printed what such a run prints, or
 -- a fault ended it, after a beginning of that at most. Where the bytes mean no deck, nothing is printed, and the

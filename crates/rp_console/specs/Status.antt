@@ -1,4 +1,4 @@
--- The status that the program ends with (this project's own).
+-- The status that the program ends with.
 use Rattle.std.specs.Prelude.{ℕ, Result, Ok, Err}
 use Rattle.rp_base.specs.declared.fault.Fault.{Fault}
 use Rattle.rp_base.specs.declared.fault.Fault.TheVariants.{BadDeck}

@@ -78,13 +78,12 @@ fn live_command<'a>(alloc: Global) -> Result<Command<'a>, AllocError>
         .value_parser(value_parser!(u32).range(1..=1_000_000))
         .default_value("10000");
     Command::new(alloc, "live")
-        .about("Runs the deck that standard input holds in threads, and prints what came of it")
+        .about("Runs the deck that standard input holds in threads, and prints the result")
         .arg(seed)?
         .arg(turns)
 }
 
-/// Reads the words, of which the first is the program's name. An error has the text that the user
-/// is told.
+/// Reads the words, of which the first is the program's name. An error has the text for the user.
 pub fn read_args<S: AsStr>(alloc: Global, words: &[S]) -> Result<Args, Error>
     ensures named { IfOk result (λ args. option_map (λ found. found.0)
         (subcommand_of console (map S.text words.now)) ≡ Some (name_of args)) }

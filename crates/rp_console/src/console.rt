@@ -7,7 +7,7 @@ ghost use Rattle.rp_console.specs.Console.{FollowsWords, HasBegun, IsUnread, Pri
 ghost use Rattle.rp_script.specs.Faults.{IsBadDeck, IsProgramFault};
 ghost use Rattle.rp_console.specs.Status.{status_after, status_of};
 ghost use Rattle.rp_script.specs.Given.{IsMeant};
-ghost use Rattle.rp_script.specs.FaultLine.{fault_line_of, with_line_feed};
+ghost use Rattle.rp_script.specs.FaultMessage.{fault_message_of, with_line_feed};
 
 use crate::args::{Args, read_args, unread_words, words_status};
 use crate::status::status;
@@ -152,7 +152,7 @@ fn end<E: Write>(errors: &mut E, ran: Result<Option<FiguresLine>, Fault>) -> End
 pub fn fail<E: Write>(errors: &mut E, fault: Fault) -> Ending
     ensures status { result.status ≡ status_of fault }
     ensures reported { OnOk result.reported (Appends (E.contents errors.old)
-        (E.contents errors.new) (with_line_feed (fault_line_of fault))) }
+        (E.contents errors.new) (with_line_feed (fault_message_of fault))) }
 {
     let reported = tell(&fault, errors);
     Ending {

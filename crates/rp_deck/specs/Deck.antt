@@ -1,4 +1,4 @@
--- What a deck that was read keeps (the limits are this project's own).
+-- What a deck that was read keeps (the limits are ours).
 use Rattle.std.specs.Prelude.{◌≤◌, All, map}
 use Rattle.indexmap.specs.IndexMap.{index_map_len, values}
 use Rattle.indexmap.specs.IndexSet.{index_set_len}
@@ -19,8 +19,11 @@ pub record IsRightDeck (deck : Deck) : Type 0 where
   pub objects : IsNameSet deck.objects
   pub some_object : 1 ≤ index_set_len deck.objects
   pub program : HasObjects (index_set_len deck.objects) deck.program
-  pub kept : DeclaresAll (map (λ task. task.priority) (values deck.tasks)) (values deck.interrupts) (values deck.timers) deck.program
+  pub kept : DeclaresAll (map (λ task. task.priority) (values deck.tasks)) (values deck.interrupts)
+      (values deck.timers) deck.program
   pub interrupts : IsNameTable deck.interrupts
   pub timers : IsNameTable deck.timers
-  pub script : All (λ line. FitsIn deck.config.nodes (index_map_len deck.tasks) (index_set_len deck.objects) line.command) deck.script.items
-  pub named : All (λ line. IsCommandDeclared deck.program (index_map_len deck.interrupts) line.command) deck.script.items
+  pub script : All (λ line. FitsIn deck.config.nodes (index_map_len deck.tasks)
+      (index_set_len deck.objects) line.command) deck.script.items
+  pub named : All (λ line. IsCommandDeclared deck.program (index_map_len deck.interrupts) line.command)
+      deck.script.items

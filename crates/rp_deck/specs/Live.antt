@@ -1,4 +1,4 @@
--- Which lines of a script live mode takes (this project's own).
+-- Which lines of a script live mode takes.
 use Rattle.std.specs.Prelude.{All}
 use Rattle.rp_model.specs.declared.event.Event.{Event}
 use Rattle.rp_model.specs.declared.event.Event.TheVariants.{Submit, Again, Node, Cut, Stop, Restart}

@@ -23,7 +23,7 @@ IsUpTo last number = (1 ≤ number) × (number ≤ last)
 abbrev pub IsMessage : ℕ → Type 0
 IsMessage message = (1 ≤ message) × (message < 2 ^ 63)
 
--- a step names nodes of so many
+-- a step names nodes of n
 abbrev pub IsStepWithin : ℕ → Step → Type 0
 IsStepWithin nodes (Deliver message) = IsMessage message
 IsStepWithin nodes (Lead node position) = IsUpTo nodes node
@@ -32,7 +32,7 @@ IsStepWithin nodes (Interrupt node interrupt) = IsUpTo nodes node
 IsStepWithin nodes (Tick node now) = IsUpTo nodes node
 IsStepWithin nodes (Report node first) = IsUpTo nodes node
 
--- an event names nodes, tasks and objects of so many
+-- an event names nodes, tasks and objects of n
 abbrev pub IsEventWithin : ℕ → ℕ → ℕ → Event → Type 0
 IsEventWithin nodes tasks objects (Submit task node object operation arg) =
     IsUpTo tasks task × IsUpTo nodes node × IsUpTo objects object × IsRightOperation operation

@@ -60,7 +60,8 @@ fn read_operation(words: &mut Words<'_>, declared: &Declared) -> Result<Called, 
     requires { IsComplete declared.now }
     ensures read { Gives (λ called. (called.object, called.operation, unread words.new)) result
         (operation_at (names_of declared.now) (unread words.old)) }
-    ensures within { IfOk result (λ called. IsUpTo (index_set_len declared.now.objects) called.object
+    ensures within { IfOk result
+        (λ called. IsUpTo (index_set_len declared.now.objects) called.object
         × IsRightOperation called.operation) }
     ensures offered { IfOk result (λ called.
         IsOffered declared.now.program called.object called.operation) }

@@ -28,7 +28,7 @@ fn most_positions(positions: Option<Position>) -> u16
     }
 }
 
-/// Reads a deck that is to run in a mode, or tells its first bad line. A line of the script that
+/// Reads a deck that is to run in a mode, or returns its first bad line. A line of the script that
 /// live mode does not take is bad in it, by its first word.
 pub fn read_deck(alloc: Global, text: &[u8], mode: Mode) -> Result<Deck, Fault>
     requires { length text.now + 1 < 2 ^ 32 }

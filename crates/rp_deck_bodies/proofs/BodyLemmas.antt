@@ -4,7 +4,7 @@ use Rattle.std.proofs.Common.{◌≡◌, ◌==◌, false, ℕ, zero, suc, ◌+�
 use Rattle.std.specs.Prelude.{is_some, option_map, slice_get}
 use Rattle.rp_body.specs.declared.statement.Stmt.{Stmt}
 use Rattle.rp_deck_bodies.specs.declared.statements.OpenIf.{OpenIf}
-use Rattle.rp_deck_bodies.specs.Bodies.{BodyText, Empty, OpenIfText, OpenBodyText, may_turn, turned_at, turned, closed_at, closed, If, first_part, second_part}
+use Rattle.rp_deck_bodies.specs.Bodies.{BodyText, Empty, OpenIfText, OpenBodyText, may_turn, with_else_at, with_else, closed_at, closed, If, first_part, second_part}
 use Rattle.rp_deck_bodies.specs.BodyViews.{in_order, and_then, body_text, if_text, within}
 
 -- ---- a statement more
@@ -54,8 +54,8 @@ turns (x ∷ xs) last here = turns_within xs x last (length (x ∷ xs) - 1) [] (
 -- ---- at `else` and at `end`
 
 pub turned_is : (b : OpenBodyText) (i : OpenIfText) (outer : List OpenIfText) → b.ifs ≡ i ∷ outer
-    → turned b ≡ record b { ifs = record i { first = Some b.statements } ∷ outer; statements = Empty }
-turned_is b i outer is = ap (λ (l : List OpenIfText). turned_at l b) is
+    → with_else b ≡ record b { ifs = record i { first = Some b.statements } ∷ outer; statements = Empty }
+turned_is b i outer is = ap (λ (l : List OpenIfText). with_else_at l b) is
 
 pub closed_is : (b : OpenBodyText) (i : OpenIfText) (outer : List OpenIfText) → b.ifs ≡ i ∷ outer
     → closed b ≡ record b { ifs = outer; statements = If i.before i.condition (first_part i.first b.statements) (second_part i.first b.statements) }

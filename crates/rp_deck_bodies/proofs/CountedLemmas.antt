@@ -1,4 +1,4 @@
--- What names stand for is counted where all that is declared is.
+-- What names denote is counted where all that is declared is.
 use Rattle.std.proofs.Common.{◌≡◌, ℕ, zero, suc, ◌+◌, ◌≤◌, ◌&&◌, List, [], ◌∷◌, ◌++◌, Bool, true, false, length, Option, Some, None, nat_le, arith, refl, subst}
 use Rattle.std.specs.Prelude.{All, IsTrue, slice_get, slice_index_or}
 use Rattle.std.proofs.lemmas.Bool.{le-leb}

@@ -1,5 +1,6 @@
 -- Bodies of operations, and how each line of one goes on.
-use Rattle.std.specs.Prelude.{ℕ, ◌-◌, ◌==◌, Bool, true, false, not, nat_lt, List, [], ◌∷◌, codes, length, Option, Some, None, is_some, Result, Ok, if◌then◌else◌}
+use Rattle.std.specs.Prelude.{ℕ, ◌-◌, ◌==◌, Bool, true, false, not, nat_lt, List, [], ◌∷◌, codes, length, Option, Some}
+use Rattle.std.specs.Prelude.{None, is_some, Result, Ok, if◌then◌else◌}
 use Rattle.std.specs.Str.{bytes_eq}
 use Rattle.rp_base.specs.declared.fault.DeckReason.{DeckReason}
 use Rattle.rp_base.specs.declared.fault.DeckReason.TheVariants.{UnknownWord, TooMany}
@@ -73,15 +74,15 @@ one_more b = do
   Ok (record b { left = b.left - 1 })
 
 -- at `else`
-abbrev pub turned_at : List OpenIfText → OpenBodyText → OpenBodyText
-turned_at [] b = b
-turned_at (innermost ∷ outer) b = record b {
+abbrev pub with_else_at : List OpenIfText → OpenBodyText → OpenBodyText
+with_else_at [] b = b
+with_else_at (innermost ∷ outer) b = record b {
   ifs = record innermost { first = Some b.statements } ∷ outer;
   statements = Empty;
 }
 
-abbrev pub turned : OpenBodyText → OpenBodyText
-turned b = turned_at b.ifs b
+abbrev pub with_else : OpenBodyText → OpenBodyText
+with_else b = with_else_at b.ifs b
 
 -- the two parts of an `if`, where these are the last statements read of it
 abbrev pub first_part : Option BodyText → BodyText → BodyText
@@ -106,7 +107,7 @@ abbrev pub closed : OpenBodyText → OpenBodyText
 closed b = closed_at b.ifs b
 
 module _ (names : List (List ℕ)) (declared : List Component) where
-  -- a statement, behind its first word; of an `if` the condition
+  -- a statement, after its first word; of an `if` the condition
   unfoldable pub statement_line : OpenBodyText → StatementWord → List ℕ → Result OpenBodyText DeckReason
   statement_line b words.Set rest = do
     word ← word_at rest
@@ -136,7 +137,7 @@ module _ (names : List (List ℕ)) (declared : List Component) where
     Ok (after, false)
   body_line_of b Else rest = do
     e ← end_at rest
-    Ok (turned b, false)
+    Ok (with_else b, false)
   body_line_of b End rest = do
     e ← end_at rest
     Ok (closed b, length b.ifs == 0)

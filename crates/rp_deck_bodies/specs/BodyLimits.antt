@@ -1,4 +1,4 @@
--- The limits that a body keeps whose `end` was not read yet (this project's own).
+-- The limits that a body keeps whose `end` was not read yet.
 use Rattle.std.specs.Prelude.{ℕ, ◌+◌, ◌-◌, ◌≤◌, Bool, true, IsTrue, List, [], ◌∷◌, All, length, Option, Some, None, Vec}
 use Rattle.std.specs.declared.alloc.Global.{Global}
 use Rattle.rp_body.specs.Check.{cond_fits, statement_count, depth_of, body_fits}
@@ -30,7 +30,8 @@ ifs_count (i ∷ inner) = 1 + statement_count i.before.items + part_count i.firs
 -- what was read in them and before them is at most so deep, the outermost first
 abbrev pub AreWithin : ℕ → List OpenIf → Type 0
 AreWithin most [] = Unit {0}
-AreWithin most (i ∷ inner) = (depth_of i.before.items ≤ most) × (1 + part_depth i.first ≤ most) × AreWithin (most - 1) inner
+AreWithin most (i ∷ inner) =
+    (depth_of i.before.items ≤ most) × (1 + part_depth i.first ≤ most) × AreWithin (most - 1) inner
 
 -- and fits
 pub record IfFits (limits : Limits) (i : OpenIf) : Type 0 where
@@ -39,8 +40,9 @@ pub record IfFits (limits : Limits) (i : OpenIf) : Type 0 where
   pub first : IsTrue (part_fits limits i.first)
 
 -- At most 64 statements, of which some are counted and still to be read, at most 8 deep; and each fits where the
--- components are counted that these names stand for.
-pub record KeepsBody (declared : List Component) (pending : ℕ) (ifs : List OpenIf) (statements : List Stmt) (left : ℕ) : Type 0 where
+-- components are counted that these names denote.
+pub record KeepsBody (declared : List Component) (pending : ℕ) (ifs : List OpenIf) (statements : List Stmt)
+    (left : ℕ) : Type 0 where
   pub count : ifs_count ifs + statement_count statements + pending + left ≤ 64
   pub room : pending + length ifs ≤ 8
   pub within : AreWithin 8 ifs

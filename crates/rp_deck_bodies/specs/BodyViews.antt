@@ -9,17 +9,18 @@ use Rattle.rp_deck_bodies.specs.declared.statements.BodyDraft.{BodyDraft}
 use Rattle.rp_deck_bodies.specs.Bodies.{BodyText, Empty, Set, Put, Out, If, OpenIfText, OpenBodyText}
 use Rattle.rp_deck_bodies.specs.ExpressionViews.{expr_text, cond_text}
 
--- some statements after others, where each one stands as what it adds
+-- some statements after others, where each one is given as what it adds
 abbrev pub in_order : List (BodyText → BodyText) → BodyText → BodyText
 in_order [] before = before
 in_order (statement ∷ rest) before = in_order rest (statement before)
 
--- what one statement adds, where each statement in it stands as what it adds itself
+-- what one statement adds, where each statement in it is given as what it adds itself
 abbrev pub added_by : Stmt-F (BodyText → BodyText) → BodyText → BodyText
 added_by (Stmt-F.Set name expr) before = Set before name (expr_text expr)
 added_by (Stmt-F.Put name cond) before = Put before name (cond_text cond)
 added_by (Stmt-F.Out expr) before = Out before (expr_text expr)
-added_by (Stmt-F.If cond first second) before = If before (cond_text cond) (in_order first.items Empty) (in_order second.items Empty)
+added_by (Stmt-F.If cond first second) before =
+    If before (cond_text cond) (in_order first.items Empty) (in_order second.items Empty)
 
 -- a statement after others
 abbrev pub and_then : Stmt → BodyText → BodyText

@@ -1,4 +1,4 @@
--- Components that limits count, and what is so under all limits that count what names stand for.
+-- Components that limits count, and what is so under all limits that count what names denote.
 use Rattle.std.specs.Prelude.{◌<◌, List, All}
 use Rattle.rp_body.specs.declared.components.Limits.{Limits}
 use Rattle.rp_deck_bodies.specs.declared.names.Component.{Component}

@@ -1,5 +1,6 @@
 -- Expressions and conditions, and how their words are read.
-use Rattle.std.specs.Prelude.{ℕ, zero, suc, ◌-◌, ◌==◌, ℤ, Bool, true, false, List, [], ◌∷◌, codes, Option, Some, None, Result, Ok, Err, if◌then◌else◌}
+use Rattle.std.specs.Prelude.{ℕ, zero, suc, ◌-◌, ◌==◌, ℤ, Bool, true, false, List, [], ◌∷◌, codes, Option, Some, None}
+use Rattle.std.specs.Prelude.{Result, Ok, Err, if◌then◌else◌}
 use Rattle.std.specs.Str.{bytes_eq}
 use Rattle.rp_base.specs.declared.fault.DeckReason.{DeckReason}
 use Rattle.rp_base.specs.declared.fault.DeckReason.TheVariants.{BadExpression, BadNumber, UnknownName}
@@ -35,7 +36,7 @@ expression_words =
     codes "arg" ∷ codes "out" ∷ codes "add" ∷ codes "sub" ∷ codes "true" ∷ codes "false"
     ∷ codes "lt" ∷ codes "le" ∷ codes "eq" ∷ codes "not" ∷ codes "and" ∷ codes "or" ∷ []
 
--- what a component's name stands for, of a kind
+-- what a component's name denotes, of a kind
 abbrev pub int_place : Component → Option ℕ
 int_place (components.Int place) = Some place
 int_place (components.Bool place) = None

@@ -127,7 +127,7 @@ impl CondWord {
     }
 }
 
-/// Reads an expression, behind which no word is left.
+/// Reads an expression, after which no word is left.
 #[tactic(auto, unfolding(crate::specs::Expressions::tree_line))]
 pub fn read_expr(alloc: Global, words: Words<'_>, names: &ComponentNames) -> Result<Expr, LineError>
     ensures read { Makes expr_text result
@@ -146,7 +146,7 @@ pub fn read_expr(alloc: Global, words: Words<'_>, names: &ComponentNames) -> Res
     Ok(expr)
 }
 
-/// Reads a condition, behind which no word is left.
+/// Reads a condition, after which no word is left.
 #[tactic(auto, unfolding(crate::specs::Expressions::tree_line))]
 pub fn read_cond(alloc: Global, words: Words<'_>, names: &ComponentNames) -> Result<Cond, LineError>
     ensures read { Makes cond_text result
@@ -165,8 +165,8 @@ pub fn read_cond(alloc: Global, words: Words<'_>, names: &ComponentNames) -> Res
     Ok(cond)
 }
 
-/// The nodes of an expression or a condition that are still to be read, a word each, those of a node
-/// behind it.
+/// The nodes of an expression or a condition that are still to be read, a word each, those of a
+/// node after it.
 #[derive(Drop)]
 struct Nodes<'w, 'n> {
     alloc: Global,
@@ -287,7 +287,8 @@ impl<'w, 'n> Nodes<'w, 'n> {
     ) -> Result<Cond, LineError>
         ensures read { Makes (λ cond. (cond_text cond, self.new.left, unread self.new.words)) result
             (cond_of (key_names self.old.names.now) (values self.old.names.now)
-            (cond_at (key_names self.old.names.now) (values self.old.names.now) depth) first word.now
+            (cond_at (key_names self.old.names.now) (values self.old.names.now) depth) first
+            word.now
             self.old.left (unread self.old.words)) }
         ensures names { self.new.names ≡ self.old.names }
         ensures nodes { IfOk result (λ cond. self.new.left + cond_nodes cond ≡ self.old.left + 1) }

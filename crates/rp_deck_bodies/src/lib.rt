@@ -1,7 +1,7 @@
 //! Bodies of operations: how the lines of one are read, with their expressions and conditions.
 //!
 //! In reading order:
-//! - `names`: what the names of an object's components stand for
+//! - `names`: what the names of an object's components denote
 //! - `expressions`: reads expressions and conditions
 //! - `statements`: reads the lines of a body
 #![tactic(auto)]

@@ -1,4 +1,4 @@
-//! What the names of an object's components stand for.
+//! What the names of an object's components denote.
 
 use indexmap::IndexMap;
 

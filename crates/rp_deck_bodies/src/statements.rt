@@ -3,7 +3,7 @@
 ghost use Rattle.std.specs.Prelude.{◌≡◌, ◌+◌, ◌∷◌, ◌++◌, ◌==◌, [], List, max, length, IsTrue, OnOk, IfOk};
 ghost use Rattle.indexmap.specs.IndexMap.{values};
 ghost use Rattle.rp_words.specs.Ahead.{text_of};
-ghost use Rattle.rp_deck_bodies.specs.Bodies.{BodyText, Empty, If, first_part, second_part, begun_body, body_word_named, may_turn, may_follow, body_word, one_more, turned, closed, statement_line, body_line_of, body_line};
+ghost use Rattle.rp_deck_bodies.specs.Bodies.{BodyText, Empty, If, first_part, second_part, begun_body, body_word_named, may_turn, may_follow, body_word, one_more, with_else, closed, statement_line, body_line_of, body_line};
 ghost use Rattle.rp_deck_bodies.specs.ExpressionViews.{cond_text};
 ghost use Rattle.rp_body.specs.Check.{cond_fits, stmt_count, statement_count, stmt_depth, depth_of, stmt_fits, body_fits, KeepsLimits};
 ghost use Rattle.rp_body.specs.declared.components.Limits.{Limits};
@@ -115,7 +115,7 @@ impl BodyDraft {
         self.read_rest(alloc, word, line.words, names)
     }
 
-    /// What the first word of a line is, where it may stand here.
+    /// What the first word of a line is, where it is allowed here.
     #[tactic(auto, unfolding(crate::specs::Bodies::body_word))]
     fn word(&self, first: &[u8]) -> Result<BodyWord, DeckReason>
         ensures { Gives (λ word. word) result (body_word (body_draft_text self.now) first.now) }
@@ -127,7 +127,7 @@ impl BodyDraft {
         Ok(word)
     }
 
-    /// Whether a line with this first word may stand here.
+    /// Whether a line with this first word is allowed here.
     fn may_follow(&self, word: BodyWord) -> bool
         ensures { result ≡ may_follow (body_draft_text self.now) word }
     {
@@ -137,7 +137,7 @@ impl BodyDraft {
         }
     }
 
-    /// Whether an `else` may stand here: behind the first statements of an `if`.
+    /// Whether an `else` is allowed here: after the first statements of an `if`.
     fn may_turn(&self) -> bool
         ensures { result ≡ may_turn (body_draft_text self.now).ifs }
     {
@@ -246,7 +246,8 @@ impl BodyDraft {
     fn add(&mut self, statement: Stmt) -> Result<(), AllocError>
         ensures items { OnOk result
             (self.new.statements.items ≡ self.old.statements.items ++ statement ∷ []) }
-        ensures same { OnOk result ((self.new.ifs ≡ self.old.ifs) × (self.new.left ≡ self.old.left)) }
+        ensures same { OnOk result
+            ((self.new.ifs ≡ self.old.ifs) × (self.new.left ≡ self.old.left)) }
         ensures text { OnOk result (body_draft_text self.new ≡ record (body_draft_text self.old) {
           statements = and_then statement (body_draft_text self.old).statements;
         }) }
@@ -282,7 +283,8 @@ impl BodyDraft {
     fn turn(&mut self, alloc: Global) -> Result<(), AllocError>
         ensures limits { OnOk result ((declared : List Component) → IsBody declared 0 self.old
             → IsBody declared 0 self.new) }
-        ensures text { OnOk result (body_draft_text self.new ≡ turned (body_draft_text self.old)) }
+        ensures text { OnOk result
+            (body_draft_text self.new ≡ with_else (body_draft_text self.old)) }
     {
         if let Some(mut innermost) = self.ifs.pop() {
             let first = mem::replace(&mut self.statements, Vec::new(alloc));

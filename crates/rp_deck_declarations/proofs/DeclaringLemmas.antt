@@ -16,7 +16,7 @@ use Rattle.rp_words.specs.Lines.{LineText}
 use Rattle.rp_deck_declarations.specs.Drafts.{DraftText, profile_of, last_object, script_line}
 use Rattle.rp_deck_declarations.specs.Declaring.{on_line, with_last_object, object_line_of, declaring_line, ends_declarations, missing, declarations_from}
 
--- what a line comes to, by whether it ends the declarations
+-- the result of a line, by whether it ends the declarations
 by_line : ℕ → DraftText → LineText → List LineText → Bool → Result (Unit {0}) DeckReason → Result DraftText DeckReason → Result (DraftText × List LineText) BadLine
 by_line last d line rest ends script read =
     cond ends (on_line line.number script (λ e. Ok (d, rest))) (on_line line.number read (λ after. declarations_from last after rest))

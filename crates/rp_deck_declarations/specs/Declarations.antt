@@ -1,4 +1,4 @@
--- What a deck declares (the limits are this project's own).
+-- What a deck declares (the limits are ours).
 use Rattle.std.specs.Prelude.{ℕ, ◌≡◌, ◌≤◌, All, false, List, Some, unwrap_or, String, length, map}
 use Rattle.std.specs.String.{string_eq}
 use Rattle.indexmap.specs.IndexMap.{IndexMap, index_map_len, values, IsUnique}
@@ -25,12 +25,12 @@ module _ {Y X S : Type 0} where
     pub distinct : IsUnique string_eq table
 
 module _ {Y S : Type 0} where
-  -- the same of names that stand for nothing but their places
+  -- the same of names that denote nothing but their places
   pub record IsNameSet (names : IndexSet (String Y) S) : Type 0 where
     pub few : index_set_len names ≤ 8
     pub distinct : sets.IsUnique string_eq names
 
--- the program has so many objects
+-- the program has n objects
 abbrev pub HasObjects : ℕ → DeckProgram → Type 0
 HasObjects objects program = object_count program ≡ objects
 
@@ -72,7 +72,8 @@ pub record IsComplete (declared : Declared) : Type 0 where
   pub objects : IsNameSet declared.objects
   pub some_object : 1 ≤ index_set_len declared.objects
   pub program : HasObjects (index_set_len declared.objects) declared.program
-  pub kept : DeclaresAll (map (λ task. task.priority) (values declared.tasks)) (values declared.interrupts) (values declared.timers) declared.program
+  pub kept : DeclaresAll (map (λ task. task.priority) (values declared.tasks)) (values declared.interrupts)
+      (values declared.timers) declared.program
   pub operations : length declared.operations.items ≡ index_set_len declared.objects
   pub named : AreNamesOf declared.program declared.operations.items
   pub interrupts : IsNameTable declared.interrupts

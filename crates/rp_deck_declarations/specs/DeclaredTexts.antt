@@ -8,7 +8,7 @@ use Rattle.rp_deck_objects.specs.ObjectViews.{ProtectedText, protected_of}
 use Rattle.rp_deck_declarations.specs.Drafts.{DraftText, profile_of}
 use Rattle.rp_deck_declarations.specs.ScriptNames.{DeclaredNames, declared_names}
 
--- what the tasks call: so many sums, or protected objects
+-- what the tasks call: n sums, or protected objects
 pub data ProgramText : Type 0 where
   Tally : (count : ℕ) → ProgramText
   Objects : (profile : Profile) (objects : List ProtectedText) → ProgramText

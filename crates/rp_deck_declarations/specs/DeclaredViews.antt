@@ -59,14 +59,16 @@ abbrev pub declared_text : Declared → DeclaredText
 declared_text d =
     declared_as d.nodes (unwrap_or d.positions 1000) d.program d.tasks d.objects d.interrupts d.timers
 
--- the program is a tally of so many objects, with these names
-pub record IsTally {Y S : Type 0} (count : ℕ) (program : DeckProgram) (operations : List (IndexMap (String Y) OperationName S)) : Type 0 where
+-- the program is a tally of n objects, with these names
+pub record IsTally {Y S : Type 0} (count : ℕ) (program : DeckProgram)
+    (operations : List (IndexMap (String Y) OperationName S)) : Type 0 where
   pub program_is : program_text program ≡ Tally count
   pub no_timers : timer_handlers program ≡ []
   pub names : map own_operations operations ≡ replicate count tally_operations
 
 -- the program has what is declared of these objects, with these names, and the timing events have these handlers
-pub record IsMadeOf {Y S : Type 0} (profile : Profile) (objects : List ObjectText) (timers : List Handler) (program : DeckProgram) (operations : List (IndexMap (String Y) OperationName S)) : Type 0 where
+pub record IsMadeOf {Y S : Type 0} (profile : Profile) (objects : List ObjectText) (timers : List Handler)
+    (program : DeckProgram) (operations : List (IndexMap (String Y) OperationName S)) : Type 0 where
   pub program_is : program_text program ≡ Objects profile (map protected_of objects)
   pub timers_are : timer_handlers program ≡ timers
   pub names : map own_operations operations ≡ map object_operations objects

@@ -1,5 +1,6 @@
 -- What the declarations of a deck say: one line after another up to `script`, or the first bad line.
-use Rattle.std.specs.Prelude.{ℕ, ◌-◌, ◌&&◌, Bool, not, List, [], ◌∷◌, codes, length, slice_set, Option, Some, None, Result, Ok, Err, if◌then◌else◌}
+use Rattle.std.specs.Prelude.{ℕ, ◌-◌, ◌&&◌, Bool, not, List, [], ◌∷◌, codes, length, slice_set, Option, Some, None}
+use Rattle.std.specs.Prelude.{Result, Ok, Err, if◌then◌else◌}
 use Rattle.std.specs.Str.{bytes_eq}
 use Rattle.rp_base.specs.declared.fault.DeckReason.{DeckReason}
 use Rattle.rp_base.specs.declared.fault.DeckReason.TheVariants.{NodesExpected, UnknownWord, EndExpected, ScriptExpected}
@@ -8,7 +9,8 @@ use Rattle.rp_words.specs.LineFaults.{BadLine}
 use Rattle.rp_words.specs.Lines.{LineText}
 use Rattle.rp_words.specs.Reading.{◌>>=◌}
 use Rattle.rp_deck_objects.specs.Objects.{ObjectText, object_step}
-use Rattle.rp_deck_declarations.specs.Drafts.{DraftText, empty_draft, profile_of, last_object, is_in_body, kind_of, nodes_line, declaration_line, script_line}
+use Rattle.rp_deck_declarations.specs.Drafts.{DraftText, empty_draft, profile_of, last_object, is_in_body, kind_of}
+use Rattle.rp_deck_declarations.specs.Drafts.{nodes_line, declaration_line, script_line}
 
 -- what a line gives and what follows, up to the first bad one
 abbrev pub on_line : {X Y : Type 0} → ℕ → Result X DeckReason → (X → Result Y BadLine) → Result Y BadLine
@@ -41,7 +43,7 @@ ends_declarations d line = not (is_in_body d) && bytes_eq line.first (codes "scr
 abbrev pub missing : DraftText → DeckReason
 missing d = if is_in_body d then EndExpected else ScriptExpected
 
--- what these lines declare behind what is declared already, and the lines after `script`; the line after the last of
+-- what these lines declare after what is declared already, and the lines after `script`; the line after the last of
 -- the deck has this number
 unfoldable pub declarations_from : ℕ → DraftText → List LineText → Result (DraftText × List LineText) BadLine
 declarations_from last d [] = Err (record { line = last; reason = missing d })
@@ -52,4 +54,5 @@ declarations_from last d (line ∷ rest) =
 -- what the lines of a deck declare, and the lines after `script`
 unfoldable pub declarations_of : ℕ → List LineText → Result (DraftText × List LineText) BadLine
 declarations_of last [] = Err (record { line = last; reason = NodesExpected })
-declarations_of last (line ∷ rest) = on_line line.number (nodes_line line) (λ nodes. declarations_from last (empty_draft nodes) rest)
+declarations_of last (line ∷ rest) =
+    on_line line.number (nodes_line line) (λ nodes. declarations_from last (empty_draft nodes) rest)

@@ -1,21 +1,24 @@
 -- What a deck declares so far, and how each line adds to it.
-use Rattle.std.specs.Prelude.{ℕ, zero, suc, ◌+◌, ◌-◌, ◌&&◌, ◌==◌, Bool, true, false, not, List, [], ◌∷◌, ◌++◌, codes, length, slice_get, Option, Some, None, is_some, unwrap_or, Result, Ok, if◌then◌else◌}
+use Rattle.std.specs.Prelude.{ℕ, zero, suc, ◌+◌, ◌-◌, ◌&&◌, ◌==◌, Bool, true, false, not, List, [], ◌∷◌, ◌++◌, codes}
+use Rattle.std.specs.Prelude.{length, slice_get, Option, Some, None, is_some, unwrap_or, Result, Ok, if◌then◌else◌}
 use Rattle.std.specs.Str.{bytes_eq}
 use Rattle.rp_base.specs.declared.action.Operation.{Operation}
 use Rattle.rp_base.specs.declared.action.Operation.TheVariants as operations
 use Rattle.rp_base.specs.declared.fault.DeckReason.{DeckReason}
-use Rattle.rp_base.specs.declared.fault.DeckReason.TheVariants.{NodesExpected, UnknownWord, UnknownName, TaskExpected, ObjectExpected}
+use Rattle.rp_base.specs.declared.fault.DeckReason.TheVariants.{NodesExpected, UnknownWord, UnknownName, TaskExpected}
+use Rattle.rp_base.specs.declared.fault.DeckReason.TheVariants.{ObjectExpected}
 use Rattle.rp_object.specs.declared.program.Handler.{Handler}
 use Rattle.rp_object.specs.declared.program.Profile.{Profile as ProgramProfile}
 use Rattle.rp_object.specs.declared.program.Profile.TheVariants.{Ravenscar, Jorvik}
 use Rattle.rp_deck_declarations.specs.declared.draft.Kind.{Kind}
-use Rattle.rp_deck_declarations.specs.declared.draft.Kind.TheVariants.{Positions, Profile, Task, Tally, Object, Interrupt, Timer}
+use Rattle.rp_deck_declarations.specs.declared.draft.Kind.TheVariants.{Positions, Profile, Task, Tally, Object}
+use Rattle.rp_deck_declarations.specs.declared.draft.Kind.TheVariants.{Interrupt, Timer}
 use Rattle.rp_words.specs.Lines.{LineText}
 use Rattle.rp_words.specs.Tables.{place_of, find}
 use Rattle.rp_words.specs.Reading.{room, ◌>>=◌, some_or, unless, word_at, end_at, new_name_at, number_at, dotted_of}
 use Rattle.rp_deck_objects.specs.Objects.{empty_object, ObjectText}
 
--- what is declared so far, each kind in declared order: the names, and what they stand for
+-- what is declared so far, each kind in declared order: the names, and what they denote
 pub record DraftText : Type 0 where
   pub nodes : ℕ
   pub positions : Option ℕ

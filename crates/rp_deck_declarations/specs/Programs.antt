@@ -20,7 +20,8 @@ object_count (Tally program) = program
 object_count (Objects program) = length (arc_value program.declarations).objects.items
 
 -- the tasks have these priorities, and the interrupts and the timing events these handlers, in order
-pub record Declares (priorities : List ℕ) (interrupts timers : List Handler) (declarations : Declarations) : Type 0 where
+pub record Declares (priorities : List ℕ) (interrupts timers : List Handler)
+    (declarations : Declarations) : Type 0 where
   pub has_priorities : declarations.priorities.items ≡ priorities
   pub has_interrupts : declarations.interrupts.items ≡ interrupts
   pub has_timers : map (λ timer. timer.handler) declarations.timers.items ≡ timers
@@ -28,10 +29,11 @@ pub record Declares (priorities : List ℕ) (interrupts timers : List Handler) (
 -- and so do those of the deck's program; a tally has none of them
 abbrev pub DeclaresAll : List ℕ → List Handler → List Handler → DeckProgram → Type 0
 DeclaresAll priorities interrupts timers (Tally program) = Unit {0}
-DeclaresAll priorities interrupts timers (Objects program) = Declares priorities interrupts timers (arc_value program.declarations)
+DeclaresAll priorities interrupts timers (Objects program) =
+    Declares priorities interrupts timers (arc_value program.declarations)
 
 module _ {Y S : Type 0} where
-  -- each of the names of each object stands for one of its operations, in order
+  -- each of the names of each object denotes one of its operations, in order
   abbrev pub AreAllNamed : List ObjectDeclaration → List (IndexMap (String Y) OperationName S) → Type 0
   AreAllNamed objects names =
       (k : ℕ) (object : ObjectDeclaration) (own : IndexMap (String Y) OperationName S)
@@ -42,7 +44,8 @@ module _ {Y S : Type 0} where
 -- procedure `add` alone
 abbrev pub AreNamesOf : {Y S : Type 0} → DeckProgram → List (IndexMap (String Y) OperationName S) → Type 0
 AreNamesOf {Y} {S} (Tally program) names =
-    (k : ℕ) (own : IndexMap (String Y) OperationName S) → slice_get names k ≡ Some own → All (λ name. operation_of name ≡ Procedure 1) (values own)
+    (k : ℕ) (own : IndexMap (String Y) OperationName S) → slice_get names k ≡ Some own
+    → All (λ name. operation_of name ≡ Procedure 1) (values own)
 AreNamesOf (Objects program) names = AreAllNamed (arc_value program.declarations).objects.items names
 
 -- the object of this number has what is called: an operation, or the handler of a timing event

@@ -15,7 +15,7 @@ pub struct Task {
 /// What the tasks call.
 #[derive(Drop)]
 pub enum DeckProgram {
-    /// So many sums.
+    /// Sums, n of them.
     Tally(TallyProgram),
     /// Protected objects.
     Objects(Program),

@@ -46,9 +46,10 @@ impl Declared {
     }
 }
 
-/// Reads the lines up to `script`. What they declare is told, or the first bad line.
+/// Reads the lines up to `script`. What they declare is returned, or the first bad line.
 pub fn read_declarations(alloc: Global, lines: &mut Lines<'_>) -> Result<Declared, Fault>
-    ensures read { Reads (λ declared. (names_of declared, declared_text declared, ahead lines.new)) result
+    ensures read { Reads (λ declared. (names_of declared, declared_text declared, ahead lines.new))
+        result
         (known (declarations_of (after_last lines.old) (ahead lines.old))) }
     ensures declared { IfOk result IsComplete }
     ensures fault { IfErr result IsDeckFault }

@@ -168,7 +168,7 @@ impl Draft {
         }
     }
 
-    /// Whether a declaration of this kind may stand here.
+    /// Whether a declaration of this kind is allowed here.
     fn allows(&self, kind: Kind) -> bool
         ensures { result ≡ allows (draft_text self.now) kind }
     {
@@ -181,8 +181,8 @@ impl Draft {
         }
     }
 
-    /// The declaration that begins with this word, where it is one of the deck's own that may stand
-    /// here.
+    /// The declaration that begins with this word, where it is one of the deck's own that is
+    /// allowed here.
     fn kind_of(&self, first: &[u8]) -> Option<Kind>
         ensures kind { result ≡ kind_of (draft_text self.now) first.now }
         ensures allowed { IfSome result (λ kind. allows (draft_text self.now) kind ≡ true) }
@@ -194,7 +194,7 @@ impl Draft {
         if self.allows(kind) { Some(kind) } else { None }
     }
 
-    /// Reads a declaration of this kind, behind its first word.
+    /// Reads a declaration of this kind, after its first word.
     fn read_declaration(
         &mut self,
         alloc: Global,
@@ -401,7 +401,8 @@ impl Draft {
     #[tactic(auto, unfolding(crate::specs::Drafts::script_line))]
     pub fn complete(&self, words: &mut Words<'_>) -> Result<(), DeckReason>
         requires { IsDraft self.now }
-        ensures read { Gives (λ _. tt) result (script_line (draft_text self.now) (unread words.old)) }
+        ensures read { Gives (λ _. tt) result
+            (script_line (draft_text self.now) (unread words.old)) }
         ensures finishable { OnOk result (IsFinishable self.now) }
     {
         if self.tasks.is_empty() {

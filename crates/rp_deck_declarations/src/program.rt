@@ -107,7 +107,7 @@ fn make(alloc: Global, draft: &Draft, drafts: Vec<ObjectDraft>) -> Result<Object
     protected_objects(alloc, declarations, operations)
 }
 
-/// A tally of so many objects. The one operation of each is the procedure `add`.
+/// A tally of n objects. The one operation of each is the procedure `add`.
 fn tally(alloc: Global, count: u8) -> Result<Objects, LineError>
     requires { (1 ≤ count) × (count ≤ 8) }
     ensures memory { IfErr result (λ error. error ≡ LineError.OutOfMemory) }
@@ -152,13 +152,15 @@ fn protected_objects(
 ) -> Result<Objects, LineError>
     requires { IsProgram declarations }
     ensures memory { IfErr result (λ error. error ≡ LineError.OutOfMemory) }
-    ensures program { IfOk result (λ made. HasObjects (length declarations.objects.items) made.program) }
+    ensures program { IfOk result
+        (λ made. HasObjects (length declarations.objects.items) made.program) }
     ensures declared { IfOk result (λ made. DeclaresAll declarations.priorities.items
         declarations.interrupts.items (map (λ event. event.handler) declarations.timers.items)
         made.program) }
     ensures operations { IfOk result (λ made. made.operations ≡ operations) }
     ensures text { IfOk result (λ made. program_text made.program
-        ≡ ProgramText.Objects declarations.profile (map protected_text declarations.objects.items)) }
+        ≡ ProgramText.Objects declarations.profile
+        (map protected_text declarations.objects.items)) }
     ensures timers { IfOk result (λ made. timer_handlers made.program
         ≡ map (λ event. event.handler) declarations.timers.items) }
     ensures named { IfOk result (λ made. AreAllNamed declarations.objects.items operations.items

@@ -63,8 +63,8 @@ entry_more before after entry more functions procedures (Entry index) has =
 
 -- ---- one name more
 
-pub named_behind : {Y S : Type 0} (before after : Operations) (names more : IndexMap (String Y) OperationName S) (name : OperationName) → values more ≡ values names ++ name ∷ []
+pub named_after : {Y S : Type 0} (before after : Operations) (names more : IndexMap (String Y) OperationName S) (name : OperationName) → values more ≡ values names ++ name ∷ []
     → ((n : OperationName) → has_operation (operation_of n) before ≡ true → has_operation (operation_of n) after ≡ true) → has_operation (operation_of name) after ≡ true → AreNamed before names → AreNamed after more
-named_behind before after names more name is still has all =
+named_after before after names more name is still has all =
     subst (λ (l : List OperationName). All (λ (n : OperationName). has_operation (operation_of n) after ≡ true) l) (sym is)
     (all_last (λ (n : OperationName). has_operation (operation_of n) after ≡ true) (values names) name (named_more before after names still all) has)

@@ -1,5 +1,6 @@
--- The limits that an object keeps whose lines are read (this project's own).
-use Rattle.std.specs.Prelude.{ℕ, ◌≡◌, ◌<◌, ◌≤◌, All, true, false, List, Option, Some, None, String, string_bytes, length}
+-- The limits that an object keeps whose lines are read.
+use Rattle.std.specs.Prelude.{ℕ, ◌≡◌, ◌<◌, ◌≤◌, All, true, false, List, Option, Some, None, String, string_bytes}
+use Rattle.std.specs.Prelude.{length}
 use Rattle.std.specs.declared.alloc.Global.{Global}
 use Rattle.std.specs.FinMap.{len}
 use Rattle.indexmap.specs.IndexMap.{IndexMap, values}
@@ -24,7 +25,7 @@ use Rattle.rp_deck_objects.specs.ObjectViews.{operation_of}
 use Rattle.rp_deck_objects.specs.Objects.{most_entries}
 
 module _ {Y S : Type 0} where
-  -- each name stands for one of these operations
+  -- each name denotes one of these operations
   abbrev pub AreNamed : Operations → IndexMap (String Y) OperationName S → Type 0
   AreNamed declared names = All (λ name. has_operation (operation_of name) declared ≡ true) (values names)
 
@@ -60,8 +61,8 @@ abbrev pub HasOpen : Profile → ObjectDraft → Option OperationDraft → Type 
 HasOpen profile o None = Unit {0}
 HasOpen profile o (Some operation) = IsOpenIn profile o operation
 
--- components, so many names of each kind, and what names stand for: at most 8 of each kind, a name for each, ranges of
--- 64 bits, first values in them, and each name stands for a component
+-- components, n names of each kind, and what names denote: at most 8 of each kind, a name for each, ranges of 64
+-- bits, first values in them, and each name denotes a component
 pub record KeepsComponents (store : Store) (int_count bool_count : ℕ) (declared : List Component) : Type 0 where
   pub few_ints : len store.ints ≤ 8
   pub few_bools : len store.bools ≤ 8
@@ -75,7 +76,8 @@ pub record KeepsComponents (store : Store) (int_count bool_count : ℕ) (declare
 -- what an object has so far keeps the limits
 pub record IsObject (profile : Profile) (o : ObjectDraft) : Type 0 where
   pub ceiling : IsPriority o.ceiling
-  pub components : KeepsComponents o.components (length o.int_names.items) (length o.bool_names.items) (values o.component_names)
+  pub components : KeepsComponents o.components (length o.int_names.items) (length o.bool_names.items)
+      (values o.component_names)
   pub entries : length o.entry_names.items ≡ length o.operations.entries.items
   pub fit : WhereCounted (values o.component_names) (λ limits. OperationsFit limits o.operations)
   pub keeps : KeepsProfile profile o.operations

@@ -33,7 +33,8 @@ abbrev pub entry_text : DeclaredEntry → EntryText
 entry_text entry = record { barrier = entry.barrier; longest = entry.longest; body = body_text entry.body.items }
 
 abbrev pub operation_text : OperationDraft → OpenOperationText
-operation_text operation = record { name = string_bytes operation.name; head = operation.head; body = body_draft_text operation.body }
+operation_text operation =
+    record { name = string_bytes operation.name; head = operation.head; body = body_draft_text operation.body }
 
 abbrev pub object_text : ObjectDraft → ObjectText
 object_text draft = record {

@@ -2,7 +2,7 @@
 //!
 //! In reading order:
 //! - `objects`: reads the lines that belong to an object
-//! - `names`: what the names of an object's operations stand for
+//! - `names`: what the names of an object's operations denote
 #![tactic(auto)]
 
 mod names;

@@ -1,4 +1,4 @@
-//! What the names of an object's operations stand for.
+//! What the names of an object's operations denote.
 
 ghost use Rattle.std.specs.Prelude.{◌≡◌, ◌↔◌, ◌<◌, ◌+◌, IsSome, IfSome};
 ghost use Rattle.rp_base.specs.Action.{IsIndex, IsEntryIndex, IsRightOperation};
@@ -17,7 +17,7 @@ pub struct Index {
 }
 
 impl Index {
-    /// The one after so many, or `None` where there are 8 already.
+    /// The one after n, or `None` where there are 8 already.
     pub fn after(count: usize) -> Option<Index>
         ensures some { IsSome result ↔ (count < 8) }
         ensures value { IfSome result (λ index. index.number ≡ count + 1) }
@@ -43,7 +43,7 @@ pub struct EntryIndex {
 }
 
 impl EntryIndex {
-    /// The one after so many, or `None` where there are 4 already.
+    /// The one after n, or `None` where there are 4 already.
     pub fn after(count: usize) -> Option<EntryIndex>
         ensures some { IsSome result ↔ (count < 4) }
         ensures value { IfSome result (λ index. index.number ≡ count + 1) }

@@ -92,7 +92,7 @@ impl FunctionKind {
 #[derive(Clone, Copy)]
 pub enum Head {
     Procedure,
-    /// Its barrier is the Boolean component at this place, and at most so many calls wait.
+    /// Its barrier is the Boolean component at this place, and at most n calls wait.
     Entry { barrier: u8, longest: u8 },
 }
 
@@ -156,7 +156,8 @@ impl ObjectDraft {
         ensures has { IfSome result (λ name. AreNamed self.now.operations self.now.operation_names
             → has_operation (operation_of name) self.now.operations ≡ true) }
         ensures named { option_map operation_of result
-            ≡ find name.now (object_text self.now).operation_names (object_text self.now).operations }
+            ≡ find name.now (object_text self.now).operation_names
+            (object_text self.now).operations }
     {
         self.operation_names.get(name).copied()
     }
@@ -227,7 +228,8 @@ impl ObjectDraft {
         requires object { MayDeclare profile self.old }
         requires operation { IsOpenIn profile self.old operation }
         ensures read { Makes (λ _. object_text self.new) result
-            (operation_line (object_text self.old) (operation_text operation) (text_of line.entry)) }
+            (operation_line (object_text self.old) (operation_text operation)
+            (text_of line.entry)) }
         ensures object { OnOk result (IsObject profile self.new) }
         ensures grows { OnOk result (length (object_text self.old).procedures
             ≤ length (object_text self.new).procedures) }
@@ -564,7 +566,7 @@ fn most_entries(profile: Profile) -> usize
     }
 }
 
-/// How many calls wait at an entry at most: under Jorvik the rest of the line may tell.
+/// How many calls wait at an entry at most: under Jorvik the rest of the line may say.
 fn take_longest(profile: Profile, words: &mut Words<'_>) -> Result<u8, DeckReason>
     ensures read { Gives (λ longest. (longest, unread words.new)) result
         (longest_at profile (unread words.old)) }

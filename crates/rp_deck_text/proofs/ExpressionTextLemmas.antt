@@ -45,8 +45,8 @@ found_here test name names first rest passes name_is is_free = record {
   is_free = is_free;
 }
 
-found_behind : (test : Component → Bool) (x name : List ℕ) (names : List (List ℕ)) (first : Component) (rest : List Component) → is_distinct (x ∷ names) ≡ true → IsFound test names rest name → IsFound test (x ∷ names) (first ∷ rest) name
-found_behind test x name names first rest distinct is = record {
+found_after : (test : Component → Bool) (x name : List ℕ) (names : List (List ℕ)) (first : Component) (rest : List Component) → is_distinct (x ∷ names) ≡ true → IsFound test names rest name → IsFound test (x ∷ names) (first ∷ rest) name
+found_after test x name names first rest distinct is = record {
   component = is.component;
   passes = is.passes;
   found = find_step name x names first rest ∙ ap (λ (t : Bool). cond t (Some first) (find name names rest)) (another x name names distinct is.among) ∙ is.found;
@@ -68,9 +68,9 @@ finds test (name ∷ names) (first ∷ rest) all distinct free even one =
     elim (cases_Bool (test first)) [
       | inl hit ↦ subst (λ (n : List ℕ). IsFound test (name ∷ names) (first ∷ rest) n) (sym (cond-true (test first) name later hit)) (found_here test name names first rest hit names_are.0 are_free.0)
       | inr miss ↦ subst (λ (n : List ℕ). IsFound test (name ∷ names) (first ∷ rest) n) (sym (cond-false (test first) name later miss))
-          (found_behind test name later names first rest distinct (finds test names rest names_are.1 apart.1 are_free.1 (omega (arith, even)) (elim one [
+          (found_after test name later names first rest distinct (finds test names rest names_are.1 apart.1 are_free.1 (omega (arith, even)) (elim one [
             | inl here ↦ absurd (by here miss)
-            | inr behind ↦ behind
+            | inr following ↦ following
           ])))
     ]
   where

@@ -60,7 +60,7 @@ declared_there (x ∷ xs) zero name at =
     let same : name ≡ x = cc in ap (λ (t : Bool). t || is_declared name xs) ((bytes_eq-Decides name x).1 same)
 declared_there (x ∷ xs) (suc k) name at = or_right (bytes_eq name x) (is_declared name xs) (declared_there xs k name at)
 
--- a name behind a name that is not among those behind it is another
+-- a name after a name that is not among those after it is another
 pub another : (x name : List ℕ) (xs : List (List ℕ)) → is_distinct (x ∷ xs) ≡ true → is_declared name xs ≡ true → bytes_eq name x ≡ false
 another x name xs distinct among =
     no_first (bytes_eq name x) (λ e. not_declared (is_declared x xs) (is_distinct xs) distinct (subst (λ (n : List ℕ). is_declared n xs ≡ true) ((bytes_eq-Decides name x).0 e) among))
@@ -113,24 +113,24 @@ same_is a b h = absurd cc
 pub find_step : {X : Type 0} (name x : List ℕ) (names : List (List ℕ)) (v : X) (values : List X) → find name (x ∷ names) (v ∷ values) ≡ cond (bytes_eq name x) (Some v) (find name names values)
 find_step name x names v values = found_step (bytes_eq name x) (prefix_len (λ key. not (bytes_eq name key)) names) (length names) (find name names values) v values refl
 
--- the name that is found for an operation stands for it
+-- the name that is found for an operation denotes it
 pub record IsNamed (names : List (List ℕ)) (declared : List Operation) (operation : Operation) (name : List ℕ) : Type 0 where
   pub name_is : is_name name ≡ true
   pub among : is_declared name names ≡ true
-  pub stands_for : find name names declared ≡ Some operation
+  pub names_operation : find name names declared ≡ Some operation
 
 named_here : (name : List ℕ) (names : List (List ℕ)) (first operation : Operation) (rest : List Operation) → is_name name ≡ true → first ≡ operation → IsNamed (name ∷ names) (first ∷ rest) operation name
 named_here name names first operation rest name_is same = record {
   name_is = name_is;
   among = ap (λ (t : Bool). t || is_declared name names) (same_text name);
-  stands_for = find_step name name names first rest ∙ ap (λ (t : Bool). cond t (Some first) (find name names rest)) (same_text name) ∙ ap Some same;
+  names_operation = find_step name name names first rest ∙ ap (λ (t : Bool). cond t (Some first) (find name names rest)) (same_text name) ∙ ap Some same;
 }
 
-named_behind : (x name : List ℕ) (names : List (List ℕ)) (first operation : Operation) (rest : List Operation) → is_distinct (x ∷ names) ≡ true → IsNamed names rest operation name → IsNamed (x ∷ names) (first ∷ rest) operation name
-named_behind x name names first operation rest distinct named = record {
+named_after : (x name : List ℕ) (names : List (List ℕ)) (first operation : Operation) (rest : List Operation) → is_distinct (x ∷ names) ≡ true → IsNamed names rest operation name → IsNamed (x ∷ names) (first ∷ rest) operation name
+named_after x name names first operation rest distinct named = record {
   name_is = named.name_is;
   among = or_right (bytes_eq name x) (is_declared name names) named.among;
-  stands_for = find_step name x names first rest ∙ ap (λ (t : Bool). cond t (Some first) (find name names rest)) (another x name names distinct named.among) ∙ named.stands_for;
+  names_operation = find_step name x names first rest ∙ ap (λ (t : Bool). cond t (Some first) (find name names rest)) (another x name names distinct named.among) ∙ named.names_operation;
 }
 
 pub by_name : (names : List (List ℕ)) (declared : List Operation) (operation : Operation) → same_operation operation operation ≡ true → list_all is_name names ≡ true → is_distinct names ≡ true
@@ -145,9 +145,9 @@ by_name (name ∷ names) (first ∷ rest) operation same all distinct even one =
     elim (cases_Bool (same_operation first operation)) [
       | inl hit ↦ subst (λ (n : List ℕ). IsNamed (name ∷ names) (first ∷ rest) operation n) (sym (cond-true (same_operation first operation) name later hit)) (named_here name names first operation rest names_are.0 (same_is first operation hit))
       | inr miss ↦ subst (λ (n : List ℕ). IsNamed (name ∷ names) (first ∷ rest) operation n) (sym (cond-false (same_operation first operation) name later miss))
-          (named_behind name later names first operation rest distinct (by_name names rest operation same names_are.1 apart.1 (omega (arith, even)) (elim one [
+          (named_after name later names first operation rest distinct (by_name names rest operation same names_are.1 apart.1 (omega (arith, even)) (elim one [
             | inl here ↦ absurd (by here miss)
-            | inr behind ↦ behind
+            | inr following ↦ following
           ])))
     ]
   where
@@ -176,7 +176,7 @@ operation_back d object operation words right call same =
     let second : List ℕ = operation_name_in call.own.names call.own.operations operation in
     let written : operation_name d object operation ≡ second = ap (λ (o : OperationsText). operation_name_in o.names o.operations operation) numbered_own in
     let solid = dotted_solid first second is.name named.name_is in
-    rw (written, word_back (first ++ 46 ∷ second) words solid, dotted_back first second is.name named.name_is, is.place, call.own_is, named.stands_for, is.number_is) refl
+    rw (written, word_back (first ++ 46 ∷ second) words solid, dotted_back first second is.name named.name_is, is.place, call.own_is, named.names_operation, is.number_is) refl
 
 -- ---- a timing event
 

@@ -176,12 +176,12 @@ whole_back lines draft commands are_lines means right are =
     let d = declared_names draft in
     let script : List (List (List ℕ)) = map (command_words d) commands in
     let text : List ℕ = text_of_lines (lines ++ script) in
-    let behind : ℕ = 1 + length lines in
-    let read : texts_of text ≡ numbered_lines 1 lines ++ numbered_lines behind script =
+    let following : ℕ = 1 + length lines in
+    let read : texts_of text ≡ numbered_lines 1 lines ++ numbered_lines following script =
     texts_back 1 (lines ++ script) (lines_append lines script are_lines (script_lines d commands right are)) ∙ numbered_append 1 lines script in
-    let declared : declarations_of (line_after text) (texts_of text) ≡ Ok (draft, numbered_lines behind script) =
-    ap (declarations_of (line_after text)) read ∙ means (line_after text) (numbered_lines behind script) in
-    let scripted : script_of Script d (numbered_lines behind script) ≡ Ok (numbered_commands behind commands) = script_back d behind commands right are in
+    let declared : declarations_of (line_after text) (texts_of text) ≡ Ok (draft, numbered_lines following script) =
+    ap (declarations_of (line_after text)) read ∙ means (line_after text) (numbered_lines following script) in
+    let scripted : script_of Script d (numbered_lines following script) ≡ Ok (numbered_commands following commands) = script_back d following commands right are in
     rw (declared, scripted) refl
 
 pub tally_back_whole : (t : TallyText) (commands : List CommandText) → IsTallyText t → AreDeclared (declared_names (tally_draft t)) → AllByRecursion (IsCommandOf (declared_names (tally_draft t))) commands

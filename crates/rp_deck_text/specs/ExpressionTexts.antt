@@ -1,11 +1,13 @@
 -- The text of an expression and of a condition: one way to write each, which reading gives back.
-use Rattle.std.specs.Prelude.{ℕ, ◌≡◌, ◌+◌, FitsSigned, Bool, true, false, not, nat_eq, IsTrue, List, [], ◌∷◌, ◌++◌, codes, length, ◌⊎◌, if◌then◌else◌}
+use Rattle.std.specs.Prelude.{ℕ, ◌≡◌, ◌+◌, FitsSigned, Bool, true, false, not, nat_eq, IsTrue, List, [], ◌∷◌, ◌++◌}
+use Rattle.std.specs.Prelude.{codes, length, ◌⊎◌, if◌then◌else◌}
 use Rattle.std.specs.Fmt.{signed_decimal}
 use Rattle.std.specs.Int.{w64}
 use Rattle.std.specs.List.{list_all}
 use Rattle.rp_deck_bodies.specs.declared.names.Component.{Component}
 use Rattle.rp_deck_bodies.specs.declared.names.Component.TheVariants as components
-use Rattle.rp_deck_bodies.specs.Expressions.{ExprText, Number, Arg, Out, Int, Add, Sub, CondText, Constant, Named, Less, LessOrEqual, Equal, Not, And, Or, expression_words}
+use Rattle.rp_deck_bodies.specs.Expressions.{ExprText, Number, Arg, Out, Int, Add, Sub, CondText, Constant, Named, Less}
+use Rattle.rp_deck_bodies.specs.Expressions.{LessOrEqual, Equal, Not, And, Or, expression_words}
 use Rattle.rp_deck_text.specs.ScriptText.{are_names}
 use Rattle.rp_words.specs.Tables.{is_declared}
 
@@ -48,7 +50,7 @@ abbrev pub HasOne : (Component → Bool) → List Component → Type 0
 HasOne test [] = ⊥
 HasOne test (first ∷ rest) = IsTrue (test first) ⊎ HasOne test rest
 
--- names for so many components, none of them a word of the expressions
+-- names for n components, none of them a word of the expressions
 pub record AreComponents (names : List (List ℕ)) (declared : List Component) : Type 0 where
   pub names_are : IsTrue (are_names names)
   pub free : IsTrue (list_all (λ name. not (is_declared name expression_words)) names)

@@ -1,5 +1,6 @@
 -- The text of a deck of protected objects: one way to write each, which reading gives back.
-use Rattle.std.specs.Prelude.{ℕ, ◌≡◌, ◌<◌, ◌≤◌, ◌+◌, false, List, [], ◌∷◌, ◌++◌, codes, length, map, slice_get, Option, Some, None, IfSome}
+use Rattle.std.specs.Prelude.{ℕ, ◌≡◌, ◌<◌, ◌≤◌, ◌+◌, false, List, [], ◌∷◌, ◌++◌, codes, length, map, slice_get, Option}
+use Rattle.std.specs.Prelude.{Some, None, IfSome}
 use Rattle.std.specs.Fmt.{decimal}
 use Rattle.rp_base.specs.declared.action.Operation.TheVariants.{Procedure}
 use Rattle.rp_object.specs.declared.program.Handler.{Handler}
@@ -33,13 +34,21 @@ pub record DeclaredHandler : Type 0 where
 -- ---- objects
 
 abbrev pub with_object : DraftText → DeclaredObject → DraftText
-with_object d o = record d { objects = d.objects ++ o.name ∷ []; drafts = d.drafts ++ shut (with_parts (empty_object o.name o.ceiling) o.parts) ∷ [] }
+with_object d o =
+    record d {
+      objects = d.objects ++ o.name ∷ [];
+      drafts = d.drafts
+          ++ shut (with_parts (empty_object o.name o.ceiling) o.parts) ∷ [];
+    }
 
 abbrev pub object_lines : Profile → DeclaredObject → List (List (List ℕ))
-object_lines profile o = (codes "object" ∷ o.name ∷ decimal o.ceiling ∷ []) ∷ parts_lines profile (empty_object o.name o.ceiling) o.parts
+object_lines profile o =
+    (codes "object" ∷ o.name ∷ decimal o.ceiling ∷ []) ∷ parts_lines profile (empty_object o.name o.ceiling) o.parts
 
 abbrev pub IsObjectOf : DraftText → DeclaredObject → Type 0
-IsObjectOf d o = (length d.objects < 8) × IsNew d.objects o.name × IsUpTo 30 o.ceiling × ArePartsOf (profile_of d) (empty_object o.name o.ceiling) o.parts
+IsObjectOf d o =
+    (length d.objects < 8) × IsNew d.objects o.name × IsUpTo 30 o.ceiling
+    × ArePartsOf (profile_of d) (empty_object o.name o.ceiling) o.parts
 
 abbrev pub with_objects : DraftText → List DeclaredObject → DraftText
 with_objects d [] = d
@@ -67,7 +76,12 @@ pub record IsHandlerOf (d : DraftText) (h : DeclaredHandler) : Type 0 where
   pub number : find h.procedure holder.operation_names holder.operations ≡ Some (Procedure h.number)
 
 abbrev pub with_interrupt : DraftText → DeclaredHandler → DraftText
-with_interrupt d h = record d { interrupts = d.interrupts ++ h.name ∷ []; interrupt_handlers = d.interrupt_handlers ++ handler_of h ∷ [] }
+with_interrupt d h =
+    record d {
+      interrupts = d.interrupts ++ h.name ∷ [];
+      interrupt_handlers = d.interrupt_handlers
+          ++ handler_of h ∷ [];
+    }
 
 abbrev pub with_timer : DraftText → DeclaredHandler → DraftText
 with_timer d h = record d { timers = d.timers ++ h.name ∷ []; timer_handlers = d.timer_handlers ++ handler_of h ∷ [] }
@@ -85,11 +99,13 @@ with_timers d (h ∷ hs) = with_timers (with_timer d h) hs
 
 abbrev pub AreInterruptsOf : DraftText → List DeclaredHandler → Type 0
 AreInterruptsOf d [] = Unit {0}
-AreInterruptsOf d (h ∷ hs) = (length d.interrupts < 8) × IsNew d.interrupts h.name × IsHandlerOf d h × AreInterruptsOf (with_interrupt d h) hs
+AreInterruptsOf d (h ∷ hs) =
+    (length d.interrupts < 8) × IsNew d.interrupts h.name × IsHandlerOf d h × AreInterruptsOf (with_interrupt d h) hs
 
 abbrev pub AreTimersOf : DraftText → List DeclaredHandler → Type 0
 AreTimersOf d [] = Unit {0}
-AreTimersOf d (h ∷ hs) = (length d.timers < 8) × IsNew d.timers h.name × IsHandlerOf d h × AreTimersOf (with_timer d h) hs
+AreTimersOf d (h ∷ hs) =
+    (length d.timers < 8) × IsNew d.timers h.name × IsHandlerOf d h × AreTimersOf (with_timer d h) hs
 
 abbrev pub handlers_lines : List ℕ → List DeclaredHandler → List (List (List ℕ))
 handlers_lines first handlers = map (λ h. first ∷ handler_words h) handlers
@@ -116,7 +132,9 @@ profile_words (Some profile) = (codes "profile" ∷ profile_word profile ∷ [])
 
 -- the tasks, before any object
 abbrev pub tasks_draft : ObjectsText → DraftText
-tasks_draft t = record (empty_draft t.nodes) { positions = t.positions; profile = t.profile; tasks = t.tasks; priorities = t.priorities }
+tasks_draft t =
+    record (empty_draft t.nodes)
+    { positions = t.positions; profile = t.profile; tasks = t.tasks; priorities = t.priorities }
 
 abbrev pub objects_draft : ObjectsText → DraftText
 objects_draft t = with_timers (with_interrupts (with_objects (tasks_draft t) t.objects) t.interrupts) t.timers
@@ -124,8 +142,11 @@ objects_draft t = with_timers (with_interrupts (with_objects (tasks_draft t) t.o
 abbrev pub declared_lines : ObjectsText → List (List (List ℕ))
 declared_lines t =
     (codes "nodes" ∷ decimal t.nodes ∷ [])
-    ∷ (positions_words t.positions ++ (profile_words t.profile ++ (task_words t.tasks t.priorities ++ (objects_lines (profile_of (tasks_draft t)) t.objects
-    ++ (handlers_lines (codes "interrupt") t.interrupts ++ (handlers_lines (codes "timer") t.timers ++ (codes "script" ∷ []) ∷ []))))))
+    ∷ (positions_words t.positions
+    ++ (profile_words t.profile
+    ++ (task_words t.tasks t.priorities ++ (objects_lines (profile_of (tasks_draft t)) t.objects
+    ++ (handlers_lines (codes "interrupt") t.interrupts
+    ++ (handlers_lines (codes "timer") t.timers ++ (codes "script" ∷ []) ∷ []))))))
 
 pub record IsObjectsText (t : ObjectsText) : Type 0 where
   pub nodes : (3 ≤ t.nodes) × (t.nodes ≤ 7)
@@ -140,7 +161,8 @@ pub record IsObjectsText (t : ObjectsText) : Type 0 where
 -- ---- the whole deck
 
 abbrev pub objects_text : ObjectsText → List CommandText → List ℕ
-objects_text t commands = text_of_lines (declared_lines t ++ map (command_words (declared_names (objects_draft t))) commands)
+objects_text t commands =
+    text_of_lines (declared_lines t ++ map (command_words (declared_names (objects_draft t))) commands)
 
 -- the deck that it is: the script begins after those lines
 abbrev pub objects_deck : ObjectsText → List CommandText → DeckText

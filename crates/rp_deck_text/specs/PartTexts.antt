@@ -1,5 +1,6 @@
 -- The lines of an object: one way to write each part of it, which reading gives back.
-use Rattle.std.specs.Prelude.{ℕ, ◌≡◌, ◌<◌, ◌≤◌, ℤ, FitsSigned, Bool, true, false, IsTrue, List, [], ◌∷◌, ◌++◌, codes, length, None}
+use Rattle.std.specs.Prelude.{ℕ, ◌≡◌, ◌<◌, ◌≤◌, ℤ, FitsSigned, Bool, true, false, IsTrue, List, [], ◌∷◌, ◌++◌, codes}
+use Rattle.std.specs.Prelude.{length, None}
 use Rattle.std.specs.FinMap.{len}
 use Rattle.std.specs.Fmt.{decimal, signed_decimal}
 use Rattle.std.specs.Int.{w64}
@@ -9,8 +10,10 @@ use Rattle.rp_object.specs.declared.program.Profile.TheVariants.{Ravenscar, Jorv
 use Rattle.rp_deck_objects.specs.declared.objects.Head.TheVariants as heads
 use Rattle.rp_deck_bodies.specs.Bodies.{BodyText}
 use Rattle.rp_deck_text.specs.BodyTexts.{body_count, body_lines, IsBodyOf}
-use Rattle.rp_deck_objects.specs.Objects.{with_int, with_bool, with_function, ObjectText, FunctionText, Value, Truth, most_entries, completed_as}
-use Rattle.rp_deck_text.specs.ExpressionTexts.{is_bool, component_name, HasOne, AreComponents, expr_nodes, cond_nodes, expr_words, cond_words, IsExprOf, IsCondOf, truth_word}
+use Rattle.rp_deck_objects.specs.Objects.{with_int, with_bool, with_function, ObjectText, FunctionText, Value, Truth}
+use Rattle.rp_deck_objects.specs.Objects.{most_entries, completed_as}
+use Rattle.rp_deck_text.specs.ExpressionTexts.{is_bool, component_name, HasOne, AreComponents, expr_nodes, cond_nodes}
+use Rattle.rp_deck_text.specs.ExpressionTexts.{expr_words, cond_words, IsExprOf, IsCondOf, truth_word}
 use Rattle.rp_deck_bodies.specs.Expressions.{expression_words}
 use Rattle.rp_deck.specs.Script.{IsUpTo}
 use Rattle.rp_words.specs.Tables.{is_declared}
@@ -46,12 +49,14 @@ abbrev pub ended : ObjectText → BodyText → List (List (List ℕ))
 ended o body = body_lines o.component_names o.components body ++ (codes "end" ∷ []) ∷ []
 
 abbrev pub part_lines : Profile → ObjectText → PartText → List (List (List ℕ))
-part_lines profile o (IntPart name low high value) = (codes "int" ∷ name ∷ signed_decimal low ∷ signed_decimal high ∷ signed_decimal value ∷ []) ∷ []
+part_lines profile o (IntPart name low high value) =
+    (codes "int" ∷ name ∷ signed_decimal low ∷ signed_decimal high ∷ signed_decimal value ∷ []) ∷ []
 part_lines profile o (BoolPart name value) = (codes "bool" ∷ name ∷ truth_word [] [] value ∷ []) ∷ []
 part_lines profile o (FunctionPart name function) = (codes "function" ∷ name ∷ function_words o function) ∷ []
 part_lines profile o (ProcedurePart name body) = (codes "procedure" ∷ name ∷ []) ∷ ended o body
 part_lines profile o (EntryPart name barrier longest body) =
-    (codes "entry" ∷ name ∷ codes "when" ∷ component_name (is_bool barrier) o.component_names o.components ∷ queue_words profile longest) ∷ ended o body
+    (codes "entry" ∷ name ∷ codes "when" ∷ component_name (is_bool barrier) o.component_names o.components
+    ∷ queue_words profile longest) ∷ ended o body
 
 -- ---- which parts an object may have
 
@@ -68,18 +73,24 @@ IsLongest Ravenscar longest = longest ≡ 1
 IsLongest Jorvik longest = IsUpTo 8 longest
 
 abbrev pub IsWholeBody : ObjectText → BodyText → Type 0
-IsWholeBody o body = AreComponents o.component_names o.components × IsBodyOf o.component_names o.components 0 body × (body_count body ≤ 64)
+IsWholeBody o body =
+    AreComponents o.component_names o.components × IsBodyOf o.component_names o.components 0 body
+    × (body_count body ≤ 64)
 
 abbrev pub IsPartOf : Profile → ObjectText → PartText → Type 0
 IsPartOf profile o (IntPart name low high value) =
-    (len o.store.ints < 8) × IsNew o.component_names name × (is_declared name expression_words ≡ false) × FitsSigned w64 low × FitsSigned w64 high × FitsSigned w64 value × (is_within low high value ≡ true)
+    (len o.store.ints < 8) × IsNew o.component_names name × (is_declared name expression_words ≡ false)
+    × FitsSigned w64 low × FitsSigned w64 high × FitsSigned w64 value × (is_within low high value ≡ true)
 IsPartOf profile o (BoolPart name value) =
     (len o.store.bools < 8) × IsNew o.component_names name × (is_declared name expression_words ≡ false)
 IsPartOf profile o (FunctionPart name function) =
-    (length o.functions < 8) × IsNew o.operation_names name × AreComponents o.component_names o.components × IsFunctionOf o function
-IsPartOf profile o (ProcedurePart name body) = (length o.procedures < 8) × IsNew o.operation_names name × IsWholeBody o body
+    (length o.functions < 8) × IsNew o.operation_names name × AreComponents o.component_names o.components
+    × IsFunctionOf o function
+IsPartOf profile o (ProcedurePart name body) =
+    (length o.procedures < 8) × IsNew o.operation_names name × IsWholeBody o body
 IsPartOf profile o (EntryPart name barrier longest body) =
-    (length o.entries < most_entries profile) × IsNew o.operation_names name × HasOne (is_bool barrier) o.components × IsLongest profile longest × IsWholeBody o body
+    (length o.entries < most_entries profile) × IsNew o.operation_names name × HasOne (is_bool barrier) o.components
+    × IsLongest profile longest × IsWholeBody o body
 
 -- parts, one after another
 abbrev pub with_parts : ObjectText → List PartText → ObjectText

@@ -1,12 +1,15 @@
 -- The text of a script's line: one way to write each command, which reading gives back.
-use Rattle.std.specs.Prelude.{ℕ, ◌≡◌, ◌<◌, ◌≤◌, ◌+◌, ◌-◌, ◌^◌, ℤ, pos, FitsSigned, Bool, true, false, nat_eq, not, ◌&&◌, IsTrue, List, [], ◌∷◌, ◌++◌, codes, length, map, slice_get, slice_index_or, Some, None, ◌⊎◌, if◌then◌else◌, IfSome}
+use Rattle.std.specs.Prelude.{ℕ, ◌≡◌, ◌<◌, ◌≤◌, ◌+◌, ◌-◌, ◌^◌, ℤ, pos, FitsSigned, Bool, true, false, nat_eq, not, ◌&&◌}
+use Rattle.std.specs.Prelude.{IsTrue, List, [], ◌∷◌, ◌++◌, codes, length, map, slice_get, slice_index_or, Some, None}
+use Rattle.std.specs.Prelude.{◌⊎◌, if◌then◌else◌, IfSome}
 use Rattle.std.specs.Fmt.{decimal, signed_decimal}
 use Rattle.std.specs.Int.{w64}
 use Rattle.std.specs.List.{list_all}
 use Rattle.rp_base.specs.declared.action.Operation.{Operation}
 use Rattle.rp_base.specs.declared.action.Operation.TheVariants as operations
 use Rattle.rp_object.specs.declared.program.Handler.{Handler}
-use Rattle.rp_model.specs.Events.{Event, Step, Submit, Again, Makes, Cut, Stop, Restart, Deliver, Lead, LeadRange, Interrupt, Tick, Report}
+use Rattle.rp_model.specs.Events.{Event, Step, Submit, Again, Makes, Cut, Stop, Restart, Deliver, Lead, LeadRange}
+use Rattle.rp_model.specs.Events.{Interrupt, Tick, Report}
 use Rattle.rp_words.specs.Lines.{LineText}
 use Rattle.rp_deck.specs.Script.{IsUpTo, IsMessage}
 use Rattle.rp_deck_objects.specs.ObjectViews.{OperationsText}
@@ -37,18 +40,20 @@ same_operation (operations.Procedure a) (operations.Procedure b) = nat_eq a b
 same_operation (operations.Entry a) (operations.Entry b) = nat_eq a b
 same_operation _ _ = false
 
--- the name of an operation: that of the first place where it stands
+-- the name of an operation: that of the first place where it is
 abbrev pub operation_name_in : List (List ℕ) → List Operation → Operation → List ℕ
 operation_name_in [] declared operation = []
 operation_name_in names [] operation = []
-operation_name_in (name ∷ names) (first ∷ rest) operation = if same_operation first operation then name else operation_name_in names rest operation
+operation_name_in (name ∷ names) (first ∷ rest) operation =
+    if same_operation first operation then name else operation_name_in names rest operation
 
 -- what an object of this number has
 abbrev pub operations_numbered : DeclaredNames → ℕ → OperationsText
 operations_numbered d object = slice_index_or d.operations (object - 1) (record { names = []; operations = [] })
 
 abbrev pub operation_name : DeclaredNames → ℕ → Operation → List ℕ
-operation_name d object operation = operation_name_in (operations_numbered d object).names (operations_numbered d object).operations operation
+operation_name d object operation =
+    operation_name_in (operations_numbered d object).names (operations_numbered d object).operations operation
 
 -- ---- lines
 
@@ -57,7 +62,8 @@ step_words d (Deliver message) = codes "deliver" ∷ decimal message ∷ []
 step_words d (Lead node None) = codes "lead" ∷ decimal node ∷ []
 step_words d (Lead node (Some position)) = codes "lead" ∷ decimal node ∷ decimal position ∷ []
 step_words d (LeadRange node first count) = codes "range" ∷ decimal node ∷ decimal first ∷ decimal count ∷ []
-step_words d (Interrupt node source occurrence) = codes "irq" ∷ decimal node ∷ name_numbered d.interrupts source ∷ decimal occurrence ∷ []
+step_words d (Interrupt node source occurrence) =
+    codes "irq" ∷ decimal node ∷ name_numbered d.interrupts source ∷ decimal occurrence ∷ []
 step_words d (Tick node now) = codes "tick" ∷ decimal node ∷ decimal now ∷ []
 step_words d (Report node first) = []
 
@@ -67,7 +73,8 @@ submit_words d task node object (operations.SetTimer timer) arg =
 submit_words d task node object (operations.CancelTimer timer) arg =
     codes "disarm" ∷ name_numbered d.tasks task ∷ decimal node ∷ name_numbered d.timers timer ∷ []
 submit_words d task node object operation arg =
-    codes "call" ∷ name_numbered d.tasks task ∷ decimal node ∷ (name_numbered d.objects object ++ 46 ∷ operation_name d object operation) ∷ signed_decimal arg ∷ []
+    codes "call" ∷ name_numbered d.tasks task ∷ decimal node
+    ∷ (name_numbered d.objects object ++ 46 ∷ operation_name d object operation) ∷ signed_decimal arg ∷ []
 
 abbrev pub event_words : DeclaredNames → Event → List (List ℕ)
 event_words d (Submit task node object operation arg) = submit_words d task node object operation arg
@@ -107,7 +114,8 @@ script_text d commands = text_of_lines (map (command_words d) commands)
 -- commands, a line each, where the first has this number
 abbrev pub numbered_commands : ℕ → List CommandText → List LineCommand
 numbered_commands number [] = []
-numbered_commands number (command ∷ commands) = record { number = number; command = command } ∷ numbered_commands (number + 1) commands
+numbered_commands number (command ∷ commands) =
+    record { number = number; command = command } ∷ numbered_commands (number + 1) commands
 
 -- ---- which commands a script may hold, where these are declared
 

@@ -1,5 +1,6 @@
 -- The text of a deck whose objects are a tally: one way to write each, which reading gives back.
-use Rattle.std.specs.Prelude.{ℕ, ◌≡◌, ◌<◌, ◌≤◌, ◌+◌, true, false, IsTrue, List, [], ◌∷◌, ◌++◌, codes, length, map, Option, Some, None, IfSome}
+use Rattle.std.specs.Prelude.{ℕ, ◌≡◌, ◌<◌, ◌≤◌, ◌+◌, true, false, IsTrue, List, [], ◌∷◌, ◌++◌, codes, length, map}
+use Rattle.std.specs.Prelude.{Option, Some, None, IfSome}
 use Rattle.std.specs.Fmt.{decimal}
 use Rattle.rp_deck_declarations.specs.Drafts.{DraftText, tally_names}
 use Rattle.rp_deck.specs.Meaning.{DeckText, deck_of}
@@ -25,12 +26,15 @@ positions_words (Some positions) = (codes "positions" ∷ decimal positions ∷ 
 abbrev pub task_words : List (List ℕ) → List ℕ → List (List (List ℕ))
 task_words [] priorities = []
 task_words tasks [] = []
-task_words (task ∷ tasks) (priority ∷ priorities) = (codes "task" ∷ task ∷ decimal priority ∷ []) ∷ task_words tasks priorities
+task_words (task ∷ tasks) (priority ∷ priorities) =
+    (codes "task" ∷ task ∷ decimal priority ∷ []) ∷ task_words tasks priorities
 
 -- the lines up to `script`
 abbrev pub tally_lines : TallyText → List (List (List ℕ))
 tally_lines t =
-    (codes "nodes" ∷ decimal t.nodes ∷ []) ∷ (positions_words t.positions ++ (task_words t.tasks t.priorities ++ (codes "tally" ∷ decimal t.count ∷ []) ∷ (codes "script" ∷ []) ∷ []))
+    (codes "nodes" ∷ decimal t.nodes ∷ [])
+    ∷ (positions_words t.positions
+    ++ (task_words t.tasks t.priorities ++ (codes "tally" ∷ decimal t.count ∷ []) ∷ (codes "script" ∷ []) ∷ []))
 
 abbrev pub tally_draft : TallyText → DraftText
 tally_draft t = record {
@@ -59,7 +63,8 @@ tally_deck t commands = deck_of (tally_draft t) (numbered_commands (1 + length (
 abbrev pub AreTasks : List (List ℕ) → List (List ℕ) → List ℕ → Type 0
 AreTasks before [] [] = Unit {0}
 AreTasks before (task ∷ tasks) (priority ∷ priorities) =
-    (length before < 8) × IsTrue (is_name task) × (is_declared task before ≡ false) × IsUpTo 30 priority × AreTasks (before ++ task ∷ []) tasks priorities
+    (length before < 8) × IsTrue (is_name task) × (is_declared task before ≡ false) × IsUpTo 30 priority
+    × AreTasks (before ++ task ∷ []) tasks priorities
 AreTasks before _ _ = ⊥
 
 pub record IsTallyText (t : TallyText) : Type 0 where

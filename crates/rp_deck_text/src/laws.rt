@@ -75,7 +75,8 @@ pub fn declarations_are_read_back()
         → Declares d (objects_lines (profile_of d) objects) (with_objects d objects) }
     ensures interrupts { (d : DraftText) (interrupts : List DeclaredHandler)
         → is_in_body d ≡ false → d.is_tally ≡ false → AreInterruptsOf d interrupts
-        → Declares d (handlers_lines (codes "interrupt") interrupts) (with_interrupts d interrupts) }
+        → Declares d (handlers_lines (codes "interrupt") interrupts)
+        (with_interrupts d interrupts) }
     ensures timers { (d : DraftText) (timers : List DeclaredHandler)
         → is_in_body d ≡ false → d.is_tally ≡ false → AreTimersOf d timers
         → Declares d (handlers_lines (codes "timer") timers) (with_timers d timers) }

@@ -13,35 +13,35 @@ use Rattle.rp_entry.specs.declared.state.Waiting.{Waiting}
 use Rattle.rp_entry.specs.Queue.{State, queue_at, all_calls}
 use Rattle.rp_entry.specs.Servicing.{Services, ends, goes_on}
 use Rattle.rp_entry.specs.Actions.{Request, Runs, Acts, calls_entry, function, procedure, open_entry, closed_entry, full_queue, handler, no_function, no_procedure, no_entry, no_handler, with_caller}
-use Rattle.rp_entry.specs.Accounting.{name_of, answered_caller, KeepsCallers, joins, joins_at, told_at, KeepsAll}
-use Rattle.rp_entry.proofs.Permuting.{Perm, same, behind, chain, permuted, mapped_permuted}
+use Rattle.rp_entry.specs.Accounting.{name_of, answered_caller, KeepsCallers, joins, joins_at, replied_at, KeepsAll}
+use Rattle.rp_entry.proofs.Permuting.{Perm, same, following, chain, permuted, mapped_permuted}
 use Rattle.rp_entry.proofs.Queues.{taken, joined, place_there, index_there}
 
 -- ---- all calls of an object together
 
 -- those that wait, and those that are answered and that wait still
 abbrev Leaves : List (ℕ × ℕ) → List Answer → List (List Waiting) → Type 0
-Leaves waited told waiting = Perm waited (map answered_caller told ++ map name_of (all_calls waiting))
+Leaves waited replied waiting = Perm waited (map answered_caller replied ++ map name_of (all_calls waiting))
 
-services_leave : {operations : Operations} {before after : State} {told : List Answer} → Services operations before told after → Leaves (map name_of (all_calls before.queues)) told after.queues
+services_leave : {operations : Operations} {before after : State} {replied : List Answer} → Services operations before replied after → Leaves (map name_of (all_calls before.queues)) replied after.queues
 services_leave (ends serviced) = same
 services_leave (goes_on {before = before} {between = between} {answers = answers} step rest) =
     let call = step.ready.call in
     let left : map name_of (all_calls (set before.queues step.place step.ready.rest)) ≡ map name_of (all_calls between.queues) = ap (λ (l : List (List Waiting)). map name_of (all_calls l)) (sym step.left) in
     chain (mapped_permuted name_of (taken before.queues step.place call step.ready.rest step.ready.waits))
-    (chain (permuted (ap₂ (λ (n : ℕ × ℕ) (l : List (ℕ × ℕ)). n ∷ l) (sym (ap answered_caller step.told)) left)) (behind (services_leave rest)))
+    (chain (permuted (ap₂ (λ (n : ℕ × ℕ) (l : List (ℕ × ℕ)). n ∷ l) (sym (ap answered_caller step.replied)) left)) (following (services_leave rest)))
 
-answered_joins : {operations : Operations} {body : List Stmt} {before after : State} {outcome : CallOutcome} {told : List Answer} (index : ℕ) (call : Waiting) (arg : _) → Runs operations body arg before outcome told after → joins (calls_entry index call) (Some outcome) ≡ []
-answered_joins index call arg runs = ap (λ (o : CallOutcome). joins (calls_entry index call) (Some o)) runs.told
+answered_joins : {operations : Operations} {body : List Stmt} {before after : State} {outcome : CallOutcome} {replied : List Answer} (index : ℕ) (call : Waiting) (arg : _) → Runs operations body arg before outcome replied after → joins (calls_entry index call) (Some outcome) ≡ []
+answered_joins index call arg runs = ap (λ (o : CallOutcome). joins (calls_entry index call) (Some o)) runs.replied
 
 -- of an object that has its queues: its calls and the one that joins them are those that are answered and those that wait after
-pub acts_leave : {operations : Operations} {before after : State} {request : Request} {caller : Option CallOutcome} {told : List Answer}
-    → length before.queues ≡ length operations.entries.items → Acts operations before request caller told after
-    → Leaves (map name_of (joins request caller ++ all_calls before.queues)) told after.queues
+pub acts_leave : {operations : Operations} {before after : State} {request : Request} {caller : Option CallOutcome} {replied : List Answer}
+    → length before.queues ≡ length operations.entries.items → Acts operations before request caller replied after
+    → Leaves (map name_of (joins request caller ++ all_calls before.queues)) replied after.queues
 acts_leave each (function f) = same
 acts_leave each (procedure f runs) = services_leave runs.serviced
-acts_leave {before = before} {after = after} {told = told} each (open_entry {index = index} {call = call} f a runs) =
-    subst (λ (q : List Waiting). Leaves (map name_of (q ++ all_calls before.queues)) told after.queues) (sym (answered_joins index call _ runs)) (services_leave runs.serviced)
+acts_leave {before = before} {after = after} {replied = replied} each (open_entry {index = index} {call = call} f a runs) =
+    subst (λ (q : List Waiting). Leaves (map name_of (q ++ all_calls before.queues)) replied after.queues) (sym (answered_joins index call _ runs)) (services_leave runs.serviced)
 acts_leave {operations = operations} {before = before} each (closed_entry {index = index} {call = call} {entry = entry} f a room) =
     let within = index_there operations.entries.items index entry f in
     let below : index - 1 < length before.queues = omega (arith, within.0, within.1, each) in
@@ -56,23 +56,23 @@ acts_leave each (no_handler f) = same
 -- ---- each entry by itself
 
 -- servicing, with the entry of each answer's caller
-record Serviced (before : List (List Waiting)) (told : List Answer) (after : List (List Waiting)) : Type 0 where
+record Serviced (before : List (List Waiting)) (replied : List Answer) (after : List (List Waiting)) : Type 0 where
   entries : List ℕ
-  each : length entries ≡ length told
-  kept : (place : ℕ) → KeepsCallers (queue_at before place) (told_at place entries told) (queue_at after place)
+  each : length entries ≡ length replied
+  kept : (place : ℕ) → KeepsCallers (queue_at before place) (replied_at place entries replied) (queue_at after place)
 
-module _ (before between after : List (List Waiting)) (at : ℕ) (call : Waiting) (rest : List Waiting) (answer : Answer) (told : List Answer) (entries : List ℕ) where
+module _ (before between after : List (List Waiting)) (at : ℕ) (call : Waiting) (rest : List Waiting) (answer : Answer) (replied : List Answer) (entries : List ℕ) where
   kept_more : queue_at before at ≡ call ∷ rest → between ≡ set before at rest → answered_caller answer ≡ name_of call
-      → ((place : ℕ) → KeepsCallers (queue_at between place) (told_at place entries told) (queue_at after place))
-      → (place : ℕ) → KeepsCallers (queue_at before place) (told_at place (at ∷ entries) (answer ∷ told)) (queue_at after place)
+      → ((place : ℕ) → KeepsCallers (queue_at between place) (replied_at place entries replied) (queue_at after place))
+      → (place : ℕ) → KeepsCallers (queue_at before place) (replied_at place (at ∷ entries) (answer ∷ replied)) (queue_at after place)
   kept_more waits left name later place =
-      let Kept : Bool → Type 0 = λ b. KeepsCallers (queue_at before place) (cond b (answer ∷ told_at place entries told) (told_at place entries told)) (queue_at after place) in
+      let Kept : Bool → Type 0 = λ b. KeepsCallers (queue_at before place) (cond b (answer ∷ replied_at place entries replied) (replied_at place entries replied)) (queue_at after place) in
       ⊎_elim
       (λ (is : at ≡ place).
       let test : nat_eq at place ≡ true = grind (arith, nat_tests) in
       let here : queue_at between place ≡ rest = ap (λ (l : List (List Waiting)). queue_at l place) left ∙ ap (queue_at (set before at rest)) (sym is) ∙ get_or-set_same before at rest [] (place_there before at call rest waits) in
       let was : queue_at before place ≡ call ∷ rest = ap (queue_at before) (sym is) ∙ waits in
-      let others : map answered_caller (told_at place entries told) ++ map name_of (queue_at after place) ≡ map name_of rest = later place ∙ ap (λ (q : List Waiting). map name_of q) here in
+      let others : map answered_caller (replied_at place entries replied) ++ map name_of (queue_at after place) ≡ map name_of rest = later place ∙ ap (λ (q : List Waiting). map name_of q) here in
       let all : Kept true = ap₂ (λ (n : ℕ × ℕ) (l : List (ℕ × ℕ)). n ∷ l) name others ∙ ap (λ (q : List Waiting). map name_of q) (sym was) in
       subst Kept (sym test) all)
       (λ (other : at ≢ place).
@@ -83,24 +83,24 @@ module _ (before between after : List (List Waiting)) (at : ℕ) (call : Waiting
       subst Kept (sym test) all)
       (cases_eq at place)
 
-served_accounts : {operations : Operations} {before after : State} {told : List Answer} → Services operations before told after → Serviced before.queues told after.queues
+served_accounts : {operations : Operations} {before after : State} {replied : List Answer} → Services operations before replied after → Serviced before.queues replied after.queues
 served_accounts (ends serviced) = record { entries = []; each = refl; kept = λ place. refl }
 served_accounts (goes_on {before = before} {between = between} {after = after} {answer = answer} {answers = answers} step rest) =
     let later = served_accounts rest in
     record {
       entries = step.place ∷ later.entries;
       each = ap suc later.each;
-      kept = kept_more before.queues between.queues after.queues step.place step.ready.call step.ready.rest answer answers later.entries step.ready.waits step.left (ap answered_caller step.told) later.kept;
+      kept = kept_more before.queues between.queues after.queues step.place step.ready.call step.ready.rest answer answers later.entries step.ready.waits step.left (ap answered_caller step.replied) later.kept;
     }
 
 -- where the action's own call does not wait
-alone : {before after : State} {request : Request} {caller : Option CallOutcome} {told : List Answer} → ((place : ℕ) → joins_at place request caller ≡ []) → Serviced before.queues told after.queues → KeepsAll before request caller told after
-alone {before} {after} {told = told} none left = record {
+alone : {before after : State} {request : Request} {caller : Option CallOutcome} {replied : List Answer} → ((place : ℕ) → joins_at place request caller ≡ []) → Serviced before.queues replied after.queues → KeepsAll before request caller replied after
+alone {before} {after} {replied = replied} none left = record {
   entries = left.entries;
   each = left.each;
   kept = λ place.
-      subst (λ (q : List Waiting). KeepsCallers (queue_at before.queues place ++ q) (told_at place left.entries told) (queue_at after.queues place)) (sym (none place))
-      (subst (λ (q : List Waiting). KeepsCallers q (told_at place left.entries told) (queue_at after.queues place)) (sym (append-nil (queue_at before.queues place))) (left.kept place));
+      subst (λ (q : List Waiting). KeepsCallers (queue_at before.queues place ++ q) (replied_at place left.entries replied) (queue_at after.queues place)) (sym (none place))
+      (subst (λ (q : List Waiting). KeepsCallers q (replied_at place left.entries replied) (queue_at after.queues place)) (sym (append-nil (queue_at before.queues place))) (left.kept place));
 }
 
 unchanged : (queues : List (List Waiting)) → Serviced queues [] queues
@@ -127,8 +127,8 @@ module _ (before : State) (index : ℕ) (call : Waiting) (below : index - 1 < le
       subst (λ b. queue_at (set before.queues at new) place ≡ queue_at before.queues place ++ cond b (call ∷ []) []) (sym test) stays)
       (cases_eq at place)
 
-pub acts_account : {operations : Operations} {before after : State} {request : Request} {caller : Option CallOutcome} {told : List Answer}
-    → length before.queues ≡ length operations.entries.items → Acts operations before request caller told after → KeepsAll before request caller told after
+pub acts_account : {operations : Operations} {before after : State} {request : Request} {caller : Option CallOutcome} {replied : List Answer}
+    → length before.queues ≡ length operations.entries.items → Acts operations before request caller replied after → KeepsAll before request caller replied after
 acts_account {before = before} each (function f) = alone (λ place. refl) (unchanged before.queues)
 acts_account each (procedure f runs) = alone (λ place. refl) (served_accounts runs.serviced)
 acts_account each (open_entry {index = index} {call = call} {outcome = outcome} f a runs) = alone (over_at index call (Some outcome) (answered_joins index call _ runs)) (served_accounts runs.serviced)

@@ -23,11 +23,11 @@ pub runs_same : {operations : Operations} {body other : List Stmt} {arg number :
 runs_same {operations} {body} {other} {arg} {number} {before} {after} {outcome} {served} same equal runs =
     subst (λ (b : List Stmt). Runs operations b number before outcome served after) same (subst (λ (a : ℤ). Runs operations body a before outcome served after) equal runs)
 
--- the same action, told in other words
-pub acts_same : {operations : Operations} {before after end : State} {request : Request} {caller called : Option CallOutcome} {told heard : List Answer} → called ≡ caller → heard ≡ told → end ≡ after → Acts operations before request caller told after → Acts operations before request called heard end
-acts_same {operations} {before} {after} {end} {request} {caller} {called} {told} {heard} p q r acts =
+-- the same action, in other words
+pub acts_same : {operations : Operations} {before after end : State} {request : Request} {caller called : Option CallOutcome} {replied heard : List Answer} → called ≡ caller → heard ≡ replied → end ≡ after → Acts operations before request caller replied after → Acts operations before request called heard end
+acts_same {operations} {before} {after} {end} {request} {caller} {called} {replied} {heard} p q r acts =
     subst (λ (c : Option CallOutcome). Acts operations before request c heard end) (sym p)
-    (subst (λ (l : List Answer). Acts operations before request caller l end) (sym q) (subst (λ (s : State). Acts operations before request caller told s) (sym r) acts))
+    (subst (λ (l : List Answer). Acts operations before request caller l end) (sym q) (subst (λ (s : State). Acts operations before request caller replied s) (sym r) acts))
 
 -- the queues are right at other components too
 pub same_queues : {operations : Operations} {before : State} (store : Store) → HasQueues operations before → HasQueues operations (record { store = store; queues = before.queues })
@@ -66,17 +66,17 @@ missing there none = subst IsThere (sym there ∙ none) tt
 pub one_item : {X : Type 0} {o : Option X} {x y : X} → o ≡ Some x → o ≡ Some y → x ≡ y
 one_item {X} {o} {x} here there = ap (λ (p : Option X). unwrap_or p x) (sym here ∙ there)
 
-runs_one_end : {operations : Operations} {body other : List Stmt} {arg : ℤ} {before one end : State} {outcome result : CallOutcome} {told heard : List Answer} → body ≡ other → Runs operations body arg before outcome told one → Runs operations other arg before result heard end → (Some outcome ≡ Some result) × (told ≡ heard) × (one ≡ end)
-runs_one_end {operations} {body} {other} {arg} {before} {one} {end} {outcome} {result} {told} {heard} same s r =
+runs_one_end : {operations : Operations} {body other : List Stmt} {arg : ℤ} {before one end : State} {outcome result : CallOutcome} {replied heard : List Answer} → body ≡ other → Runs operations body arg before outcome replied one → Runs operations other arg before result heard end → (Some outcome ≡ Some result) × (replied ≡ heard) × (one ≡ end)
+runs_one_end {operations} {body} {other} {arg} {before} {one} {end} {outcome} {result} {replied} {heard} same s r =
     let t : Runs operations body arg before result heard end = runs_same (sym same) refl r in
     let ran : ◌≡◌ {A = Store × Outcome} (s.store, s.ended) (t.store, t.ended) = sym s.run ∙ t.run in
     let served : Services operations (record { store = s.store; queues = before.queues }) heard end =
     subst (λ (a : Store). Services operations (record { store = a; queues = before.queues }) heard end) (sym (ap (λ p. p.0) ran)) t.serviced in
     let left = one_end s.serviced served in
-    let answer : outcome ≡ result = s.told ∙ ap (λ (o : Outcome). Reply (reply_of o)) (ap (λ p. p.1) ran) ∙ sym t.told in
+    let answer : outcome ≡ result = s.replied ∙ ap (λ (o : Outcome). Reply (reply_of o)) (ap (λ p. p.1) ran) ∙ sym t.replied in
     (ap Some answer, left.0, left.1)
 
-pub acts_one_end : {operations : Operations} {before : State} {request : Request} {caller called : Option CallOutcome} {told heard : List Answer} {one other : State} → Acts operations before request caller told one → Acts operations before request called heard other → (caller ≡ called) × (told ≡ heard) × (one ≡ other)
+pub acts_one_end : {operations : Operations} {before : State} {request : Request} {caller called : Option CallOutcome} {replied heard : List Answer} {one other : State} → Acts operations before request caller replied one → Acts operations before request called heard other → (caller ≡ called) × (replied ≡ heard) × (one ≡ other)
 acts_one_end {before = before} (function {arg = arg} f) (function g) = (ap (λ (d : Function). Some (Reply (function_reply d before.store arg))) (one_item f g), refl, refl)
 acts_one_end (function f) (no_function g) = absurd (missing f g)
 acts_one_end (no_function f) (function g) = absurd (missing g f)

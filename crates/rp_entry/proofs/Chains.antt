@@ -15,7 +15,7 @@ use Rattle.rp_entry.specs.Replies.{reply_of}
 use Rattle.rp_entry.specs.Servicing.{Serves, Services, ends, goes_on}
 use Rattle.rp_entry.proofs.Queues.{one_less, right_taken}
 
--- the list behind the first element
+-- the list after the first element
 abbrev rest_of : {X : Type 0} → List X → List X
 rest_of [] = []
 rest_of (x ∷ xs) = xs
@@ -25,7 +25,7 @@ stuck : {operations : Operations} {before after : State} {answer : Answer} → I
 stuck serviced step = serviced step.place step.ready
 
 -- servicing ends in a serviced state
-pub is_serviced : {operations : Operations} {before after : State} {told : List Answer} → Services operations before told after → IsServiced operations after
+pub is_serviced : {operations : Operations} {before after : State} {replied : List Answer} → Services operations before replied after → IsServiced operations after
 is_serviced (ends serviced) = serviced
 is_serviced (goes_on step rest) = is_serviced rest
 
@@ -39,19 +39,19 @@ one_served {before = before} step =
 pub right_served : {operations : Operations} {before after : State} {answer : Answer} → Serves operations before answer after → HasQueues operations before → HasQueues operations after
 right_served {after = after} step right = right_taken step.place step.ready.call step.ready.rest step.ready.waits right after step.left
 
-pub right_serviced : {operations : Operations} {before after : State} {told : List Answer} → Services operations before told after → HasQueues operations before → HasQueues operations after
+pub right_serviced : {operations : Operations} {before after : State} {replied : List Answer} → Services operations before replied after → HasQueues operations before → HasQueues operations after
 right_serviced (ends serviced) right = right
 right_serviced (goes_on step rest) right = right_serviced rest (right_served step right)
 
 -- ---- one end
 
-same_place : {operations : Operations} {before one other : State} {told heard : Answer} (s : Serves operations before told one) (t : Serves operations before heard other) → s.place ≡ t.place
+same_place : {operations : Operations} {before one other : State} {replied heard : Answer} (s : Serves operations before replied one) (t : Serves operations before heard other) → s.place ≡ t.place
 same_place s t = elim (cases_lt s.place t.place) [
   | inl below ↦ absurd (t.least s.place below s.ready)
   | inr least ↦ elim (cases_lt t.place s.place) [ inl below ↦ absurd (s.least t.place below t.ready) | inr most ↦ omega (arith, least, most) ]
 ]
 
-pub same_step : {operations : Operations} {before one other : State} {told heard : Answer} → Serves operations before told one → Serves operations before heard other → (told ≡ heard) × (one ≡ other)
+pub same_step : {operations : Operations} {before one other : State} {replied heard : Answer} → Serves operations before replied one → Serves operations before heard other → (replied ≡ heard) × (one ≡ other)
 same_step {operations} {before} {one} {other} s t =
     let place : s.place ≡ t.place = same_place s t in
     let found : slice_get operations.entries.items s.place ≡ slice_get operations.entries.items t.place = ap (slice_get operations.entries.items) place in
@@ -63,10 +63,10 @@ same_step {operations} {before} {one} {other} s t =
     sym s.run ∙ ap₂ (λ (e : Entry) (c : Waiting). body_effect e.body.items c.arg before.store) entry call ∙ t.run in
     let queues : one.queues ≡ other.queues = s.left ∙ ap₂ (λ (n : ℕ) (q : List Waiting). set before.queues n q) place rest ∙ sym t.left in
     let left : ◌≡◌ {A = State} one other = ap₂ (λ (a : Store) (q : List (List Waiting)). record { store = a; queues = q }) (ap (λ p. p.0) ran) queues in
-    let answer = s.told ∙ ap₂ (λ (c : Waiting) (o : Outcome). record { task = c.task; number = c.number; reply = reply_of o }) call (ap (λ p. p.1) ran) ∙ sym t.told in
+    let answer = s.replied ∙ ap₂ (λ (c : Waiting) (o : Outcome). record { task = c.task; number = c.number; reply = reply_of o }) call (ap (λ p. p.1) ran) ∙ sym t.replied in
     (answer, left)
 
-pub one_end : {operations : Operations} {before one other : State} {told heard : List Answer} → Services operations before told one → Services operations before heard other → (told ≡ heard) × (one ≡ other)
+pub one_end : {operations : Operations} {before one other : State} {replied heard : List Answer} → Services operations before replied one → Services operations before heard other → (replied ≡ heard) × (one ≡ other)
 one_end (ends serviced) (ends again) = (refl, refl)
 one_end (ends serviced) (goes_on step rest) = absurd (stuck serviced step)
 one_end (goes_on step rest) (ends serviced) = absurd (stuck serviced step)
@@ -77,10 +77,10 @@ one_end {operations} {before} {one} {other} (goes_on step rest) (goes_on {answer
 
 -- ---- the answers so far
 
--- servicing from this state comes, with these answers, to that state, and goes on from it
+-- servicing from this state leads, with these answers, to that state, and goes on from it
 abbrev pub Reaches : Operations → State → List Answer → State → Type 0
-Reaches operations before told between = (after : State) (more : List Answer) → Services operations between more after → Services operations before (told ++ more) after
+Reaches operations before replied between = (after : State) (more : List Answer) → Services operations between more after → Services operations before (replied ++ more) after
 
-pub reaches_more : (operations : Operations) (before between after : State) (told : List Answer) (answer : Answer) → Reaches operations before told between → Serves operations between answer after → Reaches operations before (told ++ answer ∷ []) after
-reaches_more operations before between after told answer reached step end more rest =
-    subst (λ (l : List Answer). Services operations before l end) (sym (append_assoc told (answer ∷ []) more)) (reached end (answer ∷ more) (goes_on step rest))
+pub reaches_more : (operations : Operations) (before between after : State) (replied : List Answer) (answer : Answer) → Reaches operations before replied between → Serves operations between answer after → Reaches operations before (replied ++ answer ∷ []) after
+reaches_more operations before between after replied answer reached step end more rest =
+    subst (λ (l : List Answer). Services operations before l end) (sym (append_assoc replied (answer ∷ []) more)) (reached end (answer ∷ more) (goes_on step rest))

@@ -19,7 +19,7 @@ ran_keeps body arg before after ended run = subst (λ (ran : Store × Outcome). 
 serves_keep : {operations : Operations} {before after : State} {answer : Answer} → Serves operations before answer after → KeepsRanges before.store after.store
 serves_keep {before = before} {after = after} step = ran_keeps step.ready.entry.body.items step.ready.call.arg before.store after.store step.ended step.run
 
-services_keep : {operations : Operations} {before after : State} {told : List Answer} → Services operations before told after → KeepsRanges before.store after.store
+services_keep : {operations : Operations} {before after : State} {replied : List Answer} → Services operations before replied after → KeepsRanges before.store after.store
 services_keep (ends {state = state} serviced) = keeps_same state.store
 services_keep (goes_on {before = before} {between = between} {after = after} step rest) =
     keeps_on before.store between.store after.store (serves_keep step) (services_keep rest)
@@ -28,7 +28,7 @@ runs_keep : {operations : Operations} {body : List Stmt} {arg : ℤ} {before aft
 runs_keep {body = body} {arg = arg} {before = before} {after = after} ran =
     keeps_on before.store ran.store after.store (ran_keeps body arg before.store ran.store ran.ended ran.run) (services_keep ran.serviced)
 
-pub acts_keep : {operations : Operations} {before after : State} {request : Request} {caller : Option CallOutcome} {told : List Answer} → Acts operations before request caller told after → KeepsRanges before.store after.store
+pub acts_keep : {operations : Operations} {before after : State} {request : Request} {caller : Option CallOutcome} {replied : List Answer} → Acts operations before request caller replied after → KeepsRanges before.store after.store
 acts_keep {before = before} (function there) = keeps_same before.store
 acts_keep (procedure there ran) = runs_keep ran
 acts_keep (open_entry declared up ran) = runs_keep ran

@@ -8,4 +8,4 @@ pub mod Accounting
 pub mod Keeping
 pub mod Naming
 pub mod Joining
-pub mod Telling
+pub mod ReplyRanges

@@ -35,18 +35,18 @@ module _ (limits : Limits) (operations : Operations) (fits : OperationsFit limit
   body_keeps : (body : List Stmt) (arg : ℤ) (before after : Store) (ended : Outcome) → KeepsLimits limits body → HasBools limits before → body_effect body arg before ≡ (after, ended) → HasBoolsOf before after
   body_keeps body arg before after ended keeps has run = subst (λ (ran : Store × Outcome). HasBoolsOf before ran.0) run (booleans_kept limits body arg before has keeps.fits)
 
-  services_keep : {before after : State} {told : List Answer} → Services operations before told after → HasBools limits before.store → HasBoolsOf before.store after.store
+  services_keep : {before after : State} {replied : List Answer} → Services operations before replied after → HasBools limits before.store → HasBoolsOf before.store after.store
   services_keep (ends serviced) has name = refl
   services_keep (goes_on {before = before} {between = between} step rest) has name =
       let one = body_keeps step.ready.entry.body.items step.ready.call.arg before.store between.store step.ended (entry_body (suc step.place) step.ready.entry step.ready.declared) has step.run in
       services_keep rest (λ n below. one n ∙ has n below) name ∙ one name
 
-  runs_keep : {body : List Stmt} {arg : ℤ} {before after : State} {outcome : CallOutcome} {told : List Answer} → Runs operations body arg before outcome told after → KeepsLimits limits body → HasBools limits before.store → HasBoolsOf before.store after.store
+  runs_keep : {body : List Stmt} {arg : ℤ} {before after : State} {outcome : CallOutcome} {replied : List Answer} → Runs operations body arg before outcome replied after → KeepsLimits limits body → HasBools limits before.store → HasBoolsOf before.store after.store
   runs_keep {body = body} {arg = arg} {before = before} runs keeps has name =
       let one = body_keeps body arg before.store runs.store runs.ended keeps has runs.run in
       services_keep runs.serviced (λ n below. one n ∙ has n below) name ∙ one name
 
-  pub acts_keep_booleans : {before after : State} {request : Request} {caller : Option CallOutcome} {told : List Answer} → Acts operations before request caller told after → HasBools limits before.store → HasBoolsOf before.store after.store
+  pub acts_keep_booleans : {before after : State} {request : Request} {caller : Option CallOutcome} {replied : List Answer} → Acts operations before request caller replied after → HasBools limits before.store → HasBoolsOf before.store after.store
   acts_keep_booleans (function there) has name = refl
   acts_keep_booleans (procedure {index = index} {body = body} there runs) has name = runs_keep runs (all_at (λ b. KeepsLimits limits b.items) operations.procedures.items index body fits.procedures there) has name
   acts_keep_booleans (open_entry {index = index} {entry = entry} there up runs) has name = runs_keep runs (entry_body index entry there) has name

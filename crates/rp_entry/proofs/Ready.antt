@@ -87,9 +87,9 @@ here_or_later : (a b : Bool) (P Q : Type 0) → ((a ≡ true) → P) → ((b ≡
 here_or_later true b P Q left right holds = inl (left refl)
 here_or_later false b P Q left right holds = inr (right holds)
 
-behind_true : (a b : Bool) → b ≡ true → (a || b) ≡ true
-behind_true true b holds = refl
-behind_true false b holds = holds
+after_true : (a b : Bool) → b ≡ true → (a || b) ≡ true
+after_true true b holds = refl
+after_true false b holds = holds
 
 in_front_true : (a b : Bool) → a ≡ true → (a || b) ≡ true
 in_front_true true b holds = refl
@@ -102,9 +102,9 @@ task_found task (call ∷ rest) holds = here_or_later (nat_eq call.task task) (h
 task_finds : (task : ℕ) (calls : List Waiting) → Has task (map (λ (call : Waiting). call.task) calls) → has_task task calls ≡ true
 task_finds task [] has = absurd has
 task_finds task (call ∷ rest) (inl is) = in_front_true (nat_eq call.task task) (has_task task rest) (grind (arith, nat_tests))
-task_finds task (call ∷ rest) (inr later) = behind_true (nat_eq call.task task) (has_task task rest) (task_finds task rest later)
+task_finds task (call ∷ rest) (inr later) = after_true (nat_eq call.task task) (has_task task rest) (task_finds task rest later)
 
--- the tasks of a queue and of those behind it
+-- the tasks of a queue and of those after it
 tasks_apart : (queue : List Waiting) (queues : List (List Waiting)) → map (λ (call : Waiting). call.task) (queue ++ all_calls queues) ≡ map (λ (call : Waiting). call.task) queue ++ map (λ (call : Waiting). call.task) (all_calls queues)
 tasks_apart [] queues = refl
 tasks_apart (call ∷ rest) queues = ap (λ (l : List ℕ). call.task ∷ l) (tasks_apart rest queues)
@@ -124,5 +124,5 @@ waits_finds task (queue ∷ queues) has =
     let others = map (λ (call : Waiting). call.task) (all_calls queues) in
     elim (has_split task here others (subst (λ (l : List ℕ). Has task l) (tasks_apart queue queues) has)) [
       | inl h ↦ in_front_true (has_task task queue) (is_waiting task queues) (task_finds task queue h)
-      | inr h ↦ behind_true (has_task task queue) (is_waiting task queues) (waits_finds task queues h)
+      | inr h ↦ after_true (has_task task queue) (is_waiting task queues) (waits_finds task queues h)
     ]

@@ -19,13 +19,13 @@ use Rattle.rp_entry.specs.Queue.{State, IsOpen, IsReady, IsServiced, queue_at, a
 use Rattle.rp_entry.specs.Replies.{reply_of}
 use Rattle.rp_entry.specs.Servicing.{Serves, Services, ends, goes_on}
 use Rattle.rp_entry.specs.Actions.{Request, Runs, Acts, calls_function, calls_procedure, calls_entry, event, function, procedure, open_entry, closed_entry, full_queue, handler, no_function, no_procedure, no_entry, no_handler, with_caller}
-use Rattle.rp_entry.specs.Results.{Acted, Next, behind, next_call, Serviced, served, serviced_from, serviced, tells, ran_for, function_called, procedure_called, entry_called, event_handled, acted}
+use Rattle.rp_entry.specs.Results.{Acted, Next, with_queue_first, next_call, Serviced, served, serviced_from, serviced, replies_with, ran_for, function_called, procedure_called, entry_called, event_handled, acted}
 use Rattle.rp_entry.proofs.Acting.{acts_one_end}
 use Rattle.rp_entry.proofs.Queues.{one_less}
 
 -- it is an action
 abbrev pub IsActed : Operations → State → Request → Acted → Type 0
-IsActed operations before request result = Acts operations before request result.caller result.told result.after
+IsActed operations before request result = Acts operations before request result.caller result.replied result.after
 
 -- ---- the call to be served next
 
@@ -59,9 +59,9 @@ module _ (store : Store) (entry : Entry) (queue : List Waiting) (entries : List 
   none_before limit here others zero below ready = here ready
   none_before limit here others (suc place) below ready = others place (omega (arith, below)) (ahead place ready)
 
-  found_behind : ¬ IsReady (entry ∷ entries) (at_stores store (queue ∷ queues)) 0 → (found : Option Next) → Finds store entries queues found → Finds store (entry ∷ entries) (queue ∷ queues) (behind queue found)
-  found_behind here None none = nowhere here none
-  found_behind here (Some next) f = record {
+  found_after : ¬ IsReady (entry ∷ entries) (at_stores store (queue ∷ queues)) 0 → (found : Option Next) → Finds store entries queues found → Finds store (entry ∷ entries) (queue ∷ queues) (with_queue_first queue found)
+  found_after here None none = nowhere here none
+  found_after here (Some next) f = record {
     place = suc f.place;
     rest = f.rest;
     declared = f.declared;
@@ -81,14 +81,14 @@ finds : (store : Store) (entries : List Entry) (queues : List (List Waiting)) �
 finds store [] queues = λ place ready. let none = ready.declared in absurd (cc)
 finds store (entry ∷ entries) [] = λ place ready. let none = ready.waits in absurd (cc)
 finds store (entry ∷ entries) ([] ∷ queues) =
-    found_behind store entry [] entries queues (first_entry store entry [] entries queues (λ up. inl refl)) (next_call store entries queues) (finds store entries queues)
+    found_after store entry [] entries queues (first_entry store entry [] entries queues (λ up. inl refl)) (next_call store entries queues) (finds store entries queues)
 finds store (entry ∷ entries) ((call ∷ rest) ∷ queues) =
     let others = next_call store entries queues in
     let here : Next = record { entry = entry; call = call; left = rest ∷ queues } in
-    elim (bool_value store entry.barrier) as (λ b. bool_value store entry.barrier ≡ b → Finds store (entry ∷ entries) ((call ∷ rest) ∷ queues) (cond b (Some here) (behind (call ∷ rest) others))) [
+    elim (bool_value store entry.barrier) as (λ b. bool_value store entry.barrier ≡ b → Finds store (entry ∷ entries) ((call ∷ rest) ∷ queues) (cond b (Some here) (with_queue_first (call ∷ rest) others))) [
       | true ↦ λ up. record { place = 0; rest = rest; declared = refl; at_barrier = up; waits = refl; left = refl; least = λ other below ready. absurd (omega (arith, below)) }
       | false ↦ λ shut.
-          found_behind store entry (call ∷ rest) entries queues (first_entry store entry (call ∷ rest) entries queues (λ up. inr (false≢true (sym shut ∙ up)))) others (finds store entries queues)
+          found_after store entry (call ∷ rest) entries queues (first_entry store entry (call ∷ rest) entries queues (λ up. inr (false≢true (sym shut ∙ up)))) others (finds store entries queues)
     ] refl
 
 -- ---- servicing
@@ -116,7 +116,7 @@ module _ (operations : Operations) (most : ℕ) (store : Store) (queues : List (
         ended = ran.1;
         run = refl;
         left = f.left;
-        told = refl;
+        replied = refl;
       } in
       let fewer : length (all_calls next.left) ≤ most = omega (arith, few, one_less queues f.place next.call f.rest f.waits, ap (λ (l : List (List Waiting)). length (all_calls l)) f.left) in
       goes_on step (go ran.0 next.left fewer)
@@ -135,7 +135,7 @@ runs_for : (operations : Operations) (body : List Stmt) (arg : ℤ) (before : St
     → (let ran = body_effect body arg before.store in let left = serviced operations ran.0 before.queues in Runs operations body arg before (Reply (reply_of ran.1)) left.0 left.1)
 runs_for operations body arg before =
     let ran = body_effect body arg before.store in
-    record { store = ran.0; ended = ran.1; run = refl; told = refl; serviced = services_all operations (at_stores ran.0 before.queues) }
+    record { store = ran.0; ended = ran.1; run = refl; replied = refl; serviced = services_all operations (at_stores ran.0 before.queues) }
 
 is_function : (operations : Operations) (before : State) (index : ℕ) (arg : ℤ) (found : Option Function) → of_index operations.functions.items index ≡ found
     → IsActed operations before (calls_function index arg) (function_called found arg before)
@@ -152,11 +152,11 @@ is_event : (operations : Operations) (before : State) (index : ℕ) (found : Opt
 is_event operations before index None none = no_handler none
 is_event operations before index (Some body) there = handler there (runs_for operations body.items (pos 0) before)
 
-is_behind : (operations : Operations) (before : State) (index : ℕ) (call : Waiting) (entry : Entry) → of_index operations.entries.items index ≡ Some entry → ¬ IsOpen entry before.store
-    → IsActed operations before (calls_entry index call) (cond (nat_lt (length (queue_at before.queues (index - 1))) entry.longest) (tells Waits (with_caller before index call)) (tells (Reply ProgramError) before))
-is_behind operations before index call entry declared shut =
+is_after : (operations : Operations) (before : State) (index : ℕ) (call : Waiting) (entry : Entry) → of_index operations.entries.items index ≡ Some entry → ¬ IsOpen entry before.store
+    → IsActed operations before (calls_entry index call) (cond (nat_lt (length (queue_at before.queues (index - 1))) entry.longest) (replies_with Waits (with_caller before index call)) (replies_with (Reply ProgramError) before))
+is_after operations before index call entry declared shut =
     let waiting = length (queue_at before.queues (index - 1)) in
-    let Ends : Bool → Type 0 = λ b. IsActed operations before (calls_entry index call) (cond b (tells Waits (with_caller before index call)) (tells (Reply ProgramError) before)) in
+    let Ends : Bool → Type 0 = λ b. IsActed operations before (calls_entry index call) (cond b (replies_with Waits (with_caller before index call)) (replies_with (Reply ProgramError) before)) in
     ⊎_elim
     (λ (room : waiting < entry.longest). let test : nat_lt waiting entry.longest ≡ true = grind (arith, nat_tests) in subst Ends (sym test) (closed_entry declared shut room))
     (λ (full : entry.longest ≤ waiting). let test : nat_lt waiting entry.longest ≡ false = grind (arith, nat_tests) in subst Ends (sym test) (full_queue declared shut full))
@@ -166,10 +166,10 @@ is_call : (operations : Operations) (before : State) (index : ℕ) (call : Waiti
     → IsActed operations before (calls_entry index call) (entry_called operations found index call before)
 is_call operations before index call None none = no_entry none
 is_call operations before index call (Some entry) declared =
-    let behind : Acted = cond (nat_lt (length (queue_at before.queues (index - 1))) entry.longest) (tells Waits (with_caller before index call)) (tells (Reply ProgramError) before) in
-    elim (bool_value before.store entry.barrier) as (λ b. bool_value before.store entry.barrier ≡ b → IsActed operations before (calls_entry index call) (cond b (ran_for (λ outcome. Some outcome) operations entry.body.items call.arg before) behind)) [
+    let with_queue_first : Acted = cond (nat_lt (length (queue_at before.queues (index - 1))) entry.longest) (replies_with Waits (with_caller before index call)) (replies_with (Reply ProgramError) before) in
+    elim (bool_value before.store entry.barrier) as (λ b. bool_value before.store entry.barrier ≡ b → IsActed operations before (calls_entry index call) (cond b (ran_for (λ outcome. Some outcome) operations entry.body.items call.arg before) with_queue_first)) [
       | true ↦ λ up. open_entry declared up (runs_for operations entry.body.items call.arg before)
-      | false ↦ λ closed. is_behind operations before index call entry declared (λ up. false≢true (sym closed ∙ up))
+      | false ↦ λ closed. is_after operations before index call entry declared (λ up. false≢true (sym closed ∙ up))
     ] refl
 
 pub is_acted : (operations : Operations) (before : State) (request : Request) → IsActed operations before request (acted operations before request)
@@ -182,6 +182,6 @@ pub acts_acted : (operations : Operations) (before : State) (request : Request) 
 acts_acted operations before request result = (
   (λ acts.
       let same = acts_one_end (is_acted operations before request) acts in
-      λ i. record { caller = same.0 i; told = same.1 i; after = same.2 i }),
+      λ i. record { caller = same.0 i; replied = same.1 i; after = same.2 i }),
   (λ is. subst (λ (r : Acted). IsActed operations before request r) is (is_acted operations before request)),
 )

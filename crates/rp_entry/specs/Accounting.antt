@@ -16,9 +16,9 @@ name_of call = (call.task, call.number)
 abbrev pub answered_caller : Answer → ℕ × ℕ
 answered_caller answer = (answer.task, answer.number)
 
--- those that were answered, and behind them those that wait still, are those that waited, in the same order
+-- those that were answered, and after them those that wait still, are those that waited, in the same order
 abbrev pub KeepsCallers : List Waiting → List Answer → List Waiting → Type 0
-KeepsCallers waited told waiting = map answered_caller told ++ map name_of waiting ≡ map name_of waited
+KeepsCallers waited replied waiting = map answered_caller replied ++ map name_of waiting ≡ map name_of waited
 
 -- what a request puts into a queue: its call, if the outcome is that it waits
 abbrev pub joins : Request → Option CallOutcome → List Waiting
@@ -33,16 +33,20 @@ joins (event handler) outcome = []
 abbrev pub joins_at : ℕ → Request → Option CallOutcome → List Waiting
 joins_at place (calls_function index arg) outcome = []
 joins_at place (calls_procedure index arg) outcome = []
-joins_at place (calls_entry index call) outcome = if nat_eq (index - 1) place then joins (calls_entry index call) outcome else []
+joins_at place (calls_entry index call) outcome =
+    if nat_eq (index - 1) place then joins (calls_entry index call) outcome else []
 joins_at place (event handler) outcome = []
 
 -- the answers to the callers of the entry at this place, where these are the entries of all answers
-abbrev pub told_at : ℕ → List ℕ → List Answer → List Answer
-told_at place (entry ∷ entries) (answer ∷ told) = if nat_eq entry place then answer ∷ told_at place entries told else told_at place entries told
-told_at place _ _ = []
+abbrev pub replied_at : ℕ → List ℕ → List Answer → List Answer
+replied_at place (entry ∷ entries) (answer ∷ replied) =
+    if nat_eq entry place then answer ∷ replied_at place entries replied else replied_at place entries replied
+replied_at place _ _ = []
 
 -- Each answer is for a caller of one entry, and each entry's callers are kept, those that joined it too.
-pub record KeepsAll (before : State) (request : Request) (caller : Option CallOutcome) (told : List Answer) (after : State) : Type 0 where
+pub record KeepsAll (before : State) (request : Request) (caller : Option CallOutcome) (replied : List Answer)
+    (after : State) : Type 0 where
   pub entries : List ℕ
-  pub each : length entries ≡ length told
-  pub kept : (place : ℕ) → KeepsCallers (queue_at before.queues place ++ joins_at place request caller) (told_at place entries told) (queue_at after.queues place)
+  pub each : length entries ≡ length replied
+  pub kept : (place : ℕ) → KeepsCallers (queue_at before.queues place ++ joins_at place request caller)
+      (replied_at place entries replied) (queue_at after.queues place)

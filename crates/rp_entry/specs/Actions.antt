@@ -1,5 +1,6 @@
 -- The protected actions of an object (Ada Reference Manual, sections 9.5.1 and 9.5.3).
-use Rattle.std.specs.Prelude.{◌≡◌, ℕ, ◌-◌, ℤ, pos, ◌<◌, ◌≤◌, List, [], ◌∷◌, ◌++◌, length, Option, Some, None, Vec, slice_set}
+use Rattle.std.specs.Prelude.{◌≡◌, ℕ, ◌-◌, ℤ, pos, ◌<◌, ◌≤◌, List, [], ◌∷◌, ◌++◌, length, Option, Some, None, Vec}
+use Rattle.std.specs.Prelude.{slice_set}
 use Rattle.std.specs.declared.alloc.Global.{Global}
 use Rattle.rp_base.specs.declared.reply.Reply.TheVariants.{ProgramError, NoSuchOperation}
 use Rattle.rp_base.specs.declared.reply.Answer.{Answer}
@@ -26,39 +27,44 @@ pub data Request : Type 0 where
   calls_entry : (index : ℕ) (call : Waiting) → Request
   event : (handler : ℕ) → Request
 
--- A body runs, its caller is told the result, and the queues are serviced before the action ends (section 9.5.3).
--- So it is also where the body raised an exception (this project's own); what it assigned before stays.
-pub record Runs (operations : Operations) (body : List Stmt) (arg : ℤ) (before : State) (outcome : CallOutcome) (served : List Answer) (after : State) : Type 0 where
+-- A body runs, its caller gets the result, and the queues are serviced before the action ends (section 9.5.3). So it
+-- is also where the body raised an exception; what it assigned before stays.
+pub record Runs (operations : Operations) (body : List Stmt) (arg : ℤ) (before : State) (outcome : CallOutcome)
+    (served : List Answer) (after : State) : Type 0 where
   pub store : Store
   pub ended : Outcome
   pub run : body_effect body arg before.store ≡ (store, ended)
-  pub told : outcome ≡ Reply (reply_of ended)
+  pub replied : outcome ≡ Reply (reply_of ended)
   pub serviced : Services operations (record { store = store; queues = before.queues }) served after
 
--- the state in which the call waits behind the others of the entry of this index, counted from 1
+-- the state in which the call waits after the others of the entry of this index, counted from 1
 abbrev pub with_caller : State → ℕ → Waiting → State
 with_caller before index call =
     record before { queues = slice_set before.queues (index - 1) (queue_at before.queues (index - 1) ++ call ∷ []) }
 
 -- One protected action: from a state and a request to the outcome of the caller, if there is one, the answers
 -- of the callers that were served, and the state after it.
-pub data Acts (operations : Operations) (before : State) : Request → Option CallOutcome → List Answer → State → Type 0 where
+pub data Acts (operations : Operations) (before : State) : Request → Option CallOutcome → List Answer → State
+    → Type 0 where
   -- in a function the object is constant (9.5.1), and no queue is serviced after it (9.5.3)
   function : {index : ℕ} {arg : ℤ} {called : Function}
       → of_index operations.functions.items index ≡ Some called
-      → Acts operations before (calls_function index arg) (Some (Reply (function_reply called before.store arg))) [] before
+      → Acts operations before (calls_function index arg)
+      (Some (Reply (function_reply called before.store arg))) [] before
   -- a procedure runs (9.5.1)
-  procedure : {index : ℕ} {arg : ℤ} {body : Vec Stmt Global} {outcome : CallOutcome} {served : List Answer} {after : State}
+  procedure : {index : ℕ} {arg : ℤ} {body : Vec Stmt Global} {outcome : CallOutcome} {served : List Answer}
+      {after : State}
       → of_index operations.procedures.items index ≡ Some body
       → Runs operations body.items arg before outcome served after
       → Acts operations before (calls_procedure index arg) (Some outcome) served after
   -- a call of an open entry runs at once (9.5.3)
-  open_entry : {index : ℕ} {call : Waiting} {entry : Entry} {outcome : CallOutcome} {served : List Answer} {after : State}
+  open_entry : {index : ℕ} {call : Waiting} {entry : Entry} {outcome : CallOutcome} {served : List Answer}
+      {after : State}
       → of_index operations.entries.items index ≡ Some entry
       → IsOpen entry before.store
       → Runs operations entry.body.items call.arg before outcome served after
       → Acts operations before (calls_entry index call) (Some outcome) served after
-  -- at a closed one it waits behind the others of that entry (9.5.3)
+  -- at a closed one it waits after the others of that entry (9.5.3)
   closed_entry : {index : ℕ} {call : Waiting} {entry : Entry}
       → of_index operations.entries.items index ≡ Some entry
       → ¬ IsOpen entry before.store
@@ -70,12 +76,13 @@ pub data Acts (operations : Operations) (before : State) : Request → Option Ca
       → ¬ IsOpen entry before.store
       → entry.longest ≤ length (queue_at before.queues (index - 1))
       → Acts operations before (calls_entry index call) (Some (Reply ProgramError)) [] before
-  -- a handler runs with no caller, and an exception that it raises has no effect of its own (C.3, D.15); its argument 0 is this project's own
+  -- a handler runs with no caller, and an exception that it raises has no effect of its own (C.3, D.15); its argument
+  -- 0 is ours
   handler : {index : ℕ} {body : Vec Stmt Global} {outcome : CallOutcome} {served : List Answer} {after : State}
       → of_index operations.procedures.items index ≡ Some body
       → Runs operations body.items (pos 0) before outcome served after
       → Acts operations before (event index) None served after
-  -- what the object does not have changes nothing (this project's own)
+  -- what the object does not have changes nothing
   no_function : {index : ℕ} {arg : ℤ}
       → of_index operations.functions.items index ≡ None
       → Acts operations before (calls_function index arg) (Some (Reply NoSuchOperation)) [] before

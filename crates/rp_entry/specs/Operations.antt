@@ -1,4 +1,4 @@
--- The operations of a protected object, and which of them keep the limits (the limits are this project's own).
+-- The operations of a protected object, and which of them keep the limits (the limits are ours).
 use Rattle.std.specs.Prelude.{ℕ, zero, suc, ◌<◌, ◌≤◌, IsTrue, Option, None, List, length, slice_get}
 use Rattle.std.specs.List.{All}
 use Rattle.rp_body.specs.declared.components.Limits.{Limits}

@@ -1,4 +1,4 @@
--- A protected object as contracts see it (this project's own).
+-- A protected object as contracts see it.
 use Rattle.std.specs.Prelude.{ℕ, ◌≤◌, List, length, refl}
 use Rattle.std.specs.Coded.{Coded, code_by, coded×}
 use Rattle.std.specs.List.{AllZip}
@@ -20,7 +20,8 @@ pub record Protected : Type 0 where
 -- an object, for the proofs, as the pair of its parts
 abbrev pub protected_code : Coded Protected
 protected_code =
-    code_by (Operations × State) (coded× declared.the_row.coded state_code) (λ o. (o.operations, o.state)) (λ p. record { operations = p.0; state = p.1 }) (λ _. refl)
+    code_by (Operations × State) (coded× declared.the_row.coded state_code) (λ o. (o.operations, o.state))
+    (λ p. record { operations = p.0; state = p.1 }) (λ _. refl)
 
 -- no more calls wait at an entry than it allows
 abbrev pub IsShort : Entry → List Waiting → Type 0

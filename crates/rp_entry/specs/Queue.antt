@@ -1,5 +1,7 @@
--- The state of a protected object: its components, and a queue for each of its entries (Ada Reference Manual, section 9.5.3).
-use Rattle.std.specs.Prelude.{◌≡◌, ℕ, nat_eq, Bool, ℤ, IsTrue, Some, List, [], ◌∷◌, map, flat_map, slice_get, slice_index_or, refl}
+-- The state of a protected object: its components, and a queue for each of its entries (Ada Reference Manual, section
+-- 9.5.3).
+use Rattle.std.specs.Prelude.{◌≡◌, ℕ, nat_eq, Bool, ℤ, IsTrue, Some, List, [], ◌∷◌, map, flat_map, slice_get}
+use Rattle.std.specs.Prelude.{slice_index_or, refl}
 use Rattle.std.specs.Coded.{Coded, code_by, coded×, coded_ℕ, coded_ℤ, coded_list}
 use Rattle.std.specs.List.{list_any}
 use Rattle.rp_body.specs.Store.{Store, store_code, bool_value}
@@ -15,12 +17,14 @@ pub record State : Type 0 where
 -- a call, for the proofs, as the tuple of its fields
 abbrev pub waiting_code : Coded Waiting
 waiting_code =
-    code_by (ℕ × (ℕ × ℤ)) (coded× coded_ℕ (coded× coded_ℕ coded_ℤ)) (λ w. (w.task, (w.number, w.arg))) (λ p. record { task = p.0; number = p.1.0; arg = p.1.1 }) (λ _. refl)
+    code_by (ℕ × (ℕ × ℤ)) (coded× coded_ℕ (coded× coded_ℕ coded_ℤ)) (λ w. (w.task, (w.number, w.arg)))
+    (λ p. record { task = p.0; number = p.1.0; arg = p.1.1 }) (λ _. refl)
 
 -- a state, for the proofs, as the pair of its parts
 abbrev pub state_code : Coded State
 state_code =
-    code_by (Store × List (List Waiting)) (coded× store_code (coded_list (coded_list waiting_code))) (λ s. (s.store, s.queues)) (λ p. record { store = p.0; queues = p.1 }) (λ _. refl)
+    code_by (Store × List (List Waiting)) (coded× store_code (coded_list (coded_list waiting_code)))
+    (λ s. (s.store, s.queues)) (λ p. record { store = p.0; queues = p.1 }) (λ _. refl)
 
 -- nobody waits at any of these entries
 abbrev pub empty_queues : List Entry → List (List Waiting)

@@ -13,34 +13,34 @@ ghost use Rattle.rp_entry.specs.Actions.{Request, Acts};
 ghost use Rattle.rp_entry.specs.Results.{Acted, acted};
 ghost use Rattle.rp_entry.specs.Accounting.{KeepsAll};
 
-/// Servicing has an end from every state, and one alone, with the same answers told on the way.
+/// Servicing has an end from every state, and one alone, with the same answers given on the way.
 pub fn servicing_has_one_end()
     ensures an_end { (operations : Operations) (before : State)
-        → (told : List Answer) × ((after : State) × Services operations before told after) }
+        → (replied : List Answer) × ((after : State) × Services operations before replied after) }
     ensures no_other { (operations : Operations) (before one other : State)
-        (told heard : List Answer)
-        → Services operations before told one → Services operations before heard other
-        → (told ≡ heard) × (one ≡ other) }
+        (replied heard : List Answer)
+        → Services operations before replied one → Services operations before heard other
+        → (replied ≡ heard) × (one ≡ other) }
 {}
 
-/// So has a protected action: a request at a state tells every replica the same and leaves the same
-/// state.
+/// So has a protected action: a request at a state gives every replica the same answers and leaves
+/// the same state.
 pub fn actions_have_one_end()
     ensures an_end { (operations : Operations) (before : State) (request : Request)
-        → (caller : Option CallOutcome) × ((told : List Answer) × ((after : State)
-        × Acts operations before request caller told after)) }
+        → (caller : Option CallOutcome) × ((replied : List Answer) × ((after : State)
+        × Acts operations before request caller replied after)) }
     ensures no_other { (operations : Operations) (before one other : State) (request : Request)
-        (caller called : Option CallOutcome) (told heard : List Answer)
-        → Acts operations before request caller told one
+        (caller called : Option CallOutcome) (replied heard : List Answer)
+        → Acts operations before request caller replied one
         → Acts operations before request called heard other
-        → (caller ≡ called) × (told ≡ heard) × (one ≡ other) }
+        → (caller ≡ called) × (replied ≡ heard) × (one ≡ other) }
 {}
 
-/// What an action comes to is the stated function of operations, state and request: the rules hold
+/// The result of an action is the stated function of operations, state and request: the rules hold
 /// of exactly its result.
 pub fn actions_are_their_results()
     ensures { (operations : Operations) (before : State) (request : Request) (result : Acted)
-        → Acts operations before request result.caller result.told result.after
+        → Acts operations before request result.caller result.replied result.after
         ↔ (acted operations before request ≡ result) }
 {}
 
@@ -48,27 +48,27 @@ pub fn actions_are_their_results()
 /// still do.
 pub fn actions_keep_ranges()
     ensures { (operations : Operations) (before after : State) (request : Request)
-        (caller : Option CallOutcome) (told : List Answer)
-        → Acts operations before request caller told after
+        (caller : Option CallOutcome) (replied : List Answer)
+        → Acts operations before request caller replied after
         → KeepsRanges before.store after.store }
 {}
 
 /// No action of operations that fit their components changes which Booleans there are.
 pub fn actions_keep_booleans()
     ensures { (limits : Limits) (operations : Operations) (before after : State)
-        (request : Request) (caller : Option CallOutcome) (told : List Answer)
+        (request : Request) (caller : Option CallOutcome) (replied : List Answer)
         → OperationsFit limits operations → HasBools limits before.store
-        → Acts operations before request caller told after
+        → Acts operations before request caller replied after
         → HasBoolsOf before.store after.store }
 {}
 
 /// Nobody who waits is forgotten or passed by at an entry that has its queue: of each entry, those
-/// that an action answers, and behind them those that wait after it, are those that waited before,
+/// that an action answers, and after them those that wait after it, are those that waited before,
 /// and the action's own call where it waits there.
 pub fn actions_account_for_callers()
     ensures { (operations : Operations) (before after : State) (request : Request)
-        (caller : Option CallOutcome) (told : List Answer)
+        (caller : Option CallOutcome) (replied : List Answer)
         → length before.queues ≡ length operations.entries.items
-        → Acts operations before request caller told after
-        → KeepsAll before request caller told after }
+        → Acts operations before request caller replied after
+        → KeepsAll before request caller replied after }
 {}

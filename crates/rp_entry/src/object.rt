@@ -122,9 +122,9 @@ impl Object {
         }
     }
 
-    /// Calls the entry of this index, counted from 1, as the `number`th call of the task, no call of
-    /// which waits. It runs at once where the entry is open, and else waits behind the others of the
-    /// entry; ProgramError where as many wait already as may, and they go on waiting.
+    /// Calls the entry of this index, counted from 1, as the `number`th call of the task, no call
+    /// of which waits. It runs at once where the entry is open, and else waits after the others of
+    /// the entry; ProgramError where as many wait already as may, and they go on waiting.
     /// NoSuchOperation where there is no such entry, and nothing changes.
     pub fn entry(&mut self, index: u8, task: TaskId, number: u32, arg: i64) -> Done
         requires free { ¬ Has task (tasks_waiting self.old.state) }

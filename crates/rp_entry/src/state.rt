@@ -25,7 +25,7 @@ pub struct Waiting {
     pub arg: i64,
 }
 
-/// How a call stands once the protected action that it began has ended.
+/// The state of a call once the protected action that it began has ended.
 #[derive(Clone, Copy, Debug, PartialEq, Eq)]
 pub enum CallOutcome {
     /// It is over, with this reply.
@@ -34,7 +34,7 @@ pub enum CallOutcome {
     Waits,
 }
 
-/// What a protected action tells: its own caller's outcome, and the answers of the callers that
+/// What a protected action gives: its own caller's outcome, and the answers of the callers that
 /// were served from the entry queues, in the order in which they were served.
 #[derive(Debug, Drop)]
 pub struct Done {
@@ -55,7 +55,7 @@ impl Done {
     }
 }
 
-/// What is told to the caller of a body that ended so.
+/// The reply to the caller of a body that ended so.
 fn reply_of(outcome: Outcome) -> Reply
     ensures { result ≡ reply_of outcome }
 {
@@ -122,7 +122,7 @@ impl Queue {
         self.calls.iter().any(|call| call.task == task)
     }
 
-    /// Puts a call behind the others.
+    /// Puts a call after the others.
     fn push(&mut self, call: Waiting)
         requires { length self.old < longest_queue }
         ensures { self.new ≡ self.old ++ call ∷ [] }
@@ -207,7 +207,7 @@ impl State {
         self.queues[usize::from(index) - 1].len() < usize::from(entry.longest)
     }
 
-    /// Puts a call into the queue of the entry of this index, counted from 1, behind the others.
+    /// Puts a call into the queue of the entry of this index, counted from 1, after the others.
     pub fn enqueue(&mut self, index: u8, call: Waiting)
         requires there { 1 ≤ index }
         requires declared { index ≤ length self.old.queues }
@@ -221,7 +221,8 @@ impl State {
     /// at most once.
     fn next_ready(&self, operations: &Operations) -> Option<usize>
         requires { length self.now.queues ≡ length operations.now.entries.items }
-        ensures ready { IfSome result (λ place. IsReady operations.now.entries.items self.now place) }
+        ensures ready { IfSome result
+            (λ place. IsReady operations.now.entries.items self.now place) }
         ensures least { IfSome result (λ place. (other : ℕ) → other < place
             → ¬ IsReady operations.now.entries.items self.now other) }
         ensures none { IfNone result (IsServiced operations.now self.now) }
@@ -257,7 +258,7 @@ impl State {
         })
     }
 
-    /// Serves calls until none waits at an open barrier. The barriers are looked at before each.
+    /// Serves calls until none waits at an open barrier. The barriers are evaluated before each.
     fn service(&mut self, operations: &Operations) -> Answers
         requires fits { OperationsFit (limits_of self.old.store) operations.now }
         requires queues { HasQueues operations.now self.old }

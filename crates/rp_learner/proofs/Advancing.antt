@@ -1,4 +1,4 @@
--- What moving the window on makes of the places, and of what they stand for.
+-- What moving the window on makes of the places, and of what they denote.
 use Rattle.std.proofs.Common.{◌≡◌, ℕ, zero, suc, ◌+◌, ◌-◌, ◌<◌, ◌≤◌, ◌↔◌, min, Option, Some, List, [], ◌∷◌, ◌++◌, length, drop, refl, sym, ap, subst, ◌∙◌, inl, inr, arith, append_assoc}
 use Rattle.std.specs.Prelude.{nat_eq, nat_le, nat_lt, filter, slice_get}
 use Rattle.std.specs.List.{list_any}
@@ -14,11 +14,11 @@ use Rattle.rp_learner.specs.Casts.{CastVote}
 use Rattle.rp_learner.specs.declared.place.Place.{Place}
 use Rattle.rp_learner.specs.declared.place.Place.TheVariants.{Unheard, Settled}
 use Rattle.rp_learner.specs.Places.{window, is_marked, opened, heard_from, settled_from}
-use Rattle.rp_learner.specs.Standings.{is_settled, Advances}
+use Rattle.rp_learner.specs.Status.{is_settled, Advances}
 use Rattle.rp_learner.proofs.Placing.{votes_of, settled_of, cast_of, or_skip, heard_where, heard_there, settled_where}
 use Rattle.rp_learner.proofs.Writing.{learning_of}
 
--- so many places that open from an offset on
+-- n places that open from an offset on
 abbrev pub opened_from : ℕ → ℕ → ℕ → List Place
 opened_from bits offset zero = []
 opened_from bits offset (suc n) = opened bits offset ∷ opened_from bits (suc offset) n
@@ -27,7 +27,7 @@ length-opened : (bits offset n : ℕ) → length (opened_from bits offset n) ≡
 length-opened bits offset zero = refl
 length-opened bits offset (suc n) = ap suc (length-opened bits (suc offset) n)
 
--- one more opens behind them
+-- one more opens after them
 opened_more : (bits offset n to : ℕ) → to ≡ offset + n → opened_from bits offset n ++ opened bits to ∷ [] ≡ opened_from bits offset (suc n)
 opened_more bits offset zero to at = let same : to ≡ offset = omega (arith, at) in ap (λ (k : ℕ). opened bits k ∷ []) same
 opened_more bits offset (suc n) to at = ap (λ (rest : List Place). opened bits offset ∷ rest) (opened_more bits (suc offset) n to (omega (arith, at)))
@@ -39,7 +39,7 @@ opened_at bits offset (suc n) (suc j) lt =
     let same : suc offset + j ≡ offset + suc j = omega arith in
     opened_at bits (suc offset) n j (omega (arith, lt)) ∙ ap (λ (k : ℕ). Some (opened bits k)) same
 
--- The window moved on by so many of the places that it is to move in all: the last of them open.
+-- The window moved on by some of the places that it is to move in all: the last of them open.
 abbrev pub moved_on : List Place → ℕ → ℕ → ℕ → List Place
 moved_on old moved bits n = drop n old ++ opened_from bits (window - moved) n
 

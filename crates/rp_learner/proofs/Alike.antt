@@ -11,10 +11,10 @@ use Rattle.rp_base.specs.Promises.{HeardVote, same_vote, same_heard, voters_of}
 use Rattle.rp_base.proofs.Sameness.{heard_decides}
 use Rattle.rp_base.proofs.Members.{same_test, same_with, same_passing, same_mapped, same_members, same_size, set_members, set_passing}
 use Rattle.rp_learner.specs.Learning.{Learning}
-use Rattle.rp_learner.specs.declared.learner.Standing.{Standing}
-use Rattle.rp_learner.specs.declared.learner.Standing.TheVariants.{Counting, Learned, Known, Beyond}
+use Rattle.rp_learner.specs.declared.learner.VoteStatus.{VoteStatus}
+use Rattle.rp_learner.specs.declared.learner.VoteStatus.TheVariants.{Counting, Learned, Known, Beyond}
 use Rattle.rp_learner.specs.declared.learner.Decision.TheVariants as decisions
-use Rattle.rp_learner.specs.Standings.{SameLearning, is_beyond, is_settled, heard_with, standing_with, decision_at, with_mark, with_settled, with_standing, with_vote}
+use Rattle.rp_learner.specs.Status.{SameLearning, is_beyond, is_settled, heard_with, status_with, decision_at, with_mark, with_settled, with_status, with_vote}
 
 pub same_back : (l m : Learning) → SameLearning l m → SameLearning m l
 same_back l m same = record {
@@ -56,8 +56,8 @@ voters_alike n i vote xs ys same =
     (set_passing (in_range 1 n) (voters_of i vote ys) (set_members nat_eq Decides-eqb [] (cast ys) tt))
     (same_passing (in_range 1 n) (voters_of i vote xs) (voters_of i vote ys) (same_members nat_eq Decides-eqb (cast xs) (cast ys) alike))
 
-pub standing_alike : (l m : Learning) (from i : ℕ) (vote : Vote) → SameLearning l m → standing_with l from i vote ≡ standing_with m from i vote
-standing_alike l m from i vote same =
+pub status_alike : (l m : Learning) (from i : ℕ) (vote : Vote) → SameLearning l m → status_with l from i vote ≡ status_with m from i vote
+status_alike l m from i vote same =
     let count : ℕ → Learning → ℕ = λ n k. length (nodes_among n (voters_of i vote (heard_with k from i vote))) in
     let alike : count m.nodes l ≡ count m.nodes m =
     voters_alike m.nodes i vote (heard_with l from i vote) (heard_with m from i vote) (same_with same_heard heard_decides (from, i, vote) l.heard m.heard same.heard) in
@@ -91,19 +91,19 @@ settling_alike l m i same =
     (ap (λ (b : Bool). b || nat_lt i l.first) (beyond_alike l m i same) ∙ ap (λ (b : Bool). is_beyond m i || b) (below_alike l m i same))
     (one_alike (is_beyond l i || nat_lt i l.first) l m (with_mark l i) (with_mark m i) same (marking_alike l m i same))
 
-by_standing : (l m : Learning) (from i : ℕ) (vote : Vote) (standing : Standing) → SameLearning l m → SameLearning (with_standing l from i vote standing) (with_standing m from i vote standing)
-by_standing l m from i vote Counting same = record {
+by_status : (l m : Learning) (from i : ℕ) (vote : Vote) (status : VoteStatus) → SameLearning l m → SameLearning (with_status l from i vote status) (with_status m from i vote status)
+by_status l m from i vote Counting same = record {
   nodes = same.nodes;
   positions = same.positions;
   first = same.first;
   heard = same_with same_heard heard_decides (from, i, vote) l.heard m.heard same.heard;
   settled = same.settled;
 }
-by_standing l m from i vote Learned same = marking_alike l m i same
-by_standing l m from i vote Known same = same
-by_standing l m from i vote Beyond same = same
+by_status l m from i vote Learned same = marking_alike l m i same
+by_status l m from i vote Known same = same
+by_status l m from i vote Beyond same = same
 
 pub noting_alike : (l m : Learning) (from i : ℕ) (vote : Vote) → SameLearning l m → SameLearning (with_vote l from i vote) (with_vote m from i vote)
 noting_alike l m from i vote same =
-    subst (λ (s : Standing). SameLearning (with_vote l from i vote) (with_standing m from i vote s)) (standing_alike l m from i vote same)
-    (by_standing l m from i vote (standing_with l from i vote) same)
+    subst (λ (s : VoteStatus). SameLearning (with_vote l from i vote) (with_status m from i vote s)) (status_alike l m from i vote same)
+    (by_status l m from i vote (status_with l from i vote) same)

@@ -1,4 +1,4 @@
-pub mod Tallies
+pub mod VoteCounts
 pub mod Placing
 pub mod Voters
 pub mod Writing

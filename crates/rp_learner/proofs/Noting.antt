@@ -7,7 +7,7 @@ use Rattle.rp_learner.specs.Casts.{CastVote, same_cast}
 use Rattle.rp_learner.specs.declared.place.Place.{Place}
 use Rattle.rp_learner.specs.declared.place.Place.TheVariants.{Unheard, Heard}
 use Rattle.rp_learner.specs.Places.{votes_in, is_settled_in, voters_at, NotesCast}
-use Rattle.rp_learner.proofs.Tallies.{alone}
+use Rattle.rp_learner.proofs.VoteCounts.{alone}
 
 -- a vote that makes no majority is one more
 pub counts : (nodes : ℕ) (before : Place) (cast : CastVote) (after : Place) → is_settled_in before ≡ false → is_settled_in after ≡ false

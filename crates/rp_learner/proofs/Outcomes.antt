@@ -10,12 +10,12 @@ use Rattle.rp_base.specs.Promises.{voters_of, makes_majority}
 use Rattle.rp_learner.specs.Casts.{CastVote, voters_with}
 use Rattle.rp_learner.specs.declared.place.Place.{Place}
 use Rattle.rp_learner.specs.declared.place.Place.TheVariants.{Settled}
-use Rattle.rp_learner.specs.declared.learner.Standing.{Standing}
-use Rattle.rp_learner.specs.declared.learner.Standing.TheVariants.{Counting, Learned, Known, Beyond}
+use Rattle.rp_learner.specs.declared.learner.VoteStatus.{VoteStatus}
+use Rattle.rp_learner.specs.declared.learner.VoteStatus.TheVariants.{Counting, Learned, Known, Beyond}
 use Rattle.rp_learner.specs.declared.learner.Decision.TheVariants as decisions
 use Rattle.rp_learner.specs.Learning.{Learning}
 use Rattle.rp_learner.specs.Places.{votes_in, is_settled_in, voters_at, NotesCast, heard_from}
-use Rattle.rp_learner.specs.Standings.{is_beyond, is_settled, heard_with, standing_with, decision_at, with_mark, with_settled, with_standing, with_vote, SameLearning, IsOneMore}
+use Rattle.rp_learner.specs.Status.{is_beyond, is_settled, heard_with, status_with, decision_at, with_mark, with_settled, with_status, with_vote, SameLearning, IsOneMore}
 use Rattle.rp_learner.proofs.Placing.{votes_of, settled_of, or_skip, heard_at, settled_where}
 use Rattle.rp_learner.proofs.Voters.{voters_where, one_more_voter}
 use Rattle.rp_learner.proofs.Writing.{learning_of, hears, settles, same_learning}
@@ -59,7 +59,7 @@ module _ (nodes most first : ℕ) (places : List Place) (i k : ℕ) (p : Place) 
     abbrev pub cast : CastVote
     cast = record { from = from; vote = vote }
 
-    by_place : standing_with l from i vote ≡ cond (is_settled_in p) Known (cond (makes_majority nodes i vote (heard_with l from i vote)) Learned Counting)
+    by_place : status_with l from i vote ≡ cond (is_settled_in p) Known (cond (makes_majority nodes i vote (heard_with l from i vote)) Learned Counting)
     by_place =
         cond-false (is_beyond l i) Beyond (cond (is_settled l i) Known (cond (makes_majority nodes i vote (heard_with l from i vote)) Learned Counting)) not_beyond
         ∙ ap (λ (b : Bool). cond b Known (cond (makes_majority nodes i vote (heard_with l from i vote)) Learned Counting)) settled_here
@@ -71,29 +71,29 @@ module _ (nodes most first : ℕ) (places : List Place) (i k : ℕ) (p : Place) 
         ∙ ap (λ (list : List ℕ). length (nodes_among nodes list)) (one_more_voter i from vote (heard_from first places))
 
     -- a settled position is known
-    pub known_here : is_settled_in p ≡ true → Known ≡ standing_with l from i vote
+    pub known_here : is_settled_in p ≡ true → Known ≡ status_with l from i vote
     known_here settled = sym (by_place ∙ cond-true (is_settled_in p) Known (cond (makes_majority nodes i vote (heard_with l from i vote)) Learned Counting) settled)
 
-    by_majority : (b : Bool) → is_settled_in p ≡ false → nat_le (majority_of nodes) (voters_at nodes p cast) ≡ b → standing_with l from i vote ≡ cond b Learned Counting
+    by_majority : (b : Bool) → is_settled_in p ≡ false → nat_le (majority_of nodes) (voters_at nodes p cast) ≡ b → status_with l from i vote ≡ cond b Learned Counting
     by_majority b free e =
         by_place
         ∙ cond-false (is_settled_in p) Known (cond (makes_majority nodes i vote (heard_with l from i vote)) Learned Counting) free
         ∙ ap (λ (t : Bool). cond t Learned Counting) (sym (ap (λ (n : ℕ). nat_le (majority_of nodes) n) voters) ∙ e)
 
     -- a majority of one vote learns the action
-    pub learned_here : is_settled_in p ≡ false → majority_of nodes ≤ voters_at nodes p cast → Learned ≡ standing_with l from i vote
+    pub learned_here : is_settled_in p ≡ false → majority_of nodes ≤ voters_at nodes p cast → Learned ≡ status_with l from i vote
     learned_here free enough = sym (by_majority true free (le-leb (majority_of nodes) (voters_at nodes p cast) enough))
 
     -- fewer are counted
-    pub counting_here : is_settled_in p ≡ false → voters_at nodes p cast < majority_of nodes → Counting ≡ standing_with l from i vote
+    pub counting_here : is_settled_in p ≡ false → voters_at nodes p cast < majority_of nodes → Counting ≡ status_with l from i vote
     counting_here free few = sym (by_majority false free (lt-leb (majority_of nodes) (voters_at nodes p cast) few))
 
     -- once the vote is noted in the place, it is noted
     pub notes_here : (q : Place) → NotesCast nodes p cast q → SameLearning (learning_of nodes most first (set places k q)) (with_vote l from i vote)
     notes_here q noted =
         let now : Place → Learning = λ r. learning_of nodes most first (set places k r) in
-        let goes : (s : Standing) → s ≡ standing_with l from i vote → (m : Learning) → SameLearning m (with_standing l from i vote s) → SameLearning m (with_vote l from i vote) =
-        λ s e m same. subst (λ (t : Standing). SameLearning m (with_standing l from i vote t)) e same in
+        let goes : (s : VoteStatus) → s ≡ status_with l from i vote → (m : Learning) → SameLearning m (with_status l from i vote s) → SameLearning m (with_vote l from i vote) =
+        λ s e m same. subst (λ (t : VoteStatus). SameLearning m (with_status l from i vote t)) e same in
         elim (cases_Bool (is_settled_in p)) [
           | inl settled ↦
               subst (λ (r : Place). SameLearning (now r) (with_vote l from i vote)) (sym (noted.known settled))

@@ -1,4 +1,4 @@
--- The places of a learner, and the sets of votes and positions that they stand for.
+-- The places of a learner, and the sets of votes and positions that they represent.
 use Rattle.std.proofs.Common.{◌≡◌, ℕ, zero, suc, ◌+◌, ◌<◌, Bool, true, false, ◌↔◌, ◌||◌, Option, Some, None, List, [], ◌∷◌, ◌++◌, map, set, refl, sym, ap, subst, ◌∙◌, inl, inr, arith}
 use Rattle.std.specs.Prelude.{nat_eq, slice_get, unwrap_or}
 use Rattle.std.specs.List.{list_any}

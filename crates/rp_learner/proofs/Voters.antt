@@ -14,7 +14,7 @@ use Rattle.rp_learner.specs.declared.place.Place.{Place}
 use Rattle.rp_learner.specs.Places.{votes_in, heard_from}
 use Rattle.rp_base.proofs.Sameness.{vote_same, heard_decides}
 use Rattle.rp_base.proofs.Members.{found, finds, passes, has_mapped, member_stays, with_members-append}
-use Rattle.rp_learner.proofs.Tallies.{senders_cast}
+use Rattle.rp_learner.proofs.VoteCounts.{senders_cast}
 use Rattle.rp_learner.proofs.Placing.{heard_as, votes_of}
 
 -- the senders of this vote at this position

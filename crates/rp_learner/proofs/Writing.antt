@@ -1,4 +1,4 @@
--- What a write of one place does to the votes and positions that the places stand for.
+-- What a write of one place does to the votes and positions that the places represent.
 use Rattle.std.proofs.Common.{◌≡◌, ◌≢◌, ℕ, ◌+◌, ◌<◌, not, ◌↔◌, Option, Some, List, [], length, set, refl, sym, ap, subst, ◌∙◌, inl, inr, arith}
 use Rattle.std.specs.Prelude.{nat_eq, filter, slice_get}
 use Rattle.std.proofs.lemmas.Bool.{cases_eq, ne_eqb, eq-eqb, both_ways}
@@ -10,13 +10,13 @@ use Rattle.rp_learner.specs.declared.place.Place.{Place}
 use Rattle.rp_learner.specs.declared.place.Place.TheVariants.{Settled}
 use Rattle.rp_learner.specs.Learning.{Learning}
 use Rattle.rp_learner.specs.Places.{votes_in, is_settled_in, heard_from, settled_from}
-use Rattle.rp_learner.specs.Standings.{SameLearning, with_mark}
+use Rattle.rp_learner.specs.Status.{SameLearning, with_mark}
 use Rattle.rp_base.proofs.Sameness.{heard_decides}
 use Rattle.rp_base.proofs.Members.{has_passing, passes, has_with, with_has}
 use Rattle.rp_learner.proofs.Placing.{cast_of, votes_of, settled_of, heard_where, heard_there, settled_spot, settled_there, settled_kept}
-use Rattle.rp_learner.proofs.Tallies.{cast_decides, get_written, get_other}
+use Rattle.rp_learner.proofs.VoteCounts.{cast_decides, get_written, get_other}
 
--- what the places of a learner's window stand for
+-- what the places of a learner's window represent
 abbrev pub learning_of : ℕ → ℕ → ℕ → List Place → Learning
 learning_of nodes most first places = record { nodes = nodes; max_positions = most; first = first; heard = heard_from first places; settled = settled_from first places }
 

@@ -1,32 +1,33 @@
--- The votes heard at one position, by their tallies (this project's own).
-use Rattle.std.specs.Prelude.{ℕ, suc, ◌&&◌, Bool, Option, Some, None, nat_eq, List, [], ◌∷◌, ◌++◌, map, filter, if◌then◌else◌}
+-- The votes heard at one position, by their counts.
+use Rattle.std.specs.Prelude.{ℕ, suc, ◌&&◌, Bool, Option, Some, None, nat_eq, List, [], ◌∷◌, ◌++◌, map, filter}
+use Rattle.std.specs.Prelude.{if◌then◌else◌}
 use Rattle.rp_base.specs.declared.record.Vote.{Vote}
 use Rattle.rp_base.specs.Sets.{IsSet, with_member, with_members}
 use Rattle.rp_base.specs.Promises.{same_vote}
-use Rattle.rp_learner.specs.declared.tally.Tally.{Tally}
+use Rattle.rp_learner.specs.declared.vote_counts.VoteCount.{VoteCount}
 
 -- a vote that was heard at the position, and who cast it
 pub record CastVote : Type 0 where
   pub from : ℕ
   pub vote : Vote
 
--- the votes that a tally counts
-abbrev pub casts_in : Tally → List CastVote
-casts_in tally = map (λ node. record { from = node; vote = tally.vote }) tally.senders
+-- the votes of a count
+abbrev pub casts_in : VoteCount → List CastVote
+casts_in vote_count = map (λ node. record { from = node; vote = vote_count.vote }) vote_count.senders
 
--- the votes that tallies count
-abbrev pub casts_of : List Tally → List CastVote
+-- the votes of all counts
+abbrev pub casts_of : List VoteCount → List CastVote
 casts_of [] = []
-casts_of (tally ∷ rest) = casts_in tally ++ casts_of rest
+casts_of (vote_count ∷ rest) = casts_in vote_count ++ casts_of rest
 
--- no two tallies are of one vote
-abbrev pub AreTallies : List Tally → Type 0
-AreTallies tallies = IsSet (map (λ t. t.vote) tallies)
+-- no two counts are of one vote
+abbrev pub AreVoteCounts : List VoteCount → Type 0
+AreVoteCounts vote_counts = IsSet (map (λ t. t.vote) vote_counts)
 
--- the index of the tally of a vote, the first of them at k
-abbrev pub index_from : ℕ → Vote → List Tally → Option ℕ
+-- the index of the count of a vote, the first of them at k
+abbrev pub index_from : ℕ → Vote → List VoteCount → Option ℕ
 index_from k vote [] = None
-index_from k vote (tally ∷ rest) = if same_vote tally.vote vote then Some k else index_from (suc k) vote rest
+index_from k vote (vote_count ∷ rest) = if same_vote vote_count.vote vote then Some k else index_from (suc k) vote rest
 
 -- the cast votes are the same
 abbrev pub same_cast : CastVote → CastVote → Bool

@@ -1,4 +1,4 @@
--- What a learner is to a contract (this project's own).
+-- What a learner is to a contract.
 use Rattle.std.specs.Prelude.{ℕ, List}
 use Rattle.rp_base.specs.Promises.{HeardVote}
 

@@ -1,4 +1,4 @@
 pub mod Learning
 pub mod Casts
 pub mod Places
-pub mod Standings
+pub mod Status

@@ -1,5 +1,6 @@
--- What the places of a learner's window hold, as sets of votes and positions (this project's own).
-use Rattle.std.specs.Prelude.{ℕ, suc, ◌≡◌, ◌≤◌, ◌<◌, length, Bool, true, false, nat_eq, List, [], ◌∷◌, ◌++◌, map, if◌then◌else◌}
+-- What the places of a learner's window hold, as sets of votes and positions.
+use Rattle.std.specs.Prelude.{ℕ, suc, ◌≡◌, ◌≤◌, ◌<◌, length, Bool, true, false, nat_eq, List, [], ◌∷◌, ◌++◌, map}
+use Rattle.std.specs.Prelude.{if◌then◌else◌}
 use Rattle.std.specs.Int.{bit_at}
 use Rattle.rp_base.specs.Sets.{SameMembers, with_member}
 use Rattle.rp_base.specs.Majority.{majority_of, nodes_among}

@@ -6,7 +6,7 @@ ghost use Rattle.rp_base.specs.declared.record.Vote.{Vote};
 ghost use Rattle.rp_learner.specs.Learning.{Learning};
 ghost use Rattle.rp_learner.specs.Places.{window};
 ghost use Rattle.rp_learner.specs.declared.place.Place.TheVariants.{Unheard};
-ghost use Rattle.rp_learner.specs.Standings.{SameLearning, SameSizes, fresh, vote_for, standing_with, decision_at, with_settled, with_vote, NotesVote, Settles, IsOneMore, Advances};
+ghost use Rattle.rp_learner.specs.Status.{SameLearning, SameSizes, fresh, vote_for, status_with, decision_at, with_settled, with_vote, NotesVote, Settles, IsOneMore, Advances};
 
 use crate::place::Place;
 use circular_buffer::HeapCircularBuffer;
@@ -20,7 +20,7 @@ pub const WINDOW: u32 = 64;
 
 /// What holds at a position once a vote is counted.
 #[derive(Clone, Copy, Debug, PartialEq, Eq)]
-pub enum Standing {
+pub enum VoteStatus {
     /// No majority has cast this vote.
     Counting,
     /// This vote makes a majority.
@@ -31,7 +31,7 @@ pub enum Standing {
     Beyond,
 }
 
-/// What a decision is that another node tells.
+/// What a decision is that another node sends.
 #[derive(Clone, Copy, Debug, PartialEq, Eq)]
 pub enum Decision {
     /// The position was not settled.
@@ -71,7 +71,8 @@ impl Model for Learner {
       settled = settled_from l.first l.places.items;
     } };
 
-    ghost invariant = { λ l. (3 ≤ l.nodes) × (l.nodes ≤ 7) × (length l.places.items ≡ window) × (l.places.capacity ≡ window) };
+    ghost invariant = { λ l. (3 ≤ l.nodes) × (l.nodes ≤ 7) × (length l.places.items ≡ window)
+        × (l.places.capacity ≡ window) };
 }
 
 /// The places of a window in which nothing is heard or settled.
@@ -111,23 +112,23 @@ impl Learner {
         position: Position,
         ballot: Ballot,
         action: &Action,
-    ) -> Standing
+    ) -> VoteStatus
         requires sender { from ≤ self.now.nodes }
-        ensures { result ≡ standing_with self.now from position (vote_for ballot action.now) }
+        ensures { result ≡ status_with self.now from position (vote_for ballot action.now) }
     {
         let Some(offset) = offset_from(self.first, position) else {
-            return Standing::Known;
+            return VoteStatus::Known;
         };
         match self.places.get(offset) {
-            None => Standing::Beyond,
-            Some(Place::Settled) => Standing::Known,
-            Some(Place::Unheard) => Standing::Counting,
-            Some(Place::Heard(tallies)) => {
-                let voters = tallies.count_with(self.nodes, from, ballot, action);
+            None => VoteStatus::Beyond,
+            Some(Place::Settled) => VoteStatus::Known,
+            Some(Place::Unheard) => VoteStatus::Counting,
+            Some(Place::Heard(vote_counts)) => {
+                let voters = vote_counts.count_with(self.nodes, from, ballot, action);
                 if voters >= usize::from(majority(self.nodes)) {
-                    Standing::Learned
+                    VoteStatus::Learned
                 } else {
-                    Standing::Counting
+                    VoteStatus::Counting
                 }
             }
         }
@@ -164,7 +165,7 @@ impl Learner {
         Ok(())
     }
 
-    /// What a decision at the position is that another node tells.
+    /// What a decision at the position is that another node sends.
     pub fn decided(&self, position: Position) -> Decision
         ensures { result ≡ decision_at self.now position }
     {
@@ -195,8 +196,8 @@ impl Learner {
 
     /// Moves the window on to begin at `first`, at most 65,536. All positions below are settled
     /// then. Position `first + j` is settled if bit j of `settled` is set, the lowest bit being bit
-    /// 0; only the bits of positions that were above the window are looked at. It takes no memory,
-    /// and time in proportion to how far the window moves, at most 64 places.
+    /// 0; only the bits of positions that were above the window are read. It takes no memory, and
+    /// time in proportion to how far the window moves, at most 64 places.
     pub fn advance(&mut self, first: u32, settled: u64)
         requires on { self.old.first ≤ first }
         ensures { Advances self.old first settled self.new }
@@ -222,7 +223,7 @@ fn offset_from(first: u32, position: Position) -> Option<usize>
 /// Learners that hold the same, as sets, answer alike, and hold the same once the same is noted.
 pub fn same_learners_answer_alike()
     ensures vote { (l m : Learning) (from i : ℕ) (vote : Vote) → SameLearning l m
-        → standing_with l from i vote ≡ standing_with m from i vote }
+        → status_with l from i vote ≡ status_with m from i vote }
     ensures decided { (l m : Learning) (i : ℕ) → SameLearning l m
         → decision_at l i ≡ decision_at m i }
     ensures note_vote { (l m : Learning) (from i : ℕ) (vote : Vote) → SameLearning l m

@@ -3,11 +3,11 @@
 //! In reading order:
 //! - `learner`: the learner of one node, over a window of 64 positions
 //! - `place`: what is known of one position of the window
-//! - `tally`: the votes heard at one position
+//! - `vote_counts`: the votes heard at one position
 #![tactic(auto)]
 
 mod learner;
 mod place;
-mod tally;
+mod vote_counts;
 
-pub use learner::{Decision, Learner, Standing, WINDOW, same_learners_answer_alike};
+pub use learner::{Decision, Learner, VoteStatus, WINDOW, same_learners_answer_alike};

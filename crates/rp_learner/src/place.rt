@@ -4,9 +4,9 @@ ghost use Rattle.std.specs.Prelude.{◌≡◌, ◌≤◌, ◌<◌, false, OnOk, 
 ghost use Rattle.rp_base.specs.Sets.{Has};
 ghost use Rattle.rp_learner.specs.Places.{NotesCast, is_settled_in, opened, voters_at, votes_in};
 ghost use Rattle.rp_learner.specs.declared.place.Place.TheVariants.{Settled};
-ghost use Rattle.rp_learner.specs.Standings.{vote_for};
+ghost use Rattle.rp_learner.specs.Status.{vote_for};
 
-use crate::tally::Tallies;
+use crate::vote_counts::VoteCounts;
 use rp_base::{Action, Ballot, NodeId, Vote, majority};
 use std::alloc::{AllocError, Global};
 
@@ -16,7 +16,7 @@ pub enum Place {
     /// No vote was heard.
     Unheard,
     /// These votes were heard, and decide nothing.
-    Heard(Tallies),
+    Heard(VoteCounts),
     /// The position is settled.
     Settled,
 }
@@ -51,10 +51,10 @@ impl Place {
                     ballot,
                     action: *action,
                 };
-                *self = Place::Heard(Tallies::new(alloc, from, vote));
+                *self = Place::Heard(VoteCounts::new(alloc, from, vote));
             }
-            Place::Heard(tallies) => {
-                let voters = tallies.hear(nodes, from, ballot, action)?;
+            Place::Heard(vote_counts) => {
+                let voters = vote_counts.hear(nodes, from, ballot, action)?;
                 if voters >= usize::from(majority(nodes)) {
                     *self = Place::Settled;
                 }

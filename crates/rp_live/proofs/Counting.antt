@@ -13,7 +13,7 @@ use Rattle.rp_agreement.specs.Answered.{AreItsCalls, AreMade, calls_by, calls_so
 use Rattle.rp_agreement.specs.Order.{Begins}
 use Rattle.rp_agreement.proofs.Lists.{get_mapped, get_unmapped, get_one_to}
 use Rattle.rp_boxes.specs.Parts.{task_of}
-use Rattle.rp_boxes.specs.Seats.{Chair}
+use Rattle.rp_boxes.specs.Seats.{SeatState}
 use Rattle.rp_boxes.proofs.Listed.{begins_by}
 use Rattle.rp_threads.specs.Tasks.{AsksForOne, HasMade, Waits, call_after}
 use Rattle.rp_threads.specs.declared.tasks.TaskCall.{TaskCall}
@@ -44,7 +44,7 @@ same_call task node other a b is = let e : bodies.Call a ≡ bodies.Call b = ap 
 begins_on : {A : Type 0} (xs ys zs : List A) → Begins xs ys → Begins ys zs → Begins xs zs
 begins_on xs ys zs xy yz = (xy.0 ++ yz.0, yz.1 ∙ ap (λ (l : List _). l ++ yz.0) xy.1 ∙ append_assoc xs xy.0 yz.0)
 
-module _ {P : Type 0} (calls : List TaskCall) (seat : Chair P) (made : ℕ) (waits : Bool) (h : HasMade calls seat made waits) where
+module _ {P : Type 0} (calls : List TaskCall) (seat : SeatState P) (made : ℕ) (waits : Bool) (h : HasMade calls seat made waits) where
   task_is : task_of seat.part.role ≡ h.task
   task_is = ap task_of h.is
 

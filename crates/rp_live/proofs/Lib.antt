@@ -6,4 +6,4 @@ pub mod Reading
 mod Reporting
 pub mod Counting
 pub mod Loops
-pub mod Living
+pub mod WholeRun

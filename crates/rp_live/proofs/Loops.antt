@@ -6,37 +6,37 @@ use Rattle.rp_base.specs.declared.reply.Answer.{Answer}
 use Rattle.rp_codec.specs.declared.packet.Party.{Party}
 use Rattle.rp_codec.specs.declared.packet.Party.TheVariants.{Node}
 use Rattle.rp_tasks.specs.Line.{Line}
-use Rattle.rp_boxes.specs.Seats.{Chair}
+use Rattle.rp_boxes.specs.Seats.{SeatState}
 use Rattle.rp_threads.specs.Lines.{given_on}
 use Rattle.rp_threads.specs.Loops.{is_refusal, sender_at}
-use Rattle.rp_threads.specs.Rounds.{AreTurns, IsLeadAnew, IsMade, IsMadeOrSkipped, IsUnmade, NodeAt, is_to_lead, turned_so}
+use Rattle.rp_threads.specs.Rounds.{AreTurns, IsLeadAnew, IsMade, IsMadeOrSkipped, IsUnmade, NodeAt, is_to_lead, result_of_turn}
 use Rattle.rp_threads.specs.Turns.{IsNodeTurn, MayFetch, Works}
 use Rattle.rp_threads.specs.declared.turns.Turn as declared
-use Rattle.rp_threads.specs.declared.turns.Turned.{Turned}
+use Rattle.rp_threads.specs.declared.turns.TurnResult.{TurnResult}
 use Rattle.rp_threads.proofs.Steps.{fails_stays, stop_stays}
 use Rattle.rp_live.specs.Seats.{Runs}
 use Rattle.rp_live.proofs.Running.{turn_runs}
 
-same_runs : {P : Type 0} (old new : Chair P) → new ≡ old → Runs old.part → Runs new.part
-same_runs {P} old new same runs = subst (λ (c : Chair P). Runs c.part) (sym same) runs
+same_runs : {P : Type 0} (old new : SeatState P) → new ≡ old → Runs old.part → Runs new.part
+same_runs {P} old new same runs = subst (λ (c : SeatState P). Runs c.part) (sym same) runs
 
-fetch_runs : {P : Type 0} (fetched : Option (List ℕ)) (from to : Party) (old new : Chair P) → MayFetch fetched from to old new → Runs old.part → Runs new.part
+fetch_runs : {P : Type 0} (fetched : Option (List ℕ)) (from to : Party) (old new : SeatState P) → MayFetch fetched from to old new → Runs old.part → Runs new.part
 fetch_runs None from to old new f runs = same_runs old new f runs
-fetch_runs {P} (Some text) from to old new f runs = (runs.0, ap (λ (c : Chair P). c.part.role) f.after ∙ runs.1, runs.2)
+fetch_runs {P} (Some text) from to old new f runs = (runs.0, ap (λ (c : SeatState P). c.part.role) f.after ∙ runs.1, runs.2)
 
 module _ {S P : Type 0} (next : S → Action → S) (answers : S → Action → List Answer) (begin : P → S) where
-  works_runs : (given : Option (List ℕ)) (lead : Bool) (old new : Chair P) (count : ℕ) → Works next answers begin given lead old new count → Runs old.part → Runs new.part
+  works_runs : (given : Option (List ℕ)) (lead : Bool) (old new : SeatState P) (count : ℕ) → Works next answers begin given lead old new count → Runs old.part → Runs new.part
   works_runs (Some text) lead old new count w runs = turn_runs next answers begin old new w.input w.sent w.turn
   works_runs None true old new count w runs = turn_runs next answers begin old new w.input w.sent w.turn
   works_runs None false old new count w runs = same_runs old new w.0 runs
 
-  module _ (from : Party) (lead : Bool) (old new : Chair P) (line after : Line) where
-    own_runs : (between : Chair P) (turned : Turned) → IsNodeTurn next answers begin from lead old between line after turned → Runs old.part → Runs between.part
+  module _ (from : Party) (lead : Bool) (old new : SeatState P) (line after : Line) where
+    own_runs : (between : SeatState P) (turned : TurnResult) → IsNodeTurn next answers begin from lead old between line after turned → Runs old.part → Runs between.part
     own_runs between turned t runs =
         works_runs (given_on t.full) lead t.between between turned.sent t.works (fetch_runs t.brought.fetched from (Node old.number) old t.between t.brought.fetch runs)
 
     made_runs : (turn : declared.Turn) (sent : ℕ) → IsMade next answers begin from lead old new line after turn sent → Runs old.part → Runs new.part
-    made_runs turn sent (inl own) runs = own_runs new (turned_so turn sent) own runs
+    made_runs turn sent (inl own) runs = own_runs new (result_of_turn turn sent) own runs
     made_runs turn sent (inr anew) runs = let led = anew.1 in turn_runs next answers begin led.between new led.leads.input led.leads.sent led.leads.turn
 
     refused_runs : (fault : Fault) → is_refusal fault ≡ true → IsUnmade next answers begin from lead old new line after fault → Runs old.part → Runs new.part

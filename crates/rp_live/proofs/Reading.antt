@@ -5,13 +5,13 @@ use Rattle.std.specs.List.{AllZip}
 use Rattle.std.specs.Prelude.{IfSome}
 use Rattle.rp_base.specs.declared.action.Action.{Action}
 use Rattle.rp_boxes.specs.Audits.{known_of}
-use Rattle.rp_boxes.specs.Seats.{Chair}
+use Rattle.rp_boxes.specs.Seats.{SeatState}
 use Rattle.rp_threads.specs.declared.loops.NodeEnd.{NodeEnd}
 use Rattle.rp_threads.proofs.Places.{AreZippedSoFar}
 use Rattle.rp_live.specs.Seats.{AreNumbered, IsRead, KnowsNothingAbove, KnowsSameBut}
 
 -- The log of a node up to this number was read, of which nothing was known at first.
-pub record IsReadBelow {P : Type 0} (number : ℕ) (known : List (List Action)) (first now : Chair P) : Type 0 where
+pub record IsReadBelow {P : Type 0} (number : ℕ) (known : List (List Action)) (first now : SeatState P) : Type 0 where
   pub below : now.number ≤ number
   pub read : IsRead 0 first now (length (known_of known now.number))
 
@@ -65,7 +65,7 @@ still_unread number more at old new is_more is_at same none = λ node above.
 
 module _ {P : Type 0} where
   -- those that were read before it stay as they are
-  pub read_still : (number more at : ℕ) (old new : List (List Action)) → more ≡ number + 1 → at ≡ number + 1 → KnowsSameBut at old new → (first now : Chair P)
+  pub read_still : (number more at : ℕ) (old new : List (List Action)) → more ≡ number + 1 → at ≡ number + 1 → KnowsSameBut at old new → (first now : SeatState P)
       → IsReadBelow number old first now → IsReadBelow more new first now
   read_still number more at old new is_more is_at same first now r =
       let below = r.below in
@@ -76,7 +76,7 @@ module _ {P : Type 0} where
       }
 
   -- and it is read too
-  pub one_read : (number more : ℕ) (old new : List (List Action)) (first now : Chair P) → more ≡ number + 1 → first.number ≡ number + 1 → now.number ≡ first.number → KnowsNothingAbove number old
+  pub one_read : (number more : ℕ) (old new : List (List Action)) (first now : SeatState P) → more ≡ number + 1 → first.number ≡ number + 1 → now.number ≡ first.number → KnowsNothingAbove number old
       → IsRead (length (known_of old first.number)) first now (length (known_of new first.number)) → IsReadBelow more new first now
   one_read number more old new first now is_more is_first same none r =
       let nothing : length (known_of old first.number) ≡ 0 = ap length (none first.number (omega (arith, is_first))) in

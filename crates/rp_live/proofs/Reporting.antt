@@ -14,7 +14,7 @@ use Rattle.rp_replica.specs.declared.sent.Sent.{Sent}
 use Rattle.rp_boxes.specs.Audits.{Audited, IsAdded, known_of, report, with_reported}
 use Rattle.rp_boxes.specs.declared.audit.Added.{Added}
 use Rattle.rp_boxes.specs.Parts.{Part}
-use Rattle.rp_boxes.specs.Seats.{Chair, HasApplied, IsReport, IsSentText}
+use Rattle.rp_boxes.specs.Seats.{SeatState, HasApplied, IsReport, IsSentText}
 use Rattle.rp_boxes.proofs.Auditing.{each_with}
 use Rattle.rp_threads.proofs.Steps.{same_part, same_seat, same_on}
 use Rattle.rp_live.specs.Seats.{AreReports, HasOnlyReported, IsRead, KnowsMore, KnowsSameBut, Reports, Runs}
@@ -24,22 +24,22 @@ use Rattle.rp_live.specs.Seats.{AreReports, HasOnlyReported, IsRead, KnowsMore, 
 pub applied_runs : (part : Part) (count : ℕ) → HasApplied part count → Runs part
 applied_runs part count h = (h.0, h.1, h.2)
 
-module _ {P : Type 0} (first : ℕ) (old new : Chair P) (sent : Sent) (r : IsReport first old new sent) where
+module _ {P : Type 0} (first : ℕ) (old new : SeatState P) (sent : Sent) (r : IsReport first old new sent) where
   pub report_sent : IsSentText new.part sent.bytes.items
   report_sent =
       let packet = report_of old.number first (applied_of r.node.records) in
-      (packet, subst (λ (c : Chair P). Has packet c.part.sent) (sym r.after) (has_right packet old.part.sent (packet ∷ []) (inl refl)), r.text)
+      (packet, subst (λ (c : SeatState P). Has packet c.part.sent) (sym r.after) (has_right packet old.part.sent (packet ∷ []) (inl refl)), r.text)
 
   pub only_reported : HasOnlyReported old new
-  only_reported = record { same = same_part old new _ r.after; role = ap (λ (c : Chair P). c.part.role) r.after ∙ sym r.was }
+  only_reported = record { same = same_part old new _ r.after; role = ap (λ (c : SeatState P). c.part.role) r.after ∙ sym r.was }
 
 -- ---- a node that reported
 
 module _ {P : Type 0} where
-  pub none_reported : (seat : Chair P) → HasOnlyReported seat seat
+  pub none_reported : (seat : SeatState P) → HasOnlyReported seat seat
   none_reported seat = record { same = same_seat seat seat refl; role = refl }
 
-  pub reported_on : (a b c : Chair P) → HasOnlyReported a b → HasOnlyReported b c → HasOnlyReported a c
+  pub reported_on : (a b c : SeatState P) → HasOnlyReported a b → HasOnlyReported b c → HasOnlyReported a c
   reported_on a b c ab bc = record { same = same_on a b c ab.same bc.same; role = bc.role ∙ ab.role }
 
 pub role_applied : (old new : Part) (count : ℕ) → new.role ≡ old.role → HasApplied old count → HasApplied new count
@@ -67,18 +67,18 @@ more_with known node list more = each_with (λ k now. length (known_of known k) 
 
 module _ {P : Type 0} where
   -- one report more, asked for in the right way, after which more is known
-  pub one_more_report : (start first_position known more : ℕ) (first between now : Chair P) → ((n : ℕ) × AreReports start first n known between) → first_position ≡ known + 1
+  pub one_more_report : (start first_position known more : ℕ) (first between now : SeatState P) → ((n : ℕ) × AreReports start first n known between) → first_position ≡ known + 1
       → Reports first_position between now → known < more → (n : ℕ) × AreReports start first n more now
   one_more_report start at known more first between now so_far is reports less =
       (suc so_far.0, (known, between, so_far.1, subst (λ (k : ℕ). Reports k between now) is reports, less))
 
   -- all is known
-  pub all_read : (start known applied : ℕ) (first now : Chair P) → ((n : ℕ) × AreReports start first n known now) → HasApplied now.part applied → min applied 65535 ≤ known
+  pub all_read : (start known applied : ℕ) (first now : SeatState P) → ((n : ℕ) × AreReports start first n known now) → HasApplied now.part applied → min applied 65535 ≤ known
       → IsRead start first now known
   all_read start known applied first now so_far has all = record { applied = applied; has = has; reports = so_far.0; read = inl (so_far.1, all) }
 
   -- a report made nothing more known
-  pub no_more_read : (start first_position known now_known applied : ℕ) (first between now : Chair P) → ((n : ℕ) × AreReports start first n known between) → first_position ≡ known + 1
+  pub no_more_read : (start first_position known now_known applied : ℕ) (first between now : SeatState P) → ((n : ℕ) × AreReports start first n known between) → first_position ≡ known + 1
       → Reports first_position between now → HasApplied now.part applied → known ≤ now_known → now_known ≤ known → IsRead start first now now_known
   no_more_read start at known now_known applied first between now so_far is reports has some few =
       let same : known ≡ now_known = omega (arith, some, few) in
@@ -129,8 +129,8 @@ OneText = (p q : Message) (x y : List ℕ) → IsPacket p → IsPacket q → tex
 pub added_others : {P : Type 0} → OneText → (number : ℕ) (old : Audited P) (bytes : List ℕ) (new : Audited P) (outcome : Added) (packet : Message) → IsPacket packet
     → bytes ≡ text_of packet → packet.from ≡ Node number → IsAdded old bytes new outcome → KnowsSameBut number old.known new.known
 added_others {P} one number old bytes new outcome packet right text from a =
-    let told = report a.node a.first a.applied a.actions in
-    let same : packet ≡ told = (one packet told [] [] right a.right (ap (λ (t : List ℕ). t ++ []) (sym text ∙ a.text))).0 in
+    let stated = report a.node a.first a.applied a.actions in
+    let same : packet ≡ stated = (one packet stated [] [] right a.right (ap (λ (t : List ℕ). t ++ []) (sym text ∙ a.text))).0 in
     let party : Node number ≡ Node a.node = sym from ∙ ap (λ (m : Message). m.from) same in
     let node : a.node ≡ number = cc in
     let list = known_of old.known a.node in

@@ -1,4 +1,5 @@
--- A node that runs goes on running; where no call of its device fails, it refuses notes and reports for want of memory alone.
+-- A node that runs goes on running; where no call of its device fails, it refuses notes and reports only when out of
+-- memory.
 use Rattle.std.proofs.Common.{◌≡◌, ◌⊎◌, ℕ, Option, Some, None, Result, Ok, Err, List, inl, inr, refl, sym, ap, subst, ◌∙◌, arith}
 use Rattle.std.specs.Prelude.{IsSome, IfErr, IsOkUnless}
 use Rattle.rp_base.specs.declared.action.Action.{Action}
@@ -6,8 +7,8 @@ use Rattle.rp_base.specs.declared.fault.Fault.{Fault}
 use Rattle.rp_base.specs.declared.fault.Fault.TheVariants.{OutOfMemory}
 use Rattle.rp_base.specs.declared.reply.Answer.{Answer}
 use Rattle.rp_boxes.specs.Parts.{Part, Role, OfNode}
-use Rattle.rp_boxes.specs.Seats.{Chair, IsGot, IsReason, IsStopped, IsTurn, IsCutTurn, IsNoTurn, setting_at}
-use Rattle.rp_model.specs.Effect.{Setting, Done, NodeInput, Receive, Lead, LeadRange, Interrupt, Tick, Report, turned, turned_if, effect_while, running_effect}
+use Rattle.rp_boxes.specs.Seats.{SeatState, IsGot, IsReason, IsStopped, IsTurn, IsCutTurn, IsNoTurn, setting_at}
+use Rattle.rp_model.specs.Effect.{Setting, Done, NodeInput, Receive, Lead, LeadRange, Interrupt, Tick, Report, turn_done, turn_done_if, effect_while, running_effect}
 use Rattle.rp_model.specs.Parts.{NodePart, Running, Turn}
 use Rattle.rp_replica.specs.Inputs.{IsRightInput, given_by}
 use Rattle.rp_replica.specs.declared.input.Input.{Input}
@@ -18,8 +19,8 @@ use Rattle.rp_live.specs.Seats.{Runs, IsNote}
 
 -- ---- one node
 
-turned_runs : (node : NodePart) (turn : Result Turn Fault) (done : Done NodePart) → turned_if node turn ≡ Ok done → IsSome done.part.running
-turned_runs node (Ok turn) done is = let e : turned node turn ≡ done = cc in subst (λ (d : Done NodePart). IsSome d.part.running) e refl
+turned_runs : (node : NodePart) (turn : Result Turn Fault) (done : Done NodePart) → turn_done_if node turn ≡ Ok done → IsSome done.part.running
+turned_runs node (Ok turn) done is = let e : turn_done node turn ≡ done = cc in subst (λ (d : Done NodePart). IsSome d.part.running) e refl
 turned_runs node (Err fault) done is = absurd (cc)
 
 -- what a node that runs never refuses
@@ -61,12 +62,12 @@ not_stopped part runs stopped =
     let same : runs.0 ≡ stopped.0 = same_node part.role runs.0 stopped.0 runs.1 stopped.1 in
     none_runs stopped.0.running (subst (λ (n : NodePart). IsSome n.running) same runs.2) stopped.2
 
-module _ {S P : Type 0} (next : S → Action → S) (answers : S → Action → List Answer) (begin : P → S) (old new : Chair P) where
+module _ {S P : Type 0} (next : S → Action → S) (answers : S → Action → List Answer) (begin : P → S) (old new : SeatState P) where
   pub turn_runs : (input : Input) (sent : Sent) → IsTurn next answers begin old input new sent → Runs new.part
   turn_runs input sent t = (
     t.done.part,
-    ap (λ (c : Chair P). c.part.role) t.after,
-    while_runs (setting_at next answers begin old) old.number t.node t.given t.node.running t.done t.comes,
+    ap (λ (c : SeatState P). c.part.role) t.after,
+    while_runs (setting_at next answers begin old) old.number t.node t.given t.node.running t.done t.results,
   )
 
   -- where it runs and takes the input, and no call of its device failed, memory ran out

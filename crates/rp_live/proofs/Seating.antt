@@ -10,9 +10,9 @@ use Rattle.rp_store.specs.Disk.{disk_of}
 use Rattle.atomic_table.specs.Seated.{TableId}
 use Rattle.rp_base.specs.declared.config.Config.{Config}
 use Rattle.rp_model.specs.Parts.{fresh_node, fresh_task}
-use Rattle.rp_boxes.specs.Making.{AreFirstSeats, CanFail, IsWanting, first_seat}
+use Rattle.rp_boxes.specs.Making.{AreFirstSeats, CanFail, IsResourceFault, first_seat}
 use Rattle.rp_boxes.specs.Parts.{OfNode, OfTask, OfAudit, first_role, fresh_part}
-use Rattle.rp_boxes.specs.Seats.{Chair}
+use Rattle.rp_boxes.specs.Seats.{SeatState}
 use Rattle.rp_boxes.proofs.Seating.{node_role}
 use Rattle.rp_live.specs.Seats.{Runs}
 
@@ -35,21 +35,21 @@ all_within Q (x ∷ xs) each (suc k) d within = all_within Q xs (λ j less. each
 -- ---- at first
 
 -- all seats are at the table
-pub first_tables : {P : Type 0} (table : TableId) (config : Config) (program : P) (actor : ℕ) (failures : List ℕ) (seats : List (Chair P))
+pub first_tables : {P : Type 0} (table : TableId) (config : Config) (program : P) (actor : ℕ) (failures : List ℕ) (seats : List (SeatState P))
     → AreFirstSeats table config program actor failures seats → All (λ seat. seat.table ≡ table) seats
 first_tables {P} table config program actor failures seats are =
-    all_places (λ (seat : Chair P). seat.table ≡ table) seats (λ place.
-    some_then (λ (seat : Chair P). seat ≡ first_seat table config program (suc place) (actor + place) (slice_index failures place)) (λ (seat : Chair P). seat.table ≡ table)
-    (λ seat is. ap (λ (c : Chair P). c.table) is) (slice_get seats place) (are place))
+    all_places (λ (seat : SeatState P). seat.table ≡ table) seats (λ place.
+    some_then (λ (seat : SeatState P). seat ≡ first_seat table config program (suc place) (actor + place) (slice_index failures place)) (λ (seat : SeatState P). seat.table ≡ table)
+    (λ seat is. ap (λ (c : SeatState P). c.table) is) (slice_get seats place) (are place))
 
 -- nodes run at first
-pub nodes_run : {P : Type 0} (table : TableId) (config : Config) (program : P) (failures : List ℕ) (seats : List (Chair P)) → length seats ≤ 7 → AreFirstSeats table config program 1 failures seats
+pub nodes_run : {P : Type 0} (table : TableId) (config : Config) (program : P) (failures : List ℕ) (seats : List (SeatState P)) → length seats ≤ 7 → AreFirstSeats table config program 1 failures seats
     → All (λ seat. Runs seat.part) seats
 nodes_run {P} table config program failures seats few are =
-    all_within (λ (seat : Chair P). Runs seat.part) seats (λ place within.
-    some_then (λ (seat : Chair P). seat ≡ first_seat table config program (suc place) (1 + place) (slice_index failures place)) (λ (seat : Chair P). Runs seat.part) (λ seat is. (
+    all_within (λ (seat : SeatState P). Runs seat.part) seats (λ place within.
+    some_then (λ (seat : SeatState P). seat ≡ first_seat table config program (suc place) (1 + place) (slice_index failures place)) (λ (seat : SeatState P). Runs seat.part) (λ seat is. (
       fresh_node,
-      ap (λ (c : Chair P). c.part.role) is ∙ node_role (1 + place) (omega arith) (omega (arith, within, few)),
+      ap (λ (c : SeatState P). c.part.role) is ∙ node_role (1 + place) (omega arith) (omega (arith, within, few)),
       refl,
     )) (slice_get seats place) (are place))
 
@@ -61,12 +61,12 @@ task_role place =
     ap (λ (b : Bool). if b then OfAudit else if nat_lt (8 + place) 8 then OfNode fresh_node else OfTask fresh_task) some
     ∙ ap (λ (b : Bool). if b then OfNode fresh_node else OfTask fresh_task) above
 
-pub tasks_fresh : {P : Type 0} (table : TableId) (config : Config) (program : P) (seats : List (Chair P)) → AreFirstSeats table config program 8 [] seats
+pub tasks_fresh : {P : Type 0} (table : TableId) (config : Config) (program : P) (seats : List (SeatState P)) → AreFirstSeats table config program 8 [] seats
     → All (λ seat. seat.part ≡ fresh_part (OfTask fresh_task)) seats
 tasks_fresh {P} table config program seats are =
-    all_places (λ (seat : Chair P). seat.part ≡ fresh_part (OfTask fresh_task)) seats (λ place.
-    some_then (λ (seat : Chair P). seat ≡ first_seat table config program (suc place) (8 + place) (slice_index [] place)) (λ (seat : Chair P). seat.part ≡ fresh_part (OfTask fresh_task))
-    (λ seat is. ap (λ (c : Chair P). c.part) is ∙ ap fresh_part (task_role place)) (slice_get seats place) (are place))
+    all_places (λ (seat : SeatState P). seat.part ≡ fresh_part (OfTask fresh_task)) seats (λ place.
+    some_then (λ (seat : SeatState P). seat ≡ first_seat table config program (suc place) (8 + place) (slice_index [] place)) (λ (seat : SeatState P). seat.part ≡ fresh_part (OfTask fresh_task))
+    (λ seat is. ap (λ (c : SeatState P). c.part) is ∙ ap fresh_part (task_role place)) (slice_get seats place) (are place))
 
 -- ---- what ran
 
@@ -87,11 +87,11 @@ all_more Q (y ∷ ys) x all is zero d within = all zero d (omega arith)
 all_more Q (y ∷ ys) x all is (suc k) d within = all_more Q ys x (λ j e less. all (suc j) e (omega (arith, less))) is k d (omega (arith, within))
 
 -- the seats of those that are ready and of those that are left, where one more is ready
-pub one_ready : {A P : Type 0} (f : A → Chair P) (starts grown : List A) (start : A) (seat : Chair P) (rest left seats : List (Chair P))
+pub one_ready : {A P : Type 0} (f : A → SeatState P) (starts grown : List A) (start : A) (seat : SeatState P) (rest left seats : List (SeatState P))
     → grown ≡ starts ++ start ∷ [] → f start ≡ seat → rest ≡ seat ∷ left → map f starts ++ rest ≡ seats → map f grown ++ left ≡ seats
 one_ready {A} {P} f starts grown start seat rest left seats is same steps so_far =
-    ap (λ (l : List A). map f l ++ left) is ∙ ap (λ (l : List (Chair P)). l ++ left) (map-append f starts (start ∷ []))
-    ∙ append_assoc (map f starts) (f start ∷ []) left ∙ ap (λ (s : Chair P). map f starts ++ s ∷ left) same ∙ ap (λ (l : List (Chair P)). map f starts ++ l) (sym steps) ∙ so_far
+    ap (λ (l : List A). map f l ++ left) is ∙ ap (λ (l : List (SeatState P)). l ++ left) (map-append f starts (start ∷ []))
+    ∙ append_assoc (map f starts) (f start ∷ []) left ∙ ap (λ (s : SeatState P). map f starts ++ s ∷ left) same ∙ ap (λ (l : List (SeatState P)). map f starts ++ l) (sym steps) ∙ so_far
 
 pub mapped : {A B : Type 0} (f : A → B) (xs : List A) → length (map f xs) ≡ length xs
 mapped f [] = refl
@@ -111,7 +111,7 @@ memory_never can = let failed = can.failed in omega (arith, failed)
 
 -- where the configuration is right and no device fails, memory ran out
 pub only_memory : {A : Type 0} (result : Result A Fault) → (IsErrOf result BadConfig → ⊥) → (IsErrOf result Device → ⊥)
-    → IfErr result (λ fault. (fault ≡ BadConfig) ⊎ IsWanting fault) → IsOkUnless result OutOfMemory
+    → IfErr result (λ fault. (fault ≡ BadConfig) ⊎ IsResourceFault fault) → IsOkUnless result OutOfMemory
 only_memory (Ok value) right never only = tt
 only_memory (Err fault) right never (inl bad) = absurd (right (ap Err bad))
 only_memory (Err fault) right never (inr (inl memory)) = memory

@@ -1,4 +1,4 @@
--- The calls of a task that count in the order of a run (this project's own).
+-- The calls of a task that count in the order of a run.
 use Rattle.std.specs.Prelude.{◌≡◌, ◌⊎◌, ℕ, suc, List, [], ◌∷◌, length}
 use Rattle.rp_base.specs.declared.action.Action.{Action}
 use Rattle.rp_agreement.specs.Answered.{calls_by}
@@ -6,7 +6,7 @@ use Rattle.rp_agreement.specs.Order.{Begins}
 use Rattle.rp_threads.specs.Tasks.{call_after}
 use Rattle.rp_threads.specs.declared.tasks.TaskCall.{TaskCall}
 
--- these calls, as nodes know them, of a task that made so many before
+-- these calls, as nodes know them, of a task that made n before
 abbrev pub calls_from : ℕ → ℕ → List TaskCall → List Action
 calls_from task made [] = []
 calls_from task made (call ∷ calls) = call_after task made call ∷ calls_from task (suc made) calls

@@ -1,4 +1,4 @@
--- What may happen to a program whose nodes and tasks run in threads (this project's own).
+-- What may happen to a program whose nodes and tasks run in threads.
 use Rattle.std.specs.Prelude.{ℕ, ◌≤◌, nat_eq, Option, Some, None, if◌then◌else◌}
 use Rattle.rp_model.specs.declared.event.Event.{Event}
 use Rattle.rp_model.specs.declared.event.Event.TheVariants.{Submit, Again, Node, Cut, Stop, Restart}
@@ -6,7 +6,7 @@ use Rattle.rp_model.specs.declared.event.Step.{Step}
 use Rattle.rp_model.specs.declared.event.Step.TheVariants.{Deliver, Lead, LeadRange, Interrupt, Tick, Report}
 use Rattle.rp_threads.specs.declared.tasks.TaskCall.{TaskCall}
 
--- one of so many nodes notes an interrupt or a tick
+-- one of n nodes notes an interrupt or a tick
 abbrev pub IsNoting : ℕ → Step → Type 0
 IsNoting nodes (Deliver number) = ⊥
 IsNoting nodes (Lead node position) = ⊥
@@ -15,7 +15,7 @@ IsNoting nodes (Interrupt node interrupt) = node ≤ nodes
 IsNoting nodes (Tick node now) = node ≤ nodes
 IsNoting nodes (Report node first) = ⊥
 
--- a task makes a call and asks one of so many nodes, or one of them notes an interrupt or a tick
+-- a task makes a call and asks one of n nodes, or one of them notes an interrupt or a tick
 abbrev pub IsLive : ℕ → Event → Type 0
 IsLive nodes (Submit task node object operation arg) = node ≤ nodes
 IsLive nodes (Again task node) = ⊥

@@ -1,4 +1,4 @@
--- What ends a run before it is through (this project's own).
+-- What ends a run before it is through.
 use Rattle.std.specs.Prelude.{◌≡◌}
 use Rattle.rp_base.specs.declared.fault.Fault.{Fault}
 use Rattle.rp_base.specs.declared.fault.Fault.TheVariants.{OutOfMemory}

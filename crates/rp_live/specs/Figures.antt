@@ -1,4 +1,4 @@
--- How a run in threads went, in numbers (this project's own).
+-- How a run in threads went, in numbers.
 use Rattle.std.specs.Prelude.{ℕ, ◌+◌, ◌-◌, ◌^◌, min, max, List, [], ◌∷◌, length, map}
 use Rattle.rp_boxes.specs.Parts.{task_of}
 use Rattle.rp_live.specs.declared.figures.Figures.{Figures}

@@ -6,4 +6,4 @@ pub mod Seats
 pub mod Noted
 pub mod Calls
 pub mod Figures
-pub mod Lived
+pub mod LiveOutcome

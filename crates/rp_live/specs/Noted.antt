@@ -1,4 +1,4 @@
--- What nodes note before they run (this project's own).
+-- What nodes note before they run.
 use Rattle.std.specs.Prelude.{◌≡◌, ℕ, zero, suc, ◌-◌, Option, Some, None, List, set, slice_get}
 use Rattle.rp_base.specs.declared.action.Action.{Action}
 use Rattle.rp_base.specs.declared.reply.Answer.{Answer}
@@ -9,7 +9,7 @@ use Rattle.rp_model.specs.declared.event.Step.TheVariants.{Deliver, Lead, LeadRa
 use Rattle.rp_replica.specs.declared.input.Input.{Input}
 use Rattle.rp_replica.specs.declared.input.Input.TheVariants as inputs
 use Rattle.rp_replica.specs.declared.sent.Sent.{Sent}
-use Rattle.rp_boxes.specs.Seats.{Chair, IsTurn}
+use Rattle.rp_boxes.specs.Seats.{SeatState, IsTurn}
 
 -- which node notes the step, and the input that it is to it
 abbrev pub noted_in : Step → Option (ℕ × Input)
@@ -31,22 +31,22 @@ noted_by (Restart node) = None
 
 module _ {S P : Type 0} (next : S → Action → S) (answers : S → Action → List Answer) (begin : P → S) where
   -- One event of the node of this number, by this input; the others stay as they are.
-  pub record IsTakenAt (node : ℕ) (input : Input) (olds news : List (Chair P)) : Type 0 where
-    pub old : Chair P
-    pub new : Chair P
+  pub record IsTakenAt (node : ℕ) (input : Input) (olds news : List (SeatState P)) : Type 0 where
+    pub old : SeatState P
+    pub new : SeatState P
     pub at : slice_get olds (node - 1) ≡ Some old
     pub news_are : news ≡ set olds (node - 1) new
     pub sent : Sent
     pub turn : IsTurn next answers begin old input new sent
 
   -- what is noted at its node, if something is
-  abbrev pub IsNoted : Option (ℕ × Input) → List (Chair P) → List (Chair P) → Type 0
+  abbrev pub IsNoted : Option (ℕ × Input) → List (SeatState P) → List (SeatState P) → Type 0
   IsNoted None olds news = news ≡ olds
   IsNoted (Some note) olds news = IsTakenAt note.0 note.1 olds news
 
   -- the first n of the events are noted, one after the other
-  abbrev pub AreNoted : List Event → ℕ → List (Chair P) → List (Chair P) → Type 0
+  abbrev pub AreNoted : List Event → ℕ → List (SeatState P) → List (SeatState P) → Type 0
   AreNoted events zero olds news = news ≡ olds
   AreNoted events (suc n) olds news =
-      (between : List (Chair P)) × (event : Event) × AreNoted events n olds between
+      (between : List (SeatState P)) × (event : Event) × AreNoted events n olds between
       × (slice_get events n ≡ Some event) × IsNoted (noted_by event) between news

@@ -1,4 +1,4 @@
--- In which turns a node of a run turns (this project's own).
+-- In which turns a node of a run turns.
 use Rattle.std.specs.Prelude.{ℕ, Bool, not}
 use Rattle.rp_threads.specs.Rounds.{is_to_lead}
 

@@ -1,11 +1,11 @@
--- The seats of a run (this project's own).
+-- The seats of a run.
 use Rattle.std.specs.Prelude.{◌≡◌, ◌≢◌, ◌⊎◌, ◌≤◌, ◌<◌, ◌+◌, ℕ, zero, suc, min, None, IfSome, IsSome, List, [], length}
 use Rattle.std.specs.Prelude.{slice_get}
 use Rattle.rp_base.specs.Action.{IsIndex, IsCount}
 use Rattle.rp_base.specs.declared.action.Action.{Action}
 use Rattle.rp_boxes.specs.Audits.{known_of}
 use Rattle.rp_boxes.specs.Parts.{Part, OfNode}
-use Rattle.rp_boxes.specs.Seats.{Chair, HasApplied, IsReport}
+use Rattle.rp_boxes.specs.Seats.{SeatState, HasApplied, IsReport}
 use Rattle.rp_model.specs.Parts.{NodePart}
 use Rattle.rp_replica.specs.declared.input.Input.{Input}
 use Rattle.rp_replica.specs.declared.input.Input.TheVariants.{Receive, Lead, LeadRange, Interrupt, Tick, Report}
@@ -28,43 +28,43 @@ IsNote (Tick now) = Unit {0}
 IsNote (Report first) = ⊥
 
 -- the end of a node's loop that began at a node that ran
-abbrev pub HasRunFrom : {M D P : Type 0} → Chair P → NodeEnd M D P → Type 0
+abbrev pub HasRunFrom : {M D P : Type 0} → SeatState P → NodeEnd M D P → Type 0
 HasRunFrom first end = Runs first.part × IfSome end.fault (IsNodeFault first end.seat)
 
 abbrev pub IsEndOfRun : {M D P : Type 0} → NodeEnd M D P → Type 0
-IsEndOfRun {P = P} end = (first : Chair P) × HasRunFrom first end
+IsEndOfRun {P = P} end = (first : SeatState P) × HasRunFrom first end
 
 -- the node of the loop still runs, where that ended without a fault
 abbrev pub StillRuns : {M D P : Type 0} → NodeEnd M D P → Type 0
 StillRuns end = end.fault ≡ None → Runs end.seat.part
 
 -- The same seat, whose node made reports alone since: what it is has not changed.
-pub record HasOnlyReported {P : Type 0} (old new : Chair P) : Type 0 where
+pub record HasOnlyReported {P : Type 0} (old new : SeatState P) : Type 0 where
   pub same : IsSameSeat old new
   pub role : new.part.role ≡ old.part.role
 
 -- ---- how the log of a node is read
 
 -- the node makes one report, of what it has applied from a position on
-abbrev pub Reports : {P : Type 0} → ℕ → Chair P → Chair P → Type 0
+abbrev pub Reports : {P : Type 0} → ℕ → SeatState P → SeatState P → Type 0
 Reports first old new = (sent : Sent) × IsReport first old new sent
 
--- a node of which `start` actions were known made so many reports, and now more are known: each report was from the
+-- a node of which `start` actions were known made n reports, and now more are known: each report was from the
 -- position after those that were known before it, and after it more were known
-abbrev pub AreReports : {P : Type 0} → ℕ → Chair P → ℕ → ℕ → Chair P → Type 0
+abbrev pub AreReports : {P : Type 0} → ℕ → SeatState P → ℕ → ℕ → SeatState P → Type 0
 AreReports start first zero known now = (known ≡ start) × (now ≡ first)
 AreReports {P = P} start first (suc n) known now =
-    (before : ℕ) × (between : Chair P) × AreReports start first n before between × Reports (before + 1) between now
+    (before : ℕ) × (between : SeatState P) × AreReports start first n before between × Reports (before + 1) between now
     × (before < known)
 
 -- The log of a node of which `start` actions were known was read by such reports, until all that it has applied was
 -- known (or 65,535 actions of that), or until one report more, asked for in the same way, made nothing more known.
-pub record IsRead {P : Type 0} (start : ℕ) (first now : Chair P) (known : ℕ) : Type 0 where
+pub record IsRead {P : Type 0} (start : ℕ) (first now : SeatState P) (known : ℕ) : Type 0 where
   pub applied : ℕ
   pub has : HasApplied now.part applied
   pub reports : ℕ
   pub read : (AreReports start first reports known now × (min applied 65535 ≤ known))
-      ⊎ ((between : Chair P) × AreReports start first reports known between × Reports (known + 1) between now)
+      ⊎ ((between : SeatState P) × AreReports start first reports known between × Reports (known + 1) between now)
 
 -- of each node as many actions are known as before, or more
 abbrev pub KnowsMore : List (List Action) → List (List Action) → Type 0

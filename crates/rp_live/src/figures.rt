@@ -86,7 +86,7 @@ fn lost_by_nodes<M: Machine, D: Device>(nodes: &[NodeEnd<M, D>]) -> u64
     sum
 }
 
-/// The same of tasks, with so many lost before.
+/// The same of tasks, with n lost before.
 fn lost_by_tasks<M: Machine>(before: u64, tasks: &[TaskEnd<M>]) -> u64
     ensures { result ≡ sum_from before (map (λ end. end.lost) tasks.now) }
 {

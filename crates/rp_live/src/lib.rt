@@ -26,4 +26,4 @@ mod run;
 mod starts;
 
 pub use figures::Figures;
-pub use run::{Lived, live};
+pub use run::{LiveOutcome, live};

@@ -6,7 +6,7 @@ use std::alloc::{AllocError, Global};
 use std::sync::atomic::{AtomicU64, Ordering};
 use std::thread;
 
-/// A thread says how far it is in every turn of so many.
+/// A thread says how far it is in every nth turn.
 const PERIOD: u64 = 8;
 
 /// How many turns a thread is ahead of the slowest at most.
@@ -38,7 +38,7 @@ pub(crate) struct Pace {
 }
 
 impl Pace {
-    /// The gate of a run of so many nodes and eight tasks.
+    /// The gate of a run of n nodes and eight tasks.
     pub(crate) fn new(alloc: Global, nodes: u8) -> Result<Self, AllocError> {
         let mut turns = Vec::new(alloc);
         let mut looks = Vec::new(alloc);

@@ -1,7 +1,7 @@
 //! The replies of the tasks.
 
 ghost use Rattle.std.specs.Prelude.{◌≡◌, map, flat_map, IfOk, IsOkUnless};
-ghost use Rattle.rp_live.specs.Lived.{replies_at};
+ghost use Rattle.rp_live.specs.LiveOutcome.{replies_at};
 
 use crate::ends::task_ended;
 use rp_base::{Answer, Fault};

@@ -5,7 +5,7 @@ ghost use Rattle.std.specs.List.{AllZip};
 ghost use Rattle.rp_boxes.specs.Audits.{known_of};
 ghost use Rattle.rp_boxes.specs.Seats.{HasApplied, IsReport, IsSentText};
 ghost use Rattle.rp_threads.specs.Loops.{IsSameSeat};
-ghost use Rattle.rp_live.specs.Lived.{KnowsAll};
+ghost use Rattle.rp_live.specs.LiveOutcome.{KnowsAll};
 ghost use Rattle.rp_live.specs.Seats.{AreNumbered, HasOnlyReported, IsEndOfRun, IsRead, KnowsMore, KnowsNothingAbove, KnowsSameBut, Reports, Runs, StillRuns};
 
 use crate::ends::node_ended;
@@ -82,7 +82,7 @@ fn report_once<M: Machine, D: InfallibleDevice>(
     Ok(())
 }
 
-/// The position after so many actions, if a log can have it.
+/// The position after n actions, if a log can have it.
 fn position_after(known: usize) -> Option<Position>
     requires { known < 2 ^ 32 }
     ensures some { IfSome result (λ position. position ≡ known + 1) }

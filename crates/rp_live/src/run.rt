@@ -3,7 +3,7 @@
 ghost use Rattle.std.specs.Prelude.{◌≡◌, ◌≤◌, All, length, IfOk, IfErr, IsOkUnless};
 ghost use Rattle.rp_base.specs.Config.{IsRightConfig};
 ghost use Rattle.rp_live.specs.Events.{IsLive};
-ghost use Rattle.rp_live.specs.Lived.{IsLived, IsTold};
+ghost use Rattle.rp_live.specs.LiveOutcome.{IsLiveRun, IsAudited};
 ghost use Rattle.rp_live.specs.Seats.{AreNumbered, IsEndOfRun, StillRuns};
 ghost use Rattle.rp_live.specs.Faults.{IsLiveFault};
 
@@ -23,9 +23,9 @@ use std::alloc::Global;
 use std::sync::Wait;
 use std::thread::Threads;
 
-/// What came of a run.
+/// The result of a run.
 #[derive(Debug, Drop)]
-pub struct Lived {
+pub struct LiveOutcome {
     /// The replies of all tasks, in order of tasks and of their calls.
     pub replies: Vec<Answer>,
     /// How many actions each node has applied, in order of nodes.
@@ -42,14 +42,14 @@ fn audited<M: Machine, D: InfallibleDevice>(
     seat: AuditSeat<M>,
     nodes: Vec<NodeEnd<M, D>>,
     tasks: Vec<TaskEnd<M>>,
-) -> Result<Lived, Fault>
+) -> Result<LiveOutcome, Fault>
     requires few { length nodes.items ≤ 7 }
     requires ended { All IsEndOfRun nodes.items }
     requires still { All StillRuns nodes.items }
     requires nodes { All (λ end. end.seat.table ≡ seat.table) nodes.items }
     requires numbers { AreNumbered 0 nodes.items }
     requires tasks { All (λ end. end.seat.table ≡ seat.table) tasks.items }
-    ensures told { IfOk result (IsTold M.next M.answers M.begin seat nodes.items tasks.items) }
+    ensures stated { IfOk result (IsAudited M.next M.answers M.begin seat nodes.items tasks.items) }
     ensures only { IsOkUnless result Fault.OutOfMemory }
 {
     let figures = Figures::of(nodes.as_slice(), tasks.as_slice());
@@ -58,7 +58,7 @@ fn audited<M: Machine, D: InfallibleDevice>(
     let (tasks, replies) = replies_of(tasks, alloc)?;
     let agree = knows_all(&audit, applied.as_slice());
     audit.look_together(nodes, tasks);
-    Ok(Lived {
+    Ok(LiveOutcome {
         replies,
         applied,
         agree,
@@ -66,13 +66,13 @@ fn audited<M: Machine, D: InfallibleDevice>(
     })
 }
 
-/// The nodes of a program, over devices in memory, and its eight tasks make so many turns each, in
+/// The nodes of a program, over devices in memory, and its eight tasks make n turns each, in
 /// threads of their own, over lines that lose packets, repeat them and change their order, as the
 /// words of the seed say. Before that the interrupts and the ticks among the events are noted, in
 /// order, each at its node; its other events are the calls of the tasks. Afterwards the audit reads
 /// the logs of all nodes, and all look at the table as one. Which replies come, and how much is
-/// applied, differs from run to run. `OutOfMemory` where a growth was refused or a thread could not be
-/// started, also in a thread.
+/// applied, differs from run to run. `OutOfMemory` where a growth was refused or a thread could not
+/// be started, also in a thread.
 pub fn live<R: Threads + Wait, M: Machine + Send>(
     rt: &R,
     alloc: Global,
@@ -81,12 +81,12 @@ pub fn live<R: Threads + Wait, M: Machine + Send>(
     events: &[Event],
     seed: u32,
     turns: u64,
-) -> Result<Lived, Fault>
+) -> Result<LiveOutcome, Fault>
 where
     M::Program: Send + Sync,
     requires config { IsRightConfig config }
     requires events { All (IsLive config.nodes) events.now }
-    ensures lived { IfOk result (IsLived M.next M.answers M.begin
+    ensures outcome { IfOk result (IsLiveRun M.next M.answers M.begin
         config program.now events.now seed turns) }
     ensures only { IfErr result IsLiveFault }
 {

@@ -19,10 +19,11 @@ use rp_store::{Device, MemDevice};
 use rp_threads::{NodeStart, TaskStart};
 use std::alloc::{AllocError, Global};
 
-/// So many devices that hold nothing.
+/// Devices that hold nothing, n of them.
 fn devices(alloc: Global, count: u8) -> Result<Vec<MemDevice>, AllocError>
     ensures count { IfOk result (λ devices. length devices.items ≡ count) }
-    ensures empty { IfOk result (λ devices. All (λ device. disk_of device ≡ empty_disk) devices.items) }
+    ensures empty { IfOk result
+        (λ devices. All (λ device. disk_of device ≡ empty_disk) devices.items) }
 {
     let mut devices = Vec::new(alloc);
     for _ in 0..count {

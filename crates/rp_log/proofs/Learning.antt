@@ -86,11 +86,11 @@ fits_learned_ahead front reserved old new capacity taken top after p v fits far 
     let few : reserved_count reserved new ≡ reserved_count reserved old = ap (λ (n : ℕ). n + (if reserved then 1 else 0)) long in
     record {
       bound = fits.bound;
-      behind = λ i there. ⊎_elim
+      following = λ i there. ⊎_elim
           (λ (e : p ≡ i). (omega (arith, far, e), omega (arith, bound, e)))
           (λ (apart : p ≢ i).
           let same_place = written i ∙ ap (λ b. cond b (Some (Some v)) (place_ahead old i)) (same_apart p i apart) in
-          fits.behind i (subst (λ (x : Option (Option Action)). IsSome x) same_place there))
+          fits.following i (subst (λ (x : Option (Option Action)). IsSome x) same_place there))
           (cases_eq p i);
       next_once = λ on. stays ∙ fits.next_once on;
       next_bound = fits.next_bound;
@@ -102,7 +102,7 @@ fits_learned_ahead front reserved old new capacity taken top after p v fits far 
       none_above = greatest_above (place_of front reserved old) (place_of front reserved new) p top after v here top_is fits.none_above;
     }
 
--- ---- behind the front
+-- ---- after the front
 
 next_place_there : (reserved : Bool) (next : ℕ) (ahead : Ahead) (i : ℕ) → IsSome (option_or (place_ahead (next_place reserved next) i) (place_ahead ahead i)) → (reserved ≡ true) ⊎ IsSome (place_ahead ahead i)
 next_place_there true next ahead i there = inl refl
@@ -115,7 +115,7 @@ pub room_to_put : (front : List Action) (reserved : Bool) (old : Ahead) (capacit
     → length front + 1 + fewer ≤ capacity
 room_to_put front reserved old capacity taken top fewer fits there removed =
     let past = front_past front (length front + 1) (omega arith) in
-    let behind = subst (λ (x : Option (Option Action)). IsSome (option_or x (option_or (place_ahead (next_place reserved (length front + 1)) (length front + 1)) (place_ahead old (length front + 1))))) past there in
+    let following = subst (λ (x : Option (Option Action)). IsSome (option_or x (option_or (place_ahead (next_place reserved (length front + 1)) (length front + 1)) (place_ahead old (length front + 1))))) past there in
     ⊎_elim
     (λ (on : reserved ≡ true).
     let none = fits.next_once on in
@@ -126,9 +126,9 @@ room_to_put front reserved old capacity taken top fewer fits there removed =
     let one : fewer + 1 ≡ length old = sym (ap (λ b. fewer + (if b then 1 else 0)) ahead) ∙ removed in
     let least : length old ≤ reserved_count reserved old = omega arith in
     omega (arith, one, least, fits.room))
-    (next_place_there reserved (length front + 1) old (length front + 1) behind)
+    (next_place_there reserved (length front + 1) old (length front + 1) following)
 
--- where there is room behind the position behind the front, a place stands ahead
+-- where there is room after the position after the front, a place is ahead
 pub ahead_there : (front : List Action) (reserved : Bool) (old : Ahead) (taken : ℕ) (log : Contents) (p : ℕ) → seen front reserved old taken ≡ log
     → IsSome (get log.places p) → length front + 1 < p → IsSome (place_ahead old p)
 ahead_there front reserved old taken log p view room far =
@@ -142,7 +142,7 @@ pub place_there : (front : List Action) (reserved : Bool) (old : Ahead) (taken :
 place_there front reserved old taken log p view room =
     subst (λ (x : Option (Option Action)). IsSome x) (ap (λ (l : Contents). get l.places p) (sym view) ∙ shown front reserved old p) room
 
--- an unlearned position lies behind the front
+-- an unlearned position lies after the front
 pub unlearned_past : (front : List Action) (reserved : Bool) (old : Ahead) (taken : ℕ) (log : Contents) (p : ℕ) → seen front reserved old taken ≡ log
     → 1 ≤ p → action_at log p ≡ None → length front < p
 unlearned_past front reserved old taken log p view low none = ⊎_elim
@@ -153,7 +153,7 @@ unlearned_past front reserved old taken log p view low none = ⊎_elim
     absurd cc)
     (cases_lt (length front) p)
 
--- and where none is between, it is the one behind the front
+-- and where none is between, it is the one after the front
 pub unlearned_next : (front : List Action) (reserved : Bool) (old : Ahead) (taken : ℕ) (log : Contents) (p : ℕ) → seen front reserved old taken ≡ log
     → 1 ≤ p → action_at log p ≡ None → p ≤ length front + 1 → p ≡ length front + 1
 unlearned_next front reserved old taken log p view low none near =
@@ -168,9 +168,9 @@ pub fits_put : (front last : List Action) (reserved : Bool) (old rest : Ahead) (
     → ((i : ℕ) → place_of last false rest i ≡ cond (same i p) (Some (Some v)) (place_of front reserved old i))
     → length front ≤ length last → length last ≤ 65535 → IsAhead (length last) rest → action_ahead rest (length last + 1) ≡ None
     → length last + length rest ≤ room → after ≡ max top p → Fits last false rest room taken after
-fits_put front last reserved old rest capacity room taken top after p v fits next low here longer bound behind gap enough top_is = record {
+fits_put front last reserved old rest capacity room taken top after p v fits next low here longer bound following gap enough top_is = record {
   bound = bound;
-  behind = behind;
+  following = following;
   next_once = λ on. absurd (never on);
   next_bound = λ on. absurd (never on);
   gap = gap;

@@ -117,7 +117,7 @@ push_place front a (suc k) =
 
 -- ---- the steps
 
--- the position behind the front is reserved
+-- the position after the front is reserved
 pub next_reserved : (front : List Action) (ahead : Ahead) (i : ℕ) → place_of front true ahead i ≡ cond (same i (length front + 1)) (Some None) (place_of front false ahead i)
 next_reserved front ahead i = ⊎_elim
     (λ (e : i ≡ length front + 1).
@@ -148,14 +148,14 @@ ahead_written front reserved old new p place far written i = ⊎_elim
     ∙ sym (ap (λ b. cond b (Some place) (place_of front reserved old i)) (same_apart i p apart)))
     (cases_eq i p)
 
--- an action is put behind the front, whose place behind it was reserved
+-- an action is put after the front, whose place after it was reserved
 pub next_learned : (front : List Action) (ahead : Ahead) (a : Action) (i : ℕ) → place_of (front ++ a ∷ []) false ahead i ≡ cond (same i (length front + 1)) (Some (Some a)) (place_of front true ahead i)
 next_learned front ahead a i =
     ap (λ x. option_or x (place_ahead ahead i)) (push_place front a i)
     ∙ elim (same i (length front + 1)) as (λ b. option_or (cond b (Some (Some a)) (front_place front i)) (place_ahead ahead i) ≡ cond b (Some (Some a)) (option_or (front_place front i) (option_or (cond b (Some None) None) (place_ahead ahead i))))
     [ true ↦ refl | false ↦ refl ]
 
--- or stood ahead
+-- or was ahead
 pub next_moved : (front : List Action) (old new : Ahead) (a : Action) → ((i : ℕ) → place_ahead new i ≡ cond (same (length front + 1) i) None (place_ahead old i))
     → (i : ℕ) → place_of (front ++ a ∷ []) false new i ≡ cond (same i (length front + 1)) (Some (Some a)) (place_of front false old i)
 next_moved front old new a removed i =
@@ -178,12 +178,12 @@ next_advanced front old new a learned removed i = next_moved front old new a rem
 
 -- ---- ahead
 
--- where an action is learned, a place stands
+-- where an action is learned, a place is there
 pub action_some : (place : Option (Option Action)) (a : Action) → Some a ≡ option_and_then (λ learned. learned) place → place ≡ Some (Some a)
 action_some None a e = absurd cc
 action_some (Some learned) a e = ap (λ (l : Option Action). Some l) (sym e)
 
--- where the position behind the front is taken out, those ahead lie behind that position
+-- where the position after the front is taken out, those ahead lie after that position
 pub removed_ahead : (n : ℕ) (old new : Ahead) → IsAhead n old → ((i : ℕ) → place_ahead new i ≡ cond (same (n + 1) i) None (place_ahead old i)) → IsAhead (n + 1) new
 removed_ahead n old new ahead removed i there = ⊎_elim
     (λ (e : n + 1 ≡ i).
@@ -203,12 +203,12 @@ pub one_fewer : (n : ℕ) (place : Option (Option Action)) (m : ℕ) (a : Option
 one_fewer n None m a is e = absurd cc
 one_fewer n (Some x) m a is e = e
 
--- a place that stands is counted
+-- a place that is there is counted
 pub counted : (i : ℕ) (ahead : Ahead) → IsSome (place_ahead ahead i) → 1 ≤ length ahead
 counted i [] there = absurd cc
 counted i (e ∷ es) there = omega arith
 
--- an action is put behind the front, whatever stood there
+-- an action is put after the front, whatever was there
 pub next_put : (front : List Action) (reserved : Bool) (old new : Ahead) (a : Action) → ((i : ℕ) → place_ahead new i ≡ cond (same (length front + 1) i) None (place_ahead old i))
     → (i : ℕ) → place_of (front ++ a ∷ []) false new i ≡ cond (same i (length front + 1)) (Some (Some a)) (place_of front reserved old i)
 next_put front false old new a removed i = next_moved front old new a removed i

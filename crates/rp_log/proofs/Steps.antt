@@ -24,9 +24,9 @@ next_off front reserved i off = ⊎_elim
     (λ (apart : i ≢ length front + 1). next_none front reserved [] 0 i apart)
     (cases_eq i (length front + 1))
 
-pub room_behind : (front : List Action) (reserved : Bool) (ahead : Ahead) (taken : ℕ) (log : Contents) (i : ℕ) → seen front reserved ahead taken ≡ log
+pub room_after : (front : List Action) (reserved : Bool) (ahead : Ahead) (taken : ℕ) (log : Contents) (i : ℕ) → seen front reserved ahead taken ≡ log
     → length front < i → (i ≡ length front + 1 → reserved ≡ false) → is_some (place_ahead ahead i) ≡ is_some (get log.places i)
-room_behind front reserved ahead taken log i view past off =
+room_after front reserved ahead taken log i view past off =
     sym (ap is_some (shown front reserved ahead i ∙ ap₂ option_or (front_past front i past) (ap (λ p. option_or p (place_ahead ahead i)) (next_off front reserved i off))))
     ∙ ap (λ (l : Contents). is_some (get l.places i)) view
 
@@ -87,7 +87,7 @@ is_free front reserved ahead taken log i view low none =
 
 -- ---- what is learned stays
 
--- the position behind the front is reserved
+-- the position after the front is reserved
 pub fits_next : (front : List Action) (ahead : Ahead) (capacity room taken top : ℕ) → Fits front false ahead capacity taken top
     → place_ahead ahead (length front + 1) ≡ None → length front < 65535 → length front + (length ahead + 2) ≤ room → Fits front true ahead room taken top
 fits_next front ahead capacity room taken top fits none below enough =
@@ -99,7 +99,7 @@ fits_next front ahead capacity room taken top fits none below enough =
     (cases_eq i (length front + 1)) in
     record {
       bound = fits.bound;
-      behind = fits.behind;
+      following = fits.following;
       next_once = λ _. none;
       next_bound = λ _. below;
       gap = fits.gap;
@@ -141,7 +141,7 @@ fits_ahead front reserved old new capacity room taken top p fits far bound none 
     let few : reserved_count reserved new ≤ length old + 2 = elim reserved as (λ b. reserved_count b new ≤ length old + 2) [ true ↦ omega (arith, longer) | false ↦ omega (arith, longer) ] in
     record {
       bound = fits.bound;
-      behind = written_ahead (length front) old new p None fits.behind far bound written;
+      following = written_ahead (length front) old new p None fits.following far bound written;
       next_once = λ on. stays ∙ fits.next_once on;
       next_bound = fits.next_bound;
       gap = ap learned_of stays ∙ fits.gap;
@@ -182,7 +182,7 @@ module _ (front : List Action) (reserved : Bool) (old : Ahead) (capacity room ta
   free : IsFree front reserved old p
   free = is_free front reserved old taken log p view low none
 
-  -- the position behind the front is reserved
+  -- the position after the front is reserved
   pub reserves_next : p ≡ length front + 1 → Fits front true old room taken top × (seen front true old taken ≡ with_room log p)
   reserves_next next =
       let here : (i : ℕ) → place_of front true old i ≡ cond (same i p) (Some None) (place_of front reserved old i) =

@@ -29,21 +29,21 @@ module _ {front : List Action} {reserved : Bool} {ahead : Ahead} {capacity taken
   top_zero none i there =
       let zero_is : i ≡ 0 = omega (arith, top_bound i there) in
       let inside : IsLearned (seen front reserved ahead taken) 0 = subst (λ (n : ℕ). IsLearned (seen front reserved ahead taken) n) zero_is (subst (λ (l : Contents). IsLearned l i) (sym view) there) in
-      not_zero front reserved ahead taken fits.behind inside
+      not_zero front reserved ahead taken fits.following inside
 
 -- it is a position, or 0
 pub fits_bound : {front : List Action} {reserved : Bool} {ahead : Ahead} {capacity taken top : ℕ} → Fits front reserved ahead capacity taken top → top ≤ 65535
 fits_bound fits = fits.top_bound
 
-pub told_some : (result : Option ℕ) (top : ℕ) (P : ℕ → Type 0) → (IsSome result ↔ IsPosition top) → IfSome result (λ p. p ≡ top) → (0 < top → P top) → IfSome result P
-told_some None top P valid value holds = tt
-told_some (Some p) top P valid value holds =
+pub top_some : (result : Option ℕ) (top : ℕ) (P : ℕ → Type 0) → (IsSome result ↔ IsPosition top) → IfSome result (λ p. p ≡ top) → (0 < top → P top) → IfSome result P
+top_some None top P valid value holds = tt
+top_some (Some p) top P valid value holds =
     let position = valid.0 refl in
     subst P (sym value) (holds (omega (arith, position)))
 
-pub told_none : (result : Option ℕ) (top : ℕ) (P : Type 0) → (IsSome result ↔ IsPosition top) → (top ≡ 0 → P) → top ≤ 65535 → IfNone result P
-told_none (Some p) top P valid holds bound = tt
-told_none None top P valid holds bound = ⊎_elim
+pub top_none : (result : Option ℕ) (top : ℕ) (P : Type 0) → (IsSome result ↔ IsPosition top) → (top ≡ 0 → P) → top ≤ 65535 → IfNone result P
+top_none (Some p) top P valid holds bound = tt
+top_none None top P valid holds bound = ⊎_elim
     (λ (positive : 0 < top). let some = valid.1 (omega arith, omega (arith, bound)) in absurd cc)
     (λ (none : top ≤ 0). holds (omega arith))
     (cases_lt 0 top)

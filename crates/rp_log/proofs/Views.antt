@@ -68,8 +68,8 @@ module _ (front : List Action) (reserved : Bool) (ahead : Ahead) (taken : ℕ) w
       elim reserved as (λ b. learned_of (option_or (place_ahead (next_place b (length front + 1)) i) (place_ahead ahead i)) ≡ None)
       [ true ↦ ap (λ b. learned_of (option_or (cond b (Some None) None) (place_ahead ahead i))) (same_is i (length front + 1) e) | false ↦ gap ]
 
-  pub action_behind : (i : ℕ) → length front < i → action_ahead ahead (length front + 1) ≡ None → action_at log i ≡ action_ahead ahead i
-  action_behind i past gap =
+  pub action_after : (i : ℕ) → length front < i → action_ahead ahead (length front + 1) ≡ None → action_at log i ≡ action_ahead ahead i
+  action_after i past gap =
       action_is i
       ∙ ap (λ p. learned_of (option_or p (option_or (place_ahead (next_place reserved (length front + 1)) i) (place_ahead ahead i)))) (front_past front i past)
       ∙ ⊎_elim
@@ -85,15 +85,15 @@ module _ (front : List Action) (reserved : Bool) (ahead : Ahead) (taken : ℕ) w
 
   pub not_next : action_ahead ahead (length front + 1) ≡ None → IsLearned log (length front + 1) → ⊥
   not_next gap there =
-      let none : action_at log (length front + 1) ≡ None = action_behind (length front + 1) (omega arith) gap ∙ gap in
+      let none : action_at log (length front + 1) ≡ None = action_after (length front + 1) (omega arith) gap ∙ gap in
       absurd cc
 
   pub not_zero : IsAhead (length front) ahead → IsLearned log 0 → ⊥
-  not_zero behind there =
+  not_zero following there =
       let next = next_none 0 (λ e. omega arith) in
       let is = subst (λ (found : Option Action). IsSome found) (action_is 0 ∙ ap (λ p. learned_of (option_or p (place_ahead ahead 0))) next) there in
-      let stands : IsSome (place_ahead ahead 0) = grind arith in
-      absurd (omega (arith, (behind 0 stands).0))
+      let placed : IsSome (place_ahead ahead 0) = grind arith in
+      absurd (omega (arith, (following 0 placed).0))
 
   -- ---- what was taken
 
@@ -114,7 +114,7 @@ module _ (front : List Action) (reserved : Bool) (ahead : Ahead) (taken : ℕ) w
   pub none_ready : taken ≤ length front → length front ≤ taken → action_ahead ahead (length front + 1) ≡ None → None ≡ ready_of log
   none_ready within all gap =
       let end : suc taken ≡ length front + 1 = omega arith in
-      let none : action_at log (suc taken) ≡ None = ap (action_at log) end ∙ action_behind (length front + 1) (omega arith) gap ∙ gap in
+      let none : action_at log (suc taken) ≡ None = ap (action_at log) end ∙ action_after (length front + 1) (omega arith) gap ∙ gap in
       sym (ready_is within ∙ ap (option_map (λ action. (suc taken, action))) none)
 
   pub all_taken : taken ≤ length front → ready_of log ≡ None → length front + 1 ≡ next_to_take log
@@ -164,7 +164,7 @@ module _ (front : List Action) (reserved : Bool) (ahead : Ahead) (taken : ℕ) w
   room_ahead i there =
       subst (λ (p : Option (Option Action)). IsSome p) (sym (shown front reserved ahead i)) (room_of (front_place front i) (place_ahead ahead i) _ there)
 
-  -- a position behind the front has none, where none stands ahead and it is not the next
+  -- a position after the front has none, where none is ahead and it is not the next
   pub no_room : (i : ℕ) → length front + 1 < i → place_ahead ahead i ≡ None → get (places_of front reserved ahead) i ≡ None
   no_room i past none =
       shown front reserved ahead i ∙ ap₂ option_or (front_past front i (omega arith)) (ap₂ option_or (next_none front reserved ahead taken i (λ e. omega arith)) none)

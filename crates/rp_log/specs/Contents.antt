@@ -1,6 +1,7 @@
 -- What a log holds. Lamport, "Paxos Made Simple", section 3: a server may learn the commands of later
 -- positions first, and executes a command once those of all earlier positions are known.
-use Rattle.std.specs.Prelude.{ℕ, ◌+◌, ◌≡◌, Option, Some, None, IsSome, is_some, unwrap_or, option_and_then, List, [], length, EachIndex, slice_get, if◌then◌else◌, refl}
+use Rattle.std.specs.Prelude.{ℕ, ◌+◌, ◌≡◌, Option, Some, None, IsSome, is_some, unwrap_or, option_and_then, List, []}
+use Rattle.std.specs.Prelude.{length, EachIndex, slice_get, if◌then◌else◌, refl}
 use Rattle.std.specs.Ordering.{nat_cmp}
 use Rattle.std.specs.Option.{option_map}
 use Rattle.std.specs.FinMap.{FinMap, code, get, insert, empty}
@@ -20,7 +21,8 @@ pub record Contents : Type 0 where
 -- a log, for the proofs, as the pair of its parts
 abbrev pub contents_code : Coded Contents
 contents_code =
-    code_by (Places × List Action) (coded× (code coded_ℕ (coded_option declared.the_row.coded)) (coded_list declared.the_row.coded))
+    code_by (Places × List Action)
+    (coded× (code coded_ℕ (coded_option declared.the_row.coded)) (coded_list declared.the_row.coded))
     (λ c. (c.places, c.taken)) (λ p. record { places = p.0; taken = p.1 }) (λ _. refl)
 
 -- no position is reserved, and nothing is taken

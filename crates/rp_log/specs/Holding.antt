@@ -1,5 +1,6 @@
--- How a log keeps its places (this project's own).
-use Rattle.std.specs.Prelude.{ℕ, zero, suc, ◌+◌, ◌≡◌, ◌<◌, ◌≤◌, Bool, true, Option, Some, None, IsSome, option_and_then, List, [], ◌∷◌, ◌++◌, map, length, slice_get, if◌then◌else◌}
+-- How a log keeps its places.
+use Rattle.std.specs.Prelude.{ℕ, zero, suc, ◌+◌, ◌≡◌, ◌<◌, ◌≤◌, Bool, true, Option, Some, None, IsSome, option_and_then}
+use Rattle.std.specs.Prelude.{List, [], ◌∷◌, ◌++◌, map, length, slice_get, if◌then◌else◌}
 use Rattle.std.specs.Ordering.{nat_cmp}
 use Rattle.std.specs.Option.{option_map, option_or}
 use Rattle.std.specs.List.{enumerate_from}
@@ -13,7 +14,7 @@ use Rattle.rp_log.specs.Contents.{Places}
 abbrev pub Ahead : Type 0
 Ahead = List (ℕ × Option Action)
 
--- what stands ahead at a position
+-- what is ahead at a position
 abbrev pub place_ahead : Ahead → ℕ → Option (Option Action)
 place_ahead ahead i = lookup (is_at (nat_cmp i)) ahead
 
@@ -21,14 +22,15 @@ place_ahead ahead i = lookup (is_at (nat_cmp i)) ahead
 abbrev pub action_ahead : Ahead → ℕ → Option Action
 action_ahead ahead i = option_and_then (λ learned. learned) (place_ahead ahead i)
 
--- the position behind the front, where it is reserved
+-- the position after the front, where it is reserved
 abbrev pub next_place : Bool → ℕ → Ahead
 next_place reserved next = if reserved then (next, None) ∷ [] else []
 
--- the places of the front, of the position behind it, and of those ahead
+-- the places of the front, of the position after it, and of those ahead
 abbrev pub places_of : List Action → Bool → Ahead → Places
 places_of front reserved ahead =
-    from_entries (enumerate_from 1 (map (λ action. Some action) front) ++ (next_place reserved (length front + 1) ++ ahead))
+    from_entries (enumerate_from 1 (map (λ action. Some action) front)
+    ++ (next_place reserved (length front + 1) ++ ahead))
 
 -- the place of a position in the front
 abbrev pub front_place : List Action → ℕ → Option (Option Action)
@@ -41,19 +43,19 @@ place_of front reserved ahead i =
     option_or (front_place front i)
     (option_or (place_ahead (next_place reserved (length front + 1)) i) (place_ahead ahead i))
 
--- each of these positions lies behind the front, and is at most 65,535
+-- each of these positions lies after the front, and is at most 65,535
 abbrev pub IsAhead : ℕ → Ahead → Type 0
 IsAhead front ahead = (i : ℕ) → IsSome (place_ahead ahead i) → (front < i) × (i ≤ 65535)
 
--- how many places are reserved behind the front
+-- how many places are reserved after the front
 abbrev pub reserved_count : Bool → Ahead → ℕ
 reserved_count reserved ahead = length ahead + (if reserved then 1 else 0)
 
--- The front has room for each place behind it, so many of its actions are taken, and `top` is the
--- greatest position learned, or 0.
+-- The front has room for each place after it, n of its actions are taken, and `top` is the greatest position learned,
+-- or 0.
 pub record Fits (front : List Action) (reserved : Bool) (ahead : Ahead) (capacity taken top : ℕ) : Type 0 where
   pub bound : length front ≤ 65535
-  pub behind : IsAhead (length front) ahead
+  pub following : IsAhead (length front) ahead
   pub next_once : reserved ≡ true → place_ahead ahead (length front + 1) ≡ None
   pub next_bound : reserved ≡ true → length front < 65535
   pub gap : action_ahead ahead (length front + 1) ≡ None

@@ -55,7 +55,7 @@ pub(crate) fn advance(front: &mut Vec<Action>, ahead: &mut BTreeMap<u32, Option<
     }
 }
 
-/// Learns the action of the position behind the front, and moves on past the positions that follow.
+/// Learns the action of the position after the front, and moves on past the positions that follow.
 pub(crate) fn learn_next(
     front: &mut Vec<Action>,
     ahead: &mut BTreeMap<u32, Option<Action>>,

@@ -3,7 +3,7 @@
 //! In reading order:
 //! - `log`: what a node learned, and how far it is taken
 //! - `front`: the positions that a log has learned without a gap, and those ahead of them
-//! - `recorded`: what a log takes, told by the records of its node
+//! - `recorded`: what a log takes, as the records of its node say
 #![tactic(auto)]
 
 mod front;

@@ -18,9 +18,9 @@ use std::marker::Model;
 pub struct Log {
     /// The actions learned at positions 1, 2, 3 and so on, up to the first at which none is.
     front: Vec<Action>,
-    /// Whether the position behind the front is reserved here, and not among those ahead.
+    /// Whether the position after the front is reserved here, and not among those ahead.
     next_reserved: bool,
-    /// The reserved positions behind the front, each with the action that was learned there.
+    /// The reserved positions after the front, each with the action that was learned there.
     ahead: BTreeMap<u32, Option<Action>>,
     /// How many of the front's actions were taken.
     taken: u16,
@@ -135,7 +135,7 @@ impl Log {
         ensures in_range { (1 ≤ result) × (result ≤ 65536) }
         ensures below { (i : ℕ) → 1 ≤ i → i < result → IsLearned self.now i }
         ensures unlearned { ¬ IsLearned self.now result }
-        // Once nothing is ready it is the position behind those that were taken.
+        // Once nothing is ready it is the position after those that were taken.
         ensures taken { ready_of self.now ≡ None → result ≡ next_to_take self.now }
     {
         self.front.len() as u32 + 1

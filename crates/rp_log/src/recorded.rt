@@ -1,4 +1,4 @@
-//! What a log takes, told by the records of its node.
+//! What a log takes, as the records of its node say.
 
 ghost use Rattle.std.specs.Prelude.{◌≡◌, ℕ, List, [], ◌∷◌, ◌++◌, length};
 ghost use Rattle.rp_base.specs.declared.action.Action.{Action};

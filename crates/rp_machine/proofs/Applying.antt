@@ -51,7 +51,7 @@ module _ {S P : Type 0} (next : S → Action → S) (answers : S → Action → 
     abbrev pub taken : Replayed S → Action → Replayed S
     taken r action = record { state = next r.state action; kept = r.kept ++ action ∷ []; given = r.given ++ answers r.state action }
 
-    -- this holds at the start, after each action that counts, and so behind any actions
+    -- this holds at the start, after each action that counts, and so after any actions
     pub accounted_start : (program : P) → IsAccounted program (unmoved (begin program))
     accounted_start program = record {
       inside = starts program;

@@ -1,4 +1,4 @@
--- What a machine behind a log is asked, by the last number and its reply alone.
+-- What a machine after a log is asked, by the last number and its reply alone.
 use Rattle.std.proofs.Common.{◌≡◌, ◌≢◌, ℕ, zero, suc, ◌+◌, ◌<◌, ◌≤◌, max, ℤ, Bool, true, false, not, ◌&&◌, ◌||◌, nat_eq, nat_lt, is_none, Option, Some, None, List, [], ◌∷◌, ◌++◌, length, map, find, if◌then◌else◌, refl, sym, ap, subst, ◌∙◌, inl, inr, arith, eq-eqb, lt-ltb, ltb-true}
 use Rattle.std.specs.Option.{option_map}
 use Rattle.std.specs.List.{list_any, list_all}
@@ -59,7 +59,7 @@ module _ (kept : List Action) (given : List Answer) (fine : IsCounted kept given
 
   -- a task waits where its last call has no reply
   pub waits_as : (last : ℕ) (reply : Option Reply) → last ≡ last_number task kept → reply ≡ kept_reply task last kept given → (not (nat_eq last 0) && is_none reply) ≡ waits task kept given
-  waits_as last reply is told = ap (λ (o : Option Reply). not (nat_eq last 0) && is_none o) told ∙ waits_from last (sym is)
+  waits_as last reply is stated = ap (λ (o : Option Reply). not (nat_eq last 0) && is_none o) stated ∙ waits_from last (sym is)
 
   next_as : (number n : ℕ) → last_number task kept ≡ n → is_next_number kept task number ≡ nat_eq number (n + 1)
   next_as number n last =
@@ -81,7 +81,7 @@ module _ (kept : List Action) (given : List Answer) (fine : IsCounted kept given
           let long : length (one_to number) ≡ length (one_to n ++ number ∷ []) = ap length ((bytes_decides (one_to number) (one_to n ++ number ∷ [])).0 e) in
           absurd (other (omega (arith, long, length-one_to number, length-one_to n, length-append (one_to n) (number ∷ []))))
 
-  -- a call counts where it is the one behind the last and the task does not wait
+  -- a call counts where it is the one after the last and the task does not wait
   pub call_counts : (number object : ℕ) (operation : Operation) (arg : ℤ) → (nat_eq number (last_number task kept + 1) && not (waits task kept given)) ≡ counts kept given (Call task number object operation arg)
   call_counts number object operation arg =
       ap (λ (b : Bool). nat_eq number (last_number task kept + 1) && b) (double_not (all_answered kept given task))

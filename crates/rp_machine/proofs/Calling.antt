@@ -30,7 +30,7 @@ has_either x (y ∷ xs) ys h =
       | inr rest ↦ elim (has_either x xs ys rest) [ inl left ↦ inl (inr left) | inr right ↦ inr right ]
     ]
 
--- ---- what a call that counts tells
+-- ---- what follows from a call that counts
 
 -- both tests are true, and each of a list
 pub both_true : (a b : Bool) → (a && b) ≡ true → (a ≡ true) × (b ≡ true)

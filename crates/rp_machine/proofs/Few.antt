@@ -18,8 +18,8 @@ without x [] h = absurd h
 without x (z ∷ zs) h =
     elim h [
       | inl same ↦ (zs, refl, λ y there. elim there [ inl here ↦ inl (here ∙ sym same) | inr later ↦ inr later ])
-      | inr behind ↦
-          let left = without x zs behind in (
+      | inr following ↦
+          let left = without x zs following in (
             z ∷ left.0,
             ap suc left.1,
             λ y there. elim there [

@@ -1,4 +1,4 @@
--- How what memory holds of a machine behind a log goes on.
+-- How what memory holds of a machine after a log goes on.
 use Rattle.std.proofs.Common.{◌≡◌, ◌≢◌, ℕ, zero, suc, ◌+◌, ◌-◌, ◌<◌, ◌≤◌, ℤ, Bool, true, false, ◌&&◌, ◌||◌, nat_eq, nat_lt, Option, Some, None, List, [], ◌∷◌, ◌++◌, length, take, map, get_or, set, if◌then◌else◌, refl, sym, ap, subst, ◌∙◌, inl, inr, arith, append_assoc, append-nil, eq-eqb, eqb-true, lt-ltb, ltb-true}
 use Rattle.std.specs.Option.{option_map, option_or}
 use Rattle.std.specs.List.{cons_option}
@@ -18,7 +18,7 @@ use Rattle.rp_machine.specs.declared.numbered.Caller.{Caller}
 use Rattle.rp_machine.specs.Calls.{CallName, calls_of, calls_made, call_of, MayApply, AccountsFor}
 use Rattle.rp_machine.specs.Replay.{numbers_of, occurrence_for, occurrences_of, one_to, is_for, is_answered, all_answered, is_next_number, counts, Replayed, unmoved, replay_from, replay_of}
 use Rattle.rp_machine.specs.Asked.{greatest, last_number, last_occurrence, answer_to, kept_reply}
-use Rattle.rp_machine.specs.Numbered.{Applied, outcome, caller_of, AreCallers, AreOccurrences, IsHeld, waiting_caller, with_action, with_occurrence, with_answer, with_answers}
+use Rattle.rp_machine.specs.Numbered.{Applied, outcome, caller_of, AreCallers, AreOccurrences, IsNumbered, waiting_caller, with_action, with_occurrence, with_answer, with_answers}
 use Rattle.rp_machine.proofs.Calling.{has_left, has_right, has_either, both_true, answered, calls_made-append, made_number, one_to_bound, is_new}
 use Rattle.rp_machine.proofs.Numbering.{IsCounted, counted, counted_action, numbers_other, numbers_own, next_numbers, greatest-push, greatest-one_to}
 use Rattle.rp_machine.proofs.Replaying.{replay_from-append}
@@ -80,15 +80,15 @@ one_answer callers kept given x long are task last above e t other low high =
       | inl same ↦
           let here : caller ≡ caller_of x.task kept given = are x.task (waiting_caller 0) task.0 task.1 in
           let written : get_or (with_answer callers x) place other ≡ record caller { reply = Some x.reply } = get_or-set_same callers place (record caller { reply = Some x.reply }) other (omega (arith, long, task)) in
-          let told : get_or (with_answer callers x) place other ≡ caller_of x.task kept (given ++ x ∷ []) =
+          let stated : get_or (with_answer callers x) place other ≡ caller_of x.task kept (given ++ x ∷ []) =
           written ∙ ap (λ (c : Caller). record c { reply = Some x.reply }) here ∙ sym (own_answer kept given x last above e) in
-          subst (λ (u : ℕ). get_or (with_answer callers x) (u - 1) other ≡ caller_of u kept (given ++ x ∷ [])) same told
+          subst (λ (u : ℕ). get_or (with_answer callers x) (u - 1) other ≡ caller_of u kept (given ++ x ∷ [])) same stated
       | inr apart ↦
           let elsewhere : t - 1 ≢ place = λ e. apart (omega (arith, task)) in
           get_or-set_other callers place (t - 1) (record caller { reply = Some x.reply }) other elsewhere ∙ are t other low high ∙ other_answer t kept given x apart
     ]
 
--- what answers owe to the calls that wait
+-- what answers have to keep of the calls that wait
 pub record AreReplies (kept : List Action) (given answers : List Answer) : Type 0 where
   pub tasks : (x : Answer) → Has x answers → IsTask x.task
   pub last : (x : Answer) → Has x answers → (x.number ≡ last_number x.task kept) × (1 ≤ x.number)
@@ -149,11 +149,11 @@ call_action callers kept given task number object operation arg long are is e no
     elim (cases_eq task t) [
       | inl same ↦
           let last = own_last kept task number object operation arg e in
-          let told : get_or (set callers (task - 1) (waiting_caller number)) (task - 1) other ≡ caller_of task (kept ++ this ∷ []) given =
+          let stated : get_or (set callers (task - 1) (waiting_caller number)) (task - 1) other ≡ caller_of task (kept ++ this ∷ []) given =
           get_or-set_same callers (task - 1) (waiting_caller number) other (omega (arith, long, is))
           ∙ sym (ap (λ (n : ℕ). let c : Caller = record { last = n; reply = kept_reply task n (kept ++ this ∷ []) given } in c) last
           ∙ ap (λ (reply : Option Reply). let c : Caller = record { last = number; reply = reply } in c) (no_reply task number (kept ++ this ∷ []) given none)) in
-          subst (λ (u : ℕ). get_or (set callers (task - 1) (waiting_caller number)) (u - 1) other ≡ caller_of u (kept ++ this ∷ []) given) same told
+          subst (λ (u : ℕ). get_or (set callers (task - 1) (waiting_caller number)) (u - 1) other ≡ caller_of u (kept ++ this ∷ []) given) same stated
       | inr apart ↦
           let elsewhere : t - 1 ≢ task - 1 = λ same. apart (omega (arith, is)) in
           let passes : numbers_of t (kept ++ this ∷ []) ≡ numbers_of t kept = numbers_other t this kept (ap (λ (b : Bool). if b then Some number else None) (ne_eqb task t apart)) in
@@ -209,17 +209,17 @@ occurrences_more occurrences kept given (Interrupt source occurrence) long are r
     elim (cases_eq source s) [
       | inl same ↦
           let above : last_occurrence source kept < occurrence = ltb-true (last_occurrence source kept) occurrence (interrupt_counts kept given source occurrence right.1.0 ∙ e) in
-          let told : get_or (set occurrences (source - 1) occurrence) (source - 1) other ≡ last_occurrence source (kept ++ Interrupt source occurrence ∷ []) =
+          let stated : get_or (set occurrences (source - 1) occurrence) (source - 1) other ≡ last_occurrence source (kept ++ Interrupt source occurrence ∷ []) =
           get_or-set_same occurrences (source - 1) occurrence other (omega (arith, long, right.0))
           ∙ sym (ap greatest (interrupt_more kept source occurrence) ∙ greatest-push (occurrences_of source kept) occurrence ∙ omega (arith, above)) in
-          subst (λ (u : ℕ). get_or (set occurrences (source - 1) occurrence) (u - 1) other ≡ last_occurrence u (kept ++ Interrupt source occurrence ∷ [])) same told
+          subst (λ (u : ℕ). get_or (set occurrences (source - 1) occurrence) (u - 1) other ≡ last_occurrence u (kept ++ Interrupt source occurrence ∷ [])) same stated
       | inr apart ↦
           let elsewhere : s - 1 ≢ source - 1 = λ same. apart (omega (arith, right.0)) in
           get_or-set_other occurrences (source - 1) (s - 1) occurrence other elsewhere ∙ are s other low high ∙ ap greatest (sym (interrupt_other kept source occurrence s apart))
     ]
 occurrences_more occurrences kept given (Tick now) long are right e = occurrences_same occurrences kept (Tick now) (λ s. refl) are
 
--- ---- a machine behind a log, one action more
+-- ---- a machine after a log, one action more
 
 one_to_low : (m n : ℕ) → Has n (one_to m) → 1 ≤ n
 one_to_low zero n h = absurd h
@@ -231,12 +231,12 @@ one_to_low (suc m) n h = elim (has_either n (one_to m) (suc m ∷ []) h) [
 -- a call that counted and has no answer is the last of its task
 unanswered_last : (kept : List Action) (given : List Answer) (call : CallName) → IsCounted kept given → Has call (calls_made kept) → ¬ Has call (map call_of given) → (call.number ≡ last_number call.task kept) × (1 ≤ call.number)
 unanswered_last kept given call fine made none =
-    let stands = made_number call kept made in
-    let listed : Has call.number (one_to (last_number call.task kept)) = subst (λ (xs : List ℕ). Has call.number xs) (fine.numbered call.task) stands in
+    let occurs = made_number call kept made in
+    let listed : Has call.number (one_to (last_number call.task kept)) = subst (λ (xs : List ℕ). Has call.number xs) (fine.numbered call.task) occurs in
     let high = one_to_bound (last_number call.task kept) call.number listed in
     let low = one_to_low (last_number call.task kept) call.number listed in
     elim (cases_lt call.number (last_number call.task kept)) [
-      | inl below ↦ absurd (none (answered call.task call.number given (fine.earlier call.task call.number stands below)))
+      | inl below ↦ absurd (none (answered call.task call.number given (fine.earlier call.task call.number occurs below)))
       | inr last ↦ (omega arith, low)
     ]
 
@@ -258,7 +258,7 @@ right_more actions action all right other h = elim (has_either other actions (ac
   | inr last ↦ elim last [ inl same ↦ subst IsRight (sym same) right | inr none ↦ absurd none ]
 ]
 
--- two values of one machine behind a log tell the same of an action
+-- two values of one machine after a log agree on an action
 pub viewed : {S : Type 0} (next : S → Action → S) (answers : S → Action → List Answer) (a b : Applied S) (action : Action) (t : Bool) → a ≡ b
     → (let r = outcome next answers b in counts r.kept r.given action) ≡ t → (let r = outcome next answers a in counts r.kept r.given action) ≡ t
 viewed next answers a b action t same e = subst (λ (x : Applied _). (let r = outcome next answers x in counts r.kept r.given action) ≡ t) (sym same) e
@@ -293,15 +293,15 @@ module _ {S P : Type 0} (next : S → Action → S) (answers : S → Action → 
         sym (replay_from-append next answers (unmoved (begin program)) actions (action ∷ []) ∙ ap (λ (t : Bool). if t then taken r action else r) e)
 
     -- an action that does not count leaves all as it was
-    pub held_not : (program : P) (actions after : List Action) (action : Action) (machine : S) (callers : List Caller) (occurrences : List ℕ)
-        → IsHeld (replay_of next answers (begin program) actions) actions machine callers occurrences → IsRight action
+    pub numbered_not : (program : P) (actions after : List Action) (action : Action) (machine : S) (callers : List Caller) (occurrences : List ℕ)
+        → IsNumbered (replay_of next answers (begin program) actions) actions machine callers occurrences → IsRight action
         → (let r = replay_of next answers (begin program) actions in counts r.kept r.given action) ≡ false → after ≡ actions ++ action ∷ []
-        → IsHeld (replay_of next answers (begin program) after) after machine callers occurrences
-    held_not program actions after action machine callers occurrences held right e same =
-        let P : List Action → Type 0 = λ list. IsHeld (replay_of next answers (begin program) list) list machine callers occurrences in
+        → IsNumbered (replay_of next answers (begin program) after) after machine callers occurrences
+    numbered_not program actions after action machine callers occurrences held right e same =
+        let P : List Action → Type 0 = λ list. IsNumbered (replay_of next answers (begin program) list) list machine callers occurrences in
         let r = replay_of next answers (begin program) actions in
-        let plain : IsHeld r (actions ++ action ∷ []) machine callers occurrences = record { right = right_more actions action held.right right; state = held.state; room = held.room; calls = held.calls; interrupts = held.interrupts } in
-        subst P (sym same) (subst (λ (s : Replayed S). IsHeld s (actions ++ action ∷ []) machine callers occurrences) (replay_push program actions action false e) plain)
+        let plain : IsNumbered r (actions ++ action ∷ []) machine callers occurrences = record { right = right_more actions action held.right right; state = held.state; room = held.room; calls = held.calls; interrupts = held.interrupts } in
+        subst P (sym same) (subst (λ (s : Replayed S). IsNumbered s (actions ++ action ∷ []) machine callers occurrences) (replay_push program actions action false e) plain)
 
     -- the answers of an action that counts are for calls that wait
     replies_of : (program : P) (actions : List Action) (action : Action) → AllRight actions → IsRight action
@@ -333,27 +333,27 @@ module _ {S P : Type 0} (next : S → Action → S) (answers : S → Action → 
         }
 
     -- an action that counts
-    pub held_more : (program : P) (actions after : List Action) (action : Action) (machine machine' : S) (callers callers' : List Caller) (occurrences occurrences' : List ℕ)
-        → IsHeld (replay_of next answers (begin program) actions) actions machine callers occurrences → IsRight action → length occurrences ≡ 8
+    pub numbered_more : (program : P) (actions after : List Action) (action : Action) (machine machine' : S) (callers callers' : List Caller) (occurrences occurrences' : List ℕ)
+        → IsNumbered (replay_of next answers (begin program) actions) actions machine callers occurrences → IsRight action → length occurrences ≡ 8
         → (let r = replay_of next answers (begin program) actions in counts r.kept r.given action) ≡ true → after ≡ actions ++ action ∷ []
         → machine' ≡ next machine action → callers' ≡ with_answers (with_action callers action) (answers machine action) → occurrences' ≡ with_occurrence occurrences action
-        → IsHeld (replay_of next answers (begin program) after) after machine' callers' occurrences'
-    held_more program actions after action machine machine' callers callers' occurrences occurrences' held right wide e same moved told noted =
+        → IsNumbered (replay_of next answers (begin program) after) after machine' callers' occurrences'
+    numbered_more program actions after action machine machine' callers callers' occurrences occurrences' held right wide e same moved stated noted =
         let r = replay_of next answers (begin program) actions in
         let fine : IsAccounted next answers waiting begin runs none_waits starts keeps accounts program r = accounted next answers waiting begin runs none_waits starts keeps accounts program actions held.right in
         let new = λ (call : CallName) (h : Has call (calls_of action)) (old : Has call (map call_of r.given)). is_new r action e call h (fine.known call old) in
         let counting = with_counted callers r.kept r.given action held.room held.calls right e new in
         let calls = all_answers (with_action callers action) (r.kept ++ action ∷ []) r.given (answers r.state action) (with_long callers action held.room) counting (replies_of program actions action held.right right e) in
-        let callers_are : callers' ≡ with_answers (with_action callers action) (answers r.state action) = told ∙ ap (λ (s : S). with_answers (with_action callers action) (answers s action)) held.state in
-        let plain : IsHeld (taken r action) (actions ++ action ∷ []) machine' callers' occurrences' = record {
+        let callers_are : callers' ≡ with_answers (with_action callers action) (answers r.state action) = stated ∙ ap (λ (s : S). with_answers (with_action callers action) (answers s action)) held.state in
+        let plain : IsNumbered (taken r action) (actions ++ action ∷ []) machine' callers' occurrences' = record {
           right = right_more actions action held.right right;
           state = moved ∙ ap (λ (s : S). next s action) held.state;
           room = ap length callers_are ∙ all_long (with_action callers action) (answers r.state action) ∙ with_long callers action held.room;
           calls = subst (λ (list : List Caller). AreCallers list (r.kept ++ action ∷ []) (r.given ++ answers r.state action)) (sym callers_are) calls;
           interrupts = subst (λ (list : List ℕ). AreOccurrences list (r.kept ++ action ∷ [])) (sym noted) (occurrences_more occurrences r.kept r.given action wide held.interrupts right e);
         } in
-        let P : List Action → Type 0 = λ list. IsHeld (replay_of next answers (begin program) list) list machine' callers' occurrences' in
-        subst P (sym same) (subst (λ (s : Replayed S). IsHeld s (actions ++ action ∷ []) machine' callers' occurrences') (replay_push program actions action true e) plain)
+        let P : List Action → Type 0 = λ list. IsNumbered (replay_of next answers (begin program) list) list machine' callers' occurrences' in
+        subst P (sym same) (subst (λ (s : Replayed S). IsNumbered s (actions ++ action ∷ []) machine' callers' occurrences') (replay_push program actions action true e) plain)
 
     -- no call is answered twice
     pub once_more : (program : P) (actions after : List Action) (action : Action) → AllRight actions → IsRight action → after ≡ actions ++ action ∷ []

@@ -153,7 +153,7 @@ module _ {S : Type 0} (next : S → Action → S) (answers : S → Action → Li
   counted_from r [] fine = fine
   counted_from r (action ∷ rest) fine = counted_from (replay_step next answers r action) rest (counted_if r action (counts r.kept r.given action) refl fine)
 
-  -- so it holds behind any log
+  -- so it holds after any log
   pub counted : (begin : S) (actions : List Action) → (let r = replay_of next answers begin actions in IsCounted r.kept r.given)
   counted begin actions = counted_from (unmoved begin) actions counted_start
 

@@ -5,7 +5,7 @@ use Rattle.rp_base.specs.declared.reply.Answer.{Answer}
 use Rattle.rp_machine.specs.Replay.{counts, Replayed, replay_step, replay_from, GoesOn}
 
 module _ {S : Type 0} (next : S → Action → S) (answers : S → Action → List Answer) where
-  -- two lists in a row: the second goes on from what the first came to
+  -- two lists in a row: the second goes on from the result of the first
   pub replay_from-append : (r : Replayed S) (xs ys : List Action) → replay_from next answers r (xs ++ ys) ≡ replay_from next answers (replay_from next answers r xs) ys
   replay_from-append r [] ys = refl
   replay_from-append r (x ∷ xs) ys = replay_from-append (replay_step next answers r x) xs ys

@@ -15,7 +15,7 @@ abbrev pub AreReplies : List Answer → Type 0
 AreReplies given = (answer : Answer) → Has answer given → IsReply answer.reply
 
 both_fit : (xs ys : List Answer) → AreReplies xs → AreReplies ys → AreReplies (xs ++ ys)
-both_fit xs ys left right answer h = elim (has_split answer xs ys h) [ inl before ↦ left answer before | inr behind ↦ right answer behind ]
+both_fit xs ys left right answer h = elim (has_split answer xs ys h) [ inl before ↦ left answer before | inr following ↦ right answer following ]
 
 module _ {S P : Type 0} (next : S → Action → S) (answers : S → Action → List Answer) (waiting : S → List CallName) (begin : P → S) (runs : P → S → Type 0)
     (none_waits : (program : P) → waiting (begin program) ≡ [])

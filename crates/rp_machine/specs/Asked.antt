@@ -1,5 +1,4 @@
--- What a machine behind a log is asked, from the actions that counted and the answers to them (this
--- project's own).
+-- What a machine after a log is asked, from the actions that counted and the answers to them.
 use Rattle.std.specs.Prelude.{ℕ, Bool, not, ◌&&◌, nat_eq, nat_lt, max, Option, None, List, [], ◌∷◌, find, if◌then◌else◌}
 use Rattle.std.specs.Option.{option_map}
 use Rattle.rp_base.specs.declared.action.Action.{Action}
@@ -31,4 +30,5 @@ answer_to task number given = find (is_for task number) given
 -- the reply to a call that is kept: that to the task's last call that counted, once it is answered
 abbrev pub kept_reply : ℕ → ℕ → List Action → List Answer → Option Reply
 kept_reply task number kept given =
-    if nat_lt 0 number && nat_eq number (last_number task kept) then option_map (λ answer. answer.reply) (answer_to task number given) else None
+    if nat_lt 0 number && nat_eq number (last_number task kept)
+    then option_map (λ answer. answer.reply) (answer_to task number given) else None

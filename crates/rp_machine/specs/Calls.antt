@@ -32,7 +32,9 @@ MayApply waiting action = (own other : CallName) → Has own (calls_of action) �
 
 -- An action's answers are for distinct calls, its own or ones that waited, and exactly the others
 -- of these wait after it (Ada Reference Manual, 9.5.3).
-pub record AccountsFor (before : List CallName) (action : Action) (answers : List Answer) (after : List CallName) : Type 0 where
+pub record AccountsFor (before : List CallName) (action : Action) (answers : List Answer)
+    (after : List CallName) : Type 0 where
   pub distinct : IsSet (map call_of answers)
   pub known : (call : CallName) → Has call (map call_of answers) → Has call (calls_of action ++ before)
-  pub waits : (call : CallName) → Has call after ↔ (Has call (calls_of action ++ before) × (¬ Has call (map call_of answers)))
+  pub waits : (call : CallName)
+      → Has call after ↔ (Has call (calls_of action ++ before) × (¬ Has call (map call_of answers)))

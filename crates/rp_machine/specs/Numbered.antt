@@ -1,4 +1,4 @@
--- A machine behind a log, which lets each call count once (this project's own).
+-- A machine after a log, which lets each call count once.
 use Rattle.std.specs.Prelude.{◌≡◌, ℕ, ◌-◌, ◌≤◌, Some, None, List, [], ◌∷◌, length, slice_set, slice_index_or}
 use Rattle.rp_base.specs.Action.{IsRight}
 use Rattle.rp_base.specs.Sets.{Has}
@@ -9,13 +9,13 @@ use Rattle.rp_machine.specs.Replay.{Replayed, replay_of}
 use Rattle.rp_machine.specs.Asked.{last_number, last_occurrence, kept_reply}
 use Rattle.rp_machine.specs.declared.numbered.Caller.{Caller}
 
--- a machine behind a log, to a contract: its start, and the actions that were applied to it
+-- a machine after a log, to a contract: its start, and the actions that were applied to it
 pub record Applied (S : Type 0) : Type 0 where
   pub begin : S
   pub actions : List Action
 
 module _ {S : Type 0} (next : S → Action → S) (answers : S → Action → List Answer) where
-  -- what these actions came to
+  -- the result of these actions
   abbrev pub outcome : Applied S → Replayed S
   outcome applied = replay_of next answers applied.begin applied.actions
 
@@ -23,18 +23,24 @@ module _ {S : Type 0} (next : S → Action → S) (answers : S → Action → Li
 
 -- what is kept of a task's calls
 abbrev pub caller_of : ℕ → List Action → List Answer → Caller
-caller_of task kept given = record { last = last_number task kept; reply = kept_reply task (last_number task kept) kept given }
+caller_of task kept given =
+    record { last = last_number task kept; reply = kept_reply task (last_number task kept) kept given }
 
 -- there is one for each task
 abbrev pub AreCallers : List Caller → List Action → List Answer → Type 0
-AreCallers callers kept given = (task : ℕ) (other : Caller) → 1 ≤ task → task ≤ 8 → slice_index_or callers (task - 1) other ≡ caller_of task kept given
+AreCallers callers kept given =
+    (task : ℕ) (other : Caller) → 1 ≤ task → task ≤ 8
+    → slice_index_or callers (task - 1) other ≡ caller_of task kept given
 
 -- and the last occurrence of each source
 abbrev pub AreOccurrences : List ℕ → List Action → Type 0
-AreOccurrences occurrences kept = (source other : ℕ) → 1 ≤ source → source ≤ 8 → slice_index_or occurrences (source - 1) other ≡ last_occurrence source kept
+AreOccurrences occurrences kept =
+    (source other : ℕ) → 1 ≤ source → source ≤ 8
+    → slice_index_or occurrences (source - 1) other ≡ last_occurrence source kept
 
--- right actions came to this machine, these callers and these occurrences
-pub record IsHeld {S : Type 0} (r : Replayed S) (actions : List Action) (machine : S) (callers : List Caller) (occurrences : List ℕ) : Type 0 where
+-- right actions led to this machine, these callers and these occurrences
+pub record IsNumbered {S : Type 0} (r : Replayed S) (actions : List Action) (machine : S) (callers : List Caller)
+    (occurrences : List ℕ) : Type 0 where
   pub right : (action : Action) → Has action actions → IsRight action
   pub state : machine ≡ r.state
   pub room : length callers ≡ 8

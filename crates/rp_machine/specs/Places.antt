@@ -1,4 +1,4 @@
--- The place of a call in a list of actions, and its answer (this project's own).
+-- The place of a call in a list of actions, and its answer.
 use Rattle.std.specs.Prelude.{◌≡◌, ℕ, suc, Bool, true, List, [], ◌∷◌, ◌++◌, length}
 use Rattle.rp_base.specs.Sets.{Has}
 use Rattle.rp_base.specs.declared.action.Action.{Action}
@@ -7,19 +7,20 @@ use Rattle.rp_machine.specs.Calls.{CallName, calls_of, call_of}
 use Rattle.rp_machine.specs.Replay.{counts, replay_of, replay_answers}
 
 module _ {S : Type 0} (next : S → Action → S) (answers : S → Action → List Answer) (begin : S) where
-  -- the action counts behind these
-  abbrev pub counts_behind : List Action → Action → Bool
-  counts_behind before action = counts (replay_of next answers begin before).kept (replay_of next answers begin before).given action
+  -- the action counts after these
+  abbrev pub counts_after : List Action → Action → Bool
+  counts_after before action =
+      counts (replay_of next answers begin before).kept (replay_of next answers begin before).given action
 
   -- the place of a call in a list of actions: the position, from 1, where it counts
   pub record IsPlace (actions : List Action) (call : CallName) (position : ℕ) : Type 0 where
     pub before : List Action
     pub action : Action
-    pub behind : List Action
-    pub stands : actions ≡ before ++ action ∷ behind
+    pub following : List Action
+    pub occurs : actions ≡ before ++ action ∷ following
     pub here : position ≡ suc (length before)
     pub is_call : calls_of action ≡ call ∷ []
-    pub takes_effect : counts_behind before action ≡ true
+    pub takes_effect : counts_after before action ≡ true
 
   -- the one place of a call in a list of actions
   pub record IsOnlyPlace (actions : List Action) (call : CallName) (position : ℕ) : Type 0 where

@@ -1,5 +1,6 @@
--- Which actions of a log count, and what they lead to, for any machine (this project's own).
-use Rattle.std.specs.Prelude.{◌≡◌, ℕ, zero, suc, Bool, true, false, ◌&&◌, nat_eq, nat_lt, Option, Some, None, List, [], ◌∷◌, ◌++◌, filter_map, if◌then◌else◌}
+-- Which actions of a log count, and what they lead to, for any machine.
+use Rattle.std.specs.Prelude.{◌≡◌, ℕ, zero, suc, Bool, true, false, ◌&&◌, nat_eq, nat_lt, Option, Some, None, List, []}
+use Rattle.std.specs.Prelude.{◌∷◌, ◌++◌, filter_map, if◌then◌else◌}
 use Rattle.std.specs.List.{list_any, list_all}
 use Rattle.std.specs.Cmp.Lexicographic.{pointwise}
 use Rattle.rp_base.specs.declared.action.Action.{Action}
@@ -49,16 +50,18 @@ is_answered given task number = list_any (is_for task number) given
 abbrev pub all_answered : List Action → List Answer → ℕ → Bool
 all_answered kept given task = list_all (is_answered given task) (numbers_of task kept)
 
--- Whether an action counts behind those that counted, which gave these answers. A call does if it is the
--- next of its task and the task does not wait; an interrupt if its occurrence is above those of its source
--- that counted; a tick always; a Noop never.
+-- Whether an action counts after those that counted, which gave these answers. A call does if it is the next of its
+-- task and the task does not wait; an interrupt if its occurrence is above those of its source that counted; a tick
+-- always; a Noop never.
 abbrev pub counts : List Action → List Answer → Action → Bool
 counts kept given Noop = false
-counts kept given (Call task number object operation arg) = is_next_number kept task number && all_answered kept given task
-counts kept given (Interrupt source occurrence) = list_all (λ earlier. nat_lt earlier occurrence) (occurrences_of source kept)
+counts kept given (Call task number object operation arg) =
+    is_next_number kept task number && all_answered kept given task
+counts kept given (Interrupt source occurrence) =
+    list_all (λ earlier. nat_lt earlier occurrence) (occurrences_of source kept)
 counts kept given (Tick now) = true
 
--- what a log of actions came to: the state, the actions that counted, and the answers in order
+-- what a log of actions resulted in: the state, the actions that counted, and the answers in order
 pub record Replayed (S : Type 0) : Type 0 where
   pub state : S
   pub kept : List Action
@@ -70,14 +73,19 @@ unmoved begin = record { state = begin; kept = []; given = [] }
 
 module _ {S : Type 0} (next : S → Action → S) (answers : S → Action → List Answer) where
   -- the answers to one action more: the machine's where it counts, else none
-  abbrev pub answers_behind : Replayed S → Action → List Answer
-  answers_behind r action = if counts r.kept r.given action then answers r.state action else []
+  abbrev pub answers_after : Replayed S → Action → List Answer
+  answers_after r action = if counts r.kept r.given action then answers r.state action else []
 
   -- one action more: where it counts the machine takes it, else nothing changes
   abbrev pub replay_step : Replayed S → Action → Replayed S
   replay_step r action =
       if counts r.kept r.given action
-      then record { state = next r.state action; kept = r.kept ++ action ∷ []; given = r.given ++ answers r.state action }
+      then record {
+        state = next r.state action;
+        kept = r.kept ++ action ∷ [];
+        given = r.given
+            ++ answers r.state action;
+      }
       else r
 
   -- going on: one action after another
@@ -86,7 +94,7 @@ module _ {S : Type 0} (next : S → Action → S) (answers : S → Action → Li
   replay_from r (action ∷ rest) = replay_from (replay_step r action) rest
 
 module _ {S : Type 0} (next : S → Action → S) (answers : S → Action → List Answer) (begin : S) where
-  -- what a log comes to, from the start on
+  -- the result of a log, from the start on
   abbrev pub replay_of : List Action → Replayed S
   replay_of actions = replay_from next answers (unmoved begin) actions
 
@@ -102,7 +110,7 @@ module _ {S : Type 0} (next : S → Action → S) (answers : S → Action → Li
   abbrev pub replay_answers : List Action → List Answer
   replay_answers actions = (replay_of actions).given
 
--- One log's outcome goes on to another: what counted and what was answered stand before what came.
+-- One log's outcome goes on to another: what counted and what was answered are before what came.
 pub record GoesOn {S : Type 0} (before after : Replayed S) : Type 0 where
   pub further : List Action
   pub more : List Answer

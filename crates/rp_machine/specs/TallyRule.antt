@@ -1,5 +1,7 @@
--- The rule of the tally: one sum for each object, to which a call of `add` adds (this project's own).
-use Rattle.std.specs.Prelude.{◌≡◌, ℕ, zero, suc, ℤ, pos, negsuc, ◌+ℤ◌, ◌-◌, ◌^◌, ◌==◌, nat_lt, Bool, true, false, Option, Some, None, List, [], ◌∷◌, ◌++◌, All, length, slice_get, slice_set, if◌then◌else◌, decimal, codes, option_and_then}
+-- The rule of the tally: one sum for each object, to which a call of `add` adds.
+use Rattle.std.specs.Prelude.{◌≡◌, ℕ, zero, suc, ℤ, pos, negsuc, ◌+ℤ◌, ◌-◌, ◌^◌, ◌==◌, nat_lt, Bool, true, false}
+use Rattle.std.specs.Prelude.{Option, Some, None, List, [], ◌∷◌, ◌++◌, All, length, slice_get, slice_set, if◌then◌else◌}
+use Rattle.std.specs.Prelude.{decimal, codes, option_and_then}
 use Rattle.std.specs.Fmt.{signed_decimal}
 use Rattle.rp_base.specs.declared.action.Action.{Action}
 use Rattle.rp_base.specs.declared.action.Action.TheVariants.{Noop, Call, Interrupt, Tick}
@@ -62,7 +64,12 @@ reply_to_add (Some sum) arg = if fits_i64 (sum +ℤ arg) then Value (sum +ℤ ar
 abbrev pub tally_answers : List ℤ → Action → List Answer
 tally_answers sums Noop = []
 tally_answers sums (Call task number object operation arg) =
-    record { task = task; number = number; reply = if is_add operation then reply_to_add (sum_of sums object) arg else NoSuchOperation } ∷ []
+    record {
+      task = task;
+      number = number;
+      reply = if is_add operation
+          then reply_to_add (sum_of sums object) arg else NoSuchOperation;
+    } ∷ []
 tally_answers sums (Interrupt source occurrence) = []
 tally_answers sums (Tick now) = []
 

@@ -1,11 +1,11 @@
 //! The machines that a log of actions drives.
 //!
 //! In reading order:
-//! - `machine`: what a machine owes to the log that drives it
+//! - `machine`: the obligations of a machine to the log that drives it
 //! - `replay`: what a log of actions leads to, at any machine
-//! - `places`: where a call stands in a log, and what it was answered
+//! - `places`: where a call is in a log, and what it was answered
 //! - `counting`: how many answers a log leads to
-//! - `numbered`: a machine behind a log: each call counts once
+//! - `numbered`: a machine after a log: each call counts once
 //! - `tally`: the least machine: a sum for each object
 #![tactic(auto)]
 

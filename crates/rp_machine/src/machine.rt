@@ -1,4 +1,4 @@
-//! What a machine owes to the log that drives it.
+//! The obligations of a machine to the log that drives it.
 
 ghost use Rattle.std.specs.Prelude.{◌≡◌, ℕ, List, [], IfOk};
 ghost use Rattle.rp_base.specs.declared.action.Action.{Action};

@@ -1,11 +1,11 @@
-//! A machine behind a log: each call counts once.
+//! A machine after a log: each call counts once.
 
 ghost use Rattle.std.specs.Prelude.{◌≡◌, ℕ, ◌+◌, ◌-◌, ◌<◌, ◌≤◌, ◌&&◌, not, nat_eq, nat_le, is_none, map, Some, None, List, [], ◌∷◌, ◌++◌, IfOk, slice_set, slice_index_or};
 ghost use Rattle.rp_base.specs.Action.{IsRight, IsIndex};
 ghost use Rattle.rp_base.specs.Sets.{IsSet};
 ghost use Rattle.rp_base.specs.declared.action.Action.{Action};
 ghost use Rattle.rp_machine.specs.Calls.{calls_made, call_of};
-ghost use Rattle.rp_machine.specs.Replay.{answers_behind, counts, kept_of};
+ghost use Rattle.rp_machine.specs.Replay.{answers_after, counts, kept_of};
 ghost use Rattle.rp_machine.specs.Asked.{last_number, last_occurrence, waits, answer_to, kept_reply};
 ghost use Rattle.rp_machine.specs.Numbered.{outcome, with_action, with_occurrence, with_answers};
 
@@ -50,13 +50,13 @@ pub struct Numbered<M: Machine> {
 
 impl<M: Machine> Model for Numbered<M> {
     ghost use Rattle.rp_machine.specs.Replay.{replay_of};
-    ghost use Rattle.rp_machine.specs.Numbered.{Applied, IsHeld};
+    ghost use Rattle.rp_machine.specs.Numbered.{Applied, IsNumbered};
 
     ghost Value = { Applied M };
 
     ghost view = { λ n. record { begin = M.begin n.program.value; actions = n.actions } };
 
-    ghost invariant = { λ n. IsHeld
+    ghost invariant = { λ n. IsNumbered
         (replay_of M.next M.answers (M.begin n.program.value) n.actions)
         n.actions n.machine n.callers n.occurrences };
 }
@@ -80,14 +80,14 @@ impl<M: Machine> Numbered<M> {
         })
     }
 
-    /// Applies the next action of the log, and gives the answers that come of it: those of the machine
+    /// Applies the next action of the log, and gives the answers that result: those of the machine
     /// where the action counts, else none. No call is answered twice. It takes no memory.
     #[inline(always)]
     pub fn apply(&mut self, action: &Action) -> Answers
         requires { IsRight action.now }
         ensures applied { self.new
             ≡ record self.old { actions = self.old.actions ++ action.now ∷ [] } }
-        ensures answers { result ≡ answers_behind M.next M.answers
+        ensures answers { result ≡ answers_after M.next M.answers
             (outcome M.next M.answers self.old) action.now }
         ensures once { IsSet (map call_of (outcome M.next M.answers self.new).given) }
     {
@@ -167,7 +167,7 @@ impl<M: Machine> Numbered<M> {
         self.callers[usize::from(task.get()) - 1]
     }
 
-    /// Whether the action counts behind those that were applied.
+    /// Whether the action counts after those that were applied.
     fn counts(&self, action: &Action) -> bool
         requires { IsRight action.now }
         ensures { let r = outcome M.next M.answers self.now in result

@@ -1,4 +1,4 @@
-//! Where a call stands in a log, and what it was answered.
+//! Where a call is in a log, and what it was answered.
 
 ghost use Rattle.std.specs.Prelude.{◌≡◌, ℕ, List};
 ghost use Rattle.rp_base.specs.Action.{IsRight};
@@ -10,7 +10,7 @@ ghost use Rattle.rp_machine.specs.Places.{IsPlace, IsOnlyPlace, IsAnswerOf};
 
 use crate::machine::Machine;
 
-/// A call has one place in a list of actions at most, however often it stands there.
+/// A call has one place in a list of actions at most, however often it is there.
 pub fn a_call_has_one_place<M: Machine>()
     ensures { (begin : M) (actions : List Action) (call : CallName) (one other : ℕ)
         → IsPlace M.next M.answers begin actions call one

@@ -11,8 +11,8 @@ ghost use Rattle.rp_machine.specs.Replay.{counts, Replayed, replay_from, replay_
 
 use crate::machine::Machine;
 
-/// A longer log goes on from the shorter: the machine goes on from the state that it was in, and what
-/// counted and what was answered stands in its place.
+/// A longer log goes on from the shorter: the machine goes on from the state that it was in, and
+/// what counted and what was answered is in its place.
 pub fn replay_goes_on<M: Machine>()
     ensures from { (begin : M) (actions more : List Action)
         → replay_of M.next M.answers begin (actions ++ more)

@@ -1,5 +1,5 @@
 ghost use Rattle.std.specs.Prelude.{◌≡◌, ◌≤◌, IfOk};
-ghost use Rattle.rp_learner.specs.Standings.{SameSizes, fresh};
+ghost use Rattle.rp_learner.specs.Status.{SameSizes, fresh};
 
 use rp_base::{Action, Ballot, NodeId, Position};
 use rp_learner::*;
@@ -14,25 +14,25 @@ fn note_all(
     learner: &mut Learner,
     alloc: Global,
     nodes: u8,
-    votes: &[(u8, u64, Standing)],
+    votes: &[(u8, u64, VoteStatus)],
 ) -> Result<(), Fail>
     requires { (learner.old.nodes ≡ nodes) × (1 ≤ learner.old.max_positions) }
 {
     let position = Position::first();
-    for (from, ballot, standing) in votes.iter().copied() {
+    for (from, ballot, status) in votes.iter().copied() {
         let from = NodeId::new(from).ok_or("a node")?;
         if from.get() > nodes {
             return Err("a node of the learner".into());
         }
         let ballot = Ballot::new(ballot).ok_or("a ballot")?;
         let found = learner.vote(from, position, ballot, &Action::Noop);
-        assert_eq!(rt; found, standing);
+        assert_eq!(rt; found, status);
         if learner
             .note_vote(alloc, from, position, ballot, &Action::Noop)
             .is_err()
         {
             let found = learner.vote(from, position, ballot, &Action::Noop);
-            assert_eq!(rt; found, standing, "nothing changed");
+            assert_eq!(rt; found, status, "nothing changed");
             learner.note_vote(alloc, from, position, ballot, &Action::Noop)?;
         }
     }
@@ -53,23 +53,23 @@ fn new_learner(alloc: Global, nodes: u8, max_positions: u16) -> Result<Learner, 
 #[test]
 fn a_majority_is_of_one_ballot_and_of_different_nodes(rt: HostRuntime) -> Result<(), Fail> {
     let four = [
-        (1, 9, Standing::Counting),
-        (2, 9, Standing::Counting),
-        (2, 9, Standing::Counting),
-        (3, 18, Standing::Counting),
-        (3, 9, Standing::Learned),
-        (4, 9, Standing::Known),
+        (1, 9, VoteStatus::Counting),
+        (2, 9, VoteStatus::Counting),
+        (2, 9, VoteStatus::Counting),
+        (3, 18, VoteStatus::Counting),
+        (3, 9, VoteStatus::Learned),
+        (4, 9, VoteStatus::Known),
     ];
     let mut learner = new_learner(rt.alloc(), 4, 1)?;
     note_all(&rt, &mut learner, rt.alloc(), 4, &four)?;
     let seven = [
-        (1, 9, Standing::Counting),
-        (2, 9, Standing::Counting),
-        (2, 9, Standing::Counting),
-        (3, 18, Standing::Counting),
-        (3, 9, Standing::Counting),
-        (4, 9, Standing::Learned),
-        (5, 9, Standing::Known),
+        (1, 9, VoteStatus::Counting),
+        (2, 9, VoteStatus::Counting),
+        (2, 9, VoteStatus::Counting),
+        (3, 18, VoteStatus::Counting),
+        (3, 9, VoteStatus::Counting),
+        (4, 9, VoteStatus::Learned),
+        (5, 9, VoteStatus::Known),
     ];
     let mut learner = new_learner(rt.alloc(), 7, 65_535)?;
     note_all(&rt, &mut learner, rt.alloc(), 7, &seven)
@@ -93,14 +93,14 @@ fn a_majority_is_for_one_action(rt: HostRuntime) -> Result<(), Fail> {
         learner.note_vote(rt.alloc(), two, position, ballot, &Action::Noop)?;
     }
     let noop = learner.vote(two, position, ballot, &Action::Noop);
-    assert_eq!(rt; noop, Standing::Counting);
+    assert_eq!(rt; noop, VoteStatus::Counting);
     assert_eq!(rt;
         learner.vote(two, Position::first(), ballot, &tick),
-        Standing::Counting
+        VoteStatus::Counting
     );
     assert_eq!(rt;
         learner.vote(two, position, ballot, &tick),
-        Standing::Learned
+        VoteStatus::Learned
     );
     Ok(())
 }
@@ -114,17 +114,14 @@ fn a_settled_position_is_known_and_no_other(rt: HostRuntime) -> Result<(), Fail>
     assert!(rt; node.get() <= 3);
     learner.settled(Position::first());
     learner.settled(Position::first());
-    for (number, decision, standing) in [
-        (1, Decision::Known, Standing::Known),
-        (2, Decision::Learned, Standing::Counting),
-        (3, Decision::Learned, Standing::Counting),
+    for (number, decision, status) in [
+        (1, Decision::Known, VoteStatus::Known),
+        (2, Decision::Learned, VoteStatus::Counting),
+        (3, Decision::Learned, VoteStatus::Counting),
     ] {
         let position = Position::new(number).ok_or("a position")?;
         assert_eq!(rt; learner.decided(position), decision);
-        assert_eq!(rt;
-            learner.vote(node, position, ballot, &Action::Noop),
-            standing
-        );
+        assert_eq!(rt; learner.vote(node, position, ballot, &Action::Noop), status);
     }
     Ok(())
 }
@@ -160,20 +157,29 @@ fn votes_are_counted_in_a_window_that_moves_on(rt: HostRuntime) -> Result<(), Fa
     let next = Position::new(65).ok_or("position 65")?;
     let beyond = Position::new(66).ok_or("position 66")?;
     let noop = Action::Noop;
-    assert_eq!(rt; learner.vote(one, last, ballot, &noop), Standing::Counting);
+    assert_eq!(rt;
+        learner.vote(one, last, ballot, &noop),
+        VoteStatus::Counting
+    );
     note(&mut learner, rt.alloc(), one, last, ballot)?;
-    assert_eq!(rt; learner.vote(one, next, ballot, &noop), Standing::Beyond);
+    assert_eq!(rt; learner.vote(one, next, ballot, &noop), VoteStatus::Beyond);
     note(&mut learner, rt.alloc(), one, next, ballot)?;
     assert_eq!(rt; learner.decided(next), Decision::Beyond);
     learner.settled(next);
     learner.settled(Position::first());
     learner.advance(2, 0);
-    assert_eq!(rt; learner.vote(one, next, ballot, &noop), Standing::Counting);
-    assert_eq!(rt; learner.vote(two, next, ballot, &noop), Standing::Counting);
-    assert_eq!(rt; learner.vote(two, last, ballot, &noop), Standing::Learned);
+    assert_eq!(rt;
+        learner.vote(one, next, ballot, &noop),
+        VoteStatus::Counting
+    );
+    assert_eq!(rt;
+        learner.vote(two, next, ballot, &noop),
+        VoteStatus::Counting
+    );
+    assert_eq!(rt; learner.vote(two, last, ballot, &noop), VoteStatus::Learned);
     assert_eq!(rt;
         learner.vote(one, Position::first(), ballot, &noop),
-        Standing::Known
+        VoteStatus::Known
     );
     for (position, decision) in [
         (Position::first(), Decision::Known),
@@ -186,10 +192,10 @@ fn votes_are_counted_in_a_window_that_moves_on(rt: HostRuntime) -> Result<(), Fa
     learner.advance(3, 1 << 63);
     assert_eq!(rt; learner.decided(next), Decision::Learned);
     assert_eq!(rt; learner.decided(beyond), Decision::Known);
-    assert_eq!(rt; learner.vote(two, last, ballot, &noop), Standing::Learned);
+    assert_eq!(rt; learner.vote(two, last, ballot, &noop), VoteStatus::Learned);
     learner.advance(200, 1);
     let far = Position::new(200).ok_or("position 200")?;
     assert_eq!(rt; learner.decided(beyond), Decision::Known);
-    assert_eq!(rt; learner.vote(one, far, ballot, &noop), Standing::Known);
+    assert_eq!(rt; learner.vote(one, far, ballot, &noop), VoteStatus::Known);
     Ok(())
 }

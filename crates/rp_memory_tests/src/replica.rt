@@ -181,7 +181,7 @@ fn first_wrong<M: Machine, D: Device>(
 }
 
 #[test]
-fn a_step_that_memory_refused_comes_out_the_same(rt: HostRuntime) -> Result<(), Fail> {
+fn a_step_that_memory_refused_has_the_same_result_later(rt: HostRuntime) -> Result<(), Fail> {
     let alloc = rt.alloc();
     let program = TallyProgram::new(1).ok_or("one object")?;
     let device = MemDevice::new(alloc);
@@ -299,7 +299,7 @@ fn hears_all<M: Machine, D: Device>(
     })
 }
 
-/// The bytes stand behind the others, tried once more where memory was refused.
+/// The bytes are after the others, tried once more where memory was refused.
 fn extends(all: &mut Vec<u8>, bytes: &[u8]) -> Result<(), Fault> {
     match all.extend_from_slice(bytes) {
         Ok(()) => Ok(()),
@@ -319,7 +319,7 @@ fn image_of<M: Machine, D: Device>(alloc: Global, node: &Replica<M, D>) -> Resul
 fn a_device_that_fails_once_loses_no_vote(rt: HostRuntime) -> Result<(), Fail> {
     let alloc = rt.alloc();
     let program = TallyProgram::new(1).ok_or("one object")?;
-    // A promise that was written and not told is not told again.
+    // A promise that was written and not sent is not sent later.
     let cases = [
         (Some((Call::Read, 0)), 2, 0),
         (Some((Call::Sync, 0)), 2, 0),

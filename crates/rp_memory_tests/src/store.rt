@@ -83,7 +83,7 @@ fn opened<D: Device>(rt: &impl Abort, alloc: Global, device: D) -> Result<Opened
     }
 }
 
-/// Opens the device and then again, which cuts nothing.
+/// Opens the device and then again, which truncates nothing.
 fn opens<D: Device>(
     rt: &impl Abort,
     alloc: Global,
@@ -124,7 +124,7 @@ fn torn<D: CutDevice>(store: Store<D>, rec: &Rec, kept: u64) -> Result<D, Fail>
 }
 
 #[test]
-fn whole_records_are_told_and_the_rest_is_cut(rt: HostRuntime) -> Result<(), Fail> {
+fn whole_records_are_returned_and_the_rest_is_truncated(rt: HostRuntime) -> Result<(), Fail> {
     let started = [started()?];
     let cases: [(&[u8], &[Rec], u64); 4] = [
         (&[], &[], 0),
@@ -161,7 +161,7 @@ fn a_device_of_version_1_goes_on_in_version_2(rt: HostRuntime) -> Result<(), Fai
 }
 
 #[test]
-fn a_stop_keeps_what_was_put_and_a_whole_record_behind_it(rt: HostRuntime) -> Result<(), Fail> {
+fn a_stop_keeps_what_was_put_and_a_whole_record_after_it(rt: HostRuntime) -> Result<(), Fail> {
     let (started, voted) = (started()?, voted()?);
     let cases: [(u64, &[Rec], u64); 4] = [
         (0, &[started], 0),

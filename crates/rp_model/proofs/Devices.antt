@@ -4,7 +4,7 @@ use Rattle.std.specs.Prelude.{◌^◌, ◌+◌, is_some, nat_eq, nat_le, nat_lt,
 use Rattle.std.specs.List.{list_any}
 use Rattle.rp_base.specs.Action.{is_right}
 use Rattle.rp_base.specs.Ballot.{round_of, next_ballot}
-use Rattle.rp_base.specs.Calls.{are_spent}
+use Rattle.rp_base.specs.Calls.{are_exhausted}
 use Rattle.rp_base.specs.Records.{learned_at}
 use Rattle.rp_base.specs.declared.action.Action.{Action}
 use Rattle.rp_base.specs.declared.config.Config.{Config}
@@ -15,7 +15,7 @@ use Rattle.rp_codec.specs.Message.{Message}
 use Rattle.rp_codec.specs.declared.packet.Party.{Party}
 use Rattle.rp_codec.specs.declared.packet.Party.TheVariants.{Node, Task, Audit}
 use Rattle.rp_model.specs.Effect as nodes
-use Rattle.rp_model.specs.Effect.{Setting, Done, NodeInput, running_effect, turned_if, effect_while, node_effect, stops_while, cut_if}
+use Rattle.rp_model.specs.Effect.{Setting, Done, NodeInput, running_effect, turn_done_if, effect_while, node_effect, stops_while, cut_if}
 use Rattle.rp_model.specs.Events.{Step, Deliver, Lead, LeadRange, Interrupt, Tick, Report, Event, Submit, Again, Makes, Cut, Stop, Restart}
 use Rattle.rp_model.specs.Leader.{chosen_position, is_out_of_reach, starts_above, begins, begins_if, offers, leads_at, unlearned_in, begins_range, on_lead_range}
 use Rattle.rp_base.specs.Number.{in_range}
@@ -25,7 +25,7 @@ use Rattle.rp_model.specs.Says.{notes}
 use Rattle.rp_model.specs.Parts.{NodePart, TaskPart, Running, Turn}
 use Rattle.rp_model.specs.Tasks as tasks
 use Rattle.rp_model.specs.Tasks.{TaskInput, may_call, calls_if, task_effect}
-use Rattle.rp_model.specs.World.{World, part_at, node_done_if, task_done_if, task_takes, task_is_told, node_takes, node_hears, node_is_told, arrives, delivers, step_effect, node_is_cut, hearing_is_cut, arrival_is_cut, delivery_is_cut, cut_step, stops, restarts, event_effect}
+use Rattle.rp_model.specs.World.{World, part_at, node_done_if, task_done_if, task_takes, task_receives, node_takes, node_hears, node_receives, arrives, delivers, step_effect, node_is_cut, hearing_is_cut, arrival_is_cut, delivery_is_cut, cut_step, stops, restarts, event_effect}
 
 -- it is no fault of a device
 abbrev pub NoDevice : {A : Type 0} → Result A Fault → Type 0
@@ -39,7 +39,7 @@ one_of true x y one other = one
 one_of false x y one other = other
 
 -- what is made of it by a step
-turned_so : (part : NodePart) (r : Result Turn Fault) → NoDevice r → NoDevice (turned_if part r)
+turned_so : (part : NodePart) (r : Result Turn Fault) → NoDevice r → NoDevice (turn_done_if part r)
 turned_so part (Ok turn) is = tt
 turned_so part (Err Device) is = is
 turned_so part (Err _) is = is
@@ -67,7 +67,7 @@ calls_so task node part (Err _) is = is
 may_so : (config : Config) (node : ℕ) (part : TaskPart) (call : Action) (o : Option Action) → NoDevice (may_call config node part call o)
 may_so config node part call (Some waits) = tt
 may_so config node part call None =
-    one_of (are_spent _) (Err NumbersSpent) _ tt (one_of (nat_lt config.nodes node || not (is_right call)) (Err BadConfig) (Ok call) tt tt)
+    one_of (are_exhausted _) (Err NumbersSpent) _ tt (one_of (nat_lt config.nodes node || not (is_right call)) (Err BadConfig) (Ok call) tt tt)
 
 task_input : (config : Config) (t : ℕ) (part : TaskPart) (input : TaskInput) → NoDevice (task_effect config t part input)
 task_input config t part (tasks.Submit node object operation arg) =
@@ -80,11 +80,11 @@ task_part : (config : Config) (w : World) (t : ℕ) (input : TaskInput) (o : Opt
 task_part config w t input None = tt
 task_part config w t input (Some part) = task_so w t (task_effect config t part input) (task_input config t part input)
 
-task_told : (config : Config) (w : World) (t : ℕ) (message : Message) (o : Option TaskPart) → NoDevice (task_is_told config w t message o)
-task_told config w t message None = tt
-task_told config w t message (Some part) = task_so w t (task_effect config t part (tasks.Take message)) tt
+task_received : (config : Config) (w : World) (t : ℕ) (message : Message) (o : Option TaskPart) → NoDevice (task_receives config w t message o)
+task_received config w t message None = tt
+task_received config w t message (Some part) = task_so w t (task_effect config t part (tasks.Take message)) tt
 
-begins_so : (spent : Bool) (turn : Turn) → NoDevice (let r : Result Turn Fault = if spent then Err BallotsSpent else Ok turn in r)
+begins_so : (exhausted : Bool) (turn : Turn) → NoDevice (let r : Result Turn Fault = if exhausted then Err BallotsSpent else Ok turn in r)
 begins_so true turn = tt
 begins_so false turn = tt
 
@@ -98,10 +98,10 @@ lead_so true far turn r so = tt
 lead_so false true turn r so = tt
 lead_so false false turn r so = so
 
-range_so : (far learned spent : Bool) (one other : Turn)
-    → NoDevice (let r : Result Turn Fault = if far then Err LogFull else if learned then Ok one else if spent then Err BallotsSpent else Ok other in r)
-range_so true learned spent one other = tt
-range_so false true spent one other = tt
+range_so : (far learned exhausted : Bool) (one other : Turn)
+    → NoDevice (let r : Result Turn Fault = if far then Err LogFull else if learned then Ok one else if exhausted then Err BallotsSpent else Ok other in r)
+range_so true learned exhausted one other = tt
+range_so false true exhausted one other = tt
 range_so false false true one other = tt
 range_so false false false one other = tt
 
@@ -153,7 +153,7 @@ module _ {S : Type 0} (s : Setting S) where
   while_is me part input None = tt
   while_is me part input (Some running) = turned_so part (running_effect s me part.records running input) (turn_is me part.records running input)
 
-  -- what an input comes to for a node
+  -- the result of an input for a node
   pub input_is : (me : ℕ) (part : NodePart) (input : NodeInput) → NoDevice (node_effect s me part input)
   input_is me part input = while_is me part input part.running
 
@@ -165,13 +165,13 @@ module _ {S : Type 0} (s : Setting S) where
   hears_is w me message part None = tt
   hears_is w me message part (Some running) = done_so w me (node_effect s me part (nodes.Receive message)) (input_is me part (nodes.Receive message))
 
-  told_is : (w : World) (me : ℕ) (message : Message) (o : Option NodePart) → NoDevice (node_is_told s w me message o)
-  told_is w me message None = tt
-  told_is w me message (Some part) = hears_is w me message part part.running
+  received_is : (w : World) (me : ℕ) (message : Message) (o : Option NodePart) → NoDevice (node_receives s w me message o)
+  received_is w me message None = tt
+  received_is w me message (Some part) = hears_is w me message part part.running
 
   arrival_is : (w : World) (message : Message) (party : Party) → NoDevice (arrives s w message party)
-  arrival_is w message (Node me) = told_is w me message (part_at w.nodes me)
-  arrival_is w message (Task t) = task_told s.config w t message (part_at w.tasks t)
+  arrival_is w message (Node me) = received_is w me message (part_at w.nodes me)
+  arrival_is w message (Task t) = task_received s.config w t message (part_at w.tasks t)
   arrival_is w message Audit = tt
 
   -- a delivery

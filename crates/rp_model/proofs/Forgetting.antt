@@ -38,10 +38,10 @@ use Rattle.rp_codec.specs.declared.packet.Body.TheVariants as bodies
 use Rattle.rp_machine.specs.Asked.{last_number, last_occurrence, kept_reply}
 use Rattle.rp_machine.specs.Replay.{kept_of, replay_answers}
 use Rattle.rp_model.specs.Says.{says, says_to_all, says_to_others, says_to_task, sends, notes, drops_foreign, drops_full}
-use Rattle.rp_model.specs.Acceptor.{tells_promise, tells_range, tells_vote}
+use Rattle.rp_model.specs.Acceptor.{answers_prepare, answers_prepare_range, answers_accept}
 use Rattle.rp_model.specs.Pending.{most_pending, is_same_call, adds_pending, on_numbered, on_call, on_interrupt}
 use Rattle.rp_model.specs.Leader.{chosen_position, is_beyond, is_out_of_reach, starts_above, begins, begins_if, offers, leads_at, on_lead, unlearned_in, begins_range, on_lead_range, counts_promise, on_promise_to, on_nack}
-use Rattle.rp_model.specs.Learner.{missing_position, asks_for, tells_learned, learns, on_vote, on_accepted, on_decision}
+use Rattle.rp_model.specs.Learner.{missing_position, asks_for, answers_ask, learns, on_vote, on_accepted, on_decision}
 use Rattle.rp_model.specs.Receiving.{is_for_node, party_number, on_body, receives}
 use Rattle.rp_model.specs.Effect as inputs
 use Rattle.rp_model.specs.Effect.{Setting, NodeInput, report_of, running_effect}
@@ -161,17 +161,17 @@ module _ (grown : (records : List Rec) (rec : Rec) (i : ℕ) → learned_at (rec
     nothing : AreAlikeTurns records (notes one) (notes other)
     nothing = quiet None [] No one refl
 
-    prepares_alike : (me from i b : ℕ) (answer : PrepareAnswer) → AreAlikeTurns records (tells_promise me one from i b answer) (tells_promise me other from i b answer)
+    prepares_alike : (me from i b : ℕ) (answer : PrepareAnswer) → AreAlikeTurns records (answers_prepare me one from i b answer) (answers_prepare me other from i b answer)
     prepares_alike me from i b (prepares.Promise last rec) = quiet (Some rec) (says me (bodies.Promise i b last) from ∷ []) No one refl
     prepares_alike me from i b (prepares.Nack bound) = quiet None (says me (bodies.Nack i b bound) from ∷ []) No one refl
     prepares_alike me from i b prepares.Silent = nothing
 
-    ranges_alike : (me from : ℕ) (range : Range) (b : ℕ) (answer : RangeAnswer) → AreAlikeTurns records (tells_range me one from range b answer) (tells_range me other from range b answer)
+    ranges_alike : (me from : ℕ) (range : Range) (b : ℕ) (answer : RangeAnswer) → AreAlikeTurns records (answers_prepare_range me one from range b answer) (answers_prepare_range me other from range b answer)
     ranges_alike me from range b (range_prepares.Promise votes rec) = quiet (Some rec) (says me (bodies.PromiseRange range b votes) from ∷ []) No one refl
     ranges_alike me from range b (range_prepares.Nack i bound) = quiet None (says me (bodies.Nack i b bound) from ∷ []) No one refl
     ranges_alike me from range b range_prepares.Silent = nothing
 
-    votes_alike : (me from i b : ℕ) (v : Action) (answer : AcceptAnswer) → AreAlikeTurns records (tells_vote me one from i b v answer) (tells_vote me other from i b v answer)
+    votes_alike : (me from i b : ℕ) (v : Action) (answer : AcceptAnswer) → AreAlikeTurns records (answers_accept me one from i b v answer) (answers_accept me other from i b v answer)
     votes_alike me from i b v (accepts.Vote rec) = quiet (Some rec) (says me (bodies.Accepted i b v) from ∷ []) No one refl
     votes_alike me from i b v accepts.Again = quiet None (says me (bodies.Accepted i b v) from ∷ []) No one refl
     votes_alike me from i b v (accepts.Nack bound) = quiet None (says me (bodies.Nack i b bound) from ∷ []) No one refl
@@ -243,15 +243,15 @@ module _ (grown : (records : List Rec) (rec : Rec) (i : ℕ) → learned_at (rec
           | false ↦ nothing
         ]
 
-    ask_alike : (me from i : ℕ) (learned : Option Action) → AreAlikeTurns records (tells_learned me one from i learned) (tells_learned me other from i learned)
+    ask_alike : (me from i : ℕ) (learned : Option Action) → AreAlikeTurns records (answers_ask me one from i learned) (answers_ask me other from i learned)
     ask_alike me from i None = nothing
     ask_alike me from i (Some v) = quiet None (says me (bodies.Decided i v) from ∷ []) No one refl
 
     module _ {S : Type 0} (next : S → Action → S) (answers : S → Action → List Answer) (begin : S) where
       -- an action is learned: the votes heard there are let go
-      learns_alike : (me i : ℕ) (v : Action) (packets behind : List Message)
-          → AreAlikeTurns records (learns next answers begin me records one i v packets behind) (learns next answers begin me records other i v packets behind)
-      learns_alike me i v packets behind =
+      learns_alike : (me i : ℕ) (v : Action) (packets following : List Message)
+          → AreAlikeTurns records (learns next answers begin me records one i v packets following) (learns next answers begin me records other i v packets following)
+      learns_alike me i v packets following =
           let wide = is_open (records ++ Learned i v ∷ []) in
           let there : HeardVote → Bool = λ h. not (nat_eq h.1 i) in
           let later = alike_later (Some (Learned i v)) heard one.heard same in
@@ -291,13 +291,13 @@ module _ (grown : (records : List Rec) (rec : Rec) (i : ℕ) → learned_at (rec
 
         vote_counted : AreAlikeTurns records (on_vote next answers begin nodes me records one from i vote None) (on_vote next answers begin nodes me records other from i vote None)
         vote_counted =
-            let told = says_to_others nodes me (bodies.Decided i vote.action) in
-            let learned : Running → Turn = λ running. learns next answers begin me records running i vote.action told [] in
+            let stated = says_to_others nodes me (bodies.Decided i vote.action) in
+            let learned : Running → Turn = λ running. learns next answers begin me records running i vote.action stated [] in
             let noted : Running = record one { heard = with_member same_heard one.heard this } in
             let noted_other : Running = record one { heard = with_member same_heard heard this } in
             let by : (b : Bool) → AreAlikeTurns records (if b then learned one else notes noted) (if b then learned other else notes noted_other) = λ b.
             elim b as (λ b. AreAlikeTurns records (if b then learned one else notes noted) (if b then learned other else notes noted_other)) [
-              | true ↦ learns_alike me i vote.action told []
+              | true ↦ learns_alike me i vote.action stated []
               | false ↦ record { written = refl; sent = refl; dropped = refl; running = record { proposals = refl; heard = noted_alike; pending = refl; refused = refl } }
             ] in
             subst (λ (b : Bool). AreAlikeTurns records (if makes_majority nodes i vote (with_member same_heard one.heard this) then learned one else notes noted) (if b then learned other else notes noted_other))

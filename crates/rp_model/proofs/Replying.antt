@@ -26,7 +26,7 @@ replies_more me pending given i answer b lt read e =
     ∙ map-append (reply_of me) (filter test before) (filter test (answer ∷ []))
     ∙ ap (λ (t : Bool). map (reply_of me) (filter test before) ++ map (reply_of me) (if t then answer ∷ [] else [])) e
 
--- the call is pending, so a reply comes behind the others
+-- the call is pending, so a reply comes after the others
 pub replies_one_more : (me : ℕ) (pending : List Action) (given : List Answer) (i : ℕ) (answer : Answer) → i < length given → answer ≡ get_or given i answer
     → list_any (is_answered_by answer) pending ≡ true
     → replies_to me pending (take i given) ++ says_to_task me (Reply answer.number answer.reply) answer.task ∷ [] ≡ replies_to me pending (take (i + 1) given)

@@ -16,11 +16,11 @@ use Rattle.rp_model.specs.Parts.{Turn}
 use Rattle.rp_model.specs.Parts.{with_record}
 use Rattle.rp_model.specs.Texts.{written_for}
 use Rattle.rp_model.specs.Effect as nodes
-use Rattle.rp_model.specs.Effect.{Setting, Done, NodeInput, running_effect, turned_if, effect_while, node_effect, stop_part, cut_part, cut_if, stops_while, restart_while, restart_part}
+use Rattle.rp_model.specs.Effect.{Setting, Done, NodeInput, running_effect, turn_done_if, effect_while, node_effect, stop_part, cut_part, cut_if, stops_while, restart_while, restart_part}
 use Rattle.rp_model.specs.Tasks as tasks
 use Rattle.rp_model.specs.Tasks.{TaskInput, task_effect}
 use Rattle.rp_model.specs.Events.{Step, Deliver, Lead, LeadRange, Interrupt, Tick, Report, Event, Submit, Again, Makes, Cut, Stop, Restart}
-use Rattle.rp_model.specs.World.{World, Happening, part_at, with_part, nothing_happens, node_done, task_done, node_done_if, task_done_if, task_takes, task_is_told, node_takes, node_hears, node_is_told, arrives, delivers, step_effect, node_is_cut, hearing_is_cut, arrival_is_cut, delivery_is_cut, cut_step, stops, restarts, event_effect}
+use Rattle.rp_model.specs.World.{World, Transition, part_at, with_part, nothing_happens, node_done, task_done, node_done_if, task_done_if, task_takes, task_receives, node_takes, node_hears, node_receives, arrives, delivers, step_effect, node_is_cut, hearing_is_cut, arrival_is_cut, delivery_is_cut, cut_step, stops, restarts, event_effect}
 use Rattle.rp_model.specs.Growing.{Grows}
 use Rattle.rp_model.proofs.AppliedGrowing.{applied_more}
 
@@ -59,9 +59,9 @@ applied_on old new goes =
     (grown.0, ap applied_of goes.1 ∙ grown.1)
 
 -- a world grows where its nodes' records go on
-grows : (w : World) (happening : Happening) → happening.world.sent ≡ w.sent ++ happening.sends → length happening.world.nodes ≡ length w.nodes
-    → ((node : ℕ) (old new : NodePart) → part_at w.nodes node ≡ Some old → part_at happening.world.nodes node ≡ Some new → RecordsGoOn old new) → Grows w happening
-grows w happening sent nodes records = record {
+grows : (w : World) (transition : Transition) → transition.world.sent ≡ w.sent ++ transition.sends → length transition.world.nodes ≡ length w.nodes
+    → ((node : ℕ) (old new : NodePart) → part_at w.nodes node ≡ Some old → part_at transition.world.nodes node ≡ Some new → RecordsGoOn old new) → Grows w transition
+grows w transition sent nodes records = record {
   sent = sent;
   nodes = nodes;
   records = records;
@@ -69,9 +69,9 @@ grows w happening sent nodes records = record {
 }
 
 -- so does one whose nodes are as they were
-grows_beside : (w : World) (happening : Happening) → happening.world.nodes ≡ w.nodes → happening.world.sent ≡ w.sent ++ happening.sends → Grows w happening
-grows_beside w happening same sent =
-    grows w happening sent (ap length same)
+grows_beside : (w : World) (transition : Transition) → transition.world.nodes ≡ w.nodes → transition.world.sent ≡ w.sent ++ transition.sends → Grows w transition
+grows_beside w transition same sent =
+    grows w transition sent (ap length same)
     (λ node old new one two. goes_on_same old new (part_same w.nodes node old new one (subst (λ (nodes : List NodePart). part_at nodes node ≡ Some new) same two)))
 
 nothing_grows : (w : World) → Grows w (nothing_happens w)
@@ -88,7 +88,7 @@ length_with : {A : Type 0} (parts : List A) (me : ℕ) (part : A) → length (wi
 length_with parts zero part = refl
 length_with parts (suc i) part = length_set parts i part
 
--- what an actor's step comes to, if it is not refused, lets the records go on
+-- the result of an actor's step, if it is not refused, lets the records go on
 abbrev pub OnIf : NodePart → Result (Done NodePart) Fault → Type 0
 OnIf part (Ok done) = RecordsGoOn part done.part
 OnIf part (Err fault) = Unit {0}
@@ -102,8 +102,8 @@ node_grows w me part done here goes =
     ])
 
 -- what happened, if it did, makes the world grow
-abbrev pub GrowsIf : World → Result Happening Fault → Type 0
-GrowsIf w (Ok happening) = Grows w happening
+abbrev pub GrowsIf : World → Result Transition Fault → Type 0
+GrowsIf w (Ok transition) = Grows w transition
 GrowsIf w (Err fault) = Unit {0}
 
 node_grows_if : (w : World) (me : ℕ) (part : NodePart) (done : Result (Done NodePart) Fault) → part_at w.nodes me ≡ Some part → OnIf part done → GrowsIf w (node_done_if w me done)
@@ -116,7 +116,7 @@ task_grows_if w task (Err fault) = tt
 
 -- ---- one node
 
-turned_on : (part : NodePart) (turn : Result Turn Fault) → OnIf part (turned_if part turn)
+turned_on : (part : NodePart) (turn : Result Turn Fault) → OnIf part (turn_done_if part turn)
 turned_on part (Ok turn) = written_more part.records turn.written
 turned_on part (Err fault) = tt
 
@@ -159,17 +159,17 @@ module _ {S : Type 0} (s : Setting S) where
   hears_grow w me message part (Some running) here =
       node_grows_if w me part (node_effect s me part (nodes.Receive message)) here (effect_on me part (nodes.Receive message) part.running)
 
-  told_grows : (w : World) (me : ℕ) (message : Message) (part : Option NodePart) → part_at w.nodes me ≡ part → GrowsIf w (node_is_told s w me message part)
-  told_grows w me message None here = nothing_grows w
-  told_grows w me message (Some part) here = hears_grow w me message part part.running here
+  received_grows : (w : World) (me : ℕ) (message : Message) (part : Option NodePart) → part_at w.nodes me ≡ part → GrowsIf w (node_receives s w me message part)
+  received_grows w me message None here = nothing_grows w
+  received_grows w me message (Some part) here = hears_grow w me message part part.running here
 
-  task_told_grows : (w : World) (task : ℕ) (message : Message) (part : Option TaskPart) → GrowsIf w (task_is_told s.config w task message part)
-  task_told_grows w task message None = nothing_grows w
-  task_told_grows w task message (Some part) = task_grows_if w task (task_effect s.config task part (tasks.Take message))
+  task_received_grows : (w : World) (task : ℕ) (message : Message) (part : Option TaskPart) → GrowsIf w (task_receives s.config w task message part)
+  task_received_grows w task message None = nothing_grows w
+  task_received_grows w task message (Some part) = task_grows_if w task (task_effect s.config task part (tasks.Take message))
 
   arrival_grows : (w : World) (message : Message) (party : Party) → GrowsIf w (arrives s w message party)
-  arrival_grows w message (Node me) = told_grows w me message (part_at w.nodes me) refl
-  arrival_grows w message (Task task) = task_told_grows w task message (part_at w.tasks task)
+  arrival_grows w message (Node me) = received_grows w me message (part_at w.nodes me) refl
+  arrival_grows w message (Task task) = task_received_grows w task message (part_at w.tasks task)
   arrival_grows w message Audit = nothing_grows w
 
   delivery_grows : (w : World) (message : Option Message) → GrowsIf w (delivers s w message)

@@ -1,4 +1,4 @@
--- What a step of a world answers, and events one after another (this project's own).
+-- What a step of a world answers, and events one after another.
 use Rattle.std.specs.Prelude.{◌≡◌, ◌⊎◌, ℕ, ◌+◌, ◌-◌, ◌^◌, min, Option, Some, None, IsSome, Result, Ok, Err, List, []}
 use Rattle.std.specs.Prelude.{◌∷◌, length}
 use Rattle.rp_base.specs.declared.fault.Fault.{Fault}
@@ -7,18 +7,18 @@ use Rattle.rp_model.specs.declared.effect.Effect.{Effect}
 use Rattle.rp_model.specs.Parts.{NodePart}
 use Rattle.rp_model.specs.Effect.{Setting, untorn_part}
 use Rattle.rp_model.specs.Events.{Event, Submit, Again, Makes, Cut, Stop, Restart}
-use Rattle.rp_model.specs.World.{World, Happening, part_at, with_part, event_effect, step_writes}
+use Rattle.rp_model.specs.World.{World, Transition, part_at, with_part, event_effect, step_writes}
 
--- The effect tells what happened, behind so many messages: the number of the first one that was sent, how
--- many there were (the greatest number of 32 bits stands for all above it), and the rest as it is.
-pub record Tells (sent : ℕ) (happening : Happening) (effect : Effect) : Type 0 where
+-- The effect describes what happened, after n messages: the number of the first one that was sent, how many there
+-- were (the greatest number of 32 bits means itself or more), and the rest as it is.
+pub record Describes (sent : ℕ) (transition : Transition) (effect : Effect) : Type 0 where
   pub first : effect.first ≡ sent + 1
-  pub count : effect.sent ≡ min (length happening.sends) (2 ^ 32 - 1)
-  pub dropped : effect.dropped ≡ happening.dropped
-  pub taken : effect.taken ≡ happening.taken
-  pub opened : effect.opened ≡ happening.opened
+  pub count : effect.sent ≡ min (length transition.sends) (2 ^ 32 - 1)
+  pub dropped : effect.dropped ≡ transition.dropped
+  pub taken : effect.taken ≡ transition.taken
+  pub opened : effect.opened ≡ transition.opened
 
--- at most so many of a node's torn bytes are left, where there is a node of this number
+-- at most n of a node's torn bytes are left, where there is a node of this number
 abbrev pub untorn : ℕ → World → ℕ → Option NodePart → World
 untorn kept w me None = w
 untorn kept w me (Some part) = record w { nodes = with_part w.nodes me (untorn_part kept part) }
@@ -39,23 +39,23 @@ IsLeft w (Restart me) left = (kept : ℕ) × (left ≡ untorn kept w me (part_at
 
 -- Where memory runs out, the event would not have been refused, and nothing happens.
 pub record IsOutOfMemory {S : Type 0} (s : Setting S) (w : World) (event : Event) (left : World) : Type 0 where
-  pub wanted : Happening
-  pub effect : event_effect s w event ≡ Ok wanted
+  pub intended : Transition
+  pub effect : event_effect s w event ≡ Ok intended
   pub left_so : IsLeft w event left
 
--- The event comes to this world.
-pub record ComesTo {S : Type 0} (s : Setting S) (w : World) (event : Event) (after : World) : Type 0 where
-  pub happening : Happening
-  pub effect : event_effect s w event ≡ Ok happening
-  pub world : after ≡ happening.world
+-- The event leads to this world.
+pub record ResultsIn {S : Type 0} (s : Setting S) (w : World) (event : Event) (after : World) : Type 0 where
+  pub transition : Transition
+  pub effect : event_effect s w event ≡ Ok transition
+  pub world : after ≡ transition.world
 
 -- Where a device fails: a node's step, and a cut of one, that writes a record is cut where some number of its
 -- bytes is kept; a node that is stopped does not start again; and no other event has a device.
 abbrev pub FailsBy : {S : Type 0} → Setting S → World → Event → World → Type 0
 FailsBy s w (Submit task node object operation arg) left = ⊥
 FailsBy s w (Again task node) left = ⊥
-FailsBy s w (Makes step) left = (kept : ℕ) × ComesTo s w (Cut step kept) left × IsSome (step_writes s w step)
-FailsBy s w (Cut step kept) left = (less : ℕ) × ComesTo s w (Cut step less) left × IsSome (step_writes s w step)
+FailsBy s w (Makes step) left = (kept : ℕ) × ResultsIn s w (Cut step kept) left × IsSome (step_writes s w step)
+FailsBy s w (Cut step kept) left = (less : ℕ) × ResultsIn s w (Cut step less) left × IsSome (step_writes s w step)
 FailsBy s w (Stop me) left = ⊥
 FailsBy s w (Restart me) left = IsLeft w (Restart me) left
 
@@ -71,13 +71,13 @@ IsFaulted s w event left fault =
     IsRefused s w event left fault
     ⊎ (((fault ≡ OutOfMemory) × IsOutOfMemory s w event left) ⊎ ((fault ≡ Device) × FailsBy s w event left))
 
--- An event happened: this is what it came to, and it was told so.
+-- An event happened: this is its result, and it was reported.
 pub record IsDone {S : Type 0} (s : Setting S) (w : World) (event : Event) (after : World) (effect : Effect)
     : Type 0 where
-  pub happening : Happening
-  pub came : event_effect s w event ≡ Ok happening
-  pub world : after ≡ happening.world
-  pub tells : Tells (length w.sent) happening effect
+  pub transition : Transition
+  pub resulted : event_effect s w event ≡ Ok transition
+  pub world : after ≡ transition.world
+  pub describes : Describes (length w.sent) transition effect
 
 -- What a step answers: the effect, or a fault.
 abbrev pub Steps : {S : Type 0} → Setting S → World → Event → World → Result Effect Fault → Type 0
@@ -88,4 +88,4 @@ Steps s w event left (Err fault) = IsFaulted s w event left fault
 abbrev pub Happen : {S : Type 0} → Setting S → World → List Event → World → Type 0
 Happen s w [] after = after ≡ w
 Happen s w (event ∷ rest) after =
-    (happening : Happening) × (event_effect s w event ≡ Ok happening) × Happen s happening.world rest after
+    (transition : Transition) × (event_effect s w event ≡ Ok transition) × Happen s transition.world rest after

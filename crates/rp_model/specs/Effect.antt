@@ -1,5 +1,5 @@
--- What an input comes to for one node, and what a stop, a cut and a restart leave of it (this project's
--- own). Nothing here looks at another actor.
+-- The result of an input for one node, and what a stop, a cut and a restart leave of it. Nothing here looks at
+-- another actor.
 use Rattle.std.specs.Prelude.{ℕ, ◌-◌, min, nat_le, Option, Some, None, Result, Ok, Err, List, [], ◌∷◌, ◌++◌, length}
 use Rattle.std.specs.Prelude.{take, drop, if◌then◌else◌}
 use Rattle.rp_base.specs.declared.action.Action.{Action}
@@ -33,9 +33,8 @@ pub record Setting (S : Type 0) : Type 0 where
   pub answers : S → Action → List Answer
   pub begin : S
 
--- What an input comes to for one actor: its part after, the record that it writes first, the packets
--- that it sends in order, what it dropped, the reply that it took, and how many records and torn bytes
--- it opened with.
+-- The result of an input for one actor: its part after, the record that it writes first, the packets that it sends in
+-- order, what it dropped, the reply that it took, and how many records and torn bytes it opened with.
 pub record Done (P : Type 0) : Type 0 where
   pub part : P
   pub written : Option Rec
@@ -44,12 +43,12 @@ pub record Done (P : Type 0) : Type 0 where
   pub taken : Option Answer
   pub opened : Option (ℕ × ℕ)
 
--- the part goes on so, and nothing else comes of it
+-- the part goes on so, and nothing else results
 abbrev pub goes_on_as : {P : Type 0} → P → Done P
 goes_on_as part = record { part = part; written = None; sends = []; dropped = No; taken = None; opened = None }
 
--- what a node may be given: a packet, the word to lead at a position or the least free one, the word to lead
--- at so many positions from one on, an interrupt of a source, a tick, or the wish to report
+-- what a node may be given: a packet, the word to lead at a position or the least free one, the word to lead at n
+-- positions from one on, an interrupt of a source, a tick, or the wish to report
 pub data NodeInput : Type 0 where
   Receive : Message → NodeInput
   Lead : Option ℕ → NodeInput
@@ -61,8 +60,8 @@ pub data NodeInput : Type 0 where
 -- a report to the audit of these applied actions, from a position on
 abbrev pub report_of : ℕ → ℕ → List Action → Message
 report_of me first applied =
-    let told = take (report_len first (length applied)) (drop (first - 1) applied) in
-    record { from = Node me; to = Audit; body = bodies.Report first (length applied) told }
+    let stated = take (report_len first (length applied)) (drop (first - 1) applied) in
+    record { from = Node me; to = Audit; body = bodies.Report first (length applied) stated }
 
 -- the turn of a node that runs
 abbrev pub running_effect : {S : Type 0} → Setting S → ℕ → List Rec → Running → NodeInput → Result Turn Fault
@@ -77,8 +76,8 @@ running_effect s me records running (Tick now) = Ok (on_tick running now)
 running_effect s me records running (Report first) = Ok (sends running (report_of me first (applied_of records) ∷ []))
 
 -- a turn takes effect: its record is written, then its packets are sent, and the node knows what it knows
-abbrev pub turned : NodePart → Turn → Done NodePart
-turned part turn = record {
+abbrev pub turn_done : NodePart → Turn → Done NodePart
+turn_done part turn = record {
   part = record part { records = with_record part.records turn.written; running = Some turn.running };
   written = turn.written;
   sends = turn.sent;
@@ -87,16 +86,16 @@ turned part turn = record {
   opened = None;
 }
 
-abbrev pub turned_if : NodePart → Result Turn Fault → Result (Done NodePart) Fault
-turned_if part (Ok turn) = Ok (turned part turn)
-turned_if part (Err fault) = Err fault
+abbrev pub turn_done_if : NodePart → Result Turn Fault → Result (Done NodePart) Fault
+turn_done_if part (Ok turn) = Ok (turn_done part turn)
+turn_done_if part (Err fault) = Err fault
 
 abbrev pub effect_while : {S : Type 0} → Setting S → ℕ → NodePart → NodeInput → Option Running
     → Result (Done NodePart) Fault
 effect_while s me part input None = Err NotRunning
-effect_while s me part input (Some running) = turned_if part (running_effect s me part.records running input)
+effect_while s me part input (Some running) = turn_done_if part (running_effect s me part.records running input)
 
--- What an input comes to for a node, or its refusal, after which the node is as it was.
+-- The result of an input for a node, or its refusal, after which the node is as it was.
 abbrev pub node_effect : {S : Type 0} → Setting S → ℕ → NodePart → NodeInput → Result (Done NodePart) Fault
 node_effect s me part input = effect_while s me part input part.running
 
@@ -106,8 +105,8 @@ node_effect s me part input = effect_while s me part input part.running
 abbrev pub stop_part : NodePart → NodePart
 stop_part part = record part { running = None }
 
--- A stop within a step that writes this record, or none: the record stands exactly if so many bytes are
--- kept as it has, else these bytes of it are torn; and nothing is sent.
+-- A stop within a step that writes this record, or none: the record is whole exactly if as many bytes are kept as it
+-- has, else these bytes of it are torn; and nothing is sent.
 abbrev pub cut_part : ℕ → NodePart → Option Rec → NodePart
 cut_part kept part None = stop_part part
 cut_part kept part (Some rec) =
@@ -115,7 +114,7 @@ cut_part kept part (Some rec) =
     then stop_part (record part { records = part.records ++ rec ∷ [] })
     else stop_part (record part { torn = kept })
 
--- at most so many torn bytes are left
+-- at most n torn bytes are left
 abbrev pub untorn_part : ℕ → NodePart → NodePart
 untorn_part kept part = record part { torn = min kept part.torn }
 
@@ -127,17 +126,17 @@ stops_while part (Some running) = Ok (goes_on_as (stop_part part))
 abbrev pub stop_effect : NodePart → Result (Done NodePart) Fault
 stop_effect part = stops_while part part.running
 
--- a cut of a step, by what the whole step comes to
+-- a cut of a step, by the result of the whole step
 abbrev pub cut_if : ℕ → NodePart → Result (Done NodePart) Fault → Result (Done NodePart) Fault
 cut_if kept part (Ok done) = Ok (goes_on_as (cut_part kept part done.written))
 cut_if kept part (Err fault) = Err fault
 
--- the node stops within a step, where so many bytes of its record are kept
+-- the node stops within a step, where n bytes of its record are kept
 abbrev pub cut_effect : {S : Type 0} → Setting S → ℕ → NodePart → NodeInput → ℕ → Result (Done NodePart) Fault
 cut_effect s me part input kept = cut_if kept part (node_effect s me part input)
 
--- A restart: a stopped node runs again by its records alone, its torn bytes are cut, and it tells the
--- numbers of both. One that runs goes on.
+-- A restart: a stopped node runs again by its records alone, its torn bytes are truncated, and it returns the numbers
+-- of both. One that runs goes on.
 abbrev pub restart_while : NodePart → Option Running → Done NodePart
 restart_while part None =
     record (goes_on_as (record part { torn = 0; running = Some fresh_running })) {

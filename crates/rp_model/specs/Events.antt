@@ -1,4 +1,4 @@
--- What may happen in a world: a step of one actor, or a stop or a restart of one (this project's own).
+-- What may happen in a world: a step of one actor, or a stop or a restart of one.
 use Rattle.std.specs.Prelude.{ℕ, ◌<◌, ◌^◌, ℤ, FitsSigned, Option, IfSome}
 use Rattle.std.specs.Int.{w64}
 use Rattle.rp_base.specs.Number.{IsNode, IsTask, IsPosition}
@@ -10,9 +10,9 @@ use Rattle.rp_model.specs.declared.event.Step.TheVariants as taken_steps
 use Rattle.rp_model.specs.declared.event.Event.{Event as TakenEvent}
 use Rattle.rp_model.specs.declared.event.Event.TheVariants as taken_events
 
--- A node's step: a packet that was sent, by its number from 1, is delivered to whom it is for; or the node
--- of a number leads, at a position or the least free one or at so many from a position on, notes an interrupt of a
--- source, notes a tick, or reports from a position on.
+-- A node's step: a packet that was sent, by its number from 1, is delivered to whom it is for; or the node of a
+-- number leads, at a position or the least free one or at n from a position on, notes an interrupt of a source, notes
+-- a tick, or reports from a position on.
 pub data Step : Type 0 where
   Deliver : ℕ → Step
   Lead : ℕ → Option ℕ → Step
@@ -21,8 +21,8 @@ pub data Step : Type 0 where
   Tick : ℕ → ℕ → Step
   Report : ℕ → ℕ → Step
 
--- A task makes its next call and asks a node; it asks a node again; a node makes a step; it stops within
--- the step, of whose record so many bytes are kept; it stops; it starts again.
+-- A task makes its next call and asks a node; it asks a node again; a node makes a step; it stops within the step, of
+-- whose record n bytes are kept; it stops; it starts again.
 pub data Event : Type 0 where
   Submit : ℕ → ℕ → ℕ → Operation → ℤ → Event
   Again : ℕ → ℕ → Event

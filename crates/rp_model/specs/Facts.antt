@@ -1,5 +1,5 @@
--- What the packets of a world tell, and what it has decided. Lamport, "Paxos Made Simple", section 2.2:
--- a value is chosen when a majority of acceptors have accepted it in one proposal.
+-- What the packets of a world say, and what it has decided. Lamport, "Paxos Made Simple", section 2.2: a value is
+-- chosen when a majority of acceptors have accepted it in one proposal.
 use Rattle.std.specs.Prelude.{◌≡◌, ℕ, suc, ◌≤◌, true, Option, Some, List, length, slice_get}
 use Rattle.rp_base.specs.declared.action.Action.{Action}
 use Rattle.rp_base.specs.declared.record.Vote.{Vote}
@@ -16,7 +16,7 @@ use Rattle.rp_codec.specs.declared.packet.Body.TheVariants as bodies
 abbrev pub IsPromise : Body → ℕ → ℕ → Option Vote → Type 0
 IsPromise (bodies.Call action) i b last = ⊥
 IsPromise (bodies.Prepare position ballot) i b last = ⊥
-IsPromise (bodies.Promise position ballot told) i b last = (position ≡ i) × (ballot ≡ b) × (told ≡ last)
+IsPromise (bodies.Promise position ballot stated) i b last = (position ≡ i) × (ballot ≡ b) × (stated ≡ last)
 IsPromise (bodies.Accept position ballot action) i b last = ⊥
 IsPromise (bodies.Accepted position ballot action) i b last = ⊥
 IsPromise (bodies.Decided position action) i b last = ⊥

@@ -1,4 +1,4 @@
--- What a node no longer needs: votes that it heard at positions that it has learned (this project's own).
+-- What a node no longer needs: votes that it heard at positions that it has learned.
 use Rattle.std.specs.Prelude.{◌≡◌, Bool, is_none, Result, Ok, Err, List, filter}
 use Rattle.rp_base.specs.declared.fault.Fault.{Fault}
 use Rattle.rp_base.specs.declared.record.Rec.{Rec}

@@ -1,5 +1,5 @@
--- What a node does to lead. Lamport, "Paxos Made Simple", sections 2.2 and 3; which position, which
--- ballot and which action of its own it takes is this project's own.
+-- What a node does to lead. Lamport, "Paxos Made Simple", sections 2.2 and 3; which position, which ballot and which
+-- action of its own it takes is ours.
 use Rattle.std.specs.Prelude.{ℕ, zero, suc, ◌+◌, ◌^◌, Bool, true, not, ◌&&◌, ◌||◌, max, nat_eq, nat_lt, nat_le, is_some}
 use Rattle.std.specs.Prelude.{is_none, Option, Some, None, unwrap_or, Result, Ok, Err, List, length, map, filter}
 use Rattle.std.specs.Prelude.{if◌then◌else◌}
@@ -40,13 +40,13 @@ is_ready nodes (Some p) = is_prepared nodes p
 abbrev pub is_free_position : ℕ → List Rec → List Proposal → ℕ → Bool
 is_free_position nodes records proposals i = is_none (learned_at records i) && is_ready nodes (proposal_at proposals i)
 
--- the first free position from one on, looking at so many
+-- the first free position from one on, among n
 abbrev pub free_from : ℕ → List Rec → List Proposal → ℕ → ℕ → ℕ
 free_from nodes records proposals zero i = i
 free_from nodes records proposals (suc most) i =
     if is_free_position nodes records proposals i then i else free_from nodes records proposals most (suc i)
 
--- the least free position: one of the first so many is, since each record and each proposal takes one at most
+-- the least free position: one of the first n is, since each record and each proposal takes one at most
 abbrev pub least_free : ℕ → List Rec → List Proposal → ℕ
 least_free nodes records proposals = free_from nodes records proposals (length records + length proposals) 1
 
@@ -62,7 +62,7 @@ is_beyond records i = nat_le (first_unlearned records + window) i
 abbrev pub is_out_of_reach : ℕ → List Rec → ℕ → Bool
 is_out_of_reach most records i = nat_lt most i || is_beyond records i
 
--- what the next ballot lies above: the greatest that the node started, and the greatest that a refusal told
+-- what the next ballot lies above: the greatest that the node started, and the greatest in a refusal
 abbrev pub starts_above : List Rec → Running → ℕ
 starts_above records running = max (started_of records) (number_of running.refused)
 
@@ -130,12 +130,12 @@ leads_range config me records running range =
     else if nat_le (2 ^ 32) (round_of b) then Err BallotsSpent
     else Ok (begins_range config.nodes me records running range b)
 
--- the same, where so many positions from the first one make a range
+-- the same, where n positions from the first one make a range
 abbrev pub on_lead_range : Config → ℕ → List Rec → Running → Result Range Fault → Result Turn Fault
 on_lead_range config me records running (Ok range) = leads_range config me records running range
 on_lead_range config me records running (Err fault) = Err fault
 
--- PromiseRange: a node promised for a range, and told its last votes there; noted at each proposal that takes it
+-- PromiseRange: a node promised for a range, and reported its last votes there; noted at each proposal that takes it
 abbrev pub on_promise_range : ℕ → Running → ℕ → Range → ℕ → List PlacedVote → Turn
 on_promise_range nodes running from range b votes =
     notes (record running { proposals = map (once_promised nodes from range b votes) running.proposals })
@@ -157,7 +157,7 @@ on_promise_to nodes me running b promise None = notes running
 on_promise_to nodes me running b promise (Some p) =
     if takes_promise b p then counts_promise nodes me running p promise else notes running
 
--- Promise: a node promised, and told its last vote
+-- Promise: a node promised, and reported its last vote
 abbrev pub on_promise : ℕ → ℕ → Running → ℕ → ℕ → ℕ → Option Vote → Turn
 on_promise nodes me running from i b last =
     on_promise_to nodes me running b (from, last) (proposal_at running.proposals i)

@@ -1,5 +1,5 @@
--- What a node does as a learner, and what comes of it for tasks. Lamport, "Paxos Made Simple", section
--- 2.3; the replies are this project's own.
+-- What a node does as a learner, and the result for tasks. Lamport, "Paxos Made Simple", section 2.3; the replies are
+-- ours.
 use Rattle.std.specs.Prelude.{ℕ, Bool, false, nat_lt, Option, Some, None, List, [], ◌∷◌, ◌++◌, length, drop, filter}
 use Rattle.std.specs.Prelude.{if◌then◌else◌}
 use Rattle.std.specs.List.{list_any}
@@ -39,19 +39,19 @@ abbrev pub asks_for : ℕ → ℕ → Option ℕ → List Message
 asks_for me from None = []
 asks_for me from (Some i) = says me (bodies.Ask i) from ∷ []
 
--- Ask: a node asks what was decided at a position, and is told if it is learned here
-abbrev pub tells_learned : ℕ → Running → ℕ → ℕ → Option Action → Turn
-tells_learned me running from i None = notes running
-tells_learned me running from i (Some v) = sends running (says me (bodies.Decided i v) from ∷ [])
+-- Ask: a node asks what was decided at a position, and gets the answer if it is learned here
+abbrev pub answers_ask : ℕ → Running → ℕ → ℕ → Option Action → Turn
+answers_ask me running from i None = notes running
+answers_ask me running from i (Some v) = sends running (says me (bodies.Decided i v) from ∷ [])
 
 abbrev pub on_ask : ℕ → List Rec → Running → ℕ → ℕ → Turn
-on_ask me records running from i = tells_learned me running from i (learned_at records i)
+on_ask me records running from i = answers_ask me running from i (learned_at records i)
 
 module _ {S : Type 0} (next : S → Action → S) (answers : S → Action → List Answer) (begin : S) where
-  -- An action is learned at a position: the proposal there ends, the votes heard there are let go, and
-  -- each answer that comes of it goes to the task whose call is pending, between these packets and those.
+  -- An action is learned at a position: the proposal there ends, the votes heard there are let go, and each answer
+  -- that results goes to the task whose call is pending, between these packets and those.
   abbrev pub learns : ℕ → List Rec → Running → ℕ → Action → List Message → List Message → Turn
-  learns me records running i v packets behind =
+  learns me records running i v packets following =
       let before = applied_of records in
       let after = applied_of (records ++ Learned i v ∷ []) in
       let given = replay_answers next answers begin after in
@@ -62,10 +62,10 @@ module _ {S : Type 0} (next : S → Action → S) (answers : S → Action → Li
         pending = filter (stays (kept_of next answers begin after) given (drop (length before) after)) running.pending;
       })
       (packets ++ replies_to me running.pending (drop (length (replay_answers next answers begin before)) given)
-      ++ behind)
+      ++ following)
 
-  -- a vote where the position is learned, or not: where it makes a majority of one ballot and action the
-  -- action is learned and the others are told, else it is noted
+  -- a vote where the position is learned, or not: where it makes a majority of one ballot and action the action is
+  -- learned and the others are informed, else it is noted
   abbrev pub on_vote : ℕ → ℕ → List Rec → Running → ℕ → ℕ → Vote → Option Action → Turn
   on_vote nodes me records running from i vote (Some learned) = notes running
   on_vote nodes me records running from i vote None =

@@ -1,5 +1,4 @@
--- The parts of a world: what a node and a task are, what they know at first, and how a node's records grow
--- (this project's own).
+-- The parts of a world: what a node and a task are, what they know at first, and how a node's records grow.
 use Rattle.std.specs.Prelude.{ℕ, Bool, true, nat_le, Option, Some, None, List, [], ◌∷◌, ◌++◌, filter}
 use Rattle.rp_base.specs.declared.record.Rec.{Rec}
 use Rattle.rp_base.specs.declared.record.Rec.TheVariants.{Started, Promised, Voted, Learned, PromisedRange}
@@ -10,10 +9,9 @@ use Rattle.rp_base.specs.declared.reply.Answer.{Answer}
 use Rattle.rp_codec.specs.Message.{Message}
 use Rattle.rp_model.specs.declared.effect.Dropped.{Dropped}
 
--- What a node knows while it runs, and loses when it stops: its proposals, one at most for each position;
--- the set of the votes that it heard at positions that are not learned (who cast it, where, which); the
--- calls, interrupts and ticks to be proposed, in order of arrival; and the greatest ballot that a refusal
--- of a running proposal told.
+-- What a node knows while it runs, and loses when it stops: its proposals, one at most for each position; the set of
+-- the votes that it heard at positions that are not learned (who cast it, where, which); the calls, interrupts and
+-- ticks to be proposed, in order of arrival; and the greatest ballot in a refusal of a running proposal.
 pub record Running : Type 0 where
   pub proposals : List Proposal
   pub heard : List (ℕ × ℕ × Vote)

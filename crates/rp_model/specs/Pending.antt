@@ -1,4 +1,4 @@
--- Calls, interrupts and ticks that wait at a node to be proposed (this project's own).
+-- Calls, interrupts and ticks that wait at a node to be proposed.
 use Rattle.std.specs.Prelude.{ℕ, Bool, false, true, not, ◌&&◌, nat_eq, nat_lt, nat_le, is_none, Option, Some, None}
 use Rattle.std.specs.Prelude.{unwrap_or, List, [], ◌∷◌, ◌++◌, length, map, filter, find, if◌then◌else◌}
 use Rattle.std.specs.List.{list_any}
@@ -24,7 +24,7 @@ abbrev pub is_same_call : Action → Action → Bool
 is_same_call (Call task number o p a) (Call other same q r b) = nat_eq task other && nat_eq number same
 is_same_call item other = false
 
--- an item is added behind the others, unless it is a call that is there or no place is left
+-- an item is added after the others, unless it is a call that is there or no place is left
 abbrev pub adds_pending : Running → Action → Turn
 adds_pending running item =
     if list_any (is_same_call item) running.pending then notes running

@@ -1,4 +1,4 @@
--- What a node does with a packet (this project's own table over Lamport's messages).
+-- What a node does with a packet, over Lamport's messages.
 use Rattle.std.specs.Prelude.{ℕ, suc, Bool, true, false, not, ◌&&◌, nat_eq, nat_lt, nat_le, List, if◌then◌else◌}
 use Rattle.rp_base.specs.declared.action.Action.{Action}
 use Rattle.rp_base.specs.declared.config.Config.{Config}
@@ -90,7 +90,7 @@ module _ {S : Type 0} (next : S → Action → S) (answers : S → Action → Li
   on_body nodes me records running from (PromiseRange range ballot votes) =
       on_promise_range nodes running from range ballot votes
 
-  -- a packet comes to a node
+  -- a packet arrives at a node
   abbrev pub receives : Config → ℕ → List Rec → Running → Message → Turn
   receives config me records running message =
       if is_for_node config me message

@@ -1,4 +1,4 @@
--- What a step of a node comes to, and whom its packets go to (this project's own).
+-- The result of a step of a node, and whom its packets go to.
 use Rattle.std.specs.Prelude.{ℕ, not, nat_eq, Some, None, List, [], map, filter}
 use Rattle.rp_base.specs.declared.record.Rec.{Rec}
 use Rattle.rp_codec.specs.Message.{Message}
@@ -41,6 +41,6 @@ writes rec running packets = record { written = Some rec; sent = packets; runnin
 abbrev pub drops_foreign : Running → Turn
 drops_foreign running = record { written = None; sent = []; running = running; dropped = Foreign }
 
--- nothing happens, for want of a pending place
+-- nothing happens, since no pending place is left
 abbrev pub drops_full : Running → Turn
 drops_full running = record { written = None; sent = []; running = running; dropped = Full }

@@ -1,5 +1,5 @@
--- What an input comes to for one task. Its calls are numbered from 1, and the next one is made once the
--- last one has its reply (this project's own).
+-- The result of an input for one task. Its calls are numbered from 1, and the next one is made once the last one has
+-- its reply.
 use Rattle.std.specs.Prelude.{ℕ, Bool, not, ◌||◌, nat_lt, ℤ, Option, Some, None, Result, Ok, Err, [], ◌∷◌, ◌++◌, length}
 use Rattle.std.specs.Prelude.{if◌then◌else◌}
 use Rattle.rp_base.specs.declared.action.Action.{Action}
@@ -11,7 +11,7 @@ use Rattle.rp_base.specs.declared.fault.Fault.{Fault}
 use Rattle.rp_base.specs.declared.fault.Fault.TheVariants.{TaskBusy, NumbersSpent, BadConfig}
 use Rattle.rp_base.specs.Action.{is_right}
 use Rattle.rp_base.specs.Calls as calls
-use Rattle.rp_base.specs.Calls.{are_spent, is_reply_to}
+use Rattle.rp_base.specs.Calls.{are_exhausted, is_reply_to}
 use Rattle.rp_codec.specs.Message.{Message}
 use Rattle.rp_codec.specs.declared.packet.Party.TheVariants.{Node, Task}
 use Rattle.rp_codec.specs.declared.packet.Body.{Body}
@@ -37,7 +37,7 @@ next_call task part object operation arg = calls.next_call task (length part.rep
 abbrev pub may_call : Config → ℕ → TaskPart → Action → Option Action → Result Action Fault
 may_call config node part call (Some waits) = Err TaskBusy
 may_call config node part call None =
-    if are_spent (length part.replies) then Err NumbersSpent
+    if are_exhausted (length part.replies) then Err NumbersSpent
     else if nat_lt config.nodes node || not (is_right call) then Err BadConfig
     else Ok call
 
@@ -67,7 +67,7 @@ takes_reply task part number reply =
     } in after)) { taken = Some answer }
     else goes_on_as part
 
--- a body comes to a task: only a reply means something to it
+-- a body arrives at a task: only a reply means something to it
 abbrev pub task_hears : ℕ → TaskPart → Body → Done TaskPart
 task_hears task part (bodies.Call action) = goes_on_as part
 task_hears task part (bodies.Prepare position ballot) = goes_on_as part
@@ -82,7 +82,7 @@ task_hears task part (bodies.Report first applied actions) = goes_on_as part
 task_hears task part (bodies.PrepareRange range ballot) = goes_on_as part
 task_hears task part (bodies.PromiseRange range ballot votes) = goes_on_as part
 
--- What an input comes to for a task, or its refusal, after which the task is as it was.
+-- The result of an input for a task, or its refusal, after which the task is as it was.
 abbrev pub task_effect : Config → ℕ → TaskPart → TaskInput → Result (Done TaskPart) Fault
 task_effect config task part (Submit node object operation arg) =
     calls_if task node part (may_call config node part (next_call task part object operation arg) part.outstanding)

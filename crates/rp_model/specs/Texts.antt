@@ -1,4 +1,4 @@
--- What is written for a record (this project's own).
+-- What is written for a record.
 use Rattle.std.specs.Prelude.{ℕ, List}
 use Rattle.rp_base.specs.declared.record.Rec.{Rec}
 use Rattle.rp_codec.specs.Record.{record_text}

@@ -1,5 +1,4 @@
--- A world, and what an event does to it: the event picks one actor's part, and puts the part after back
--- (this project's own).
+-- A world, and what an event does to it: the event picks one actor's part, and puts the part after back.
 use Rattle.std.specs.Prelude.{ℕ, zero, suc, Option, Some, None, Result, Ok, Err, List, [], ◌++◌, replicate, slice_get}
 use Rattle.std.specs.Prelude.{slice_set}
 use Rattle.rp_base.specs.declared.reply.Answer.{Answer}
@@ -33,9 +32,9 @@ pub record World : Type 0 where
 abbrev pub opening_world : ℕ → World
 opening_world nodes = record { nodes = replicate nodes fresh_node; tasks = replicate 8 fresh_task; sent = [] }
 
--- What an event comes to: the world after it, the packets that it sent, what was dropped, the reply that a
--- task took, and the numbers of records and torn bytes that a restart found.
-pub record Happening : Type 0 where
+-- The result of an event: the world after it, the packets that it sent, what was dropped, the reply that a task took,
+-- and the numbers of records and torn bytes that a restart found.
+pub record Transition : Type 0 where
   pub world : World
   pub sends : List Message
   pub dropped : Dropped
@@ -53,11 +52,11 @@ with_part parts zero part = parts
 with_part parts (suc place) part = slice_set parts place part
 
 -- nothing happens
-abbrev pub nothing_happens : World → Happening
+abbrev pub nothing_happens : World → Transition
 nothing_happens w = record { world = w; sends = []; dropped = No; taken = None; opened = None }
 
--- what comes of an actor's step stands in the world: its part is put back, and its packets are sent
-abbrev pub node_done : World → ℕ → Done NodePart → Happening
+-- the result of an actor's step is in the world: its part is put back, and its packets are sent
+abbrev pub node_done : World → ℕ → Done NodePart → Transition
 node_done w me done = record {
   world = record { nodes = with_part w.nodes me done.part; tasks = w.tasks; sent = w.sent ++ done.sends };
   sends = done.sends;
@@ -66,7 +65,7 @@ node_done w me done = record {
   opened = done.opened;
 }
 
-abbrev pub task_done : World → ℕ → Done TaskPart → Happening
+abbrev pub task_done : World → ℕ → Done TaskPart → Transition
 task_done w task done = record {
   world = record { nodes = w.nodes; tasks = with_part w.tasks task done.part; sent = w.sent ++ done.sends };
   sends = done.sends;
@@ -75,53 +74,54 @@ task_done w task done = record {
   opened = done.opened;
 }
 
-abbrev pub node_done_if : World → ℕ → Result (Done NodePart) Fault → Result Happening Fault
+abbrev pub node_done_if : World → ℕ → Result (Done NodePart) Fault → Result Transition Fault
 node_done_if w me (Ok done) = Ok (node_done w me done)
 node_done_if w me (Err fault) = Err fault
 
-abbrev pub task_done_if : World → ℕ → Result (Done TaskPart) Fault → Result Happening Fault
+abbrev pub task_done_if : World → ℕ → Result (Done TaskPart) Fault → Result Transition Fault
 task_done_if w task (Ok done) = Ok (task_done w task done)
 task_done_if w task (Err fault) = Err fault
 
 -- a task's input, where there is a task of this number
-abbrev pub task_takes : Config → World → ℕ → TaskInput → Option TaskPart → Result Happening Fault
+abbrev pub task_takes : Config → World → ℕ → TaskInput → Option TaskPart → Result Transition Fault
 task_takes config w task input None = Err BadConfig
 task_takes config w task input (Some part) = task_done_if w task (task_effect config task part input)
 
--- a packet comes to a task; to none it is lost
-abbrev pub task_is_told : Config → World → ℕ → Message → Option TaskPart → Result Happening Fault
-task_is_told config w task message None = Ok (nothing_happens w)
-task_is_told config w task message (Some part) = task_done_if w task (task_effect config task part (tasks.Take message))
+-- a packet arrives at a task; to none it is lost
+abbrev pub task_receives : Config → World → ℕ → Message → Option TaskPart → Result Transition Fault
+task_receives config w task message None = Ok (nothing_happens w)
+task_receives config w task message (Some part) =
+    task_done_if w task (task_effect config task part (tasks.Take message))
 
 -- a node's input, where there is a node of this number
-abbrev pub node_takes : {S : Type 0} → Setting S → World → ℕ → NodeInput → Option NodePart → Result Happening Fault
+abbrev pub node_takes : {S : Type 0} → Setting S → World → ℕ → NodeInput → Option NodePart → Result Transition Fault
 node_takes s w me input None = Err BadConfig
 node_takes s w me input (Some part) = node_done_if w me (node_effect s me part input)
 
--- a packet comes to a node that runs; one that is stopped loses it
+-- a packet arrives at a node that runs; one that is stopped loses it
 abbrev pub node_hears : {S : Type 0} → Setting S → World → ℕ → Message → NodePart → Option Running
-    → Result Happening Fault
+    → Result Transition Fault
 node_hears s w me message part None = Ok (nothing_happens w)
 node_hears s w me message part (Some running) = node_done_if w me (node_effect s me part (nodes.Receive message))
 
--- a packet comes to the node of this number; to none it is lost
-abbrev pub node_is_told : {S : Type 0} → Setting S → World → ℕ → Message → Option NodePart → Result Happening Fault
-node_is_told s w me message None = Ok (nothing_happens w)
-node_is_told s w me message (Some part) = node_hears s w me message part part.running
+-- a packet arrives at the node of this number; to none it is lost
+abbrev pub node_receives : {S : Type 0} → Setting S → World → ℕ → Message → Option NodePart → Result Transition Fault
+node_receives s w me message None = Ok (nothing_happens w)
+node_receives s w me message (Some part) = node_hears s w me message part part.running
 
--- a packet comes to whom it is for
-abbrev pub arrives : {S : Type 0} → Setting S → World → Message → Party → Result Happening Fault
-arrives s w message (Node me) = node_is_told s w me message (part_at w.nodes me)
-arrives s w message (Task task) = task_is_told s.config w task message (part_at w.tasks task)
+-- a packet arrives at its receiver
+abbrev pub arrives : {S : Type 0} → Setting S → World → Message → Party → Result Transition Fault
+arrives s w message (Node me) = node_receives s w me message (part_at w.nodes me)
+arrives s w message (Task task) = task_receives s.config w task message (part_at w.tasks task)
 arrives s w message Audit = Ok (nothing_happens w)
 
 -- a packet that was sent is delivered, if there is one of this number
-abbrev pub delivers : {S : Type 0} → Setting S → World → Option Message → Result Happening Fault
+abbrev pub delivers : {S : Type 0} → Setting S → World → Option Message → Result Transition Fault
 delivers s w None = Err NoSuchMessage
 delivers s w (Some message) = arrives s w message message.to
 
 -- a node's step
-abbrev pub step_effect : {S : Type 0} → Setting S → World → Step → Result Happening Fault
+abbrev pub step_effect : {S : Type 0} → Setting S → World → Step → Result Transition Fault
 step_effect s w (Deliver number) = delivers s w (part_at w.sent number)
 step_effect s w (Lead me choice) = node_takes s w me (nodes.Lead choice) (part_at w.nodes me)
 step_effect s w (LeadRange me first count) = node_takes s w me (nodes.LeadRange first count) (part_at w.nodes me)
@@ -133,27 +133,28 @@ step_effect s w (Report me first) = node_takes s w me (nodes.Report first) (part
 -- ---- a stop within a step
 
 -- a node's input is cut, where there is a node of this number
-abbrev pub node_is_cut : {S : Type 0} → Setting S → World → ℕ → NodeInput → ℕ → Option NodePart → Result Happening Fault
+abbrev pub node_is_cut : {S : Type 0} → Setting S → World → ℕ → NodeInput → ℕ → Option NodePart
+    → Result Transition Fault
 node_is_cut s w me input kept None = Err BadConfig
 node_is_cut s w me input kept (Some part) = node_done_if w me (cut_effect s me part input kept)
 
 -- a packet that goes to a node; one that goes to no node of these is no step to be cut
 abbrev pub hearing_is_cut : {S : Type 0} → Setting S → World → Message → ℕ → Option NodePart → ℕ
-    → Result Happening Fault
+    → Result Transition Fault
 hearing_is_cut s w message me None kept = Err NotRunning
 hearing_is_cut s w message me (Some part) kept = node_done_if w me (cut_effect s me part (nodes.Receive message) kept)
 
-abbrev pub arrival_is_cut : {S : Type 0} → Setting S → World → Message → Party → ℕ → Result Happening Fault
+abbrev pub arrival_is_cut : {S : Type 0} → Setting S → World → Message → Party → ℕ → Result Transition Fault
 arrival_is_cut s w message (Node me) kept = hearing_is_cut s w message me (part_at w.nodes me) kept
 arrival_is_cut s w message (Task task) kept = Err NotRunning
 arrival_is_cut s w message Audit kept = Err NotRunning
 
-abbrev pub delivery_is_cut : {S : Type 0} → Setting S → World → Option Message → ℕ → Result Happening Fault
+abbrev pub delivery_is_cut : {S : Type 0} → Setting S → World → Option Message → ℕ → Result Transition Fault
 delivery_is_cut s w None kept = Err NoSuchMessage
 delivery_is_cut s w (Some message) kept = arrival_is_cut s w message message.to kept
 
--- a node's step, cut where so many bytes of its record are kept
-abbrev pub cut_step : {S : Type 0} → Setting S → World → Step → ℕ → Result Happening Fault
+-- a node's step, cut where n bytes of its record are kept
+abbrev pub cut_step : {S : Type 0} → Setting S → World → Step → ℕ → Result Transition Fault
 cut_step s w (Deliver number) kept = delivery_is_cut s w (part_at w.sent number) kept
 cut_step s w (Lead me choice) kept = node_is_cut s w me (nodes.Lead choice) kept (part_at w.nodes me)
 cut_step s w (LeadRange me first count) kept =
@@ -165,16 +166,16 @@ cut_step s w (Report me first) kept = node_is_cut s w me (nodes.Report first) ke
 
 -- ---- stops and restarts
 
-abbrev pub stops : World → ℕ → Option NodePart → Result Happening Fault
+abbrev pub stops : World → ℕ → Option NodePart → Result Transition Fault
 stops w me None = Err BadConfig
 stops w me (Some part) = node_done_if w me (stop_effect part)
 
-abbrev pub restarts : World → ℕ → Option NodePart → Result Happening Fault
+abbrev pub restarts : World → ℕ → Option NodePart → Result Transition Fault
 restarts w me None = Err BadConfig
 restarts w me (Some part) = Ok (node_done w me (restart_part part))
 
--- The effect of an event: what it comes to, or the refusal, after which the world is as it was.
-abbrev pub event_effect : {S : Type 0} → Setting S → World → Event → Result Happening Fault
+-- The effect of an event: its result, or the refusal, after which the world is as it was.
+abbrev pub event_effect : {S : Type 0} → Setting S → World → Event → Result Transition Fault
 event_effect s w (Submit task node object operation arg) =
     task_takes s.config w task (tasks.Submit node object operation arg) (part_at w.tasks task)
 event_effect s w (Again task node) = task_takes s.config w task (tasks.Again node) (part_at w.tasks task)
@@ -214,7 +215,7 @@ node_of w (Cut step kept) = stepping w step
 node_of w (Stop me) = Some me
 node_of w (Restart me) = Some me
 
--- the record that a node writes first by what an input comes to, if it does
+-- the record that a node writes first by the result of an input, if it does
 abbrev pub written_by : Result (Done NodePart) Fault → Option Rec
 written_by (Ok done) = done.written
 written_by (Err fault) = None

@@ -1,4 +1,4 @@
-//! What an event came to, as a step tells it.
+//! The result of an event, as a step returns it.
 
 use rp_base::Answer;
 
@@ -14,7 +14,7 @@ pub enum Dropped {
     Foreign,
 }
 
-/// What an event came to.
+/// The result of an event.
 #[derive(Clone, Copy, Debug, PartialEq, Eq)]
 pub struct Effect {
     /// The number of the first message that was sent, or would have been.

@@ -59,7 +59,7 @@ pub enum Event {
     },
     /// A node makes a step.
     Node(Step),
-    /// A node stops within a step: so many bytes of the step's record are kept, or all if there are no
+    /// A node stops within a step: n bytes of the step's record are kept, or all if there are no
     /// more, and nothing is sent.
     Cut {
         step: Step,
@@ -85,7 +85,7 @@ impl Event {
                 operation,
                 arg,
             } => {
-                let _ = (task.get(), node.get(), index_of(operation));
+                let _ = (task.get(), node.get(), operation_index(operation));
                 call_keeps_ranges(object, arg);
             }
             Event::Again { task, node } => {
@@ -131,7 +131,7 @@ impl Step {
 }
 
 /// The index of an operation, which is within its range.
-fn index_of(operation: Operation) -> u8
+fn operation_index(operation: Operation) -> u8
     ensures { IsOperation operation }
 {
     match operation {

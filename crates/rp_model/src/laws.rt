@@ -7,7 +7,7 @@ ghost use Rattle.rp_base.specs.declared.fault.Fault.TheVariants.{Device};
 ghost use Rattle.rp_base.specs.declared.record.Rec.{Rec};
 ghost use Rattle.rp_model.specs.Effect.{Setting, NodeInput, running_effect};
 ghost use Rattle.rp_model.specs.Events.{Event};
-ghost use Rattle.rp_model.specs.World.{World, Happening, event_effect};
+ghost use Rattle.rp_model.specs.World.{World, Transition, event_effect};
 ghost use Rattle.rp_model.specs.Forgetting.{KnowsAlike, AreAlikeAnswers};
 ghost use Rattle.rp_model.specs.Parts.{Running};
 ghost use Rattle.rp_model.specs.Facts.{IsOrder};
@@ -25,9 +25,9 @@ pub fn applied_grows()
 /// An event's effect adds packets at the end of those that were sent, and each node's records and
 /// applied list grow at their ends. No node comes or goes.
 pub fn worlds_grow<M: Machine>()
-    ensures { (setting : Setting M) (before : World) (event : Event) (happening : Happening)
-        → event_effect setting before event ≡ Ok happening
-        → Grows before happening }
+    ensures { (setting : Setting M) (before : World) (event : Event) (transition : Transition)
+        → event_effect setting before event ≡ Ok transition
+        → Grows before transition }
 {}
 
 /// No event is refused with `Device`: that is answered where a device failed, and nowhere else.
@@ -41,8 +41,8 @@ pub fn nothing_is_decided_at_first()
     ensures { (nodes : ℕ) (order : List Action) → IsOrder nodes [] order → order ≡ [] }
 {}
 
-/// Votes that a node heard at positions that it has learned change nothing that an input comes to, and
-/// may be forgotten.
+/// Votes that a node heard at positions that it has learned change nothing that an input results
+/// in, and may be forgotten.
 pub fn old_votes_change_nothing<M: Machine>()
     ensures { (setting : Setting M) (me : ℕ) (records : List Rec) (one other : Running)
         (input : NodeInput)

@@ -3,7 +3,7 @@
 //! In reading order:
 //! - `interrupt`: an occurrence of an interrupt
 //! - `event`: what can happen in a world
-//! - `effect`: what an event came to, as a step tells it
+//! - `effect`: the result of an event, as a step returns it
 //! - `right`: actions whose numbers are known to be within their ranges
 //! - `laws`: what every event keeps, at any machine
 #![tactic(auto)]

@@ -31,7 +31,7 @@ use Rattle.rp_object.specs.Program.{DeclarationFits}
 use Rattle.rp_object.specs.State.{ProgramState, Running, name_of}
 use Rattle.rp_object.specs.Step.{Result, object_acts, asks, with_object, called, own_answer, waiting_at, tasks_of}
 use Rattle.rp_object.specs.Reached.{HaveQueues}
-use Rattle.rp_object.specs.Held.{IsMade, IsHeld, tasks_at, waiting_count}
+use Rattle.rp_object.specs.InMemory.{IsMade, AreObjects, tasks_at, waiting_count}
 use Rattle.rp_object.specs.MachineLaws.Queues.{acts_many}
 use Rattle.rp_object.specs.MachineLaws.Distinct.{set_right}
 use Rattle.rp_object.specs.MachineLaws.Accounting.{map_append, one_leaves, among, has_each, called_leaves}
@@ -46,38 +46,38 @@ of_number xs (suc place) x some within read =
     slice_get_read xs (length xs) place x refl (omega arith) (rw same at read)
 
 -- what one object does is what the program does
-pub asks_one : (state : ProgramState) (number : ℕ) (request : Request) (object new : Protected) (caller : Option CallOutcome) (told : List Answer)
+pub asks_one : (state : ProgramState) (number : ℕ) (request : Request) (object new : Protected) (caller : Option CallOutcome) (replied : List Answer)
     → 1 ≤ number → number ≤ length state.objects → object ≡ get_or state.objects (number - 1) object
-    → Acts object.operations object.state request caller told new.state → new.operations ≡ object.operations
-    → asks state number request ≡ record { caller = caller; told = told; after = record state { objects = set state.objects (number - 1) new } }
-asks_one state number request object new caller told some within read acts operations =
-    let did = (acts_acted object.operations object.state request (record { caller = caller; told = told; after = new.state })).0 acts in
+    → Acts object.operations object.state request caller replied new.state → new.operations ≡ object.operations
+    → asks state number request ≡ record { caller = caller; replied = replied; after = record state { objects = set state.objects (number - 1) new } }
+asks_one state number request object new caller replied some within read acts operations =
+    let did = (acts_acted object.operations object.state request (record { caller = caller; replied = replied; after = new.state })).0 acts in
     ap (object_acts state number request) (of_number state.objects number object some within read)
-    ∙ ap (λ (d : Acted). record { caller = d.caller; told = d.told; after = with_object state number (record object { state = d.after }) }) did
-    ∙ ap (λ (o : Operations). record { caller = caller; told = told; after = with_object state number (record { operations = o; state = new.state }) }) (sym operations)
+    ∙ ap (λ (d : Acted). record { caller = d.caller; replied = d.replied; after = with_object state number (record object { state = d.after }) }) did
+    ∙ ap (λ (o : Operations). record { caller = caller; replied = replied; after = with_object state number (record { operations = o; state = new.state }) }) (sym operations)
 
 -- the same, as the code does it
-pub asks_at : {held now : Running} → held ≡ now → {from number : ℕ} → from ≡ number → {asked request : Request} → asked ≡ request → (object new : Protected) (caller : Option CallOutcome) (told : List Answer)
+pub asks_at : {held now : Running} → held ≡ now → {from number : ℕ} → from ≡ number → {asked request : Request} → asked ≡ request → (object new : Protected) (caller : Option CallOutcome) (replied : List Answer)
     → 1 ≤ number → number ≤ length now.state.objects → object ≡ get_or held.state.objects (from - 1) object
-    → Acts object.operations object.state asked caller told new.state → new.operations ≡ object.operations
-    → asks now.state number request ≡ record { caller = caller; told = told; after = record held.state { objects = set held.state.objects (from - 1) new } }
-asks_at {held} {now} is {from} {number} same {asked} {request} equal object new caller told some within read acts operations =
+    → Acts object.operations object.state asked caller replied new.state → new.operations ≡ object.operations
+    → asks now.state number request ≡ record { caller = caller; replied = replied; after = record held.state { objects = set held.state.objects (from - 1) new } }
+asks_at {held} {now} is {from} {number} same {asked} {request} equal object new caller replied some within read acts operations =
     let place : from - 1 ≡ number - 1 = ap (λ (n : ℕ). n - 1) same in
     let there : number ≤ length held.state.objects = subst (λ (r : Running). number ≤ length r.state.objects) (sym is) within in
     let found : object ≡ get_or held.state.objects (number - 1) object = subst (λ (n : ℕ). object ≡ get_or held.state.objects n object) place read in
-    let does = subst (λ (r : Request). Acts object.operations object.state r caller told new.state) equal acts in
-    ap (λ (r : Running). asks r.state number request) (sym is) ∙ asks_one held.state number request object new caller told some there found does operations
-    ∙ ap (λ (n : ℕ). record { caller = caller; told = told; after = record held.state { objects = set held.state.objects n new } }) (sym place)
+    let does = subst (λ (r : Request). Acts object.operations object.state r caller replied new.state) equal acts in
+    ap (λ (r : Running). asks r.state number request) (sym is) ∙ asks_one held.state number request object new caller replied some there found does operations
+    ∙ ap (λ (n : ℕ). record { caller = caller; replied = replied; after = record held.state { objects = set held.state.objects n new } }) (sym place)
 
 -- the same of an action that leaves its object as it is
-pub asks_still : {held now : Running} → held ≡ now → {from number : ℕ} → from ≡ number → {asked request : Request} → asked ≡ request → (object : Protected) (caller : Option CallOutcome) (told : List Answer)
+pub asks_still : {held now : Running} → held ≡ now → {from number : ℕ} → from ≡ number → {asked request : Request} → asked ≡ request → (object : Protected) (caller : Option CallOutcome) (replied : List Answer)
     → 1 ≤ number → number ≤ length now.state.objects → object ≡ get_or held.state.objects (from - 1) object
-    → Acts object.operations object.state asked caller told object.state
-    → asks now.state number request ≡ record { caller = caller; told = told; after = now.state }
-asks_still {held} {now} is {from} {number} same equal object caller told some within read acts =
-    asks_at is same equal object object caller told some within read acts refl
-    ∙ ap (λ (l : List Protected). record { caller = caller; told = told; after = record held.state { objects = l } }) (ap (set held.state.objects (from - 1)) read ∙ set-get_or held.state.objects (from - 1) object)
-    ∙ ap (λ (r : Running). record { caller = caller; told = told; after = r.state }) is
+    → Acts object.operations object.state asked caller replied object.state
+    → asks now.state number request ≡ record { caller = caller; replied = replied; after = now.state }
+asks_still {held} {now} is {from} {number} same equal object caller replied some within read acts =
+    asks_at is same equal object object caller replied some within read acts refl
+    ∙ ap (λ (l : List Protected). record { caller = caller; replied = replied; after = record held.state { objects = l } }) (ap (set held.state.objects (from - 1)) read ∙ set-get_or held.state.objects (from - 1) object)
+    ∙ ap (λ (r : Running). record { caller = caller; replied = replied; after = r.state }) is
 
 -- ---- a task waits at one place at most
 
@@ -111,7 +111,7 @@ still_made (d ∷ declared) (o ∷ objects) (suc place) object new made there op
 
 module _ {program : Declarations} {timers : List (Option ℤ)} where
   -- nobody joins them
-  pub nobody_joins : (objects : List Protected) (request : Request) (caller : Option CallOutcome) → IsHeld program objects timers → joins request caller ≡ [] → MayJoin objects request caller
+  pub nobody_joins : (objects : List Protected) (request : Request) (caller : Option CallOutcome) → AreObjects program objects timers → joins request caller ≡ [] → MayJoin objects request caller
   nobody_joins objects request caller held none =
       let all : tasks_of (flat_map waiting_at objects) ≡ tasks_of (map name_of (joins request caller) ++ flat_map waiting_at objects) = ap (λ (l : List Waiting). tasks_of (map name_of l ++ flat_map waiting_at objects)) (sym none) in
       record {
@@ -120,7 +120,7 @@ module _ {program : Declarations} {timers : List (Option ℤ)} where
       }
 
   -- a call of a task that waits nowhere may
-  pub caller_joins : (objects : List Protected) (index : ℕ) (call : Waiting) (caller : Option CallOutcome) → IsHeld program objects timers → IsTask call.task → ¬ Has call.task (tasks_at objects) → MayJoin objects (calls_entry index call) caller
+  pub caller_joins : (objects : List Protected) (index : ℕ) (call : Waiting) (caller : Option CallOutcome) → AreObjects program objects timers → IsTask call.task → ¬ Has call.task (tasks_at objects) → MayJoin objects (calls_entry index call) caller
   caller_joins objects index call None held task free = nobody_joins objects (calls_entry index call) None held refl
   caller_joins objects index call (Some (Reply reply)) held task free = nobody_joins objects (calls_entry index call) (Some (Reply reply)) held refl
   caller_joins objects index call (Some Waits) held task free = record {
@@ -128,23 +128,23 @@ module _ {program : Declarations} {timers : List (Option ℤ)} where
     apart = (free, held.apart);
   }
 
-  pub held_each : (objects : List Protected) → IsHeld program objects timers → HaveQueues objects
-  held_each objects held = made_each program.objects.items objects (recursion_from_All DeclarationFits program.objects.items held.right.objects) held.made
+  pub objects_each : (objects : List Protected) → AreObjects program objects timers → HaveQueues objects
+  objects_each objects held = made_each program.objects.items objects (recursion_from_All DeclarationFits program.objects.items held.right.objects) held.made
 
-  module _ (objects : List Protected) (place : ℕ) (object new : Protected) (request : Request) (caller : Option CallOutcome) (told : List Answer) (held : IsHeld program objects timers)
-      (below : place < length objects) (read : object ≡ get_or objects place object) (acts : Acts object.operations object.state request caller told new.state) where
+  module _ (objects : List Protected) (place : ℕ) (object new : Protected) (request : Request) (caller : Option CallOutcome) (replied : List Answer) (held : AreObjects program objects timers)
+      (below : place < length objects) (read : object ≡ get_or objects place object) (acts : Acts object.operations object.state request caller replied new.state) where
     at_place : slice_get objects place ≡ Some object
     at_place = slice_get_read objects (length objects) place object refl below read
 
     -- those that wait, the one that joins them, those that are answered and those that wait after
-    leaves : Perm (map name_of (joins request caller) ++ flat_map waiting_at objects) (map call_of told ++ flat_map waiting_at (set objects place new))
-    leaves = among objects place object new (map name_of (joins request caller)) (map call_of told) at_place (one_leaves (has_each objects place object (held_each objects held) at_place) acts)
+    leaves : Perm (map name_of (joins request caller) ++ flat_map waiting_at objects) (map call_of replied ++ flat_map waiting_at (set objects place new))
+    leaves = among objects place object new (map name_of (joins request caller)) (map call_of replied) at_place (one_leaves (has_each objects place object (objects_each objects held) at_place) acts)
 
     -- an action keeps what is held
-    pub held_after : new.operations ≡ object.operations → MayJoin objects request caller → IsHeld program (set objects place new) timers
-    held_after operations may =
+    pub objects_after : new.operations ≡ object.operations → MayJoin objects request caller → AreObjects program (set objects place new) timers
+    objects_after operations may =
         let task_of : CallName → ℕ = λ call. call.task in
-        let answered = map call_of told in
+        let answered = map call_of replied in
         let waiting = flat_map waiting_at (set objects place new) in
         let perm = mapped_permuted task_of leaves in
         let apart : tasks_of (answered ++ waiting) ≡ tasks_of answered ++ tasks_of waiting = map_append task_of answered waiting in
@@ -158,29 +158,29 @@ module _ {program : Declarations} {timers : List (Option ℤ)} where
         }
 
     -- who is answered where nobody joins waited
-    pub answered_count : joins request caller ≡ [] → length told + waiting_count (set objects place new) ≡ waiting_count objects
+    pub answered_count : joins request caller ≡ [] → length replied + waiting_count (set objects place new) ≡ waiting_count objects
     answered_count none =
         let waiting = flat_map waiting_at (set objects place new) in
-        omega (arith, length_permuted leaves, ap (λ (l : List Waiting). length (map name_of l ++ flat_map waiting_at objects)) none, length-append (map call_of told) waiting, length-map told call_of)
+        omega (arith, length_permuted leaves, ap (λ (l : List Waiting). length (map name_of l ++ flat_map waiting_at objects)) none, length-append (map call_of replied) waiting, length-map replied call_of)
 
   -- no more wait than there are tasks
-  pub count_short : (objects : List Protected) → IsHeld program objects timers → waiting_count objects ≤ 8
+  pub count_short : (objects : List Protected) → AreObjects program objects timers → waiting_count objects ≤ 8
   count_short objects held = omega (arith, few_tasks (tasks_at objects) held.apart held.tasks, length-map (flat_map waiting_at objects) (λ (call : CallName). call.task))
 
   -- a call of a task that waits nowhere has its own answer and those of others, no more than there are tasks
-  pub few_answers : (state : ProgramState) (call : Waiting) (object : ℕ) (operation : Operation) (outcome : CallOutcome) (told : List Answer) (after : ProgramState)
-      → IsHeld program state.objects timers → IsTask call.task → ¬ Has call.task (tasks_at state.objects)
-      → called program state call object operation ≡ record { caller = Some outcome; told = told; after = after }
-      → length (own_answer (name_of call) (Some outcome)) + length told ≤ 8
-  few_answers state call object operation outcome told after held task free does =
+  pub few_answers : (state : ProgramState) (call : Waiting) (object : ℕ) (operation : Operation) (outcome : CallOutcome) (replied : List Answer) (after : ProgramState)
+      → AreObjects program state.objects timers → IsTask call.task → ¬ Has call.task (tasks_at state.objects)
+      → called program state call object operation ≡ record { caller = Some outcome; replied = replied; after = after }
+      → length (own_answer (name_of call) (Some outcome)) + length replied ≤ 8
+  few_answers state call object operation outcome replied after held task free does =
       let all = flat_map waiting_at state.objects in
       let own = own_answer (name_of call) (Some outcome) in
       let waiting = flat_map waiting_at after.objects in
-      let perm : Perm (name_of call ∷ all) (map call_of (own ++ told) ++ waiting) = subst (λ (r : Result). Perm (name_of call ∷ all) (map call_of (own_answer (name_of call) r.caller ++ r.told) ++ flat_map waiting_at r.after.objects)) does
-      (called_leaves program state (sym held.all_objects) (held_each state.objects held) call object operation) in
+      let perm : Perm (name_of call ∷ all) (map call_of (own ++ replied) ++ waiting) = subst (λ (r : Result). Perm (name_of call ∷ all) (map call_of (own_answer (name_of call) r.caller ++ r.replied) ++ flat_map waiting_at r.after.objects)) does
+      (called_leaves program state (sym held.all_objects) (objects_each state.objects held) call object operation) in
       let inside : (other : ℕ) → Has other (call.task ∷ tasks_at state.objects) → IsTask other = λ other has. elim has [ inl is ↦ subst IsTask (sym is) task | inr was ↦ held.tasks other was ] in
       let few = few_tasks (call.task ∷ tasks_at state.objects) (free, held.apart) inside in
-      omega (arith, few, length_permuted perm, length-append (map call_of (own ++ told)) waiting, length-map (own ++ told) call_of, length-append own told, length-map all (λ (c : CallName). c.task))
+      omega (arith, few, length_permuted perm, length-append (map call_of (own ++ replied)) waiting, length-map (own ++ replied) call_of, length-append own replied, length-map all (λ (c : CallName). c.task))
 
 -- no call of the action's own task waits
 pub task_free : (waiting : List CallName) (task number object : ℕ) (operation : Operation) (arg : ℤ) → MayApply waiting (Call task number object operation arg) → ¬ Has task (tasks_of waiting)
@@ -195,11 +195,11 @@ place_below {held} {now} is {from} {number} same some within =
     omega (arith, same, some, there)
 
 -- who is answered at an event waited
-pub events_count : {program : Declarations} {timers : List (Option ℤ)} {held now : Running} → held ≡ now → {place index : ℕ} → (object new : Protected) → {told : List Answer} → IsHeld program held.state.objects timers → place < length held.state.objects → object ≡ get_or held.state.objects place object
-    → Acts object.operations object.state (event index) None told new.state
-    → length told + waiting_count (set held.state.objects place new) ≡ waiting_count now.state.objects
-events_count {held = held} is {place} {index} object new {told} holds below read acts =
-    answered_count held.state.objects place object new (event index) None told holds below read acts refl ∙ ap (λ (r : Running). waiting_count r.state.objects) is
+pub events_count : {program : Declarations} {timers : List (Option ℤ)} {held now : Running} → held ≡ now → {place index : ℕ} → (object new : Protected) → {replied : List Answer} → AreObjects program held.state.objects timers → place < length held.state.objects → object ≡ get_or held.state.objects place object
+    → Acts object.operations object.state (event index) None replied new.state
+    → length replied + waiting_count (set held.state.objects place new) ≡ waiting_count now.state.objects
+events_count {held = held} is {place} {index} object new {replied} holds below read acts =
+    answered_count held.state.objects place object new (event index) None replied holds below read acts refl ∙ ap (λ (r : Running). waiting_count r.state.objects) is
 
 -- ---- who waits at one object
 

@@ -4,7 +4,7 @@ use Rattle.std.specs.Prelude.{int_le, slice_get, ◌↔◌}
 use Rattle.rp_base.specs.Sets.{Has}
 use Rattle.rp_entry.specs.Operations.{of_index}
 use Rattle.rp_object.specs.Timers.{Setting, is_before, due_from, with_setting, sorted}
-use Rattle.rp_entry.proofs.Permuting.{Perm, same, behind, swap, chain, back, has_permuted}
+use Rattle.rp_entry.proofs.Permuting.{Perm, same, following, swap, chain, back, has_permuted}
 
 -- ---- the list of those that are due
 
@@ -12,12 +12,12 @@ use Rattle.rp_entry.proofs.Permuting.{Perm, same, behind, swap, chain, back, has
 with_permuted : (s : Setting) (xs : List Setting) → Perm (s ∷ xs) (with_setting s xs)
 with_permuted s [] = same
 with_permuted s (x ∷ xs) =
-    elim (is_before s x) as (λ b. Perm (s ∷ x ∷ xs) (cond b (s ∷ x ∷ xs) (x ∷ with_setting s xs))) [ true ↦ same | false ↦ chain swap (behind (with_permuted s xs)) ]
+    elim (is_before s x) as (λ b. Perm (s ∷ x ∷ xs) (cond b (s ∷ x ∷ xs) (x ∷ with_setting s xs))) [ true ↦ same | false ↦ chain swap (following (with_permuted s xs)) ]
 
 -- sorting loses none and adds none
 pub sorted_permuted : (xs : List Setting) → Perm xs (sorted xs)
 sorted_permuted [] = same
-sorted_permuted (x ∷ xs) = chain (behind (sorted_permuted xs)) (with_permuted x (sorted xs))
+sorted_permuted (x ∷ xs) = chain (following (sorted_permuted xs)) (with_permuted x (sorted xs))
 
 -- those that are due are set for a time at or below the clock, and none is left out
 abbrev IsDueFrom : ℕ → ℕ → List (Option ℤ) → Setting → Type 0

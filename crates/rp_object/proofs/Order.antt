@@ -1,4 +1,4 @@
--- Settings that are sorted stand in order.
+-- Settings that are sorted are in order.
 use Rattle.std.proofs.Common.{◌≡◌, ◌<◌, ◌≤◌, ◌⊎◌, inl, inr, ℕ, ℤ, true, false, cond, ◌&&◌, ◌||◌, List, [], ◌∷◌, refl, sym, ◌∙◌, ap, ap₂, arith}
 use Rattle.std.specs.Prelude.{int_lt, nat_lt}
 use Rattle.std.specs.Ordering.{int_eq}
@@ -34,7 +34,7 @@ is_so : (s x : Setting) → is_before s x ≡ true → IsBefore s x
 is_so s x test = decide (ranks s x) where
   decide : Ranks s x → IsBefore s x
   decide (first before) = before
-  decide (after behind) = absurd (false≢true (sym (not_after x s behind) ∙ test))
+  decide (after following) = absurd (false≢true (sym (not_after x s following) ∙ test))
   decide (equal e) = absurd (false≢true (sym (not_itself x) ∙ sym (ap (λ (z : Setting). is_before z x) e) ∙ test))
 
 before_on : (s x y : Setting) → IsBefore s x → IsBefore x y → IsBefore s y
@@ -48,7 +48,7 @@ not_earlier : (s x y : Setting) → is_before s x ≡ true → is_before y x ≡
 not_earlier s x y earlier test = decide (ranks y s) where
   decide : Ranks y s → is_before y s ≡ false
   decide (first before) = absurd (false≢true (sym test ∙ before_true y x (before_on y s x before (is_so s x earlier))))
-  decide (after behind) = not_after s y behind
+  decide (after following) = not_after s y following
   decide (equal e) = ap (λ (z : Setting). is_before z s) e ∙ not_itself s
 
 none_earlier : (s x : Setting) (ys : List Setting) → is_before s x ≡ true → NoneBefore x ys → NoneBefore s ys

@@ -10,7 +10,7 @@ use Rattle.rp_object.specs.declared.program.Declarations.{Declarations}
 use Rattle.rp_object.specs.Program.{operations_of, DeclarationFits, IsProgram}
 use Rattle.rp_object.specs.State.{Running, first_object, unset, first_state}
 use Rattle.rp_object.specs.Step.{tasks_of}
-use Rattle.rp_object.specs.Held.{IsMade, IsHeld, tasks_at}
+use Rattle.rp_object.specs.InMemory.{IsMade, AreObjects, tasks_at}
 use Rattle.rp_object.specs.MachineLaws.First.{nobody}
 
 made_first : (declared : List ObjectDeclaration) → AllByRecursion DeclarationFits declared → AllZip IsMade declared (map first_object declared)
@@ -18,8 +18,8 @@ made_first [] fits = tt
 made_first (one ∷ rest) fits = (record { operations = refl; queues = length-map (operations_of one).entries.items (λ entry. []) ∙ sym fits.0.entries }, made_first rest fits.1)
 
 -- the start is held
-pub held_first : (program : Declarations) (objects : List Protected) (timers : List (Option ℤ)) → IsProgram program → objects ≡ map first_object program.objects.items → length timers ≡ length program.timers.items → IsHeld program objects timers
-held_first program objects timers right first long =
+pub objects_first : (program : Declarations) (objects : List Protected) (timers : List (Option ℤ)) → IsProgram program → objects ≡ map first_object program.objects.items → length timers ≡ length program.timers.items → AreObjects program objects timers
+objects_first program objects timers right first long =
     let none : tasks_at objects ≡ [] = ap (λ (l : List Protected). tasks_at l) first ∙ ap tasks_of (nobody program.objects.items) in
     record {
       right = right;

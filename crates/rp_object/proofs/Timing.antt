@@ -63,7 +63,7 @@ goes_first : (s : Setting) (xs : List Setting) → BeforeAll s xs → with_setti
 goes_first s [] all = refl
 goes_first s (x ∷ xs) all = ap (λ b. cond b (s ∷ x ∷ xs) (x ∷ with_setting s xs)) (before_true s x all.0)
 
--- the setting before all others comes first, and behind it the others are sorted
+-- the setting before all others comes first, and after it the others are sorted
 sorted_first : (s : Setting) (xs ys : List Setting) → BeforeAll s xs → BeforeAll s ys → sorted (xs ++ s ∷ ys) ≡ s ∷ sorted (xs ++ ys)
 sorted_first s [] ys first second = goes_first s (sorted ys) (sorted_keeps s ys second)
 sorted_first s (x ∷ xs) ys first second =
@@ -95,12 +95,12 @@ due_append clock number (Some time ∷ xs) ys =
 -- the best so far, of the first timing events: none is due, or one, and it is before the others that are due
 pub record Best (clock : ℕ) (seen : List (Option ℤ)) (time : ℤ) (number : ℕ) : Type 0 where
   pub before : List (Option ℤ)
-  pub behind : List (Option ℤ)
-  pub split : seen ≡ before ++ Some time ∷ behind
+  pub following : List (Option ℤ)
+  pub split : seen ≡ before ++ Some time ∷ following
   pub place : number ≡ length before + 1
   pub due : time ≤ℤ pos clock
   pub first : BeforeAll (time, number) (due_from clock 1 before)
-  pub second : BeforeAll (time, number) (due_from clock (number + 1) behind)
+  pub second : BeforeAll (time, number) (due_from clock (number + 1) following)
 
 abbrev pub IsBest : ℕ → List (Option ℤ) → Option (ℤ × ℕ) → Type 0
 IsBest clock seen None = due_from clock 1 seen ≡ []
@@ -115,12 +115,12 @@ pub none_more : (clock : ℕ) (seen : List (Option ℤ)) (next : Option (ℤ × 
 none_more clock seen None best = due_more clock 1 seen None ∙ ap (λ (l : List Setting). l ++ []) best
 none_more clock seen (Some (time, number)) best = record {
   before = best.before;
-  behind = best.behind ++ None ∷ [];
-  split = ap (λ (l : List (Option ℤ)). l ++ None ∷ []) best.split ∙ append_assoc best.before (Some time ∷ best.behind) (None ∷ []);
+  following = best.following ++ None ∷ [];
+  split = ap (λ (l : List (Option ℤ)). l ++ None ∷ []) best.split ∙ append_assoc best.before (Some time ∷ best.following) (None ∷ []);
   place = best.place;
   due = best.due;
   first = best.first;
-  second = subst (BeforeAll (time, number)) (sym (due_more clock (number + 1) best.behind None ∙ append-nil (due_from clock (number + 1) best.behind))) best.second;
+  second = subst (BeforeAll (time, number)) (sym (due_more clock (number + 1) best.following None ∙ append-nil (due_from clock (number + 1) best.following))) best.second;
 }
 
 is_due : (clock number : ℕ) (time : ℤ) (rest : List (Option ℤ)) → time ≤ℤ pos clock → due_from clock number (Some time ∷ rest) ≡ (time, number) ∷ due_from clock (suc number) rest
@@ -132,7 +132,7 @@ is_due clock number time rest h =
 pub first_found : (clock : ℕ) (seen : List (Option ℤ)) (time : ℤ) (number : ℕ) → IsBest clock seen None → time ≤ℤ pos clock → number ≡ length seen + 1 → Best clock (seen ++ Some time ∷ []) time number
 first_found clock seen time number none due place = record {
   before = seen;
-  behind = [];
+  following = [];
   split = refl;
   place = place;
   due = due;
@@ -159,19 +159,19 @@ pub earlier_found : (clock : ℕ) (seen : List (Option ℤ)) (best : ℤ × ℕ)
 earlier_found clock seen best time number was less place =
     let next : suc best.1 ≡ best.1 + 1 = omega arith in
     let from : 1 + length was.before ≡ best.1 = omega (arith, was.place) in
-    let all : due_from clock 1 seen ≡ due_from clock 1 was.before ++ best ∷ due_from clock (best.1 + 1) was.behind =
-    ap (due_from clock 1) was.split ∙ due_append clock 1 was.before (Some best.0 ∷ was.behind)
-    ∙ ap (λ n. due_from clock 1 was.before ++ due_from clock n (Some best.0 ∷ was.behind)) from
-    ∙ ap (λ (l : List Setting). due_from clock 1 was.before ++ l) (is_due clock best.1 best.0 was.behind was.due ∙ ap (λ n. best ∷ due_from clock n was.behind) next) in
+    let all : due_from clock 1 seen ≡ due_from clock 1 was.before ++ best ∷ due_from clock (best.1 + 1) was.following =
+    ap (due_from clock 1) was.split ∙ due_append clock 1 was.before (Some best.0 ∷ was.following)
+    ∙ ap (λ n. due_from clock 1 was.before ++ due_from clock n (Some best.0 ∷ was.following)) from
+    ∙ ap (λ (l : List Setting). due_from clock 1 was.before ++ l) (is_due clock best.1 best.0 was.following was.due ∙ ap (λ n. best ∷ due_from clock n was.following) next) in
     record {
       before = seen;
-      behind = [];
+      following = [];
       split = refl;
       place = place;
       due = omega (arith, ints, was.due, less);
       first = subst (BeforeAll (time, number)) (sym all)
-          (before_append (time, number) (due_from clock 1 was.before) (best ∷ due_from clock (best.1 + 1) was.behind) (sooner time number best (due_from clock 1 was.before) less was.first)
-          (inl less, sooner time number best (due_from clock (best.1 + 1) was.behind) less was.second));
+          (before_append (time, number) (due_from clock 1 was.before) (best ∷ due_from clock (best.1 + 1) was.following) (sooner time number best (due_from clock 1 was.before) less was.first)
+          (inl less, sooner time number best (due_from clock (best.1 + 1) was.following) less was.second));
       second = tt;
     }
 
@@ -185,20 +185,20 @@ due_last clock number s time le below =
 pub later_kept : (clock : ℕ) (seen : List (Option ℤ)) (best : ℤ × ℕ) (time : ℤ) → Best clock seen best.0 best.1 → best.0 ≤ℤ time → Best clock (seen ++ Some time ∷ []) best.0 best.1
 later_kept clock seen best time was le = record {
   before = was.before;
-  behind = was.behind ++ Some time ∷ [];
-  split = ap (λ (l : List (Option ℤ)). l ++ Some time ∷ []) was.split ∙ append_assoc was.before (Some best.0 ∷ was.behind) (Some time ∷ []);
+  following = was.following ++ Some time ∷ [];
+  split = ap (λ (l : List (Option ℤ)). l ++ Some time ∷ []) was.split ∙ append_assoc was.before (Some best.0 ∷ was.following) (Some time ∷ []);
   place = was.place;
   due = was.due;
   first = was.first;
-  second = subst (BeforeAll best) (sym (due_more clock (best.1 + 1) was.behind (Some time)))
-      (before_append best (due_from clock (best.1 + 1) was.behind) (due_from clock (best.1 + 1 + length was.behind) (Some time ∷ [])) was.second (due_last clock (best.1 + 1 + length was.behind) best time le (omega arith)));
+  second = subst (BeforeAll best) (sym (due_more clock (best.1 + 1) was.following (Some time)))
+      (before_append best (due_from clock (best.1 + 1) was.following) (due_from clock (best.1 + 1 + length was.following) (Some time ∷ [])) was.second (due_last clock (best.1 + 1 + length was.following) best time le (omega arith)));
 }
 
 -- ---- the one that fires
 
-set_behind : {X : Type 0} (xs : List X) (x y : X) (ys : List X) → set (xs ++ x ∷ ys) (length xs) y ≡ xs ++ y ∷ ys
-set_behind [] x y ys = refl
-set_behind (z ∷ xs) x y ys = ap (λ l. z ∷ l) (set_behind xs x y ys)
+set_after : {X : Type 0} (xs : List X) (x y : X) (ys : List X) → set (xs ++ x ∷ ys) (length xs) y ≡ xs ++ y ∷ ys
+set_after [] x y ys = refl
+set_after (z ∷ xs) x y ys = ap (λ l. z ∷ l) (set_after xs x y ys)
 
 -- it is the first that is due, and the others are due once it is not set
 pub best_first : (clock : ℕ) (timers : List (Option ℤ)) (time : ℤ) (number : ℕ) → Best clock timers time number → due_events clock timers ≡ number ∷ due_events clock (set timers (number - 1) None)
@@ -208,14 +208,14 @@ best_first clock timers time number was =
     let from : 1 + length was.before ≡ number = omega (arith, was.place) in
     let place : number - 1 ≡ length was.before = omega (arith, was.place) in
     let left = due_from clock 1 was.before in
-    let right = due_from clock (number + 1) was.behind in
+    let right = due_from clock (number + 1) was.following in
     let all : due_from clock 1 timers ≡ left ++ s ∷ right =
-    ap (due_from clock 1) was.split ∙ due_append clock 1 was.before (Some time ∷ was.behind) ∙ ap (λ n. left ++ due_from clock n (Some time ∷ was.behind)) from
-    ∙ ap (λ (l : List Setting). left ++ l) (is_due clock number time was.behind was.due ∙ ap (λ n. s ∷ due_from clock n was.behind) next) in
-    let cleared : set timers (number - 1) None ≡ was.before ++ None ∷ was.behind =
-    ap (λ n. set timers n None) place ∙ ap (λ (l : List (Option ℤ)). set l (length was.before) None) was.split ∙ set_behind was.before (Some time) None was.behind in
+    ap (due_from clock 1) was.split ∙ due_append clock 1 was.before (Some time ∷ was.following) ∙ ap (λ n. left ++ due_from clock n (Some time ∷ was.following)) from
+    ∙ ap (λ (l : List Setting). left ++ l) (is_due clock number time was.following was.due ∙ ap (λ n. s ∷ due_from clock n was.following) next) in
+    let cleared : set timers (number - 1) None ≡ was.before ++ None ∷ was.following =
+    ap (λ n. set timers n None) place ∙ ap (λ (l : List (Option ℤ)). set l (length was.before) None) was.split ∙ set_after was.before (Some time) None was.following in
     let others : due_from clock 1 (set timers (number - 1) None) ≡ left ++ right =
-    ap (due_from clock 1) cleared ∙ due_append clock 1 was.before (None ∷ was.behind) ∙ ap (λ n. left ++ due_from clock (suc n) was.behind) from ∙ ap (λ n. left ++ due_from clock n was.behind) next in
+    ap (due_from clock 1) cleared ∙ due_append clock 1 was.before (None ∷ was.following) ∙ ap (λ n. left ++ due_from clock (suc n) was.following) from ∙ ap (λ n. left ++ due_from clock n was.following) next in
     ap (λ (l : List Setting). map (λ (x : Setting). x.1) (sorted l)) all
     ∙ ap (map (λ (x : Setting). x.1)) (sorted_first s left right was.first was.second)
     ∙ ap (λ (l : List Setting). number ∷ map (λ (x : Setting). x.1) (sorted l)) (sym others)
@@ -227,7 +227,7 @@ none_first clock timers none = ap (λ (l : List Setting). map (λ (x : Setting).
 -- it is there
 pub best_there : (clock : ℕ) (timers : List (Option ℤ)) (time : ℤ) (number : ℕ) → Best clock timers time number → (1 ≤ number) × (number ≤ length timers)
 best_there clock timers time number was =
-    let long = ap length was.split ∙ length-append was.before (Some time ∷ was.behind) in
+    let long = ap length was.split ∙ length-append was.before (Some time ∷ was.following) in
     (omega (arith, was.place), omega (arith, was.place, long))
 
 -- ---- the loop's steps, at what the code compares

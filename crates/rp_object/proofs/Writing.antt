@@ -11,10 +11,10 @@ use Rattle.rp_object.specs.declared.program.ObjectDeclaration.{ObjectDeclaration
 use Rattle.rp_object.specs.declared.program.TimingEvent.{TimingEvent}
 use Rattle.rp_entry.specs.declared.state.Waiting.{Waiting}
 use Rattle.rp_object.specs.declared.program.Profile.{Profile}
-use Rattle.rp_object.specs.Held.{IsMade}
+use Rattle.rp_object.specs.InMemory.{IsMade}
 use Rattle.rp_object.specs.Image.{ints_text, bools_text, truth_text, call_text, queue_text, entry_text, queues_text, object_line, object_lines, timer_line, timer_lines}
 
--- one name with a text behind it
+-- one name with a text after it
 abbrev one_text : List ℕ → List ℕ → List ℕ
 one_text name value = 32 ∷ (name ++ 61 ∷ value)
 

@@ -1,5 +1,6 @@
--- The text that shows the state of a program (this project's own).
-use Rattle.std.specs.Prelude.{ℕ, suc, ℤ, Bool, true, false, Option, Some, None, List, [], ◌∷◌, ◌++◌, String, string_bytes, codes, decimal, flat_map}
+-- The text that shows the state of a program.
+use Rattle.std.specs.Prelude.{ℕ, suc, ℤ, Bool, true, false, Option, Some, None, List, [], ◌∷◌, ◌++◌, String}
+use Rattle.std.specs.Prelude.{string_bytes, codes, decimal, flat_map}
 use Rattle.std.specs.declared.alloc.Global.{Global}
 use Rattle.std.specs.Fmt.{signed_decimal}
 use Rattle.rp_body.specs.Store.{Store, int_value, bool_value}
@@ -14,7 +15,9 @@ use Rattle.rp_object.specs.State.{Running}
 -- ` NAME=VALUE` for each whole number, from a place on
 abbrev pub ints_text : Store → ℕ → List (String Global) → List ℕ
 ints_text store place [] = []
-ints_text store place (name ∷ rest) = codes " " ++ (string_bytes name ++ (codes "=" ++ (signed_decimal (int_value store place) ++ ints_text store (suc place) rest)))
+ints_text store place (name ∷ rest) =
+    codes " " ++ (string_bytes name
+    ++ (codes "=" ++ (signed_decimal (int_value store place) ++ ints_text store (suc place) rest)))
 
 abbrev pub truth_text : Bool → List ℕ
 truth_text true = codes "true"
@@ -23,11 +26,15 @@ truth_text false = codes "false"
 -- ` NAME=true` or ` NAME=false` for each Boolean, from a place on
 abbrev pub bools_text : Store → ℕ → List (String Global) → List ℕ
 bools_text store place [] = []
-bools_text store place (name ∷ rest) = codes " " ++ (string_bytes name ++ (codes "=" ++ (truth_text (bool_value store place) ++ bools_text store (suc place) rest)))
+bools_text store place (name ∷ rest) =
+    codes " " ++ (string_bytes name
+    ++ (codes "=" ++ (truth_text (bool_value store place) ++ bools_text store (suc place) rest)))
 
 -- a call that waits
 abbrev pub call_text : Waiting → List ℕ
-call_text call = codes " task " ++ (decimal call.task ++ (codes " call " ++ (decimal call.number ++ (codes " arg " ++ signed_decimal call.arg))))
+call_text call =
+    codes " task " ++ (decimal call.task
+    ++ (codes " call " ++ (decimal call.number ++ (codes " arg " ++ signed_decimal call.arg))))
 
 -- the calls that wait at an entry, in order of arrival, or ` none`
 abbrev pub queue_text : List Waiting → List ℕ
@@ -41,17 +48,22 @@ entry_text Jorvik name = codes " " ++ name
 
 -- the queue of each entry, in order
 abbrev pub queues_text : Profile → List (String Global) → List (List Waiting) → List ℕ
-queues_text profile (name ∷ names) (queue ∷ queues) = codes " queue" ++ (entry_text profile (string_bytes name) ++ (queue_text queue ++ queues_text profile names queues))
+queues_text profile (name ∷ names) (queue ∷ queues) =
+    codes " queue" ++ (entry_text profile (string_bytes name) ++ (queue_text queue ++ queues_text profile names queues))
 queues_text profile _ _ = []
 
 -- the line of an object
 abbrev pub object_line : Profile → ObjectDeclaration → Protected → List ℕ
 object_line profile declared object =
     codes "object "
-    ++ (string_bytes declared.name ++ (ints_text object.state.store 0 declared.ints.items ++ (bools_text object.state.store 0 declared.bools.items ++ (queues_text profile declared.entries.items object.state.queues ++ codes "\n"))))
+    ++ (string_bytes declared.name
+    ++ (ints_text object.state.store 0 declared.ints.items
+    ++ (bools_text object.state.store 0 declared.bools.items
+    ++ (queues_text profile declared.entries.items object.state.queues ++ codes "\n"))))
 
 abbrev pub object_lines : Profile → List ObjectDeclaration → List Protected → List ℕ
-object_lines profile (declared ∷ rest) (object ∷ objects) = object_line profile declared object ++ object_lines profile rest objects
+object_lines profile (declared ∷ rest) (object ∷ objects) =
+    object_line profile declared object ++ object_lines profile rest objects
 object_lines profile _ _ = []
 
 abbrev pub time_text : Option ℤ → List ℕ
@@ -69,4 +81,6 @@ timer_lines _ _ = []
 -- a line for each object, the line of the clock, and a line for each timing event
 abbrev pub objects_image : Running → List ℕ
 objects_image running =
-    object_lines running.program.profile running.program.objects.items running.state.objects ++ (codes "clock " ++ (decimal running.state.clock ++ (codes "\n" ++ timer_lines running.program.timers.items running.state.timers)))
+    object_lines running.program.profile running.program.objects.items running.state.objects
+    ++ (codes "clock " ++ (decimal running.state.clock
+    ++ (codes "\n" ++ timer_lines running.program.timers.items running.state.timers)))

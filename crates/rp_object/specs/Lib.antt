@@ -1,7 +1,7 @@
 pub mod Program
 pub mod OneProof
 pub mod State
-pub mod Held
+pub mod InMemory
 pub mod Timers
 pub mod Step
 pub mod Image

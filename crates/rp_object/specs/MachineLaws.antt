@@ -48,7 +48,8 @@ shows = image_shows
 -- who is answered and who waits
 pub accounts : (program : Declarations) (running : Running) (action : Action)
     → IsStateOf program running → IsRight action → MayApply (objects_waiting running) action
-    → AccountsFor (objects_waiting running) action (objects_answers running action) (objects_waiting (objects_next running action))
+    → AccountsFor (objects_waiting running) action (objects_answers running action)
+    (objects_waiting (objects_next running action))
 accounts program running action is fits may = state_accounts program running action is may
 
 -- each reply's value has 64 signed bits

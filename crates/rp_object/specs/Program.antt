@@ -1,5 +1,6 @@
--- What is declared, and which declarations are right (the limits are this project's own).
-use Rattle.std.specs.Prelude.{◌≡◌, ℕ, ◌≤◌, nat_le, nat_eq, Bool, true, false, ◌&&◌, Option, Some, None, is_some, option_map, IfSome, FitsSigned, length}
+-- What is declared, and which declarations are right (the limits are ours).
+use Rattle.std.specs.Prelude.{◌≡◌, ℕ, ◌≤◌, nat_le, nat_eq, Bool, true, false, ◌&&◌, Option, Some, None, is_some}
+use Rattle.std.specs.Prelude.{option_map, IfSome, FitsSigned, length}
 use Rattle.std.specs.Int.{w64}
 use Rattle.std.specs.List.{All}
 use Rattle.std.specs.FinMap.{get, len}
@@ -35,11 +36,13 @@ is_some_and test (Some x) = test x
 
 -- the object of this number has the operation
 abbrev pub object_has : Declarations → ℕ → Operation → Bool
-object_has program object operation = is_some_and (λ declared. has_operation operation (operations_of declared)) (of_index program.objects.items object)
+object_has program object operation =
+    is_some_and (λ declared. has_operation operation (operations_of declared)) (of_index program.objects.items object)
 
 -- the handler of the timing event of this number belongs to the object
 abbrev pub timer_is_of : Declarations → ℕ → ℕ → Bool
-timer_is_of program object number = is_some_and (λ timer. nat_eq timer.handler.object object) (of_index program.timers.items number)
+timer_is_of program object number =
+    is_some_and (λ timer. nat_eq timer.handler.object object) (of_index program.timers.items number)
 
 -- the object has what is called
 abbrev pub is_offered : Declarations → ℕ → Operation → Bool
@@ -51,12 +54,14 @@ is_offered program object (CancelTimer index) = timer_is_of program object index
 
 -- the task is declared, and the object has what it calls
 abbrev pub is_declared : Declarations → ℕ → ℕ → Operation → Bool
-is_declared program task object operation = is_some (of_index program.priorities.items task) && is_offered program object operation
+is_declared program task object operation =
+    is_some (of_index program.priorities.items task) && is_offered program object operation
 
 -- the task's base priority is not above the object's ceiling (Ada Reference Manual, section D.3); equal is allowed
 abbrev pub is_within_ceiling : Declarations → ℕ → ℕ → Bool
 is_within_ceiling program task object =
-    is_some_and (λ priority. is_some_and (λ declared. nat_le priority declared.ceiling) (of_index program.objects.items object)) (of_index program.priorities.items task)
+    is_some_and (λ priority. is_some_and (λ declared. nat_le priority declared.ceiling)
+    (of_index program.objects.items object)) (of_index program.priorities.items task)
 
 -- the handler of the interrupt of this number, if it is declared (section C.3)
 abbrev pub interrupt_handler : Declarations → ℕ → Option Handler
@@ -76,9 +81,12 @@ most_declared = 8
 
 -- both ends of each range fit 64 signed bits
 abbrev pub EndsFit : Store → Type 0
-EndsFit store = (name : ℕ) → IfSome (get store.ints name) (λ component. FitsSigned w64 component.low × FitsSigned w64 component.high)
+EndsFit store =
+    (name : ℕ) → IfSome (get store.ints name)
+    (λ component. FitsSigned w64 component.low × FitsSigned w64 component.high)
 
--- an object has its ceiling, at most 8 components of each kind, named by the numbers from 0, a name for each component and each entry, ranges of 64 bits, first values in their ranges, and operations that fit the components
+-- an object has its ceiling, at most 8 components of each kind, named by the numbers from 0, a name for each
+-- component and each entry, ranges of 64 bits, first values in their ranges, and operations that fit the components
 pub record DeclarationFits (declared : ObjectDeclaration) : Type 0 where
   pub ceiling : IsPriority declared.ceiling
   pub few_ints : length declared.ints.items ≤ most_declared
@@ -98,10 +106,12 @@ is_handler program handler = object_has program handler.object (Procedure handle
 -- under the Ravenscar profile an object has at most one entry, at which one call waits (Max_Protected_Entries and
 -- Max_Entry_Queue_Length, section D.13); under Jorvik its operations' own limits are all
 abbrev pub KeepsProfile : Profile → Operations → Type 0
-KeepsProfile Ravenscar operations = (length operations.entries.items ≤ 1) × All (λ entry. entry.longest ≡ 1) operations.entries.items
+KeepsProfile Ravenscar operations =
+    (length operations.entries.items ≤ 1) × All (λ entry. entry.longest ≡ 1) operations.entries.items
 KeepsProfile Jorvik operations = Unit {0}
 
--- A right program: each kind is declared at most 8 times, priorities are in their range, each object fits and keeps the profile, and each handler is there.
+-- A right program: each kind is declared at most 8 times, priorities are in their range, each object fits and keeps
+-- the profile, and each handler is there.
 pub record IsProgram (program : Declarations) : Type 0 where
   pub task_count : length program.priorities.items ≤ most_declared
   pub object_count : length program.objects.items ≤ most_declared

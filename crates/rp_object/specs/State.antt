@@ -11,7 +11,8 @@ use Rattle.rp_object.specs.declared.program.TimingEvent.{TimingEvent}
 use Rattle.rp_object.specs.declared.program.Declarations.{Declarations}
 use Rattle.rp_object.specs.Program.{operations_of}
 
--- the objects, each with its operations, components and queues, the time for which each timing event is set, if it is, and the clock; objects and timing events stand in order of their numbers from 1
+-- the objects, each with its operations, components and queues, the time for which each timing event is set, if it
+-- is, and the clock; objects and timing events are in order of their numbers from 1
 pub record ProgramState : Type 0 where
   pub objects : List Protected
   pub timers : List (Option ℤ)
@@ -24,7 +25,12 @@ pub record Running : Type 0 where
 
 -- an object at the start: its components have their first values, and nobody waits
 abbrev pub first_object : ObjectDeclaration → Protected
-first_object declared = record { operations = operations_of declared; state = record { store = declared.components; queues = empty_queues (operations_of declared).entries.items } }
+first_object declared =
+    record {
+      operations = operations_of declared;
+      state =
+          record { store = declared.components; queues = empty_queues (operations_of declared).entries.items };
+    }
 
 -- a timing event that is not set
 abbrev pub unset : TimingEvent → Option ℤ
@@ -34,7 +40,8 @@ unset timer = None
 abbrev pub first_state : Declarations → Running
 first_state program = record {
   program = program;
-  state = record { objects = map first_object program.objects.items; timers = map unset program.timers.items; clock = 0 };
+  state =
+      record { objects = map first_object program.objects.items; timers = map unset program.timers.items; clock = 0 };
 }
 
 -- the name of a call that waits
@@ -44,4 +51,12 @@ name_of call = record { task = call.task; number = call.number }
 -- a state of a program, for the proofs, as the tuple of its parts
 abbrev pub running_code : Coded Running
 running_code =
-    code_by (Declarations × (List Protected × (List (Option ℤ) × ℕ))) (coded× declared.the_row.coded (coded× (coded_list protected_code) (coded× (coded_list (coded_option coded_ℤ)) coded_ℕ))) (λ r. (r.program, (r.state.objects, (r.state.timers, r.state.clock)))) (λ p. record { program = p.0; state = record { objects = p.1.0; timers = p.1.1.0; clock = p.1.1.1 } }) (λ _. refl)
+    code_by (Declarations × (List Protected × (List (Option ℤ) × ℕ)))
+    (coded× declared.the_row.coded
+    (coded× (coded_list protected_code) (coded× (coded_list (coded_option coded_ℤ)) coded_ℕ)))
+    (λ r. (r.program, (r.state.objects, (r.state.timers, r.state.clock))))
+    (λ p. record {
+      program = p.0;
+      state =
+          record { objects = p.1.0; timers = p.1.1.0; clock = p.1.1.1 };
+    }) (λ _. refl)

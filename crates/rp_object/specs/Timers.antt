@@ -1,5 +1,6 @@
--- Which timing events are due, and in which order (Ada Reference Manual, section D.15; the order is this project's own).
-use Rattle.std.specs.Prelude.{◌≡◌, ℕ, suc, ℤ, pos, int_lt, int_le, nat_lt, Bool, false, ◌&&◌, ◌||◌, Option, Some, None, List, [], ◌∷◌, map, if◌then◌else◌}
+-- Which timing events are due, and in which order (Ada Reference Manual, section D.15; the order is ours).
+use Rattle.std.specs.Prelude.{◌≡◌, ℕ, suc, ℤ, pos, int_lt, int_le, nat_lt, Bool, false, ◌&&◌, ◌||◌, Option, Some, None}
+use Rattle.std.specs.Prelude.{List, [], ◌∷◌, map, if◌then◌else◌}
 use Rattle.std.specs.Ordering.{int_eq}
 
 -- a time for which a timing event is set, and the event's number
@@ -15,12 +16,14 @@ abbrev pub due_from : ℕ → ℕ → List (Option ℤ) → List Setting
 due_from clock number [] = []
 due_from clock number (None ∷ rest) = due_from clock (suc number) rest
 due_from clock number (Some time ∷ rest) =
-    if int_le time (pos clock) then (time, number) ∷ due_from clock (suc number) rest else due_from clock (suc number) rest
+    if int_le time (pos clock) then (time, number)
+    ∷ due_from clock (suc number) rest else due_from clock (suc number) rest
 
 -- a sorted list with one setting more
 abbrev pub with_setting : Setting → List Setting → List Setting
 with_setting setting [] = setting ∷ []
-with_setting setting (first ∷ rest) = if is_before setting first then setting ∷ first ∷ rest else first ∷ with_setting setting rest
+with_setting setting (first ∷ rest) =
+    if is_before setting first then setting ∷ first ∷ rest else first ∷ with_setting setting rest
 
 -- the settings in order of time and number
 abbrev pub sorted : List Setting → List Setting
@@ -36,7 +39,7 @@ abbrev pub NoneBefore : Setting → List Setting → Type 0
 NoneBefore setting [] = Unit {0}
 NoneBefore setting (other ∷ rest) = (is_before other setting ≡ false) × NoneBefore setting rest
 
--- none that stands behind a setting is before it
+-- none that is after a setting is before it
 abbrev pub InOrder : List Setting → Type 0
 InOrder [] = Unit {0}
 InOrder (setting ∷ rest) = NoneBefore setting rest × InOrder rest

@@ -12,7 +12,7 @@ ghost use Rattle.rp_object.specs.Program.{is_declared, interrupt_handler, Declar
 ghost use Rattle.rp_object.specs.Step.{Result, asks, is_set, with_timer, called, allowed, handled, fires, ticked, own_answer, objects_next, objects_answers, objects_waiting, tasks_waiting};
 ghost use Rattle.rp_object.specs.Timers.{due_events};
 ghost use Rattle.rp_object.specs.Image.{objects_image};
-ghost use Rattle.rp_object.specs.Held.{waiting_count};
+ghost use Rattle.rp_object.specs.InMemory.{waiting_count};
 
 use crate::image::{write_objects, write_timers};
 use crate::program::{Declarations, Handler, ObjectDeclaration, Program, TimingEvent};
@@ -36,7 +36,7 @@ impl Model for Objects {
     ghost use Rattle.rp_object.specs.State.{Running, running_code};
     ghost use Rattle.rp_object.specs.Timers.{due_events};
     ghost use Rattle.rp_object.specs.Image.{objects_image};
-    ghost use Rattle.rp_object.specs.Held.{IsHeld};
+    ghost use Rattle.rp_object.specs.InMemory.{AreObjects};
 
     ghost Value = { Running };
 
@@ -47,7 +47,7 @@ impl Model for Objects {
       state = record { objects = o.objects.items; timers = o.timers.items; clock = o.clock };
     } };
 
-    ghost invariant = { λ o. IsHeld (arc_value o.declarations) o.objects.items o.timers.items };
+    ghost invariant = { λ o. AreObjects (arc_value o.declarations) o.objects.items o.timers.items };
 }
 
 impl Objects {
@@ -89,7 +89,7 @@ impl Objects {
         false
     }
 
-    /// Applies an action, and gives the answers that come of it: the caller's, and then those of the
+    /// Applies an action, and gives the answers that result: the caller's, and then those of the
     /// callers that were served. It takes no memory. No call of the action's task waits.
     pub fn apply(&mut self, action: &Action) -> Answers
         requires free { MayApply (objects_waiting self.old) action.now }
@@ -137,7 +137,12 @@ impl Objects {
         requires there { 1 ≤ object }
         requires declared { object ≤ length self.now.state.objects }
         ensures action { asks self.now.state object (calls_function index arg)
-            ≡ record { caller = Some result.outcome; told = result.served; after = self.now.state } }
+            ≡ record {
+              caller = Some result.outcome;
+              replied = result.served;
+              after =
+                  self.now.state;
+            } }
     {
         let reply = self.objects[usize::from(object) - 1].function(index, arg);
         Done {
@@ -151,7 +156,12 @@ impl Objects {
         requires there { 1 ≤ object }
         requires declared { object ≤ length self.old.state.objects }
         ensures action { asks self.old.state object (calls_procedure index arg)
-            ≡ record { caller = Some result.outcome; told = result.served; after = self.new.state } }
+            ≡ record {
+              caller = Some result.outcome;
+              replied = result.served;
+              after =
+                  self.new.state;
+            } }
         ensures program { self.new.program ≡ self.old.program }
     {
         self.objects[usize::from(object) - 1].procedure(index, arg)
@@ -163,7 +173,12 @@ impl Objects {
         requires declared { object ≤ length self.old.state.objects }
         requires free { ¬ Has call.task (tasks_waiting self.old) }
         ensures action { asks self.old.state object (calls_entry index call)
-            ≡ record { caller = Some result.outcome; told = result.served; after = self.new.state } }
+            ≡ record {
+              caller = Some result.outcome;
+              replied = result.served;
+              after =
+                  self.new.state;
+            } }
         ensures program { self.new.program ≡ self.old.program }
     {
         let asked = &mut self.objects[usize::from(object) - 1];
@@ -175,7 +190,7 @@ impl Objects {
         requires there { 1 ≤ handler.object }
         requires declared { handler.object ≤ length self.old.state.objects }
         ensures action { asks self.old.state handler.object (event handler.procedure)
-            ≡ record { caller = None; told = result; after = self.new.state } }
+            ≡ record { caller = None; replied = result; after = self.new.state } }
         ensures program { self.new.program ≡ self.old.program }
         ensures room { length result + waiting_count self.new.state.objects
             ≡ waiting_count self.old.state.objects }
@@ -183,7 +198,7 @@ impl Objects {
         self.objects[usize::from(handler.object) - 1].handler(handler.procedure)
     }
 
-    /// Sets a timing event, or sets it no longer, and tells whether it was set.
+    /// Sets a timing event, or sets it no longer, and returns whether it was set.
     fn set_timer(&mut self, number: u8, time: Option<i64>) -> bool
         requires there { 1 ≤ number }
         requires declared { number ≤ length self.old.state.timers }
@@ -202,7 +217,12 @@ impl Objects {
     fn call(&mut self, call: Waiting, object: u8, operation: Operation) -> Done
         requires free { ¬ Has call.task (tasks_waiting self.old) }
         ensures action { called self.old.program self.old.state call object operation
-            ≡ record { caller = Some result.outcome; told = result.served; after = self.new.state } }
+            ≡ record {
+              caller = Some result.outcome;
+              replied = result.served;
+              after =
+                  self.new.state;
+            } }
         ensures few { length (own_answer (name_of call) (Some result.outcome))
             + length result.served ≤ 8 }
         ensures program { self.new.program ≡ self.old.program }
@@ -219,7 +239,12 @@ impl Objects {
         requires declared { IsTrue (is_declared self.old.program call.task object operation) }
         requires free { ¬ Has call.task (tasks_waiting self.old) }
         ensures action { allowed self.old.program self.old.state call object operation
-            ≡ record { caller = Some result.outcome; told = result.served; after = self.new.state } }
+            ≡ record {
+              caller = Some result.outcome;
+              replied = result.served;
+              after =
+                  self.new.state;
+            } }
         ensures program { self.new.program ≡ self.old.program }
     {
         let within = self.declarations.is_within_ceiling(call.task, object);
@@ -244,7 +269,7 @@ impl Objects {
         requires there { 1 ≤ number }
         requires declared { number ≤ length self.old.state.timers }
         ensures action { fires self.old.program self.old.state number
-            ≡ record { caller = None; told = result; after = self.new.state } }
+            ≡ record { caller = None; replied = result; after = self.new.state } }
         ensures program { self.new.program ≡ self.old.program }
         ensures timers { self.new.state.timers
             ≡ (with_timer self.old.state number None).timers }
@@ -260,7 +285,7 @@ impl Objects {
     /// An occurrence of an interrupt: its handler runs, if there is one.
     fn interrupt(&mut self, source: u8) -> Answers
         ensures action { handled self.old.state (interrupt_handler self.old.program source)
-            ≡ record { caller = None; told = result; after = self.new.state } }
+            ≡ record { caller = None; replied = result; after = self.new.state } }
         ensures program { self.new.program ≡ self.old.program }
     {
         match of_index(&self.declarations.interrupts, source) {
@@ -314,14 +339,14 @@ impl Objects {
     /// due fire, one after another.
     fn tick(&mut self, now: u32) -> Answers
         ensures action { ticked self.old.program self.old.state now
-            ≡ record { caller = None; told = result; after = self.new.state } }
+            ≡ record { caller = None; replied = result; after = self.new.state } }
         ensures program { self.new.program ≡ self.old.program }
     {
         self.raise_clock(now);
         let mut answers = Answers::new();
         while let Some(number) = self.next_due() {
-            let told = self.fire(number);
-            append(&mut answers, &told);
+            let replied = self.fire(number);
+            append(&mut answers, &replied);
         }
         answers
     }
@@ -352,7 +377,7 @@ fn no_times(alloc: Global, declared: &[TimingEvent]) -> Result<Vec<Option<i64>>,
     Ok(times)
 }
 
-/// The answer to a call, if it does not wait, and behind it those to the callers that were served.
+/// The answer to a call, if it does not wait, and after it those to the callers that were served.
 fn answers_of(task: TaskId, number: u32, done: &Done) -> Answers
     requires { length (own_answer (record { task = task; number = number })
         (Some done.now.outcome)) + length done.now.served ≤ 8 }
@@ -371,7 +396,7 @@ fn answers_of(task: TaskId, number: u32, done: &Done) -> Answers
     answers
 }
 
-/// Puts further answers behind the others.
+/// Puts further answers after the others.
 fn append(answers: &mut Answers, more: &Answers)
     requires { length answers.old + length more.now ≤ 8 }
     ensures { answers.new ≡ answers.old ++ more.now }

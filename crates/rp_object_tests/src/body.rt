@@ -14,7 +14,7 @@ fn not(alloc: Global, cond: Cond) -> Result<Cond, AllocError> {
     Ok(Cond::Not(Box::new(alloc, cond)?))
 }
 
-/// The argument, so many times: one node less than twice the terms.
+/// The argument, n times: one node less than twice the terms.
 fn sum_of(alloc: Global, terms: u8) -> Result<Expr, AllocError> {
     let mut sum = Expr::Arg;
     for _ in 1..terms {
@@ -30,7 +30,7 @@ fn body_of(alloc: Global, statement: Stmt) -> Result<Vec<Stmt>, AllocError> {
     Ok(body)
 }
 
-/// `out 1` inside so many `if true`, in their first arms or in their second ones.
+/// `out 1` inside n `if true`, in their first arms or in their second ones.
 fn nested(alloc: Global, ifs: u8, first: bool) -> Result<Vec<Stmt>, AllocError> {
     let mut body = body_of(alloc, Stmt::Out(Expr::Number(1)))?;
     for _ in 0..ifs {

@@ -97,7 +97,7 @@ fn waiting_at(alloc: Global, object: &Object, place: usize) -> Result<Vec<(u8, i
 }
 
 /// The tasks that are answered, and their replies.
-fn told(alloc: Global, answers: &Answers) -> Result<Vec<(u8, Reply)>, Fail> {
+fn replied(alloc: Global, answers: &Answers) -> Result<Vec<(u8, Reply)>, Fail> {
     let mut all = Vec::new(alloc);
     for answer in answers.as_slice() {
         all.push((answer.task.get(), answer.reply))?;
@@ -136,7 +136,7 @@ fn a_waiting_caller_stays_and_a_raised_body_serves_it(rt: HostRuntime) -> Result
     let done = gate.procedure(BURST, 0);
     assert_eq!(rt; done.outcome, CallOutcome::Reply(Reply::ConstraintError));
     assert_eq!(rt;
-        told(alloc, &done.served)?.as_slice(),
+        replied(alloc, &done.served)?.as_slice(),
         [(1, Reply::Value(1))].as_slice()
     );
     assert!(rt; waiting_at(alloc, &gate, 0)?.is_empty());
@@ -152,7 +152,7 @@ fn a_served_body_raises_to_its_own_caller(rt: HostRuntime) -> Result<(), Fail> {
         let done = gate.procedure(LIFT, 0);
         assert_eq!(rt; done.outcome, CallOutcome::Reply(Reply::Value(0)));
         assert_eq!(rt;
-            told(rt.alloc(), &done.served)?.as_slice(),
+            replied(rt.alloc(), &done.served)?.as_slice(),
             [(1, reply)].as_slice()
         );
         assert_eq!(rt; values(&gate), (Some(after), Some(false)));
@@ -167,7 +167,7 @@ fn an_event_has_no_caller_and_its_exception_no_effect(rt: HostRuntime) -> Result
         assert_eq!(rt; enter(&mut gate, 1, 1, 0)?.outcome, CallOutcome::Waits);
         let served = gate.handler(handler);
         assert_eq!(rt;
-            told(rt.alloc(), &served)?.as_slice(),
+            replied(rt.alloc(), &served)?.as_slice(),
             [(1, Reply::Value(1))].as_slice()
         );
         assert_eq!(rt; values(&gate), (Some(1), Some(false)));
@@ -217,9 +217,9 @@ fn functions_and_absent_operations_reply_and_change_nothing(rt: HostRuntime) -> 
     Ok(())
 }
 
-/// The Boolean up, the procedures lift, which puts it up, and raise, which puts it up and raises, and
-/// two entries when up: pass, at which so many wait, which counts to 2 and then puts up down, and late,
-/// which gives 7.
+/// The Boolean up, the procedures lift, which puts it up, and raise, which puts it up and raises,
+/// and two entries when up: pass, at which n wait, which counts to 2 and then puts up down, and
+/// late, which gives 7.
 fn two_entries(alloc: Global, longest: u8) -> Result<Object, Fail> {
     let mut operations = gate_operations(alloc)?;
     let down = vec![in alloc; Stmt::Put(0, Cond::Constant(false))]?;
@@ -256,8 +256,11 @@ fn the_first_caller_of_the_first_open_entry_is_served_first(rt: HostRuntime) -> 
         );
     }
     let done = gate.procedure(LIFT, 0);
-    let wanted = [(2, Reply::Value(1)), (1, Reply::Value(2))];
-    assert_eq!(rt; told(alloc, &done.served)?.as_slice(), wanted.as_slice());
+    let expected = [(2, Reply::Value(1)), (1, Reply::Value(2))];
+    assert_eq!(rt;
+        replied(alloc, &done.served)?.as_slice(),
+        expected.as_slice()
+    );
     assert!(rt; waiting_at(alloc, &gate, 0)?.is_empty());
     assert_eq!(rt;
         waiting_at(alloc, &gate, 1)?.as_slice(),
@@ -265,7 +268,7 @@ fn the_first_caller_of_the_first_open_entry_is_served_first(rt: HostRuntime) -> 
     );
 
     assert_eq!(rt;
-        told(alloc, &gate.handler(BURST))?.as_slice(),
+        replied(alloc, &gate.handler(BURST))?.as_slice(),
         [(3, Reply::Value(7))].as_slice()
     );
     assert_eq!(rt; values(&gate), (Some(2), Some(true)));

@@ -1,5 +1,5 @@
-//! Tests of bodies, objects and machines by their public calls: worked rows, happy paths. They stand above the
-//! crates, so that each crate is proved once.
+//! Tests of bodies, objects and machines by their public calls: worked rows, happy paths. They are
+//! above the crates, so that each crate is proved once.
 #![tactic(auto)]
 
 #[cfg(test)]

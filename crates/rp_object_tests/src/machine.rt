@@ -91,9 +91,9 @@ fn a_sum_stays_within_64_bits(rt: HostRuntime) -> Result<(), Fail> {
 
 #[test]
 fn a_tally_has_1_to_8_objects(rt: HostRuntime) {
-    for (objects, want) in [(0, None), (1, Some(1)), (8, Some(8)), (9, None)] {
+    for (objects, expected) in [(0, None), (1, Some(1)), (8, Some(8)), (9, None)] {
         let program = TallyProgram::new(objects);
-        assert_eq!(rt; program.map(|program| program.objects()), want);
+        assert_eq!(rt; program.map(|program| program.objects()), expected);
     }
     replay_goes_on::<Tally>();
     replay_may_go_on::<Tally>();

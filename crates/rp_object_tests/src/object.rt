@@ -167,17 +167,20 @@ fn events_that_are_due_together_fire_in_order_and_the_clock_stays(
         (2, Operation::SetTimer(1), 9, Reply::Value(0)),
         (3, Operation::SetTimer(1), 5, Reply::Value(0)),
     ] {
-        let told = applied(&mut objects, &call(EQUAL, number, BOX, operation, arg)?)?;
-        assert_eq!(rt; told.as_slice(), [answer(EQUAL, number, reply)?].as_slice());
+        let replied = applied(&mut objects, &call(EQUAL, number, BOX, operation, arg)?)?;
+        assert_eq!(rt;
+            replied.as_slice(),
+            [answer(EQUAL, number, reply)?].as_slice()
+        );
     }
     assert!(rt; applied(&mut objects, &Action::Tick { now: 7 })?.is_empty());
     assert!(rt; applied(&mut objects, &Action::Tick { now: 3 })?.is_empty());
-    let told = applied(
+    let replied = applied(
         &mut objects,
         &call(EQUAL, 4, BOX, Operation::CancelTimer(1), 0)?,
     )?;
     assert_eq!(rt;
-        told.as_slice(),
+        replied.as_slice(),
         [answer(EQUAL, 4, Reply::Truth(false))?].as_slice()
     );
     assert!(rt;
@@ -191,9 +194,9 @@ fn events_that_are_due_together_fire_in_order_and_the_clock_stays(
         .is_empty()
     );
     let image = objects.image(rt.alloc())?;
-    let wanted =
+    let expected =
         "object box n=2\nobject gate up=false queue none\nclock 7\ntimer x off\ntimer y off\n";
-    assert_eq!(rt; image.as_slice(), wanted.as_bytes());
+    assert_eq!(rt; image.as_slice(), expected.as_bytes());
     Ok(())
 }
 
@@ -220,18 +223,18 @@ fn a_caller_waits_and_is_answered_by_who_opens(rt: HostRuntime) -> Result<(), Fa
         .is_empty()
     );
     let image = objects.image(rt.alloc())?;
-    let wanted =
+    let expected =
         "object box n=1\nobject gate up=false queue task 1 call 1 arg 7\nclock 0\ntimer x off\ntimer y at 9\n";
-    assert_eq!(rt; image.as_slice(), wanted.as_bytes());
-    let told = applied(
+    assert_eq!(rt; image.as_slice(), expected.as_bytes());
+    let replied = applied(
         &mut objects,
         &call(OTHER, 2, GATE, Operation::Procedure(1), 0)?,
     )?;
-    let wanted = [
+    let expected = [
         answer(OTHER, 2, Reply::Value(0))?,
         answer(EQUAL, 1, Reply::Value(0))?,
     ];
-    assert_eq!(rt; told.as_slice(), wanted.as_slice());
+    assert_eq!(rt; replied.as_slice(), expected.as_slice());
     Ok(())
 }
 
@@ -256,8 +259,8 @@ fn what_is_not_declared_is_refused_before_the_ceiling(rt: HostRuntime) -> Result
         ),
         (EQUAL, GATE, Operation::Procedure(1), Reply::Value(0)),
     ] {
-        let told = applied(&mut objects, &call(task, 1, object, operation, 0)?)?;
-        assert_eq!(rt; told.as_slice(), [answer(task, 1, reply)?].as_slice());
+        let replied = applied(&mut objects, &call(task, 1, object, operation, 0)?)?;
+        assert_eq!(rt; replied.as_slice(), [answer(task, 1, reply)?].as_slice());
     }
     Ok(())
 }
@@ -281,14 +284,14 @@ fn a_caller_that_waits_in_a_log_is_served_by_another_call(rt: HostRuntime) -> Re
         (passes, false, 2, None, None),
     ] {
         assert!(rt; action.is_right());
-        let told = log.apply(&action);
+        let replied = log.apply(&action);
         assert_eq!(rt;
-            told.as_slice().first().copied(),
+            replied.as_slice().first().copied(),
             first_answer,
             "{action:?}"
         );
         assert_eq!(rt;
-            told.as_slice().get(1).copied(),
+            replied.as_slice().get(1).copied(),
             second_answer,
             "{action:?}"
         );
@@ -297,8 +300,8 @@ fn a_caller_that_waits_in_a_log_is_served_by_another_call(rt: HostRuntime) -> Re
     }
     assert_eq!(rt; log.kept(waiter, 2), Some(Reply::Value(0)));
     let image = log.machine().image(rt.alloc())?;
-    let wanted =
+    let expected =
         "object box n=1\nobject gate up=false queue none\nclock 0\ntimer x off\ntimer y off\n";
-    assert_eq!(rt; image.as_slice(), wanted.as_bytes());
+    assert_eq!(rt; image.as_slice(), expected.as_bytes());
     Ok(())
 }

@@ -17,9 +17,9 @@ and_false : (b : Bool) → (b && false) ≡ false
 and_false true = refl
 and_false false = refl
 
--- the test with what it tells
-ltb_tells : (a b : ℕ) → ((nat_lt a b ≡ true) × (a < b)) ⊎ ((nat_lt a b ≡ false) × (b ≤ a))
-ltb_tells a b = elim (cases_lt a b) [ inl lt ↦ inl (lt-ltb a b lt, lt) | inr ge ↦ inr (le-ltb a b ge, ge) ]
+-- the test with what it decides
+ltb_decides : (a b : ℕ) → ((nat_lt a b ≡ true) × (a < b)) ⊎ ((nat_lt a b ≡ false) × (b ≤ a))
+ltb_decides a b = elim (cases_lt a b) [ inl lt ↦ inl (lt-ltb a b lt, lt) | inr ge ↦ inr (le-ltb a b ge, ge) ]
 
 -- ---- who sent them
 
@@ -53,11 +53,11 @@ senders_after ps p = senders_by (list_any (same_promise p) ps) ps p refl
 
 above_first : (w : Vote) (o : Option Vote) → w.ballot ≤ (higher_vote w o).ballot
 above_first w None = omega arith
-above_first w (Some o) = elim (ltb_tells w.ballot o.ballot) [ inl lt ↦ rw lt.0 (omega arith) | inr ge ↦ rw ge.0 (omega arith) ]
+above_first w (Some o) = elim (ltb_decides w.ballot o.ballot) [ inl lt ↦ rw lt.0 (omega arith) | inr ge ↦ rw ge.0 (omega arith) ]
 
 above_rest : (w : Vote) (o : Option Vote) (n : ℕ) → IsSomeAnd o (λ c. n ≤ c.ballot) → n ≤ (higher_vote w o).ballot
 above_rest w None n h = absurd h
-above_rest w (Some o) n h = elim (ltb_tells w.ballot o.ballot) [ inl lt ↦ rw lt.0 h | inr ge ↦ rw ge.0 (omega (arith, h)) ]
+above_rest w (Some o) n h = elim (ltb_decides w.ballot o.ballot) [ inl lt ↦ rw lt.0 h | inr ge ↦ rw ge.0 (omega (arith, h)) ]
 
 -- the highest is not below any
 highest_above : (vs : List Vote) (n : ℕ) → list_any (λ w. nat_eq n w.ballot) vs ≡ true → IsSomeAnd (highest vs) (λ c. n ≤ c.ballot)
@@ -86,7 +86,7 @@ alone (Some v) = refl
 
 not_above : (o : Option Vote) (v : Vote) → IsSomeAnd o (λ c. v.ballot ≤ c.ballot) → o ≡ highest (option_to_list o ++ v ∷ [])
 not_above None v h = absurd h
-not_above (Some c) v h = elim (ltb_tells c.ballot v.ballot) [ inl lt ↦ absurd (omega (arith, h)) | inr ge ↦ rw ge.0 ]
+not_above (Some c) v h = elim (ltb_decides c.ballot v.ballot) [ inl lt ↦ absurd (omega (arith, h)) | inr ge ↦ rw ge.0 ]
 
 vote_by : (t : Bool) (ps : List Promise) (from : ℕ) (last : Option Vote) → list_any (same_promise (from, last)) ps ≡ t
     → highest_vote (cond t ps (ps ++ (from, last) ∷ [])) ≡ highest (option_to_list (highest_vote ps) ++ option_to_list last)

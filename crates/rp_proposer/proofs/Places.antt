@@ -110,19 +110,19 @@ index_front (p ∷ xs) ys k j i h =
       | inr other ↦ rw other.0 (index_front xs ys (suc k) j i (rw other.0 at h))
     ]
 
-index_behind : (xs ys : List Proposal) (k i : ℕ) → index_from k i xs ≡ None → index_from k i (xs ++ ys) ≡ index_from (length xs + k) i ys
-index_behind [] ys k i h = let none : k ≡ length {A = Proposal} [] + k = omega arith in ap (λ (n : ℕ). index_from n i ys) none
-index_behind (p ∷ xs) ys k i h =
+index_after : (xs ys : List Proposal) (k i : ℕ) → index_from k i xs ≡ None → index_from k i (xs ++ ys) ≡ index_from (length xs + k) i ys
+index_after [] ys k i h = let none : k ≡ length {A = Proposal} [] + k = omega arith in ap (λ (n : ℕ). index_from n i ys) none
+index_after (p ∷ xs) ys k i h =
     elim (eqb_tells p.position i) [
       | inl same ↦ let is : Some k ≡ None = rw same.0 at h in absurd (cc)
       | inr other ↦
           let next : length xs + suc k ≡ suc (length xs) + k = omega arith in
-          rw other.0 (index_behind xs ys (suc k) i (rw other.0 at h) ∙ ap (λ (n : ℕ). index_from n i ys) next)
+          rw other.0 (index_after xs ys (suc k) i (rw other.0 at h) ∙ ap (λ (n : ℕ). index_from n i ys) next)
     ]
 
 -- else where it is among the second, if it is there
 pub index_back : (xs ys : List Proposal) (i : ℕ) → index_from 0 i xs ≡ None → index_from 0 i (xs ++ ys) ≡ option_map (λ n. length xs + n) (index_from 0 i ys)
-index_back xs ys i h = index_behind xs ys 0 i h ∙ shifted ys (length xs) 0 i
+index_back xs ys i h = index_after xs ys 0 i h ∙ shifted ys (length xs) 0 i
 
 none_elsewhere : (ps : List Proposal) (i : ℕ) → ¬ (Has i (map (λ p. p.position) ps)) → without_proposal ps i ≡ ps
 none_elsewhere [] i h = refl

@@ -25,7 +25,7 @@ senders_more senders more promises p are added =
     let with = same_with nat_eq Decides-eqb p.0 senders (promisers_of promises) are x in
     (λ h. with.0 ((added x).0 h), λ h. (added x).1 (with.1 h)))
 
--- so many of them are nodes
+-- n of them are nodes
 pub as_many : (nodes : ℕ) (senders : List ℕ) (promises : List Promise) → IsSet senders → SameMembers senders (promisers_of promises)
     → length (nodes_among nodes senders) ≡ length (nodes_among nodes (promisers_of promises))
 as_many nodes senders promises distinct are =

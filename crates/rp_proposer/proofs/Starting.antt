@@ -85,12 +85,12 @@ absent_put (p ∷ rest) q h =
       | inr other ↦ rw other.0 (ap (λ (l : List Proposal). p ∷ l) (absent_put rest q (rw other.0 at h)))
     ]
 
-absent_behind : (proposals : List Proposal) (q : Proposal) (i : ℕ) → q.position < i → proposal_at proposals i ≡ None → proposal_at (proposals ++ q ∷ []) i ≡ None
-absent_behind [] q i below h = rw (ne_eqb q.position i (λ same. absurd (omega (arith, same, below)))) refl
-absent_behind (p ∷ rest) q i below h =
+absent_after : (proposals : List Proposal) (q : Proposal) (i : ℕ) → q.position < i → proposal_at proposals i ≡ None → proposal_at (proposals ++ q ∷ []) i ≡ None
+absent_after [] q i below h = rw (ne_eqb q.position i (λ same. absurd (omega (arith, same, below)))) refl
+absent_after (p ∷ rest) q i below h =
     elim (eqb_tells p.position i) [
       | inl same ↦ let is : Some p ≡ None = rw same.0 at h in absurd (cc)
-      | inr other ↦ rw other.0 (absent_behind rest q i below (rw other.0 at h))
+      | inr other ↦ rw other.0 (absent_after rest q i below (rw other.0 at h))
     ]
 
 -- none runs at a position that is covered, where none is found there
@@ -117,7 +117,7 @@ pushed test proposals b first (suc n) none =
     let rest : List ℕ = filter test (range_with_len (first + 1) n) in
     let here : with_proposal proposals p ≡ proposals ++ p ∷ [] = absent_put proposals p (none first (omega arith) (omega arith)) in
     let later = pushed test (proposals ++ p ∷ []) b (first + 1) n (λ i least most.
-    absent_behind proposals p i (omega (arith, least)) (none i (omega (arith, least)) (omega (arith, most)))) in
+    absent_after proposals p i (omega (arith, least)) (none i (omega (arith, least)) (omega (arith, most)))) in
     elim (test first) as (λ t. with_range proposals b (cond t (first ∷ rest) rest) ≡ proposals ++ map (range_proposal b) (cond t (first ∷ rest) rest)) [
       | true ↦ ap (λ (l : List Proposal). with_range l b rest) here ∙ later ∙ append_assoc proposals (p ∷ []) (map (range_proposal b) rest)
       | false ↦ pushed test proposals b (first + 1) n (λ i least most. none i (omega (arith, least)) (omega (arith, most)))

@@ -8,7 +8,7 @@ use Rattle.rp_base.specs.Proposals.{Proposal, without_proposal}
 use Rattle.rp_base.proofs.Members.{has_mapped, mapped_has, has_passing, set_fits}
 use Rattle.rp_proposer.specs.Proposing.{HasRoom, AreInWindow, IsInWindow}
 
--- so many positions from the first on
+-- n positions from the first on
 window : ℕ → ℕ → List ℕ
 window first zero = []
 window first (suc n) = first ∷ window (suc first) n

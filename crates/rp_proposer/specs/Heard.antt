@@ -1,4 +1,4 @@
--- The set of the promises that came, of all that were heard (this project's own).
+-- The set of the promises that came, of all that were heard.
 use Rattle.std.specs.Prelude.{List, [], map}
 use Rattle.std.specs.declared.snapshot.Snapshot.{Snapshot}
 use Rattle.rp_base.specs.Sets.{with_members}

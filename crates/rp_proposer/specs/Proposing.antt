@@ -19,8 +19,8 @@ use Rattle.rp_base.specs.Proposals.{with_range, once_promised, as_offered, is_gi
 use Rattle.rp_proposer.specs.declared.proposal.Progress.{Progress}
 use Rattle.rp_proposer.specs.declared.proposal.Progress.TheVariants.{Waiting, Offer, Stale}
 
--- What a node knows as a proposer: which node it is, of how many; the proposals that run; the greatest
--- ballot that it started, or 0; and the greatest that a refusal of a running proposal told.
+-- What a node knows as a proposer: which node it is, of how many; the proposals that run; the greatest ballot that it
+-- started, or 0; and the greatest in a refusal of a running proposal.
 pub record ProposerPart : Type 0 where
   pub node : ℕ
   pub nodes : ℕ
@@ -140,12 +140,12 @@ prepared_by nodes None = None
 prepared_by nodes (Some p) =
     if is_prepared nodes p then Some (p.ballot, option_map (λ vote. vote.action) (highest_vote p.promises)) else None
 
--- a proposal once it is told to offer: if it is prepared its second phase begins, with this own action where no
--- promise reports a vote
+-- a proposal once it is to offer: if it is prepared its second phase begins, with this own action where no promise
+-- reports a vote
 abbrev pub once_offered : ℕ → Action → Proposal → Proposal
 once_offered nodes own p = if is_prepared nodes p then as_offered own p else p
 
--- the proposal that runs at a position is told to offer
+-- the proposal that runs at a position is to offer
 abbrev pub offers : ProposerPart → Action → Option Proposal → ProposerPart
 offers part own None = part
 offers part own (Some p) = record part { proposals = with_proposal part.proposals (once_offered part.nodes own p) }

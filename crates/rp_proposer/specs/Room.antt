@@ -1,4 +1,4 @@
--- What a proposer keeps of its proposals (this project's own; no public clause names it).
+-- What a proposer keeps of its proposals (no public clause names it).
 use Rattle.std.specs.Prelude.{ℕ, ◌≡◌, ◌≤◌, Bool, is_some, List, map, filter, length, if◌then◌else◌}
 use Rattle.rp_base.specs.Proposals.{Proposal}
 use Rattle.rp_base.specs.Sets.{IsSet}

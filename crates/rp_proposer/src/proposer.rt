@@ -82,7 +82,7 @@ impl Proposer {
     pub fn ballot(&self) -> Result<Ballot, Fault>
         ensures next { IfOk result (IsNext self.now.node (counted_by self.now)) }
         ensures value { IfOk result (λ b. b ≡ next_ballot self.now.node (counted_by self.now)) }
-        ensures spent { IsErrOf result Fault.BallotsSpent ↔ ((b : ℕ)
+        ensures exhausted { IsErrOf result Fault.BallotsSpent ↔ ((b : ℕ)
             → ¬ IsAbove self.now.node (counted_by self.now) b) }
         ensures full { IsErrOf result Fault.BallotsSpent
             ↔ (2 ^ 32 ≤ round_of (next_ballot self.now.node (counted_by self.now))) }
@@ -162,7 +162,7 @@ impl Proposer {
         ensures offered { self.new ≡ offers self.old own (proposal_at self.old.proposals position) }
         ensures nodes { self.new.nodes ≡ self.old.nodes }
     {
-        if let Some(index) = index_of(&self.proposals, position) {
+        if let Some(index) = index_of_proposal(&self.proposals, position) {
             let (had, has) = self.proposals[index].offer(self.nodes, own);
             self.own_actions = self.own_actions + has - had;
         }
@@ -236,7 +236,7 @@ impl Proposer {
             (proposal_at self.old.proposals position) }
         ensures nodes { self.new.nodes ≡ self.old.nodes }
     {
-        if let Some(index) = index_of(&self.proposals, position) {
+        if let Some(index) = index_of_proposal(&self.proposals, position) {
             self.proposals[index].note(self.nodes, ballot, HeardPromise { from, last });
         }
     }
@@ -280,7 +280,7 @@ fn started_of(records: &[Rec]) -> Option<Ballot>
 fn proposal_at(proposals: &VecDeque<Proposal>, position: Position) -> Option<&Proposal>
     ensures { option_copied result ≡ proposal_at proposals.now.items position }
 {
-    match index_of(proposals, position) {
+    match index_of_proposal(proposals, position) {
         Some(index) => Some(&proposals[index]),
         None => None,
     }
@@ -336,7 +336,7 @@ fn leave_out(proposals: &mut VecDeque<Proposal>, position: Position) -> usize
     ensures own { own_actions_of proposals.new.items + result ≡ own_actions_of proposals.old.items }
     ensures capacity { deque_capacity proposals.new ≡ deque_capacity proposals.old }
 {
-    match index_of(proposals, position) {
+    match index_of_proposal(proposals, position) {
         Some(index) => {
             let had = proposals[index].own_count();
             take_out(proposals, index);
@@ -371,7 +371,7 @@ fn give_up(proposals: &mut VecDeque<Proposal>, nodes: u8, position: Position, ba
 }
 
 /// Where the proposal at a position is.
-fn index_of(proposals: &VecDeque<Proposal>, position: Position) -> Option<usize>
+fn index_of_proposal(proposals: &VecDeque<Proposal>, position: Position) -> Option<usize>
     ensures { result ≡ index_from 0 position proposals.now.items }
 {
     let (front, back) = proposals.as_slices();
@@ -410,7 +410,7 @@ fn put(proposals: &mut VecDeque<Proposal>, proposal: Proposal) -> usize
         ≡ own_actions_of proposals.old.items + own_count proposal }
     ensures capacity { deque_capacity proposals.new ≡ deque_capacity proposals.old }
 {
-    match index_of(proposals, proposal.position()) {
+    match index_of_proposal(proposals, proposal.position()) {
         Some(index) => {
             let had = proposals[index].own_count();
             proposals[index] = proposal;

@@ -1,4 +1,4 @@
--- What a vote or a decision comes to, by what holds at its position.
+-- The result of a vote or a decision, by what holds at its position.
 use Rattle.std.proofs.Common.{◌≡◌, ℕ, Bool, true, false, is_some, Option, Some, None, List, [], ◌∷◌, ◌++◌, length, drop, if◌then◌else◌, refl, ap, ◌∙◌, append-nil}
 use Rattle.rp_base.specs.declared.action.Action.{Action}
 use Rattle.rp_base.specs.declared.record.Rec.{Rec}
@@ -10,8 +10,8 @@ use Rattle.rp_base.specs.Promises.{HeardVote, same_heard, makes_majority}
 use Rattle.rp_base.specs.Records.{learned_at, applied_of}
 use Rattle.rp_codec.specs.Message.{Message}
 use Rattle.rp_codec.specs.declared.packet.Body.TheVariants as bodies
-use Rattle.rp_learner.specs.declared.learner.Standing.{Standing}
-use Rattle.rp_learner.specs.declared.learner.Standing.TheVariants.{Counting, Learned, Known, Beyond}
+use Rattle.rp_learner.specs.declared.learner.VoteStatus.{VoteStatus}
+use Rattle.rp_learner.specs.declared.learner.VoteStatus.TheVariants.{Counting, Learned, Known, Beyond}
 use Rattle.rp_machine.specs.Replay.{replay_answers}
 use Rattle.rp_model.specs.Pending.{replies_to}
 use Rattle.rp_model.specs.declared.effect.Dropped.TheVariants.{No}
@@ -21,9 +21,9 @@ use Rattle.rp_model.specs.Leader.{is_beyond}
 use Rattle.rp_model.specs.Learner.{learns, on_vote, on_accepted}
 use Rattle.rp_model.specs.Says.{says_to_others, notes}
 use Rattle.rp_replica.specs.Applying.{learns_alone}
-use Rattle.rp_replica.specs.Held.{Held, held_after}
+use Rattle.rp_replica.specs.State.{ReplicaState, after_turn}
 use Rattle.rp_replica.specs.Packets.{Run, with_packets}
-use Rattle.rp_replica.specs.Standing.{standing_of}
+use Rattle.rp_replica.specs.Status.{status_of}
 use Rattle.rp_replica.specs.Committing.{Commits}
 
 -- ---- by what holds at the position
@@ -32,45 +32,45 @@ module _ {S : Type 0} (next : S → Action → S) (answers : S → Action → Li
   abbrev heard : List HeardVote
   heard = with_member same_heard running.heard (from, i, vote)
 
-  abbrev tells : Turn
-  tells = learns next answers begin me records running i vote.action (says_to_others nodes me (bodies.Decided i vote.action)) []
+  abbrev announces : Turn
+  announces = learns next answers begin me records running i vote.action (says_to_others nodes me (bodies.Decided i vote.action)) []
 
-  abbrev standing_at : Option Action → Bool → Standing
-  standing_at learned majority = if is_some learned then Known else if majority then Learned else Counting
+  abbrev status_at : Option Action → Bool → VoteStatus
+  status_at learned majority = if is_some learned then Known else if majority then Learned else Counting
 
   abbrev turn_at : Option Action → Bool → Turn
   turn_at (Some learned) majority = notes running
-  turn_at None majority = if majority then tells else notes (record running { heard = heard })
+  turn_at None majority = if majority then announces else notes (record running { heard = heard })
 
   same_turn : (learned : Option Action) → on_vote next answers begin nodes me records running from i vote learned ≡ turn_at learned (makes_majority nodes i vote heard)
   same_turn (Some learned) = refl
   same_turn None = refl
 
-  learned_is : (learned : Option Action) (majority : Bool) → standing_at learned majority ≡ Learned → turn_at learned majority ≡ tells
+  learned_is : (learned : Option Action) (majority : Bool) → status_at learned majority ≡ Learned → turn_at learned majority ≡ announces
   learned_is (Some learned) majority e = absurd (cc)
   learned_is None true e = refl
   learned_is None false e = absurd (cc)
 
-  near_is : (far : Bool) (standing : Standing) (turn : Turn) → (if far then Beyond else standing) ≡ Learned → (standing ≡ Learned → turn ≡ tells) → (if far then notes running else turn) ≡ tells
-  near_is true standing turn e is = absurd (cc)
-  near_is false standing turn e is = is e
+  near_is : (far : Bool) (status : VoteStatus) (turn : Turn) → (if far then Beyond else status) ≡ Learned → (status ≡ Learned → turn ≡ announces) → (if far then notes running else turn) ≡ announces
+  near_is true status turn e is = absurd (cc)
+  near_is false status turn e is = is e
 
-  pub on_learned : standing_of nodes records running.heard from i vote ≡ Learned → on_accepted next answers begin nodes me records running from i vote ≡ tells
+  pub on_learned : status_of nodes records running.heard from i vote ≡ Learned → on_accepted next answers begin nodes me records running from i vote ≡ announces
   on_learned e =
-      near_is (is_beyond records i) (standing_at (learned_at records i) (makes_majority nodes i vote heard)) (on_vote next answers begin nodes me records running from i vote (learned_at records i)) e
+      near_is (is_beyond records i) (status_at (learned_at records i) (makes_majority nodes i vote heard)) (on_vote next answers begin nodes me records running from i vote (learned_at records i)) e
       (λ learned. same_turn (learned_at records i) ∙ learned_is (learned_at records i) (makes_majority nodes i vote heard) learned)
 
 -- an action is learned, and these packets go before and after the replies
-pub learned_commits : {S : Type 0} (next : S → Action → S) (answers : S → Action → List Answer) (old new : Held S) (i : ℕ) (v : Action) (packets behind : List Message) (before after : Run)
-    → new ≡ held_after old (learns_alone next answers old i v)
-    → after ≡ with_packets before ((packets ++ (learns_alone next answers old i v).sent) ++ behind)
-    → Commits (learns next answers old.begin old.me old.records old.running i v packets behind) old new before after No
-learned_commits next answers old new i v packets behind before after goes is =
+pub learned_commits : {S : Type 0} (next : S → Action → S) (answers : S → Action → List Answer) (old new : ReplicaState S) (i : ℕ) (v : Action) (packets trailing : List Message) (before after : Run)
+    → new ≡ after_turn old (learns_alone next answers old i v)
+    → after ≡ with_packets before ((packets ++ (learns_alone next answers old i v).sent) ++ trailing)
+    → Commits (learns next answers old.begin old.me old.records old.running i v packets trailing) old new before after No
+learned_commits next answers old new i v packets trailing before after goes is =
     let given = replay_answers next answers old.begin (applied_of old.records) in
     let later = replay_answers next answers old.begin (applied_of (old.records ++ records.Learned i v ∷ [])) in
     let replies : List Message = replies_to old.me old.running.pending (drop (length given) later) in
     record {
       goes = goes;
-      sent = is ∙ ap (λ (rs : List Message). with_packets before ((packets ++ rs) ++ behind)) (append-nil replies);
+      sent = is ∙ ap (λ (rs : List Message). with_packets before ((packets ++ rs) ++ trailing)) (append-nil replies);
       is_dropped = refl;
     }

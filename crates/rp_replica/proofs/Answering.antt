@@ -1,4 +1,4 @@
--- What an acceptor's answers tell of the records.
+-- What an acceptor's answers say of the records.
 use Rattle.std.proofs.Common.{◌≡◌, ℕ, ◌<◌, Bool, true, false, cond, nat_eq, nat_lt, Option, Some, None, List, [], ◌∷◌, refl, sym, ap, ◌∙◌, ltb-true}
 use Rattle.std.specs.Prelude.{IfSome, filter}
 use Rattle.std.specs.List.{AllByRecursion}
@@ -20,10 +20,10 @@ use Rattle.rp_codec.specs.Record.{IsRecord}
 
 -- ---- a promise
 
--- it is of this position and ballot, above the bound, and tells the last vote
+-- it is of this position and ballot, above the bound, and reports the last vote
 pub record IsPromise (records : List Rec) (i b : ℕ) (last : Option Vote) (rec : Rec) : Type 0 where
   pub above : bound_at records i < b
-  pub told : last_vote_at records i ≡ last
+  pub stated : last_vote_at records i ≡ last
   pub written : rec ≡ Promised i b
 
 abbrev last_in : Option Vote → PrepareAnswer → Option Vote
@@ -67,7 +67,7 @@ promised records i b last rec e =
     let below = nat_lt b (bound_at records i) in
     record {
       above = ltb-true (bound_at records i) b (sym (ap is_promise e ∙ above_always records i b above below));
-      told = sym (ap (last_in (last_vote_at records i)) e ∙ last_always records i b above below);
+      stated = sym (ap (last_in (last_vote_at records i)) e ∙ last_always records i b above below);
       written = ap (rec_in (Promised i b)) e ∙ rec_always records i b above below;
     }
 
@@ -105,7 +105,7 @@ right_records test (rec ∷ rest) each =
       | false ↦ right_records test rest each.1
     ]
 
--- the vote that it reports may be told
+-- the vote that it reports may be sent
 pub may_report : (records : List Rec) (i b : ℕ) (last : Option Vote) → AllByRecursion IsRightRecord records → last_vote_at records i ≡ last → bound_at records i < b → IfSome last (IsVoteBelow b)
 may_report records i b None right is above = tt
 may_report records i b (Some vote) right is above = (last_below records i b vote is above, last_right records i vote right is)

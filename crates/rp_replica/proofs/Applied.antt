@@ -20,7 +20,7 @@ use Rattle.rp_base.specs.Records.{or_else, learned_at, applied_of}
 use Rattle.rp_log.specs.Contents.{Contents}
 use Rattle.rp_log.proofs.RecordedRuns.{all_taken}
 use Rattle.rp_machine.specs.Numbered.{Applied, outcome}
-use Rattle.rp_replica.specs.Tied.{IsApplied}
+use Rattle.rp_replica.specs.Invariant.{IsApplied}
 
 -- the machine's actions are the applied list
 pub applied_is : {S : Type 0} (records : List Rec) (log : Contents) (applied : Applied S) → IsApplied records log applied → applied.actions ≡ applied_of records
@@ -46,7 +46,7 @@ learned_right (PromisedRange range ballot ∷ rest) i v right is = learned_right
 -- ---- what a replica is asked, in the words of its part
 
 module _ {S : Type 0} (next : S → Action → S) (answers : S → Action → List Answer) (records : List Rec) (log : Contents) (applied : Applied S) (a : IsApplied records log applied) where
-  -- what its machine came to
+  -- what its machine became
   pub outcome_is : outcome next answers applied ≡ replay_of next answers applied.begin (applied_of records)
   outcome_is = ap (replay_of next answers applied.begin) (applied_is records log applied a)
 
@@ -67,9 +67,9 @@ interrupt_past kept running source occurrence last is past =
     sym (ap (λ (b : Bool). cond b (adds_pending running (Interrupt source occurrence)) (notes running)) (le-ltb (last_occurrence source kept) occurrence le))
 
 -- a call of which a reply is kept
-pub call_again : (me : ℕ) (kept : List Action) (running : Running) (task number : ℕ) (call : Action) (told : Option Reply) (reply : Reply) → told ≡ Some reply
-    → sends running (says_to_task me (bodies.Reply number reply) task ∷ []) ≡ on_numbered me kept running task number call told
-call_again me kept running task number call told reply is = sym (ap (on_numbered me kept running task number call) is)
+pub call_again : (me : ℕ) (kept : List Action) (running : Running) (task number : ℕ) (call : Action) (stated : Option Reply) (reply : Reply) → stated ≡ Some reply
+    → sends running (says_to_task me (bodies.Reply number reply) task ∷ []) ≡ on_numbered me kept running task number call stated
+call_again me kept running task number call stated reply is = sym (ap (on_numbered me kept running task number call) is)
 
 -- one below the last that counted
 pub call_past : (me : ℕ) (kept : List Action) (running : Running) (task number last : ℕ) (call : Action) → last ≡ last_number task kept → number < last

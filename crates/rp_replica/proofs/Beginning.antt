@@ -26,7 +26,7 @@ use Rattle.rp_log.proofs.Places.{front_within}
 use Rattle.rp_log.proofs.RecordedRuns.{all_taken}
 use Rattle.rp_machine.specs.Numbered.{Applied}
 use Rattle.rp_replica.proofs.Hearing.{learns_alike}
-use Rattle.rp_replica.specs.Tied.{IsOnDisk, IsProposer, IsApplied, Tied}
+use Rattle.rp_replica.specs.Invariant.{IsOnDisk, IsProposer, IsApplied, IsReplica}
 use Rattle.rp_replica.proofs.Keeping.{or_none, disk_more}
 use Rattle.rp_replica.proofs.Promising.{places, same_places, put_right}
 
@@ -115,17 +115,17 @@ in_reach records log applied i a least unlearned below =
 
 module _ {S D : Type 0} (disk : D → Disk) (me : ℕ) (config : Config) (learner : Learning) (votes : List HeardVote) (log : Contents) (applied : Applied S) where
   -- the ballot is written, and a proposal or several begin
-  pub tied_started : (old new : Stored D) (records after : List Rec) (proposer leading begun : ProposerPart) (b : ℕ) → IsPut disk (record_text (Started b)) old new → after ≡ records ++ Started b ∷ []
-      → leading ≡ begun → Tied me config (disk old.device) old.failed records proposer learner votes log applied → IsBallot b
-      → IsProposer me config (records ++ Started b ∷ []) (length log.taken) begun → Tied me config (disk new.device) new.failed after leading learner votes log applied
-  tied_started old new records after proposer leading begun b put noted is t ballot leads =
-      let stands : IsOnDisk config.max_positions (disk new.device) false (records ++ Started b ∷ []) =
+  pub replica_started : (old new : Stored D) (records after : List Rec) (proposer leading begun : ProposerPart) (b : ℕ) → IsPut disk (record_text (Started b)) old new → after ≡ records ++ Started b ∷ []
+      → leading ≡ begun → IsReplica me config (disk old.device) old.failed records proposer learner votes log applied → IsBallot b
+      → IsProposer me config (records ++ Started b ∷ []) (length log.taken) begun → IsReplica me config (disk new.device) new.failed after leading learner votes log applied
+  replica_started old new records after proposer leading begun b put noted is t ballot leads =
+      let on_device : IsOnDisk config.max_positions (disk new.device) false (records ++ Started b ∷ []) =
       disk_more config.max_positions (disk old.device) (disk new.device) records (Started b)
-      (subst (λ (f : Bool). IsOnDisk config.max_positions (disk old.device) f records) put.worked t.stands) (record { ranges = ballot; right = tt }) refl put.disk_is in
-      let fresh : Tied me config (disk new.device) false (records ++ Started b ∷ []) begun learner votes log applied = record {
+      (subst (λ (f : Bool). IsOnDisk config.max_positions (disk old.device) f records) put.worked t.on_device) (record { ranges = ballot; right = tt }) refl put.disk_is in
+      let fresh : IsReplica me config (disk new.device) false (records ++ Started b ∷ []) begun learner votes log applied = record {
         sizes = t.sizes;
         member = t.member;
-        stands = stands;
+        on_device = on_device;
         leads = leads;
         learns = learns_alike config records (records ++ Started b ∷ []) (length log.taken) learner votes (λ j. learned_same records b j) t.learns;
         applies = record {
@@ -135,9 +135,9 @@ module _ {S D : Type 0} (disk : D → Disk) (me : ℕ) (config : Config) (learne
           taken = t.applies.taken;
         };
       } in
-      subst (λ (rs : List Rec). Tied me config (disk new.device) new.failed rs leading learner votes log applied) (sym noted)
-      (subst (λ (p : ProposerPart). Tied me config (disk new.device) new.failed (records ++ Started b ∷ []) p learner votes log applied) (sym is)
-      (subst (λ (f : Bool). Tied me config (disk new.device) f (records ++ Started b ∷ []) begun learner votes log applied) (sym put.working) fresh))
+      subst (λ (rs : List Rec). IsReplica me config (disk new.device) new.failed rs leading learner votes log applied) (sym noted)
+      (subst (λ (p : ProposerPart). IsReplica me config (disk new.device) new.failed (records ++ Started b ∷ []) p learner votes log applied) (sym is)
+      (subst (λ (f : Bool). IsReplica me config (disk new.device) f (records ++ Started b ∷ []) begun learner votes log applied) (sym put.working) fresh))
 
 -- ---- what a leader looks at
 
@@ -147,7 +147,7 @@ next_is records log applied n a is =
     let long : length log.taken ≡ length (applied_of records) = ap length (all_taken records log a.learned a.ordered a.none) in
     omega (arith, long, is)
 
--- it is the one behind those that the log took
+-- it is the one after those that the log took
 pub front_is : {S : Type 0} (records : List Rec) (log : Contents) (applied : Applied S) → IsApplied records log applied → suc (length log.taken) ≡ first_unlearned records
 front_is records log applied a = next_is records log applied (suc (length log.taken)) a (omega arith)
 

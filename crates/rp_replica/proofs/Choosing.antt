@@ -23,10 +23,10 @@ find_here : (test : Action → Bool) (x : Action) (xs ys : List Action) (b : Boo
 find_here test x xs ys true later e = absurd (cc)
 find_here test x xs ys false later e = later e
 
--- what is found behind a list in which nothing is
-pub find_behind : (test : Action → Bool) (xs ys : List Action) → find test xs ≡ None → find test (xs ++ ys) ≡ find test ys
-find_behind test [] ys e = refl
-find_behind test (x ∷ xs) ys e = find_here test x xs ys (test x) (find_behind test xs ys) e
+-- what is found after a list in which nothing is
+pub find_after : (test : Action → Bool) (xs ys : List Action) → find test xs ≡ None → find test (xs ++ ys) ≡ find test ys
+find_after test [] ys e = refl
+find_after test (x ∷ xs) ys e = find_here test x xs ys (test x) (find_after test xs ys) e
 
 find_first : (test : Action → Bool) (x y : Action) (xs ys : List Action) (b : Bool) → (find test xs ≡ Some y → find test (xs ++ ys) ≡ Some y)
     → cond b (Some x) (find test xs) ≡ Some y → cond b (Some x) (find test (xs ++ ys)) ≡ Some y

@@ -28,7 +28,7 @@ use Rattle.rp_model.specs.Parts.{Running, Turn}
 use Rattle.rp_model.specs.Says.{notes}
 use Rattle.rp_base.proofs.Stretches.{range_next}
 use Rattle.rp_proposer.specs.Proposing.{ProposerPart, AreInWindow, IsInWindow, begins_range, unskipped}
-use Rattle.rp_replica.specs.Tied.{IsProposer, IsRightProposal, IsApplied}
+use Rattle.rp_replica.specs.Invariant.{IsProposer, IsRightProposal, IsApplied}
 use Rattle.rp_replica.proofs.Beginning.{window_more, place_of_more, learned_same, in_reach}
 use Rattle.rp_replica.proofs.FreePlaces.{out_by, goes_on_out}
 use Rattle.rp_replica.proofs.Promising.{places, put_right}

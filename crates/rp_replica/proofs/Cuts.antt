@@ -17,8 +17,8 @@ use Rattle.rp_model.specs.Parts.{NodePart}
 use Rattle.rp_model.specs.Parts.{Running}
 use Rattle.rp_model.specs.Effect.{cut_part, stop_part}
 use Rattle.rp_model.specs.Parts.{is_in_log}
-use Rattle.rp_replica.specs.Tied.{IsOnDisk}
-use Rattle.rp_replica.specs.Held.{Held, part_of}
+use Rattle.rp_replica.specs.Invariant.{IsOnDisk}
+use Rattle.rp_replica.specs.State.{ReplicaState, part_of}
 use Rattle.rp_replica.specs.Kept.{HoldsPart, HoldsOnly, HoldsItsRecords, HoldsCut}
 use Rattle.rp_replica.specs.Turning.{Stops}
 use Rattle.rp_replica.specs.Cutting.{MayWrite, Cuts, FailsInCut}
@@ -49,7 +49,7 @@ module _ (most kept : ℕ) (part : NodePart) (rec : Rec) where
   cut_by true whole = ap (λ (b : Bool). cond b (record part { records = part.records ++ rec ∷ []; running = None }) (record part { torn = kept; running = None })) whole
   cut_by false part-of = ap (λ (b : Bool). cond b (record part { records = part.records ++ rec ∷ []; running = None }) (record part { torn = kept; running = None })) part-of
 
-  -- some bytes of the record stand behind the others
+  -- some bytes of the record are after the others
   pub cut_holds : (disk after : Disk) → HoldsPart most disk part → part.torn ≡ 0 → IsRecord rec → is_in_log most rec ≡ true → after.contents ≡ disk.contents ++ take kept (record_text rec)
       → HoldsPart most after (cut_part kept part (Some rec))
   cut_holds disk after h untorn right in_log is =
@@ -119,45 +119,45 @@ all_that test (rec ∷ rest) each =
       | false ↦ all_that test rest each.1
     ]
 
-module _ {S : Type 0} (held : Held S) (stands : IsOnDisk held.config.max_positions held.disk held.failed held.records) (working : held.failed ≡ false) where
-  works : IsOnDisk held.config.max_positions held.disk false held.records
-  works = subst (λ (f : Bool). IsOnDisk held.config.max_positions held.disk f held.records) working stands
+module _ {S : Type 0} (replica : ReplicaState S) (on_device : IsOnDisk replica.config.max_positions replica.disk replica.failed replica.records) (working : replica.failed ≡ false) where
+  works : IsOnDisk replica.config.max_positions replica.disk false replica.records
+  works = subst (λ (f : Bool). IsOnDisk replica.config.max_positions replica.disk f replica.records) working on_device
 
-  pub held_now : HoldsPart held.config.max_positions held.disk (part_of held)
-  held_now = holds_now held.config.max_positions held.disk held.records (Some held.running) works
+  pub replica_now : HoldsPart replica.config.max_positions replica.disk (part_of replica)
+  replica_now = holds_now replica.config.max_positions replica.disk replica.records (Some replica.running) works
 
   -- and no other record where it holds texts of its records and nothing else
-  only_now : HoldsItsRecords held → HoldsOnly held.disk (part_of held)
+  only_now : HoldsItsRecords replica → HoldsOnly replica.disk (part_of replica)
   only_now only = record {
     torn = [];
-    found = are_alone held.disk.contents held.records only
-        (subst (AllByRecursion IsRecord) (sym works.counted) (all_that (is_in_log held.config.max_positions) works.all works.found.each));
+    found = are_alone replica.disk.contents replica.records only
+        (subst (AllByRecursion IsRecord) (sym works.counted) (all_that (is_in_log replica.config.max_positions) works.all works.found.each));
     bytes = refl;
   }
 
-  pub stops_with : HoldsItsRecords held → HoldsOnly held.disk (stop_part (part_of held))
+  pub stops_with : HoldsItsRecords replica → HoldsOnly replica.disk (stop_part (part_of replica))
   stops_with only = let h = only_now only in record { torn = h.torn; found = h.found; bytes = h.bytes }
 
-  -- some bytes of a record stand behind the others
-  cuts_by : (kept : ℕ) (rec : Rec) (after : Disk) → MayWrite held.config.max_positions (Some rec) → after.contents ≡ held.disk.contents ++ take kept (record_text rec) → HoldsCut kept held after (Some rec)
+  -- some bytes of a record are after the others
+  cuts_by : (kept : ℕ) (rec : Rec) (after : Disk) → MayWrite replica.config.max_positions (Some rec) → after.contents ≡ replica.disk.contents ++ take kept (record_text rec) → HoldsCut kept replica after (Some rec)
   cuts_by kept rec after may is = record {
-    left = cut_holds held.config.max_positions kept (part_of held) rec held.disk after held_now refl may.0 may.1 is;
-    only = λ only. cut_only held.config.max_positions kept (part_of held) rec held.disk after (only_now only) refl may.0 is;
+    left = cut_holds replica.config.max_positions kept (part_of replica) rec replica.disk after replica_now refl may.0 may.1 is;
+    only = λ only. cut_only replica.config.max_positions kept (part_of replica) rec replica.disk after (only_now only) refl may.0 is;
   }
 
   -- it stops within the write of a record
-  pub torn_cuts : (kept : ℕ) (rec : Rec) (after : Disk) → MayWrite held.config.max_positions (Some rec) → after ≡ stopped kept (appended (record_text rec) held.disk) → Cuts (Some rec) kept held after
+  pub torn_cuts : (kept : ℕ) (rec : Rec) (after : Disk) → MayWrite replica.config.max_positions (Some rec) → after ≡ stopped kept (appended (record_text rec) replica.disk) → Cuts (Some rec) kept replica after
   torn_cuts kept rec after may is = record {
     disk_is = is;
-    holds = cuts_by kept rec after may (ap (λ (d : Disk). d.contents) is ∙ stopped_contents kept (record_text rec) held.disk (works.stable refl));
+    holds = cuts_by kept rec after may (ap (λ (d : Disk). d.contents) is ∙ stopped_contents kept (record_text rec) replica.disk (works.stable refl));
     working = working;
   }
 
   -- its device fails there
-  pub failure_cuts : (rec : Rec) (after : Disk) → MayWrite held.config.max_positions (Some rec) → AppendFailed (record_text rec) held.disk after → (kept : ℕ) × HoldsCut kept held after (Some rec)
+  pub failure_cuts : (rec : Rec) (after : Disk) → MayWrite replica.config.max_positions (Some rec) → AppendFailed (record_text rec) replica.disk after → (kept : ℕ) × HoldsCut kept replica after (Some rec)
   failure_cuts rec after may failed = (failed.contents.0, cuts_by failed.contents.0 rec after may failed.contents.1)
 
-  pub torn_fails : (rec : Rec) (after : Disk) → MayWrite held.config.max_positions (Some rec) → AppendFailed (record_text rec) held.disk after → FailsInCut (Some rec) held after
+  pub torn_fails : (rec : Rec) (after : Disk) → MayWrite replica.config.max_positions (Some rec) → AppendFailed (record_text rec) replica.disk after → FailsInCut (Some rec) replica after
   torn_fails rec after may failed = record {
     rec = rec;
     is = refl;
@@ -180,8 +180,8 @@ stop_holds most disk part h = record {
 
 module _ {S D : Type 0} (disk : D → Disk) (me : ℕ) (config : Config) (begin : S) (running : Running) where
   -- the replica with this store and these records
-  abbrev pub held_with : Stored D → List Rec → Held S
-  held_with store records = record {
+  abbrev pub replica_with : Stored D → List Rec → ReplicaState S
+  replica_with store records = record {
     me = me;
     config = config;
     begin = begin;
@@ -192,29 +192,29 @@ module _ {S D : Type 0} (disk : D → Disk) (me : ℕ) (config : Config) (begin 
   }
 
   pub stops_by : (fault : Fault) (rec : Rec) (old new : Stored D) (records after : List Rec) → IsOnDisk config.max_positions (disk old.device) old.failed records → MayWrite config.max_positions (Some rec)
-      → after ≡ records → IsNotPut disk (record_text rec) old fault new → Stops (Some rec) (held_with old records) (held_with new after) fault
-  stops_by OutOfMemory rec old new records after stands may same not =
+      → after ≡ records → IsNotPut disk (record_text rec) old fault new → Stops (Some rec) (replica_with old records) (replica_with new after) fault
+  stops_by OutOfMemory rec old new records after on_device may same not =
       (λ i. record { me = me; config = config; begin = begin; records = same i; running = running; disk = not.0.disk_same i; failed = not.0.failed i }, not.1)
-  stops_by Device rec old new records after stands may same not = (
+  stops_by Device rec old new records after on_device may same not = (
     record {
       rec = rec;
       is = refl;
       disk = not.disk_is;
       goes = λ i. record { me = me; config = config; begin = begin; records = same i; running = running; disk = disk new.device; failed = not.failed i };
-      holds = failure_cuts (held_with old records) stands not.worked rec (disk new.device) may not.disk_is;
+      holds = failure_cuts (replica_with old records) on_device not.worked rec (disk new.device) may not.disk_is;
     },
     not.worked,
   )
-  stops_by Failed rec old new records after stands may same not =
+  stops_by Failed rec old new records after on_device may same not =
       (λ i. record { me = me; config = config; begin = begin; records = same i; running = running; disk = not.0.disk_same i; failed = not.0.failed i }, not.1)
-  stops_by _ rec old new records after stands may same not = absurd not
+  stops_by _ rec old new records after on_device may same not = absurd not
 
   pub write_stops : {T : Type 0} (r : Result T Fault) (rec : Rec) (old new : Stored D) (records after : List Rec) → IsOnDisk config.max_positions (disk old.device) old.failed records → MayWrite config.max_positions (Some rec)
-      → OnErr r (after ≡ records) → IfErr r (λ fault. IsNotPut disk (record_text rec) old fault new) → IfErr r (λ fault. Stops (Some rec) (held_with old records) (held_with new after) fault)
-  write_stops (Ok x) rec old new records after stands may same err = tt
-  write_stops (Err fault) rec old new records after stands may same err = stops_by fault rec old new records after stands may same err
+      → OnErr r (after ≡ records) → IfErr r (λ fault. IsNotPut disk (record_text rec) old fault new) → IfErr r (λ fault. Stops (Some rec) (replica_with old records) (replica_with new after) fault)
+  write_stops (Ok x) rec old new records after on_device may same err = tt
+  write_stops (Err fault) rec old new records after on_device may same err = stops_by fault rec old new records after on_device may same err
 
 -- what is given on of a fault
-pub given_on : {S T : Type 0} (r : Result T Fault) (fault : Fault) (written : Option Rec) (old new : Held S) → IsErrAnd r (λ e. e ≡ fault) → Stops written old new fault → IfErr r (λ e. Stops written old new e)
+pub given_on : {S T : Type 0} (r : Result T Fault) (fault : Fault) (written : Option Rec) (old new : ReplicaState S) → IsErrAnd r (λ e. e ≡ fault) → Stops written old new fault → IfErr r (λ e. Stops written old new e)
 given_on (Ok x) fault written old new is stops = tt
 given_on (Err e) fault written old new is stops = subst (λ (f : Fault). Stops written old new f) (sym is) stops

@@ -85,7 +85,7 @@ is_spot nodes (PromisedRange range ballot ∷ rest) proposals q e = is_spot node
 abbrev pub NoneFree : ℕ → List Rec → List Proposal → ℕ → ℕ → Type 0
 NoneFree nodes records proposals first end = (j : ℕ) → first ≤ j → j < end → is_free_position nodes records proposals j ≡ false
 
--- so many positions from 1 on are taken at most
+-- n positions from 1 on are taken at most
 few_taken : (nodes : ℕ) (records : List Rec) (proposals : List Proposal) (n : ℕ) → NoneFree nodes records proposals 1 (suc n) → n ≤ length records + length proposals
 few_taken nodes records proposals n none =
     let few : n ≤ length (spots records proposals) = le-length_from_below (spots records proposals) n (λ q within. is_spot nodes records proposals q (none (suc q) (omega arith) (omega arith))) in
@@ -193,9 +193,9 @@ module _ (nodes : ℕ) (records : List Rec) (proposals : List Proposal) where
   pub least_is_positive : 1 ≤ least_free nodes records proposals
   least_is_positive = starts (length records + length proposals) 1
 
-  -- it lies behind positions of which none is free
-  pub least_is_behind : (end : ℕ) → NoneFree nodes records proposals 1 end → end ≤ least_free nodes records proposals
-  least_is_behind end none = elim (cases_lt (least_free nodes records proposals) end) [
+  -- it lies after positions of which none is free
+  pub least_is_after : (end : ℕ) → NoneFree nodes records proposals 1 end → end ≤ least_free nodes records proposals
+  least_is_after end none = elim (cases_lt (least_free nodes records proposals) end) [
     | inl below ↦ let taken = none (least_free nodes records proposals) least_is_positive below in absurd (apart (sym taken ∙ least_free_is_free))
     | inr past ↦ past
   ]
@@ -229,7 +229,7 @@ module _ (nodes : ℕ) (records : List Rec) (proposals : List Proposal) where
       taken_by (learned_at records j) (is_ready nodes (proposal_at proposals j)) (subst (λ (o : Option Action). IsSome o) (alike j) (learned j low below))
 
   pub none_joined : (first end : ℕ) → NoneFree nodes records proposals 1 first → NoneFree nodes records proposals first end → NoneFree nodes records proposals 1 end
-  none_joined first end before behind = λ j low below. elim (cases_lt j first) [ inl lower ↦ before j low lower | inr higher ↦ behind j higher below ]
+  none_joined first end before trailing = λ j low below. elim (cases_lt j first) [ inl lower ↦ before j low lower | inr higher ↦ trailing j higher below ]
 
   pub none_more : (first n : ℕ) → NoneFree nodes records proposals first n → is_free_position nodes records proposals n ≡ false → NoneFree nodes records proposals first (n + 1)
   none_more first n none taken = λ j low below. elim (cases_lt j n) [
@@ -241,8 +241,8 @@ module _ (nodes : ℕ) (records : List Rec) (proposals : List Proposal) where
   pub least_is_out : (most first end : ℕ) → first ≡ first_unlearned records → end ≡ min (first + 64) (most + 1) → NoneFree nodes records proposals 1 end
       → is_out_of_reach most records (least_free nodes records proposals) ≡ true
   least_is_out most first end is at none =
-      let behind : end ≤ least_free nodes records proposals = least_is_behind end none in
-      out_by records most (least_free nodes records proposals) (elim (cases_lt most (least_free nodes records proposals)) [ inl above ↦ inl above | inr within ↦ inr (omega (arith, behind, is, at)) ])
+      let trailing : end ≤ least_free nodes records proposals = least_is_after end none in
+      out_by records most (least_free nodes records proposals) (elim (cases_lt most (least_free nodes records proposals)) [ inl above ↦ inl above | inr within ↦ inr (omega (arith, trailing, is, at)) ])
 
 -- no proposal runs, or one that is prepared, as a proposer answers
 pub ready_is : (nodes : ℕ) (o : Option Proposal) → (is_none (option_map (λ p. p.ballot) o) || is_some (prepared_by nodes o)) ≡ is_ready nodes o

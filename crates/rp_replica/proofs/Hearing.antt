@@ -14,25 +14,25 @@ use Rattle.rp_base.proofs.Sameness.{heard_decides}
 use Rattle.rp_store.specs.Disk.{Disk}
 use Rattle.rp_proposer.specs.Proposing.{ProposerPart}
 use Rattle.rp_learner.specs.Learning.{Learning}
-use Rattle.rp_learner.specs.Standings.{SameLearning, NotesVote, is_beyond, is_settled, heard_with, standing_with, with_standing}
-use Rattle.rp_learner.specs.declared.learner.Standing.{Standing}
-use Rattle.rp_learner.specs.declared.learner.Standing.TheVariants.{Counting, Learned, Known, Beyond}
-use Rattle.rp_learner.proofs.Alike.{standing_alike, settled_alike}
+use Rattle.rp_learner.specs.Status.{SameLearning, NotesVote, is_beyond, is_settled, heard_with, status_with, with_status}
+use Rattle.rp_learner.specs.declared.learner.VoteStatus.{VoteStatus}
+use Rattle.rp_learner.specs.declared.learner.VoteStatus.TheVariants.{Counting, Learned, Known, Beyond}
+use Rattle.rp_learner.proofs.Alike.{status_alike, settled_alike}
 use Rattle.rp_log.specs.Contents.{Contents}
 use Rattle.rp_machine.specs.Numbered.{Applied}
-use Rattle.rp_replica.specs.Standing.{standing_of}
-use Rattle.rp_replica.specs.Tied.{IsLearner, Tied}
+use Rattle.rp_replica.specs.Status.{status_of}
+use Rattle.rp_replica.specs.Invariant.{IsLearner, IsReplica}
 
 -- what the learner answers is what the votes heard say
-pub standing_is : (config : Config) (records : List Rec) (taken : ℕ) (learner : Learning) (votes : List HeardVote) (from i : ℕ) (vote : Vote) → IsLearner config records taken learner votes
-    → suc taken ≡ first_unlearned records → 1 ≤ i → standing_with learner from i vote ≡ standing_of config.nodes records votes from i vote
-standing_is config records taken learner votes from i vote l front position =
-    let told : Learning = record { nodes = config.nodes; max_positions = config.max_positions; first = learner.first; heard = votes; settled = learner.settled } in
-    let same : SameLearning learner told = record { nodes = l.nodes; positions = l.positions; first = refl; heard = l.heard; settled = λ j. ((λ t. t), (λ t. t)) } in
-    let counted : Standing = cond (makes_majority config.nodes i vote (with_member same_heard votes (from, i, vote))) Learned Counting in
+pub status_is : (config : Config) (records : List Rec) (taken : ℕ) (learner : Learning) (votes : List HeardVote) (from i : ℕ) (vote : Vote) → IsLearner config records taken learner votes
+    → suc taken ≡ first_unlearned records → 1 ≤ i → status_with learner from i vote ≡ status_of config.nodes records votes from i vote
+status_is config records taken learner votes from i vote l front position =
+    let stated : Learning = record { nodes = config.nodes; max_positions = config.max_positions; first = learner.first; heard = votes; settled = learner.settled } in
+    let same : SameLearning learner stated = record { nodes = l.nodes; positions = l.positions; first = refl; heard = l.heard; settled = λ j. ((λ t. t), (λ t. t)) } in
+    let counted : VoteStatus = cond (makes_majority config.nodes i vote (with_member same_heard votes (from, i, vote))) Learned Counting in
     let at : learner.first ≡ first_unlearned records = l.first ∙ front in
     let far : Bool = nat_le (first_unlearned records + 64) i in
-    standing_alike learner told from i vote same
+    status_alike learner stated from i vote same
     ∙ ap (λ (n : ℕ). cond (nat_le (n + 64) i) Beyond (cond (is_settled learner i) Known counted)) at
     ∙ elim (cases_Bool far) [
       | inl beyond ↦ cond-true far Beyond (cond (is_settled learner i) Known counted) beyond ∙ sym (cond-true far Beyond (cond (is_some (learned_at records i)) Known counted) beyond)
@@ -42,9 +42,9 @@ standing_is config records taken learner votes from i vote l front position =
     ]
 
 -- where a vote is counted, its position is an open one of the window
-open_by : (l : Learning) (from i : ℕ) (vote : Vote) → standing_with l from i vote ≡ Counting → (is_beyond l i ≡ false) × (is_settled l i ≡ false)
+open_by : (l : Learning) (from i : ℕ) (vote : Vote) → status_with l from i vote ≡ Counting → (is_beyond l i ≡ false) × (is_settled l i ≡ false)
 open_by l from i vote counting =
-    let counted : Standing = cond (makes_majority l.nodes i vote (heard_with l from i vote)) Learned Counting in
+    let counted : VoteStatus = cond (makes_majority l.nodes i vote (heard_with l from i vote)) Learned Counting in
     elim (cases_Bool (is_beyond l i)) [
       | inl far ↦ let never : Beyond ≡ Counting = sym (cond-true (is_beyond l i) Beyond (cond (is_settled l i) Known counted) far) ∙ counting in absurd (cc)
       | inr near ↦ elim (cases_Bool (is_settled l i)) [
@@ -62,9 +62,9 @@ none_is (Some v) e = absurd (cc)
 
 -- one vote more is counted
 pub hears_more : (config : Config) (records : List Rec) (taken : ℕ) (before after : Learning) (votes : List HeardVote) (from i : ℕ) (vote : Vote) → IsLearner config records taken before votes → 1 ≤ i
-    → standing_with before from i vote ≡ Counting → NotesVote before from i vote after → IsLearner config records taken after (with_member same_heard votes (from, i, vote))
+    → status_with before from i vote ≡ Counting → NotesVote before from i vote after → IsLearner config records taken after (with_member same_heard votes (from, i, vote))
 hears_more config records taken before after votes from i vote l position counting noted =
-    let same : SameLearning after (with_standing before from i vote Counting) = subst (λ (s : Standing). SameLearning after (with_standing before from i vote s)) counting noted in
+    let same : SameLearning after (with_status before from i vote Counting) = subst (λ (s : VoteStatus). SameLearning after (with_status before from i vote s)) counting noted in
     let more = same_with same_heard heard_decides (from, i, vote) before.heard votes l.heard in
     let this : HeardVote = (from, i, vote) in
     let free = open_by before from i vote counting in
@@ -81,10 +81,10 @@ hears_more config records taken before after votes from i vote l position counti
             let at : h.1 ≡ i = ap (λ (k : HeardVote). k.1) new in
             record { position = omega (arith, position, at); within = omega (arith, within, at, same.first); unlearned = ap (learned_at records) at ∙ unlearned }
       ];
-      settled = λ j low near. settled_alike after (with_standing before from i vote Counting) j same ∙ l.settled j low (omega (arith, near, same.first));
+      settled = λ j low near. settled_alike after (with_status before from i vote Counting) j same ∙ l.settled j low (omega (arith, near, same.first));
     }
 
--- records that learn the same tell a learner nothing
+-- records that learn the same change nothing for a learner
 pub learns_alike : (config : Config) (records after : List Rec) (taken : ℕ) (learner : Learning) (votes : List HeardVote) → ((j : ℕ) → learned_at after j ≡ learned_at records j)
     → IsLearner config records taken learner votes → IsLearner config after taken learner votes
 learns_alike config records after taken learner votes same l = record {
@@ -98,11 +98,11 @@ learns_alike config records after taken learner votes same l = record {
 
 module _ {S : Type 0} (me : ℕ) (config : Config) (disk : Disk) (failed : Bool) (records : List Rec) (proposer : ProposerPart) (learner after : Learning) (votes heard : List HeardVote) (log : Contents) (applied : Applied S) where
   -- the same parts with another learner
-  pub tied_hearing : Tied me config disk failed records proposer learner votes log applied → IsLearner config records (length log.taken) after heard → Tied me config disk failed records proposer after heard log applied
-  tied_hearing t learns = record {
+  pub replica_hearing : IsReplica me config disk failed records proposer learner votes log applied → IsLearner config records (length log.taken) after heard → IsReplica me config disk failed records proposer after heard log applied
+  replica_hearing t learns = record {
     sizes = t.sizes;
     member = t.member;
-    stands = t.stands;
+    on_device = t.on_device;
     leads = t.leads;
     learns = learns;
     applies = t.applies;

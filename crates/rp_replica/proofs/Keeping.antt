@@ -25,7 +25,7 @@ use Rattle.rp_log.specs.Contents.{Contents}
 use Rattle.rp_machine.specs.Numbered.{Applied}
 use Rattle.rp_model.specs.Parts.{is_in_log, records_in_log}
 use Rattle.rp_replica.proofs.Hearing.{learns_alike}
-use Rattle.rp_replica.specs.Tied.{IsOnDisk, Tied, IsAnswer}
+use Rattle.rp_replica.specs.Invariant.{IsOnDisk, IsReplica, IsAnswer}
 
 pub or_none : (o : Option Action) → or_else o None ≡ o
 or_none None = refl
@@ -76,7 +76,7 @@ disk_failed most disk after records bytes d failed = record {
   stable = λ e. absurd (cc);
 }
 
--- ---- an answer tells nothing of what is started or learned
+-- ---- an answer changes nothing of what is started or learned
 
 pub started_same : (records : List Rec) (rec : Rec) → IsAnswer rec → started_of (records ++ rec ∷ []) ≡ started_of records
 started_same records (Started ballot) is = absurd is
@@ -96,12 +96,12 @@ learned_same records (PromisedRange range ballot) i is = learned_push records (P
 
 module _ {S : Type 0} (me : ℕ) (config : Config) (disk after : Disk) (records : List Rec) (proposer : ProposerPart) (learner : Learning) (votes : List HeardVote) (log : Contents) (applied : Applied S) where
   -- an answer is written
-  pub tied_answer : (rec : Rec) → Tied me config disk false records proposer learner votes log applied → IsAnswer rec → IsRecord rec → is_in_log config.max_positions rec ≡ true
-      → after ≡ synced (appended (record_text rec) disk) → Tied me config after false (records ++ rec ∷ []) proposer learner votes log applied
-  tied_answer rec t answer right in_log is = record {
+  pub replica_answer : (rec : Rec) → IsReplica me config disk false records proposer learner votes log applied → IsAnswer rec → IsRecord rec → is_in_log config.max_positions rec ≡ true
+      → after ≡ synced (appended (record_text rec) disk) → IsReplica me config after false (records ++ rec ∷ []) proposer learner votes log applied
+  replica_answer rec t answer right in_log is = record {
     sizes = t.sizes;
     member = t.member;
-    stands = disk_more config.max_positions disk after records rec t.stands right in_log is;
+    on_device = disk_more config.max_positions disk after records rec t.on_device right in_log is;
     leads = record {
       node = t.leads.node;
       nodes = t.leads.nodes;
@@ -120,12 +120,12 @@ module _ {S : Type 0} (me : ℕ) (config : Config) (disk after : Disk) (records 
   }
 
   -- the device failed
-  pub tied_failed : (bytes : List ℕ) → Tied me config disk false records proposer learner votes log applied → AppendFailed bytes disk after
-      → Tied me config after true records proposer learner votes log applied
-  tied_failed bytes t failed = record {
+  pub replica_failed : (bytes : List ℕ) → IsReplica me config disk false records proposer learner votes log applied → AppendFailed bytes disk after
+      → IsReplica me config after true records proposer learner votes log applied
+  replica_failed bytes t failed = record {
     sizes = t.sizes;
     member = t.member;
-    stands = disk_failed config.max_positions disk after records bytes t.stands failed;
+    on_device = disk_failed config.max_positions disk after records bytes t.on_device failed;
     leads = t.leads;
     learns = t.learns;
     applies = t.applies;
@@ -193,35 +193,35 @@ all_restored records = restored_records nothing_noted records
 
 module _ {S D : Type 0} (disk : D → Disk) (me : ℕ) (config : Config) (proposer : ProposerPart) (learner : Learning) (votes : List HeardVote) (log : Contents) (applied : Applied S) where
   -- the parts with this store and these records
-  abbrev pub TiedWith : Stored D → List Rec → Type 0
-  TiedWith store records = Tied me config (disk store.device) store.failed records proposer learner votes log applied
+  abbrev pub IsReplicaWith : Stored D → List Rec → Type 0
+  IsReplicaWith store records = IsReplica me config (disk store.device) store.failed records proposer learner votes log applied
 
-  unchanged : (old new : Stored D) (records after : List Rec) → TiedWith old records → IsUnchanged disk old new → after ≡ records → TiedWith new after
+  unchanged : (old new : Stored D) (records after : List Rec) → IsReplicaWith old records → IsUnchanged disk old new → after ≡ records → IsReplicaWith new after
   unchanged old new records after t u same =
-      subst (λ (rs : List Rec). TiedWith new rs) (sym same)
-      (subst (λ (f : Bool). Tied me config (disk new.device) f records proposer learner votes log applied) (sym u.failed)
-      (subst (λ (d : Disk). Tied me config d old.failed records proposer learner votes log applied) (sym u.disk_same) t))
+      subst (λ (rs : List Rec). IsReplicaWith new rs) (sym same)
+      (subst (λ (f : Bool). IsReplica me config (disk new.device) f records proposer learner votes log applied) (sym u.failed)
+      (subst (λ (d : Disk). IsReplica me config d old.failed records proposer learner votes log applied) (sym u.disk_same) t))
 
-  fails : (bytes : List ℕ) (old new : Stored D) (records after : List Rec) → TiedWith old records → FailsInPut disk bytes old new → after ≡ records → TiedWith new after
+  fails : (bytes : List ℕ) (old new : Stored D) (records after : List Rec) → IsReplicaWith old records → FailsInPut disk bytes old new → after ≡ records → IsReplicaWith new after
   fails bytes old new records after t f same =
-      subst (λ (rs : List Rec). TiedWith new rs) (sym same)
-      (subst (λ (b : Bool). Tied me config (disk new.device) b records proposer learner votes log applied) (sym f.failed)
-      (tied_failed me config (disk old.device) (disk new.device) records proposer learner votes log applied bytes
-      (subst (λ (b : Bool). Tied me config (disk old.device) b records proposer learner votes log applied) f.worked t) f.disk_is))
+      subst (λ (rs : List Rec). IsReplicaWith new rs) (sym same)
+      (subst (λ (b : Bool). IsReplica me config (disk new.device) b records proposer learner votes log applied) (sym f.failed)
+      (replica_failed me config (disk old.device) (disk new.device) records proposer learner votes log applied bytes
+      (subst (λ (b : Bool). IsReplica me config (disk old.device) b records proposer learner votes log applied) f.worked t) f.disk_is))
 
   -- where a write is refused the parts still hang together
-  pub tied_refused : (bytes : List ℕ) (old new : Stored D) (records after : List Rec) (fault : Fault) → TiedWith old records → IsNotPut disk bytes old fault new → after ≡ records → TiedWith new after
-  tied_refused bytes old new records after OutOfMemory t not same = unchanged old new records after t not.0 same
-  tied_refused bytes old new records after Device t not same = fails bytes old new records after t not same
-  tied_refused bytes old new records after Failed t not same = unchanged old new records after t not.0 same
-  tied_refused bytes old new records after _ t not same = absurd not
+  pub replica_refused : (bytes : List ℕ) (old new : Stored D) (records after : List Rec) (fault : Fault) → IsReplicaWith old records → IsNotPut disk bytes old fault new → after ≡ records → IsReplicaWith new after
+  replica_refused bytes old new records after OutOfMemory t not same = unchanged old new records after t not.0 same
+  replica_refused bytes old new records after Device t not same = fails bytes old new records after t not same
+  replica_refused bytes old new records after Failed t not same = unchanged old new records after t not.0 same
+  replica_refused bytes old new records after _ t not same = absurd not
 
-  pub tied_write : {T : Type 0} (r : Result T Fault) (rec : Rec) (old new : Stored D) (records after : List Rec)
+  pub replica_write : {T : Type 0} (r : Result T Fault) (rec : Rec) (old new : Stored D) (records after : List Rec)
       → OnOk r (IsPut disk (record_text rec) old new) → OnOk r (after ≡ records ++ rec ∷ []) → OnErr r (after ≡ records) → IfErr r (λ fault. IsNotPut disk (record_text rec) old fault new)
-      → TiedWith old records → IsAnswer rec → IsRecord rec → is_in_log config.max_positions rec ≡ true → TiedWith new after
-  tied_write (Ok v) rec old new records after put noted same err t answer right in_log =
-      subst (λ (rs : List Rec). TiedWith new rs) (sym noted)
-      (subst (λ (b : Bool). Tied me config (disk new.device) b (records ++ rec ∷ []) proposer learner votes log applied) (sym put.working)
-      (tied_answer me config (disk old.device) (disk new.device) records proposer learner votes log applied rec
-      (subst (λ (b : Bool). Tied me config (disk old.device) b records proposer learner votes log applied) put.worked t) answer right in_log put.disk_is))
-  tied_write (Err fault) rec old new records after put noted same err t answer right in_log = tied_refused (record_text rec) old new records after fault t err same
+      → IsReplicaWith old records → IsAnswer rec → IsRecord rec → is_in_log config.max_positions rec ≡ true → IsReplicaWith new after
+  replica_write (Ok v) rec old new records after put noted same err t answer right in_log =
+      subst (λ (rs : List Rec). IsReplicaWith new rs) (sym noted)
+      (subst (λ (b : Bool). IsReplica me config (disk new.device) b (records ++ rec ∷ []) proposer learner votes log applied) (sym put.working)
+      (replica_answer me config (disk old.device) (disk new.device) records proposer learner votes log applied rec
+      (subst (λ (b : Bool). IsReplica me config (disk old.device) b records proposer learner votes log applied) put.worked t) answer right in_log put.disk_is))
+  replica_write (Err fault) rec old new records after put noted same err t answer right in_log = replica_refused (record_text rec) old new records after fault t err same

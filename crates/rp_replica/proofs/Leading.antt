@@ -1,4 +1,4 @@
--- What the word to lead comes to where no position is told.
+-- The result of the word to lead where no position is given.
 use Rattle.std.proofs.Common.{◌≡◌, ℕ, Bool, true, false, cond, is_some, Option, Some, None, List, sym, ap, ◌∙◌}
 use Rattle.std.specs.Prelude.{Result, Ok, Err}
 use Rattle.rp_base.specs.declared.action.Action.{Action}

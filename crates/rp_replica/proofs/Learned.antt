@@ -23,7 +23,7 @@ use Rattle.rp_store.specs.Disk.{Disk}
 use Rattle.rp_store.specs.Stored.{Stored, IsPut}
 use Rattle.rp_proposer.specs.Proposing.{ProposerPart, settles}
 use Rattle.rp_learner.specs.Learning.{Learning}
-use Rattle.rp_learner.specs.Standings.{Settles}
+use Rattle.rp_learner.specs.Status.{Settles}
 use Rattle.rp_log.specs.Contents.{Contents, action_at, with_room, with_action, next_to_take, IsTakenInOrder}
 use Rattle.rp_log.specs.Recorded.{LearnedAlike}
 use Rattle.rp_log.proofs.Places.{front_within}
@@ -33,9 +33,9 @@ use Rattle.rp_machine.specs.Replay.{Replayed, replay_of, kept_of, replay_answers
 use Rattle.rp_model.specs.Parts.{is_in_log}
 use Rattle.rp_model.specs.Pending.{stays, replies_to}
 use Rattle.rp_replica.specs.Applying.{learns_alone, HasReplied}
-use Rattle.rp_replica.specs.Packets.{RoomyRun, with_packets}
-use Rattle.rp_replica.specs.Held.{Held, held_after}
-use Rattle.rp_replica.specs.Tied.{IsOnDisk, IsProposer, IsLearner, IsSettledAlike, Follows, IsApplied, Tied}
+use Rattle.rp_replica.specs.Packets.{BufferState, with_packets}
+use Rattle.rp_replica.specs.State.{ReplicaState, after_turn}
+use Rattle.rp_replica.specs.Invariant.{IsOnDisk, IsProposer, IsLearner, IsSettledAlike, Follows, IsApplied, IsReplica}
 use Rattle.rp_replica.proofs.Answering.{right_records}
 use Rattle.rp_replica.proofs.Applied.{applied_is, learned_right}
 use Rattle.rp_replica.proofs.Keeping.{or_none, disk_more}
@@ -60,14 +60,14 @@ same_applied records log after applied alike same a =
       taken = a.taken ∙ sym same;
     }
 
-pub tied_room : {S : Type 0} (me : ℕ) (config : Config) (disk : Disk) (failed : Bool) (records : List Rec) (proposer : ProposerPart) (learner : Learning) (votes : List HeardVote) (log after : Contents) (applied : Applied S) (i : ℕ)
-    → after ≡ with_room log i → Tied me config disk failed records proposer learner votes log applied → Tied me config disk failed records proposer learner votes after applied
-tied_room me config disk failed records proposer learner votes log after applied i is t =
-    subst (λ (l : Contents). Tied me config disk failed records proposer learner votes l applied) (sym is)
+pub replica_room : {S : Type 0} (me : ℕ) (config : Config) (disk : Disk) (failed : Bool) (records : List Rec) (proposer : ProposerPart) (learner : Learning) (votes : List HeardVote) (log after : Contents) (applied : Applied S) (i : ℕ)
+    → after ≡ with_room log i → IsReplica me config disk failed records proposer learner votes log applied → IsReplica me config disk failed records proposer learner votes after applied
+replica_room me config disk failed records proposer learner votes log after applied i is t =
+    subst (λ (l : Contents). IsReplica me config disk failed records proposer learner votes l applied) (sym is)
     (record {
       sizes = t.sizes;
       member = t.member;
-      stands = t.stands;
+      on_device = t.on_device;
       leads = subst (λ (actions : List Action). IsProposer me config records (length actions) proposer) (sym (taken_same log i)) t.leads;
       learns = subst (λ (actions : List Action). IsLearner config records (length actions) learner votes) (sym (taken_same log i)) t.learns;
       applies = same_applied records log (with_room log i) applied (reserved_alike records log i t.applies.learned) (taken_same log i) t.applies;
@@ -75,7 +75,7 @@ tied_room me config disk failed records proposer learner votes log after applied
 
 -- ---- the log that learned it
 
-module _ (records : List Rec) (log roomy learned : Contents) (i : ℕ) (v : Action) (alike : LearnedAlike records log) (room : roomy ≡ with_room log i) (is : learned ≡ with_action roomy i v) where
+module _ (records : List Rec) (log buffer learned : Contents) (i : ℕ) (v : Action) (alike : LearnedAlike records log) (room : buffer ≡ with_room log i) (is : learned ≡ with_action buffer i v) where
   pub log_learned : LearnedAlike (records ++ Learned i v ∷ []) learned
   log_learned =
       subst (λ (l : Contents). LearnedAlike (records ++ Learned i v ∷ []) l) (sym (is ∙ ap (λ (l : Contents). with_action l i v) room))
@@ -89,13 +89,13 @@ all_right [] rec all right = (right, tt)
 all_right (other ∷ rest) rec all right = (all.0, all_right rest rec all.1 right)
 
 pub rights : (most : ℕ) (disk : Disk) (failed : Bool) (records : List Rec) → IsOnDisk most disk failed records → AllByRecursion IsRightRecord records
-rights most disk failed records stands = subst (λ (rs : List Rec). AllByRecursion IsRightRecord rs) (sym stands.counted) (right_records (is_in_log most) stands.all stands.found.each)
+rights most disk failed records on_device = subst (λ (rs : List Rec). AllByRecursion IsRightRecord rs) (sym on_device.counted) (right_records (is_in_log most) on_device.all on_device.found.each)
 
 -- what it learned is right
 pub learned_is_right : (most : ℕ) (disk : Disk) (failed : Bool) (records : List Rec) (learned : Contents) (i : ℕ) (v : Action) → IsOnDisk most disk failed records → IsRight v
     → LearnedAlike (records ++ Learned i v ∷ []) learned → (j : ℕ) (w : Action) → action_at learned j ≡ Some w → IsRight w
-learned_is_right most disk failed records learned i v stands right alike j w e =
-    learned_right (records ++ Learned i v ∷ []) j w (all_right records (Learned i v) (rights most disk failed records stands) right) (sym (alike j) ∙ e)
+learned_is_right most disk failed records learned i v on_device right alike j w e =
+    learned_right (records ++ Learned i v ∷ []) j w (all_right records (Learned i v) (rights most disk failed records on_device) right) (sym (alike j) ∙ e)
 
 -- ---- the proposer
 
@@ -174,16 +174,16 @@ leads_learned me config records taken proposer log i v t longer alike ordered =
 -- ---- all parts
 
 module _ {S D : Type 0} (next : S → Action → S) (answers : S → Action → List Answer) (disk : D → Disk) (me : ℕ) (config : Config) (old new : Stored D) (records after : List Rec) (proposer leading : ProposerPart)
-    (learner learning : Learning) (votes heard : List HeardVote) (log roomy learned taken : Contents) (applied applying : Applied S) (pending : List Action) (out said : RoomyRun) (i : ℕ) (v : Action)
-    (t : Tied me config (disk old.device) old.failed records proposer learner votes log applied)
+    (learner learning : Learning) (votes heard : List HeardVote) (log buffer learned taken : Contents) (applied applying : Applied S) (pending : List Action) (out said : BufferState) (i : ℕ) (v : Action)
+    (t : IsReplica me config (disk old.device) old.failed records proposer learner votes log applied)
     (put : IsPut disk (record_text (Learned i v)) old new) (noted : after ≡ records ++ Learned i v ∷ []) (ends : leading ≡ settles proposer i) (settled : Settles learner i learning) (gone : heard ≡ heard_elsewhere votes i)
-    (room : roomy ≡ with_room log i) (learning_it : learned ≡ with_action roomy i v) (replied : HasReplied next answers me pending learned taken applied applying out said)
+    (room : buffer ≡ with_room log i) (learning_it : learned ≡ with_action buffer i v) (replied : HasReplied next answers me pending learned taken applied applying out said)
     (ordered : IsTakenInOrder taken) (none : action_at taken (next_to_take taken) ≡ None) where
   alike : LearnedAlike (records ++ Learned i v ∷ []) taken
-  alike = same_learned (records ++ Learned i v ∷ []) learned taken replied.applies.places (log_learned records log roomy learned i v t.applies.learned room learning_it)
+  alike = same_learned (records ++ Learned i v ∷ []) learned taken replied.applies.places (log_learned records log buffer learned i v t.applies.learned room learning_it)
 
   same_taken : learned.taken ≡ log.taken
-  same_taken = log_taken records log roomy learned i v t.applies.learned room learning_it
+  same_taken = log_taken records log buffer learned i v t.applies.learned room learning_it
 
   applies : IsApplied (records ++ Learned i v ∷ []) taken applying
   applies = record { learned = alike; ordered = ordered; none = none; taken = replied.applies.taken }
@@ -202,27 +202,27 @@ module _ {S D : Type 0} (next : S → Action → S) (answers : S → Action → 
   follows_alike = settled_log config (records ++ Learned i v ∷ []) (length log.taken) learning (heard_elsewhere votes i) taken alike settling
 
   -- they hang together
-  pub tied_learned : (following : Learning) → Follows learning taken following → IsPosition i → IsRight v → is_in_log config.max_positions (Learned i v) ≡ true
-      → Tied me config (disk new.device) new.failed after leading following heard taken applying
-  tied_learned following followed position right in_log =
+  pub replica_learned : (following : Learning) → Follows learning taken following → IsPosition i → IsRight v → is_in_log config.max_positions (Learned i v) ≡ true
+      → IsReplica me config (disk new.device) new.failed after leading following heard taken applying
+  replica_learned following followed position right in_log =
       let more = records ++ Learned i v ∷ [] in
-      let stands : IsOnDisk config.max_positions (disk new.device) false more =
+      let on_device : IsOnDisk config.max_positions (disk new.device) false more =
       disk_more config.max_positions (disk old.device) (disk new.device) records (Learned i v)
-      (subst (λ (f : Bool). IsOnDisk config.max_positions (disk old.device) f records) put.worked t.stands) (record { ranges = position; right = right }) in_log put.disk_is in
-      let fresh : Tied me config (disk new.device) false more (settles proposer i) following (heard_elsewhere votes i) taken applying = record {
+      (subst (λ (f : Bool). IsOnDisk config.max_positions (disk old.device) f records) put.worked t.on_device) (record { ranges = position; right = right }) in_log put.disk_is in
+      let fresh : IsReplica me config (disk new.device) false more (settles proposer i) following (heard_elsewhere votes i) taken applying = record {
         sizes = t.sizes;
         member = t.member;
-        stands = stands;
+        on_device = on_device;
         leads = leads_learned me config records (length log.taken) proposer taken i v t.leads longer alike ordered;
         learns = learns_on config more (length log.taken) learning following (heard_elsewhere votes i) taken alike ordered longer followed settling;
         applies = applies;
       } in
-      subst (λ (rs : List Rec). Tied me config (disk new.device) new.failed rs leading following heard taken applying) (sym noted)
-      (subst (λ (p : ProposerPart). Tied me config (disk new.device) new.failed more p following heard taken applying) (sym ends)
-      (subst (λ (hs : List HeardVote). Tied me config (disk new.device) new.failed more (settles proposer i) following hs taken applying) (sym gone)
-      (subst (λ (f : Bool). Tied me config (disk new.device) f more (settles proposer i) following (heard_elsewhere votes i) taken applying) (sym put.working) fresh)))
+      subst (λ (rs : List Rec). IsReplica me config (disk new.device) new.failed rs leading following heard taken applying) (sym noted)
+      (subst (λ (p : ProposerPart). IsReplica me config (disk new.device) new.failed more p following heard taken applying) (sym ends)
+      (subst (λ (hs : List HeardVote). IsReplica me config (disk new.device) new.failed more (settles proposer i) following hs taken applying) (sym gone)
+      (subst (λ (f : Bool). IsReplica me config (disk new.device) f more (settles proposer i) following (heard_elsewhere votes i) taken applying) (sym put.working) fresh)))
 
-  -- what the machine came to
+  -- the state of the machine
   was : outcome next answers applied ≡ replay_of next answers applied.begin (applied_of records)
   was = ap (replay_of next answers applied.begin) (applied_is records log applied t.applies)
 
@@ -236,10 +236,10 @@ module _ {S D : Type 0} (next : S → Action → S) (answers : S → Action → 
       → left ≡ filter (stays (outcome next answers applying).kept (outcome next answers applying).given newly) pending
       → left ≡ filter (stays (kept_of next answers applied.begin (applied_of (records ++ Learned i v ∷ []))) (replay_answers next answers applied.begin (applied_of (records ++ Learned i v ∷ [])))
       (drop (length (applied_of records)) (applied_of (records ++ Learned i v ∷ [])))) pending
-  stays_learned left newly before count behind kept =
+  stays_learned left newly before count trailing kept =
       let long : before ≡ length (applied_of records) = count ∙ ap (λ (actions : List Action). length actions) (same_taken ∙ all_taken records log t.applies.learned t.applies.ordered t.applies.none) in
       let all : taken.taken ≡ applied_of (records ++ Learned i v ∷ []) = all_taken (records ++ Learned i v ∷ []) taken alike ordered none in
-      let which : newly ≡ drop (length (applied_of records)) (applied_of (records ++ Learned i v ∷ [])) = behind ∙ ap (λ (n : ℕ). drop n taken.taken) long ∙ ap (drop (length (applied_of records))) all in
+      let which : newly ≡ drop (length (applied_of records)) (applied_of (records ++ Learned i v ∷ [])) = trailing ∙ ap (λ (n : ℕ). drop n taken.taken) long ∙ ap (drop (length (applied_of records))) all in
       kept
       ∙ ap (λ (r : Replayed S). filter (stays r.kept r.given newly) pending) is
       ∙ ap (λ (list : List Action). filter (stays (kept_of next answers applied.begin (applied_of (records ++ Learned i v ∷ []))) (replay_answers next answers applied.begin (applied_of (records ++ Learned i v ∷ []))) list) pending) which
@@ -258,9 +258,9 @@ module _ {S D : Type 0} (next : S → Action → S) (answers : S → Action → 
       ∙ ap (with_packets out.run) (sym (append-nil (replies_to me pending (drop (length before) later))))
 
   -- and what the replica holds
-  pub held_learned : (left newly : List Action) (before : ℕ) → before ≡ length learned.taken → newly ≡ drop before taken.taken
+  pub learned_taken : (left newly : List Action) (before : ℕ) → before ≡ length learned.taken → newly ≡ drop before taken.taken
       → left ≡ filter (stays (outcome next answers applying).kept (outcome next answers applying).given newly) pending
-      → (let h : Held S = record {
+      → (let h : ReplicaState S = record {
         me = me;
         config = config;
         begin = applied.begin;
@@ -269,7 +269,7 @@ module _ {S D : Type 0} (next : S → Action → S) (answers : S → Action → 
         disk = disk old.device;
         failed = old.failed;
       } in
-      let now : Held S = record {
+      let now : ReplicaState S = record {
         me = me;
         config = config;
         begin = applying.begin;
@@ -278,9 +278,9 @@ module _ {S D : Type 0} (next : S → Action → S) (answers : S → Action → 
         disk = disk new.device;
         failed = new.failed;
       } in
-      now ≡ held_after h (learns_alone next answers h i v))
-  held_learned left newly before count behind kept =
-      let staying = stays_learned left newly before count behind kept in
+      now ≡ after_turn h (learns_alone next answers h i v))
+  learned_taken left newly before count trailing kept =
+      let staying = stays_learned left newly before count trailing kept in
       let failing : new.failed ≡ old.failed = put.working ∙ sym put.worked in
       λ j. record {
         me = me;

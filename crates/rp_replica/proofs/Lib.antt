@@ -2,7 +2,7 @@ pub mod Noting
 pub mod Keeping
 pub mod Answering
 pub mod Applied
-pub mod Saying
+pub mod Queueing
 pub mod Promising
 pub mod Settling
 pub mod Starting
@@ -15,7 +15,7 @@ pub mod Choosing
 pub mod FreePlaces
 pub mod Leading
 pub mod Reporting
-pub mod Wanting
+pub mod PacketMemory
 pub mod Cuts
 pub mod Replying
 pub mod Learned

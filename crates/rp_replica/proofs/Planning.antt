@@ -11,12 +11,12 @@ use Rattle.rp_model.specs.Parts.{Turn}
 use Rattle.rp_model.specs.Says.{notes}
 use Rattle.rp_replica.specs.declared.plan.Plan.{Plan}
 use Rattle.rp_replica.specs.declared.plan.Plan.TheVariants.{Pass, Promise, PromiseRange, Vote, Repeat, Refuse, Inform, Answer as Reply, Await, Lead, LeadRange, OfferPrepared, Count, CountRange, Offer, Yield, Hear, Learn, Follow, Report}
-use Rattle.rp_replica.specs.Held.{Held}
+use Rattle.rp_replica.specs.State.{ReplicaState}
 use Rattle.rp_replica.specs.Plans.{turn_of, written_by}
 use Rattle.rp_replica.specs.Turning.{Stops, StopsIf}
 
-module _ {S : Type 0} (next : S → Action → S) (answers : S → Action → List Answer) (held : Held S) where
-  plan_writes : (plan : Plan) → (turn_of next answers held plan).written ≡ written_by plan
+module _ {S : Type 0} (next : S → Action → S) (answers : S → Action → List Answer) (replica : ReplicaState S) where
+  plan_writes : (plan : Plan) → (turn_of next answers replica plan).written ≡ written_by plan
   plan_writes (Pass dropped) = refl
   plan_writes (Promise to i b last) = refl
   plan_writes (PromiseRange p) = refl
@@ -32,11 +32,11 @@ module _ {S : Type 0} (next : S → Action → S) (answers : S → Action → Li
   plan_writes (Count promise) = refl
   plan_writes (CountRange promise) = refl
   plan_writes (Offer promise v) = refl
-  plan_writes (Yield i b bound) = by (is_in b (proposal_at held.running.proposals i))
+  plan_writes (Yield i b bound) = by (is_in b (proposal_at replica.running.proposals i))
     where
       by : (t : Bool)
-          → (cond t (notes (record held.running { proposals = filter (λ p. not (is_given_up held.config.nodes i b p)) held.running.proposals; refused = greatest_with held.running.refused bound }))
-          (notes held.running)).written ≡ None
+          → (cond t (notes (record replica.running { proposals = filter (λ p. not (is_given_up replica.config.nodes i b p)) replica.running.proposals; refused = greatest_with replica.running.refused bound }))
+          (notes replica.running)).written ≡ None
       by true = refl
       by false = refl
   plan_writes (Hear from i vote) = refl
@@ -45,13 +45,13 @@ module _ {S : Type 0} (next : S → Action → S) (answers : S → Action → Li
   plan_writes (Report first) = refl
 
   -- a plan that is not committed
-  pub stops_plan : (effect : Result Turn Fault) (decided : Result Plan Fault) (plan : Plan) (new : Held S) (fault : Fault) → decided ≡ Ok plan
-      → IfOk decided (λ plan. Ok (turn_of next answers held plan) ≡ effect) → Stops (written_by plan) held new fault → StopsIf effect held new fault
+  pub stops_plan : (effect : Result Turn Fault) (decided : Result Plan Fault) (plan : Plan) (new : ReplicaState S) (fault : Fault) → decided ≡ Ok plan
+      → IfOk decided (λ plan. Ok (turn_of next answers replica plan) ≡ effect) → Stops (written_by plan) replica new fault → StopsIf effect replica new fault
   stops_plan effect decided plan new fault is gives stops =
-      let same : Ok (turn_of next answers held plan) ≡ effect = subst (λ (r : Result Plan Fault). IfOk r (λ plan. Ok (turn_of next answers held plan) ≡ effect)) is gives in
-      subst (λ (e : Result Turn Fault). StopsIf e held new fault) same (subst (λ (w : Option Rec). Stops w held new fault) (sym (plan_writes plan)) stops)
+      let same : Ok (turn_of next answers replica plan) ≡ effect = subst (λ (r : Result Plan Fault). IfOk r (λ plan. Ok (turn_of next answers replica plan) ≡ effect)) is gives in
+      subst (λ (e : Result Turn Fault). StopsIf e replica new fault) same (subst (λ (w : Option Rec). Stops w replica new fault) (sym (plan_writes plan)) stops)
 
   -- nothing was decided
-  pub stops_undecided : (effect : Result Turn Fault) (decided : Result Plan Fault) (fault : Fault) → decided ≡ Err fault → IfErr decided (λ fault. StopsIf effect held held fault)
-      → StopsIf effect held held fault
-  stops_undecided effect decided fault is why = subst (λ (r : Result Plan Fault). IfErr r (λ fault. StopsIf effect held held fault)) is why
+  pub stops_undecided : (effect : Result Turn Fault) (decided : Result Plan Fault) (fault : Fault) → decided ≡ Err fault → IfErr decided (λ fault. StopsIf effect replica replica fault)
+      → StopsIf effect replica replica fault
+  stops_undecided effect decided fault is why = subst (λ (r : Result Plan Fault). IfErr r (λ fault. StopsIf effect replica replica fault)) is why

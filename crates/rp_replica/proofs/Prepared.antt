@@ -21,7 +21,7 @@ use Rattle.rp_model.specs.Leader.{begins_if, offers, leads_at}
 use Rattle.rp_model.specs.Pending.{own_action}
 use Rattle.rp_proposer.specs.Proposing.{prepared_by, once_offered}
 use Rattle.rp_replica.specs.Proposed.{offered_running}
-use Rattle.rp_replica.specs.Tied.{IsRightProposal}
+use Rattle.rp_replica.specs.Invariant.{IsRightProposal}
 use Rattle.rp_replica.proofs.Promising.{at_position, highest_right, all_found}
 
 -- the action of a vote, if there is one

@@ -29,7 +29,7 @@ use Rattle.rp_model.specs.Parts.{Turn}
 use Rattle.rp_model.specs.Says.{says_to_all, sends, notes}
 use Rattle.rp_model.specs.Leader.{on_promise_to}
 use Rattle.rp_replica.specs.Proposed.{promised_running}
-use Rattle.rp_replica.specs.Tied.{IsRightPromise, IsRightProposal, IsProposer, Tied}
+use Rattle.rp_replica.specs.Invariant.{IsRightPromise, IsRightProposal, IsProposer, IsReplica}
 use Rattle.rp_store.specs.Disk.{Disk}
 use Rattle.rp_learner.specs.Learning.{Learning}
 use Rattle.rp_log.specs.Contents.{Contents}
@@ -348,11 +348,11 @@ module _ (me : ℕ) (config : Config) (records : List Rec) (taken : ℕ) (part :
 
 module _ {S : Type 0} (me : ℕ) (config : Config) (disk : Disk) (failed : Bool) (records : List Rec) (proposer after : ProposerPart) (learner : Learning) (votes : List HeardVote) (log : Contents) (applied : Applied S) where
   -- the same parts with another proposer
-  pub tied_leading : Tied me config disk failed records proposer learner votes log applied → IsProposer me config records (length log.taken) after → Tied me config disk failed records after learner votes log applied
-  tied_leading t leads = record {
+  pub replica_leading : IsReplica me config disk failed records proposer learner votes log applied → IsProposer me config records (length log.taken) after → IsReplica me config disk failed records after learner votes log applied
+  replica_leading t leads = record {
     sizes = t.sizes;
     member = t.member;
-    stands = t.stands;
+    on_device = t.on_device;
     leads = leads;
     learns = t.learns;
     applies = t.applies;

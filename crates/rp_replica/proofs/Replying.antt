@@ -14,15 +14,15 @@ use Rattle.rp_codec.specs.Message.{Message}
 use Rattle.rp_codec.specs.declared.packet.Body.TheVariants.{Reply}
 use Rattle.rp_log.specs.Contents.{Contents}
 use Rattle.rp_machine.specs.Calls.{CallName, call_of, calls_made, calls_of}
-use Rattle.rp_machine.specs.Replay.{Replayed, unmoved, counts, answers_behind}
+use Rattle.rp_machine.specs.Replay.{Replayed, unmoved, counts, answers_after}
 use Rattle.rp_machine.specs.Numbered.{Applied, outcome}
 use Rattle.rp_machine.proofs.Replaying.{replay_from-append}
 use Rattle.rp_machine.proofs.Few.{set_within, calls_few}
 use Rattle.rp_model.specs.Pending.{is_answered_by, replies_to}
 use Rattle.rp_model.specs.Says.{says_to_task}
-use Rattle.rp_replica.specs.Packets.{Run, RoomyRun, with_packets, longest_text}
+use Rattle.rp_replica.specs.Packets.{Run, BufferState, with_packets, longest_text}
 use Rattle.rp_replica.specs.Applying.{AppliesMore, HasReplied}
-use Rattle.rp_replica.proofs.Saying.{no_packet, packets_then}
+use Rattle.rp_replica.proofs.Queueing.{no_packet, packets_then}
 
 -- ---- replies to several answers
 
@@ -45,9 +45,9 @@ first_replies me pending given n =
 
 -- ---- where no call is answered twice there are no more replies than pending items
 
-set_behind : {A : Type 0} (xs ys : List A) → IsSet (xs ++ ys) → IsSet ys
-set_behind [] ys set = set
-set_behind (x ∷ xs) ys set = set_behind xs ys set.1
+set_after : {A : Type 0} (xs ys : List A) → IsSet (xs ++ ys) → IsSet ys
+set_after [] ys set = set
+set_after (x ∷ xs) ys set = set_after xs ys set.1
 
 fewer_calls : (test : Answer → Bool) (xs : List Answer) → IsSet (map call_of xs) → IsSet (map call_of (filter test xs))
 fewer_calls test [] set = tt
@@ -88,7 +88,7 @@ pub few_replies : (me : ℕ) (pending : List Action) (earlier more : List Answer
 few_replies me pending earlier more once =
     let test : Answer → Bool = λ answer. list_any (is_answered_by answer) pending in
     let calls : List CallName = map call_of (filter test more) in
-    let set : IsSet calls = fewer_calls test more (set_behind (map call_of earlier) (map call_of more) (subst (λ (xs : List CallName). IsSet xs) (map-append call_of earlier more) once)) in
+    let set : IsSet calls = fewer_calls test more (set_after (map call_of earlier) (map call_of more) (subst (λ (xs : List CallName). IsSet xs) (map-append call_of earlier more) once)) in
     let inside : (call : CallName) → Has call calls → Has call (calls_made pending) = λ call h.
     let from = mapped_has call_of call (filter test more) h in
     subst (λ (other : CallName). Has other (calls_made pending)) (sym from.2) (awaited_call from.0 pending (has_passing test from.0 more from.1).1) in
@@ -119,9 +119,9 @@ module _ {S : Type 0} (next : S → Action → S) (answers : S → Action → Li
 
   -- the machine applies what the log took
   pub applies_one : (log after : Contents) (old new : Applied S) (action : Action) (given : List Answer) → new ≡ record old { actions = old.actions ++ action ∷ [] }
-      → given ≡ answers_behind next answers (outcome next answers old) action → old.actions ≡ log.taken → after.taken ≡ log.taken ++ action ∷ [] → after.places ≡ log.places
+      → given ≡ answers_after next answers (outcome next answers old) action → old.actions ≡ log.taken → after.taken ≡ log.taken ++ action ∷ [] → after.places ≡ log.places
       → AppliesMore next answers log after old new given
-  applies_one log after old new action given is told taken took places =
+  applies_one log after old new action given is stated taken took places =
       let r = outcome next answers old in
       let longer : length after.taken ≡ length log.taken + 1 = ap length took ∙ length-append log.taken (action ∷ []) in
       record {
@@ -132,7 +132,7 @@ module _ {S : Type 0} (next : S → Action → S) (answers : S → Action → Li
         given = ap (λ (a : Applied S). (outcome next answers a).given) is
             ∙ ap (λ (all : Replayed S). all.given) (replay_from-append next answers (unmoved old.begin) old.actions (action ∷ []))
             ∙ given_one r action (counts r.kept r.given action)
-            ∙ ap (λ (more : List Answer). r.given ++ more) (sym told);
+            ∙ ap (λ (more : List Answer). r.given ++ more) (sym stated);
       }
 
   pub applies_none : (log : Contents) (applied : Applied S) → applied.actions ≡ log.taken → AppliesMore next answers log log applied applied []
@@ -145,7 +145,7 @@ module _ {S : Type 0} (next : S → Action → S) (answers : S → Action → Li
   }
 
   module _ (me : ℕ) (pending : List Action) where
-    pub replied_none : (log : Contents) (applied : Applied S) (out : RoomyRun) → applied.actions ≡ log.taken → HasReplied next answers me pending log log applied applied out out
+    pub replied_none : (log : Contents) (applied : Applied S) (out : BufferState) → applied.actions ≡ log.taken → HasReplied next answers me pending log log applied applied out out
     replied_none log applied out taken = record {
       more = [];
       applies = applies_none log applied taken;
@@ -154,7 +154,7 @@ module _ {S : Type 0} (next : S → Action → S) (answers : S → Action → Li
       room = omega arith;
     }
 
-    module _ (before after further : Contents) (old new newer : Applied S) (out said : RoomyRun) (given : List Answer)
+    module _ (before after further : Contents) (old new newer : Applied S) (out said : BufferState) (given : List Answer)
         (so_far : HasReplied next answers me pending before after old new out said) (one : AppliesMore next answers after further new newer given)
         (once : IsSet (map call_of (outcome next answers newer).given)) where
       few_more : length (replies_to me pending (so_far.more ++ given)) ≤ length pending
@@ -169,8 +169,8 @@ module _ {S : Type 0} (next : S → Action → S) (answers : S → Action → Li
       pub room_left : longest_text * length pending ≤ out.room → longest_text * length (replies_to me pending given) ≤ said.room
       room_left room = omega (arith, few_more, both_long, so_far.room, room)
 
-      -- and they stand behind the others
-      pub replied_more : (saying : RoomyRun) → saying.run ≡ with_packets said.run (replies_to me pending given) → said.room ≤ saying.room + longest_text * length (replies_to me pending given)
+      -- and they are after the others
+      pub replied_more : (saying : BufferState) → saying.run ≡ with_packets said.run (replies_to me pending given) → said.room ≤ saying.room + longest_text * length (replies_to me pending given)
           → HasReplied next answers me pending before further old newer out saying
       replied_more saying run room = record {
         more = so_far.more ++ given;

@@ -1,4 +1,4 @@
--- What a report tells.
+-- What a report says.
 use Rattle.std.proofs.Common.{◌≡◌, ℕ, zero, suc, Option, Some, None, List, refl}
 use Rattle.std.specs.List.{AllByRecursion}
 use Rattle.rp_base.specs.declared.action.Action.{Action}

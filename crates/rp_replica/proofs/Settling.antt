@@ -13,7 +13,7 @@ use Rattle.rp_base.specs.Records.{or_else, learned_in, learned_at}
 use Rattle.rp_base.proofs.Members.{found, finds, has_passing, passes, has_with, with_has, same_passing}
 use Rattle.rp_base.proofs.MoreRecords.{learned_push}
 use Rattle.rp_learner.specs.Learning.{Learning}
-use Rattle.rp_learner.specs.Standings.{SameLearning, Settles, is_beyond, is_settled, with_mark}
+use Rattle.rp_learner.specs.Status.{SameLearning, Settles, is_beyond, is_settled, with_mark}
 use Rattle.rp_learner.proofs.Alike.{settled_alike}
 use Rattle.rp_log.specs.Contents.{Contents, empty_log, action_at, with_room}
 use Rattle.std.specs.FinMap.{get, insert, get-empty}
@@ -21,7 +21,7 @@ use Rattle.std.specs.Prelude.{option_and_then}
 use Rattle.std.specs.Ordering.{nat_cmp}
 use Rattle.rp_log.specs.Recorded.{LearnedAlike}
 use Rattle.rp_replica.proofs.Keeping.{or_none}
-use Rattle.rp_replica.specs.Tied.{IsLearner, IsOpenVote}
+use Rattle.rp_replica.specs.Invariant.{IsLearner, IsOpenVote}
 use Rattle.rp_replica.proofs.Hearing.{learns_alike}
 
 -- ---- a set with one member more
@@ -123,8 +123,8 @@ module _ (config : Config) (records : List Rec) (taken : ℕ) (before after : Le
         first = same.first ∙ l.first;
         heard = λ h. (
           λ t.
-              let held = (l.heard h).0 ((same.heard h).0 t) in
-              passes (λ (k : HeardVote). not (nat_eq k.1 i)) h votes held (ap not (ne_eqb h.1 i (none_there h held))),
+              let replica = (l.heard h).0 ((same.heard h).0 t) in
+              passes (λ (k : HeardVote). not (nat_eq k.1 i)) h votes replica (ap not (ne_eqb h.1 i (none_there h replica))),
           λ t. (same.heard h).1 ((l.heard h).1 (has_passing (λ (k : HeardVote). not (nat_eq k.1 i)) h votes t).0),
         );
         open_votes = still_open same.first;
@@ -148,7 +148,7 @@ module _ (config : Config) (records : List Rec) (taken : ℕ) (before after : Le
         | inr inside ↦ marks_more (subst (λ (m : Learning). SameLearning after m) (cond-false out before (with_mark before i) inside) same)
       ]
 
--- another record tells a learner nothing
+-- another record changes nothing for a learner
 pub learns_none : (config : Config) (records : List Rec) (rec : Rec) (taken : ℕ) (learner : Learning) (votes : List HeardVote) → ((j : ℕ) → learned_in j rec ≡ None) → IsLearner config records taken learner votes
     → IsLearner config (records ++ rec ∷ []) taken learner votes
 learns_none config records rec taken learner votes none l =
@@ -157,17 +157,17 @@ learns_none config records rec taken learner votes none l =
 
 -- ---- a log, one record on
 
--- another record tells a log nothing
+-- another record changes nothing for a log
 pub alike_none : (records : List Rec) (rec : Rec) (log : Contents) → ((j : ℕ) → learned_in j rec ≡ None) → LearnedAlike records log → LearnedAlike (records ++ rec ∷ []) log
 alike_none records rec log none alike = λ j. alike j ∙ sym (learned_push records rec j ∙ ap (λ (o : Option Action). or_else (learned_at records j) o) (none j) ∙ or_none (learned_at records j))
 
 -- a record that learns nothing
-pub tells_none : (rec : Rec) → ((i : ℕ) (v : Action) → rec ≡ Learned i v → ⊥) → (j : ℕ) → learned_in j rec ≡ None
-tells_none (Started ballot) other j = refl
-tells_none (Promised position ballot) other j = refl
-tells_none (Voted position ballot action) other j = refl
-tells_none (Learned position action) other j = absurd (other position action refl)
-tells_none (PromisedRange range ballot) other j = refl
+pub learned_none : (rec : Rec) → ((i : ℕ) (v : Action) → rec ≡ Learned i v → ⊥) → (j : ℕ) → learned_in j rec ≡ None
+learned_none (Started ballot) other j = refl
+learned_none (Promised position ballot) other j = refl
+learned_none (Voted position ballot action) other j = refl
+learned_none (Learned position action) other j = absurd (other position action refl)
+learned_none (PromisedRange range ballot) other j = refl
 
 -- making room takes nothing
 pub taken_same : (log : Contents) (i : ℕ) → (with_room log i).taken ≡ log.taken

@@ -15,7 +15,7 @@ use Rattle.rp_log.specs.Contents.{Contents, Places}
 use Rattle.rp_log.specs.Recorded.{LearnedAlike}
 use Rattle.rp_machine.specs.Numbered.{Applied}
 use Rattle.rp_model.specs.Parts.{is_in_log, records_in_log}
-use Rattle.rp_replica.specs.Tied.{IsProposer, IsLearner, IsApplied, Tied, AllInLog}
+use Rattle.rp_replica.specs.Invariant.{IsProposer, IsLearner, IsApplied, IsReplica, AllInLog}
 
 -- a log with the same places learned the same
 pub same_learned : (records : List Rec) (log after : Contents) → after.places ≡ log.places → LearnedAlike records log → LearnedAlike records after
@@ -31,15 +31,15 @@ all_in_log most [] = tt
 all_in_log most (rec ∷ rest) = in_log_more most rec (records_in_log most rest) (is_in_log most rec) refl (all_in_log most rest)
 
 -- all parts hang together
-pub tied_fresh : {S : Type 0} (me : ℕ) (config : Config) (old disk : Disk) (all : List Rec) (cut_bytes : ℕ) (records : List Rec) (proposer : ProposerPart) (learner : Learning) (log : Contents) (applied : Applied S)
+pub replica_fresh : {S : Type 0} (me : ℕ) (config : Config) (old disk : Disk) (all : List Rec) (cut_bytes : ℕ) (records : List Rec) (proposer : ProposerPart) (learner : Learning) (log : Contents) (applied : Applied S)
     → IsRightConfig config → me ≤ config.nodes → IsOpened old all cut_bytes disk → records ≡ records_in_log config.max_positions all → proposer ≡ restored me config.nodes records
-    → IsLearner config records (length log.taken) learner [] → IsApplied records log applied → Tied me config disk false records proposer learner [] log applied
-tied_fresh me config old disk all cut_bytes records proposer learner log applied right member opened counted fresh learns applies =
+    → IsLearner config records (length log.taken) learner [] → IsApplied records log applied → IsReplica me config disk false records proposer learner [] log applied
+replica_fresh me config old disk all cut_bytes records proposer learner log applied right member opened counted fresh learns applies =
     let stable : disk.stable ≡ length disk.contents = opened.stable in
     record {
       sizes = right;
       member = member;
-      stands = record {
+      on_device = record {
         all = all;
         front = disk.contents;
         torn = [];

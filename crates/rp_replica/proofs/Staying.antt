@@ -35,8 +35,8 @@ module _ {A : Type 0} (test : A → Bool) (old now popped : List A) (p : ℕ) (x
       let one : length popped ≡ length (drop (p + 1) old) + length (filter test (take p old)) = ap length left ∙ length-append (drop (p + 1) old) (filter test (take p old)) in
       let few : length (filter test (take p old)) ≤ length (take p old) = fewer test (take p old) in
       let taken : length (take p old) ≡ p = length-take-le p old (omega arith) in
-      let behind : length (drop (p + 1) old) ≡ length old - (p + 1) = length-drop (p + 1) old in
-      omega (arith, one, few, taken, behind)
+      let trailing : length (drop (p + 1) old) ≡ length old - (p + 1) = length-drop (p + 1) old in
+      omega (arith, one, few, taken, trailing)
 
   pub turned : (after : List A) (b : Bool) → test x ≡ b → after ≡ (if b then popped ++ x ∷ [] else popped) → after ≡ drop (p + 1) old ++ filter test (take (p + 1) old)
   turned after true e kept =

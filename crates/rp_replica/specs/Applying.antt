@@ -1,4 +1,4 @@
--- What learning and applying come to for a replica (no public clause names it).
+-- The results of learning and applying for a replica (no public clause names it).
 use Rattle.std.specs.Prelude.{◌≡◌, ℕ, ◌+◌, ◌*◌, ◌≤◌, Bool, List, [], ◌++◌, length, if◌then◌else◌}
 use Rattle.rp_base.specs.declared.action.Action.{Action}
 use Rattle.rp_base.specs.declared.reply.Answer.{Answer}
@@ -10,19 +10,19 @@ use Rattle.rp_model.specs.Parts.{Turn}
 use Rattle.rp_model.specs.Learner.{learns}
 use Rattle.rp_model.specs.Pending.{replies_to}
 use Rattle.rp_model.specs.Says.{says_to_others}
-use Rattle.rp_replica.specs.Held.{Held}
-use Rattle.rp_replica.specs.Packets.{RoomyRun, longest_text, with_packets}
+use Rattle.rp_replica.specs.State.{ReplicaState}
+use Rattle.rp_replica.specs.Packets.{BufferState, longest_text, with_packets}
 
--- the packets that go before the replies: the other nodes hear of it where this one tells them
-abbrev pub told_first : ℕ → ℕ → ℕ → Action → Bool → List Message
-told_first nodes me i v tells = if tells then says_to_others nodes me (Decided i v) else []
+-- the packets that go before the replies: the other nodes are informed where this one informs them
+abbrev pub decided_packets : ℕ → ℕ → ℕ → Action → Bool → List Message
+decided_packets nodes me i v announces = if announces then says_to_others nodes me (Decided i v) else []
 
 module _ {S : Type 0} (next : S → Action → S) (answers : S → Action → List Answer) where
   -- the turn of a replica that learns an action at a position, with no packet but the replies
-  abbrev pub learns_alone : Held S → ℕ → Action → Turn
-  learns_alone held i v = learns next answers held.begin held.me held.records held.running i v [] []
+  abbrev pub learns_alone : ReplicaState S → ℕ → Action → Turn
+  learns_alone replica i v = learns next answers replica.begin replica.me replica.records replica.running i v [] []
 
-  -- what the log took is applied, and nothing is learned; these answers came of it
+  -- what the log took is applied, and nothing is learned; these answers resulted
   pub record AppliesMore (before after : Contents) (old new : Applied S) (more : List Answer) : Type 0 where
     pub begin : new.begin ≡ old.begin
     pub taken : new.actions ≡ after.taken
@@ -32,7 +32,7 @@ module _ {S : Type 0} (next : S → Action → S) (answers : S → Action → Li
 
   -- the answers whose call is pending are among the packets, one for each pending item at most
   pub record HasReplied (me : ℕ) (pending : List Action) (before after : Contents) (old new : Applied S)
-      (out said : RoomyRun) : Type 0 where
+      (out said : BufferState) : Type 0 where
     pub more : List Answer
     pub applies : AppliesMore before after old new more
     pub run : said.run ≡ with_packets out.run (replies_to me pending more)

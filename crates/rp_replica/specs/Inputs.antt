@@ -1,4 +1,4 @@
--- What a replica may be given, and what comes of it (this project's own).
+-- What a replica may be given, and the result.
 use Rattle.std.specs.Prelude.{Result, Ok, Err, List}
 use Rattle.rp_base.specs.Action.{IsRight}
 use Rattle.rp_base.specs.declared.action.Action.{Action}
@@ -14,7 +14,7 @@ use Rattle.rp_model.specs.Effect.{NodeInput}
 use Rattle.rp_model.specs.Effect as nodes
 use Rattle.rp_replica.specs.declared.input.Input.{Input}
 use Rattle.rp_replica.specs.declared.input.Input.TheVariants.{Receive, Lead, LeadRange, Interrupt, Tick, Report}
-use Rattle.rp_replica.specs.Held.{Held}
+use Rattle.rp_replica.specs.State.{ReplicaState}
 use Rattle.rp_replica.specs.Turning.{effect_of}
 
 -- an interrupt's source is 1 to 8, and its occurrence from 1
@@ -36,12 +36,12 @@ given_by (Interrupt source occurrence) = Ok (nodes.NodeInput.Interrupt source oc
 given_by (Tick now) = Ok (nodes.NodeInput.Tick now)
 given_by (Report first) = Ok (nodes.NodeInput.Report first)
 
-module _ {S : Type 0} (next : S → Action → S) (answers : S → Action → List Answer) (held : Held S) where
-  -- what comes of it, or the refusal
+module _ {S : Type 0} (next : S → Action → S) (answers : S → Action → List Answer) (replica : ReplicaState S) where
+  -- the result, or the refusal
   abbrev pub effect_if_given : Result NodeInput Fault → Result Turn Fault
-  effect_if_given (Ok input) = effect_of next answers held input
+  effect_if_given (Ok input) = effect_of next answers replica input
   effect_if_given (Err refusal) = Err refusal
 
-  -- what an input comes to for a replica, or its refusal
+  -- the result of an input for a replica, or its refusal
   abbrev pub input_effect : Input → Result Turn Fault
   input_effect input = effect_if_given (given_by input)

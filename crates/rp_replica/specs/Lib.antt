@@ -1,12 +1,12 @@
 pub mod Notes
 pub mod Packets
-pub mod Held
+pub mod State
 pub mod Kept
-pub mod Tied
+pub mod Invariant
 pub mod Turning
 pub mod Proposed
 pub mod Opening
-pub mod Standing
+pub mod Status
 pub mod Plans
 pub mod Inputs
 pub mod Committing

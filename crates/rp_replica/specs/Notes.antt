@@ -1,4 +1,4 @@
--- The votes that a node has heard, read off what its learner noted (this project's own).
+-- The votes that a node has heard, read off what its learner noted.
 use Rattle.std.specs.Prelude.{List, [], ◌∷◌}
 use Rattle.rp_base.specs.Sets.{with_member}
 use Rattle.rp_base.specs.Promises.{HeardVote, same_heard, heard_elsewhere}

@@ -1,4 +1,4 @@
--- What opening a replica does (this project's own).
+-- What opening a replica does.
 use Rattle.std.specs.Prelude.{◌≡◌, ◌⊎◌, ℕ, false, List, length}
 use Rattle.rp_base.specs.declared.config.Config.{Config}
 use Rattle.rp_base.specs.declared.fault.Fault.{Fault}
@@ -7,21 +7,21 @@ use Rattle.rp_base.specs.declared.record.Rec.{Rec}
 use Rattle.rp_store.specs.Disk.{Disk}
 use Rattle.rp_store.specs.Opening.{IsOpened, IsNotOpened}
 use Rattle.rp_model.specs.Parts.{fresh_running, records_in_log}
-use Rattle.rp_replica.specs.Held.{Held}
+use Rattle.rp_replica.specs.State.{ReplicaState}
 
--- The replica runs by the records of the device that count, and by them alone; it tells how many records the
--- device holds, those above the log too, and how many torn bytes were cut off.
-pub record Opens {S : Type 0} (me : ℕ) (config : Config) (begin : S) (old : Disk) (held : Held S)
+-- The replica runs by the records of the device that count, and by them alone; it returns how many records the device
+-- holds, those above the log too, and how many torn bytes were truncated.
+pub record Opens {S : Type 0} (me : ℕ) (config : Config) (begin : S) (old : Disk) (replica : ReplicaState S)
     (count cut_bytes : ℕ) : Type 0 where
   pub all : List Rec
-  pub opened : IsOpened old all cut_bytes held.disk
-  pub starts : held ≡ record {
+  pub opened : IsOpened old all cut_bytes replica.disk
+  pub starts : replica ≡ record {
     me = me;
     config = config;
     begin = begin;
     records = records_in_log config.max_positions all;
     running = fresh_running;
-    disk = held.disk;
+    disk = replica.disk;
     failed = false;
   }
   pub counted : count ≡ length all

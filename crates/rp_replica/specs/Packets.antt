@@ -1,4 +1,4 @@
--- The packets of one step, as one run of bytes (this project's own).
+-- The packets of one step, as one run of bytes.
 use Rattle.std.specs.Prelude.{ℕ, suc, ◌+◌, List, [], ◌∷◌, ◌++◌, length}
 use Rattle.rp_codec.specs.Message.{Message}
 use Rattle.rp_codec.specs.Text.{text_of}
@@ -22,7 +22,7 @@ abbrev pub with_packet : Run → Message → Run
 with_packet run m = record { bytes = run.bytes ++ text_of m; packets = suc run.packets }
 
 -- a run of bytes, and for how many more there is room
-pub record RoomyRun : Type 0 where
+pub record BufferState : Type 0 where
   pub run : Run
   pub room : ℕ
 

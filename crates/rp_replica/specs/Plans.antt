@@ -1,4 +1,4 @@
--- What a plan comes to, and when it may be committed (this project's own; no public clause names it).
+-- The result of a plan, and when it may be committed (no public clause names it).
 use Rattle.std.specs.Prelude.{◌≡◌, ℕ, ◌+◌, ◌<◌, ◌≤◌, Option, Some, None, IfSome, List, [], ◌∷◌, ◌++◌, length}
 use Rattle.std.specs.List.{AllByRecursion}
 use Rattle.rp_base.specs.Action.{IsRight, IsCount}
@@ -18,7 +18,7 @@ use Rattle.rp_base.specs.declared.record.Vote.{Vote as CastVote}
 use Rattle.rp_base.specs.declared.record.Rec.TheVariants.{Started, Promised, Voted, Learned, PromisedRange}
 use Rattle.rp_codec.specs.Message.{IsVoteBelow}
 use Rattle.rp_codec.specs.declared.packet.Body.TheVariants as bodies
-use Rattle.rp_learner.specs.declared.learner.Standing.TheVariants.{Counting}
+use Rattle.rp_learner.specs.declared.learner.VoteStatus.TheVariants.{Counting}
 use Rattle.rp_model.specs.Parts.{Running}
 use Rattle.rp_model.specs.Parts.{Turn}
 use Rattle.rp_model.specs.Effect.{report_of}
@@ -34,9 +34,9 @@ use Rattle.rp_replica.specs.declared.plan.Plan.TheVariants.{Pass, Promise, Promi
 use Rattle.rp_replica.specs.declared.plan.Plan.TheVariants.{Answer as Reply, Await, Lead, LeadRange, OfferPrepared}
 use Rattle.rp_replica.specs.declared.plan.Plan.TheVariants.{Count, CountRange, Offer, Yield, Hear, Learn, Follow}
 use Rattle.rp_replica.specs.declared.plan.Plan.TheVariants.{Report}
-use Rattle.rp_replica.specs.Held.{Held}
+use Rattle.rp_replica.specs.State.{ReplicaState}
 use Rattle.rp_replica.specs.Proposed.{promised_running, started_running, offered_running}
-use Rattle.rp_replica.specs.Standing.{standing_of}
+use Rattle.rp_replica.specs.Status.{status_of}
 
 -- the record that a plan writes, if it writes one
 abbrev pub written_by : Plan → Option Rec
@@ -49,109 +49,112 @@ written_by (Learn i v) = Some (Learned i v)
 written_by (Follow from i v) = Some (Learned i v)
 written_by _ = None
 
-module _ {S : Type 0} (held : Held S) where
+module _ {S : Type 0} (replica : ReplicaState S) where
   -- what is known once a promise is noted
   abbrev pub once_promised : CountedPromise → Running
   once_promised p =
-      promised_running held.config.nodes held.running p.ballot (p.from, p.last)
-      (proposal_at held.running.proposals p.position)
+      promised_running replica.config.nodes replica.running p.ballot (p.from, p.last)
+      (proposal_at replica.running.proposals p.position)
 
   -- what is known once a vote is noted
   abbrev pub once_heard : ℕ → ℕ → CastVote → Running
-  once_heard from i vote = record held.running { heard = with_member same_heard held.running.heard (from, i, vote) }
+  once_heard from i vote =
+      record replica.running { heard = with_member same_heard replica.running.heard (from, i, vote) }
 
-module _ {S : Type 0} (next : S → Action → S) (answers : S → Action → List Answer) (held : Held S) where
+module _ {S : Type 0} (next : S → Action → S) (answers : S → Action → List Answer) (replica : ReplicaState S) where
   -- the turn that a plan is
   abbrev pub turn_of : Plan → Turn
-  turn_of (Pass dropped) = record { written = None; sent = []; running = held.running; dropped = dropped }
-  turn_of (Promise to i b last) = writes (Promised i b) held.running (says held.me (bodies.Promise i b last) to ∷ [])
+  turn_of (Pass dropped) = record { written = None; sent = []; running = replica.running; dropped = dropped }
+  turn_of (Promise to i b last) =
+      writes (Promised i b) replica.running (says replica.me (bodies.Promise i b last) to ∷ [])
   turn_of (PromiseRange p) =
-      writes (PromisedRange p.range p.ballot) held.running
-      (says held.me (bodies.PromiseRange p.range p.ballot (last_votes held.records p.range)) p.to ∷ [])
-  turn_of (Vote to i b v) = writes (Voted i b v) held.running (says held.me (bodies.Accepted i b v) to ∷ [])
-  turn_of (Repeat to i b v) = sends held.running (says held.me (bodies.Accepted i b v) to ∷ [])
-  turn_of (Refuse to i b bound) = sends held.running (says held.me (bodies.Nack i b bound) to ∷ [])
-  turn_of (Inform to i v) = sends held.running (says held.me (bodies.Decided i v) to ∷ [])
-  turn_of (Reply task number reply) = sends held.running (says_to_task held.me (bodies.Reply number reply) task ∷ [])
-  turn_of (Await item) = notes (record held.running { pending = held.running.pending ++ item ∷ [] })
+      writes (PromisedRange p.range p.ballot) replica.running
+      (says replica.me (bodies.PromiseRange p.range p.ballot (last_votes replica.records p.range)) p.to ∷ [])
+  turn_of (Vote to i b v) = writes (Voted i b v) replica.running (says replica.me (bodies.Accepted i b v) to ∷ [])
+  turn_of (Repeat to i b v) = sends replica.running (says replica.me (bodies.Accepted i b v) to ∷ [])
+  turn_of (Refuse to i b bound) = sends replica.running (says replica.me (bodies.Nack i b bound) to ∷ [])
+  turn_of (Inform to i v) = sends replica.running (says replica.me (bodies.Decided i v) to ∷ [])
+  turn_of (Reply task number reply) =
+      sends replica.running (says_to_task replica.me (bodies.Reply number reply) task ∷ [])
+  turn_of (Await item) = notes (record replica.running { pending = replica.running.pending ++ item ∷ [] })
   turn_of (Lead i b own) =
-      writes (Started b) (started_running held.running i b own)
-      (says_to_all held.config.nodes held.me (bodies.Prepare i b))
-  turn_of (LeadRange range b) = begins_range held.config.nodes held.me held.records held.running range b
+      writes (Started b) (started_running replica.running i b own)
+      (says_to_all replica.config.nodes replica.me (bodies.Prepare i b))
+  turn_of (LeadRange range b) = begins_range replica.config.nodes replica.me replica.records replica.running range b
   turn_of (OfferPrepared i b v) =
-      sends (offered_running held.config.nodes held.running v (proposal_at held.running.proposals i))
-      (says_to_all held.config.nodes held.me (bodies.Accept i b v))
-  turn_of (Count promise) = notes (once_promised held promise)
-  turn_of (CountRange p) = on_promise_range held.config.nodes held.running p.from p.range p.ballot p.votes
+      sends (offered_running replica.config.nodes replica.running v (proposal_at replica.running.proposals i))
+      (says_to_all replica.config.nodes replica.me (bodies.Accept i b v))
+  turn_of (Count promise) = notes (once_promised replica promise)
+  turn_of (CountRange p) = on_promise_range replica.config.nodes replica.running p.from p.range p.ballot p.votes
   turn_of (Offer promise v) =
-      sends (once_promised held promise)
-      (says_to_all held.config.nodes held.me (bodies.Accept promise.position promise.ballot v))
-  turn_of (Yield i b bound) = on_nack held.config.nodes held.running i b bound
-  turn_of (Hear from i vote) = notes (once_heard held from i vote)
+      sends (once_promised replica promise)
+      (says_to_all replica.config.nodes replica.me (bodies.Accept promise.position promise.ballot v))
+  turn_of (Yield i b bound) = on_nack replica.config.nodes replica.running i b bound
+  turn_of (Hear from i vote) = notes (once_heard replica from i vote)
   turn_of (Learn i v) =
-      learns next answers held.begin held.me held.records held.running i v
-      (says_to_others held.config.nodes held.me (bodies.Decided i v)) []
+      learns next answers replica.begin replica.me replica.records replica.running i v
+      (says_to_others replica.config.nodes replica.me (bodies.Decided i v)) []
   turn_of (Follow from i v) =
-      learns next answers held.begin held.me held.records held.running i v []
-      (asks_for held.me from (missing_position (held.records ++ Learned i v ∷ [])))
-  turn_of (Report first) = sends held.running (report_of held.me first (applied_of held.records) ∷ [])
+      learns next answers replica.begin replica.me replica.records replica.running i v []
+      (asks_for replica.me from (missing_position (replica.records ++ Learned i v ∷ [])))
+  turn_of (Report first) = sends replica.running (report_of replica.me first (applied_of replica.records) ∷ [])
 
 -- ---- what the rules saw, so that a plan may be committed
 
 -- the position is within the log, and the action right
-abbrev pub MayLearn : {S : Type 0} → Held S → ℕ → Action → Type 0
-MayLearn held i v = (i ≤ held.config.max_positions) × IsRight v
+abbrev pub MayLearn : {S : Type 0} → ReplicaState S → ℕ → Action → Type 0
+MayLearn replica i v = (i ≤ replica.config.max_positions) × IsRight v
 
 -- a proposal may begin: the action is right, the ballot the next one, the position unlearned and within reach
-pub record MayBegin {S : Type 0} (held : Held S) (i b : ℕ) (own : Action) : Type 0 where
+pub record MayBegin {S : Type 0} (replica : ReplicaState S) (i b : ℕ) (own : Action) : Type 0 where
   pub right : IsRight own
-  pub ballot : IsAbove held.me (starts_above held.records held.running) b
-  pub unlearned : learned_at held.records i ≡ None
-  pub reach : i < first_unlearned held.records + window
+  pub ballot : IsAbove replica.me (starts_above replica.records replica.running) b
+  pub unlearned : learned_at replica.records i ≡ None
+  pub reach : i < first_unlearned replica.records + window
 
 -- the range begins within the log, and the last votes there may be reported for the ballot
-abbrev pub MayPromiseRange : {S : Type 0} → Held S → RangePromise → Type 0
-MayPromiseRange held p =
-    (p.range.first ≤ held.config.max_positions) × AreReported p.range p.ballot (last_votes held.records p.range)
+abbrev pub MayPromiseRange : {S : Type 0} → ReplicaState S → RangePromise → Type 0
+MayPromiseRange replica p =
+    (p.range.first ≤ replica.config.max_positions) × AreReported p.range p.ballot (last_votes replica.records p.range)
 
 -- proposals may begin at a range: the ballot is the next one, and the range ends within reach
-pub record MayBeginRange {S : Type 0} (held : Held S) (range : Range) (b : ℕ) : Type 0 where
-  pub ballot : IsAbove held.me (starts_above held.records held.running) b
-  pub reach : end_of range ≤ first_unlearned held.records + window
+pub record MayBeginRange {S : Type 0} (replica : ReplicaState S) (range : Range) (b : ℕ) : Type 0 where
+  pub ballot : IsAbove replica.me (starts_above replica.records replica.running) b
+  pub reach : end_of range ≤ first_unlearned replica.records + window
 
 -- one of the nodes promised for a range, and reports right votes
-abbrev pub MayCountRange : {S : Type 0} → Held S → CountedRange → Type 0
-MayCountRange held p = (p.from ≤ held.config.nodes) × AllByRecursion (λ placed. IsRightVote placed.vote) p.votes
+abbrev pub MayCountRange : {S : Type 0} → ReplicaState S → CountedRange → Type 0
+MayCountRange replica p = (p.from ≤ replica.config.nodes) × AllByRecursion (λ placed. IsRightVote placed.vote) p.votes
 
--- one of the nodes promised, and tells a right vote
-abbrev pub MayCount : {S : Type 0} → Held S → CountedPromise → Type 0
-MayCount held promise = (promise.from ≤ held.config.nodes) × IfSome promise.last IsRightVote
+-- one of the nodes promised, and reports a right vote
+abbrev pub MayCount : {S : Type 0} → ReplicaState S → CountedPromise → Type 0
+MayCount replica promise = (promise.from ≤ replica.config.nodes) × IfSome promise.last IsRightVote
 
 -- one of the nodes voted, and its vote is to be counted
-pub record MayHear {S : Type 0} (held : Held S) (from i : ℕ) (vote : CastVote) : Type 0 where
-  pub sender : from ≤ held.config.nodes
+pub record MayHear {S : Type 0} (replica : ReplicaState S) (from i : ℕ) (vote : CastVote) : Type 0 where
+  pub sender : from ≤ replica.config.nodes
   pub position : IsPosition i
-  pub counting : standing_of held.config.nodes held.records held.running.heard from i vote ≡ Counting
+  pub counting : status_of replica.config.nodes replica.records replica.running.heard from i vote ≡ Counting
 
-abbrev pub MayCommit : {S : Type 0} → Held S → Plan → Type 0
-MayCommit held (Promise to i b last) = (i ≤ held.config.max_positions) × IfSome last (IsVoteBelow b)
-MayCommit held (PromiseRange p) = MayPromiseRange held p
-MayCommit held (Vote to i b v) = MayLearn held i v
-MayCommit held (Repeat to i b v) = IsRight v
-MayCommit held (Refuse to i b bound) = b < bound
-MayCommit held (Inform to i v) = IsRight v
-MayCommit held (Reply task number reply) = IsCount number
-MayCommit held (Await item) = length held.running.pending < most_pending
-MayCommit held (Lead i b own) = MayBegin held i b own
-MayCommit held (LeadRange range b) = MayBeginRange held range b
-MayCommit held (OfferPrepared i b v) = IsRight v
-MayCommit held (Count promise) = MayCount held promise
-MayCommit held (CountRange promise) = MayCountRange held promise
-MayCommit held (Offer promise v) = MayCount held promise × IsRight v
-MayCommit held (Hear from i vote) = MayHear held from i vote
-MayCommit held (Learn i v) = MayLearn held i v
-MayCommit held (Follow from i v) = MayLearn held i v
-MayCommit held _ = Unit {0}
+abbrev pub MayCommit : {S : Type 0} → ReplicaState S → Plan → Type 0
+MayCommit replica (Promise to i b last) = (i ≤ replica.config.max_positions) × IfSome last (IsVoteBelow b)
+MayCommit replica (PromiseRange p) = MayPromiseRange replica p
+MayCommit replica (Vote to i b v) = MayLearn replica i v
+MayCommit replica (Repeat to i b v) = IsRight v
+MayCommit replica (Refuse to i b bound) = b < bound
+MayCommit replica (Inform to i v) = IsRight v
+MayCommit replica (Reply task number reply) = IsCount number
+MayCommit replica (Await item) = length replica.running.pending < most_pending
+MayCommit replica (Lead i b own) = MayBegin replica i b own
+MayCommit replica (LeadRange range b) = MayBeginRange replica range b
+MayCommit replica (OfferPrepared i b v) = IsRight v
+MayCommit replica (Count promise) = MayCount replica promise
+MayCommit replica (CountRange promise) = MayCountRange replica promise
+MayCommit replica (Offer promise v) = MayCount replica promise × IsRight v
+MayCommit replica (Hear from i vote) = MayHear replica from i vote
+MayCommit replica (Learn i v) = MayLearn replica i v
+MayCommit replica (Follow from i v) = MayLearn replica i v
+MayCommit replica _ = Unit {0}
 
 -- the plan sends and changes nothing
 abbrev pub OnlySends : Plan → Type 0

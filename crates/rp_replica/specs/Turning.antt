@@ -1,4 +1,4 @@
--- What a call of a replica comes to (this project's own).
+-- The result of a call of a replica.
 use Rattle.std.specs.Prelude.{◌≡◌, ◌⊎◌, ℕ, true, false, Option, Some, Result, Ok, Err, List, length}
 use Rattle.rp_base.specs.declared.action.Action.{Action}
 use Rattle.rp_base.specs.declared.reply.Answer.{Answer}
@@ -12,18 +12,18 @@ use Rattle.rp_replica.specs.declared.sent.Sent.{Sent}
 use Rattle.rp_replica.specs.Packets.{texts_of}
 use Rattle.rp_model.specs.Effect.{NodeInput, running_effect}
 use Rattle.rp_replica.specs.Kept.{HoldsCut}
-use Rattle.rp_replica.specs.Held.{Held, setting_of, held_after}
+use Rattle.rp_replica.specs.State.{ReplicaState, setting_of, after_turn}
 
 -- The turn took effect: its record is written and stable, and the bytes are the texts of its packets.
-pub record Turns {S : Type 0} (turn : Turn) (old new : Held S) (sent : Sent) : Type 0 where
-  pub goes : new ≡ held_after old turn
+pub record Turns {S : Type 0} (turn : Turn) (old new : ReplicaState S) (sent : Sent) : Type 0 where
+  pub goes : new ≡ after_turn old turn
   pub bytes : sent.bytes.items ≡ texts_of turn.sent
   pub packets : sent.packets ≡ length turn.sent
   pub dropped : sent.dropped ≡ turn.dropped
 
--- The device failed while this record was written: some beginning of its text may stand behind the others,
--- and so it holds what some cut of the turn leaves of the node's part.
-pub record FailsAt {S : Type 0} (written : Option Rec) (old new : Held S) : Type 0 where
+-- The device failed while this record was written: some beginning of its text may be after the others, and so it
+-- holds what some cut of the turn leaves of the node's part.
+pub record FailsAt {S : Type 0} (written : Option Rec) (old new : ReplicaState S) : Type 0 where
   pub rec : Rec
   pub is : written ≡ Some rec
   pub disk : AppendFailed (record_text rec) old.disk new.disk
@@ -31,35 +31,35 @@ pub record FailsAt {S : Type 0} (written : Option Rec) (old new : Held S) : Type
   pub holds : (kept : ℕ) × HoldsCut kept old new.disk written
 
 -- why a turn did not take effect, and what that leaves; there is no other reason
-abbrev pub Stops : {S : Type 0} → Option Rec → Held S → Held S → Fault → Type 0
+abbrev pub Stops : {S : Type 0} → Option Rec → ReplicaState S → ReplicaState S → Fault → Type 0
 Stops written old new OutOfMemory = (new ≡ old) × (old.failed ≡ false)
 Stops written old new Device = FailsAt written old new × (old.failed ≡ false)
 Stops written old new Failed = (new ≡ old) × (old.failed ≡ true)
 Stops written old new _ = ⊥
 
--- a refusal changes nothing; after a failure it is told in its place
-abbrev pub IsRefused : {S : Type 0} → Fault → Held S → Held S → Fault → Type 0
+-- a refusal changes nothing; after a failure it is reported in its place
+abbrev pub IsRefused : {S : Type 0} → Fault → ReplicaState S → ReplicaState S → Fault → Type 0
 IsRefused refusal old new fault =
     (new ≡ old) × (((fault ≡ refusal) × (old.failed ≡ false)) ⊎ ((fault ≡ Failed) × (old.failed ≡ true)))
 
--- why what an input comes to did not take effect
-abbrev pub StopsIf : {S : Type 0} → Result Turn Fault → Held S → Held S → Fault → Type 0
+-- why the result of an input did not take effect
+abbrev pub StopsIf : {S : Type 0} → Result Turn Fault → ReplicaState S → ReplicaState S → Fault → Type 0
 StopsIf (Ok turn) old new fault = Stops turn.written old new fault
 StopsIf (Err refusal) old new fault = IsRefused refusal old new fault
 
 -- it took effect
-abbrev pub TurnsIf : {S : Type 0} → Result Turn Fault → Held S → Held S → Sent → Type 0
+abbrev pub TurnsIf : {S : Type 0} → Result Turn Fault → ReplicaState S → ReplicaState S → Sent → Type 0
 TurnsIf (Ok turn) old new sent = Turns turn old new sent × (old.failed ≡ false)
 TurnsIf (Err refusal) old new sent = ⊥
 
--- What comes of an input: its turn took effect, and these are its packets; or it did not take effect, for
--- this reason, and that leaves the replica as it was, or with a device that failed within that turn.
-abbrev pub Answers : {S : Type 0} → Result Turn Fault → Held S → Held S → Result Sent Fault → Type 0
+-- The result of an input: its turn took effect, and these are its packets; or it did not take effect, for this
+-- reason, and that leaves the replica as it was, or with a device that failed within that turn.
+abbrev pub Answers : {S : Type 0} → Result Turn Fault → ReplicaState S → ReplicaState S → Result Sent Fault → Type 0
 Answers effect old new (Ok sent) = TurnsIf effect old new sent
 Answers effect old new (Err fault) = StopsIf effect old new fault
 
--- what an input comes to for a replica, or its refusal
-abbrev pub effect_of : {S : Type 0} → (S → Action → S) → (S → Action → List Answer) → Held S → NodeInput
+-- the result of an input for a replica, or its refusal
+abbrev pub effect_of : {S : Type 0} → (S → Action → S) → (S → Action → List Answer) → ReplicaState S → NodeInput
     → Result Turn Fault
-effect_of next answers held input =
-    running_effect (setting_of next answers held) held.me held.records held.running input
+effect_of next answers replica input =
+    running_effect (setting_of next answers replica) replica.me replica.records replica.running input

@@ -17,7 +17,7 @@ use rp_base::{Action, Answer, Answers, NodeId};
 use rp_log::Log;
 use rp_machine::{Machine, Numbered};
 
-/// Applies the next action that is ready, and gives the answers that come of it.
+/// Applies the next action that is ready, and gives the answers that result.
 #[inline(always)]
 fn apply_next<M: Machine>(machine: &mut Numbered<M>, log: &mut Log) -> Option<Answers>
     requires right { (i : ℕ) (v : Action) → action_at log.old i ≡ Some v → IsRight v }

@@ -13,10 +13,10 @@ ghost use Rattle.rp_model.specs.Parts.{is_in_log};
 ghost use Rattle.rp_model.specs.Pending.{most_pending};
 ghost use Rattle.rp_model.specs.Says.{says, says_to_task, notes, sends, writes};
 ghost use Rattle.rp_replica.specs.Committing.{Commits};
-ghost use Rattle.rp_replica.specs.Held.{held_after};
+ghost use Rattle.rp_replica.specs.State.{after_turn};
 ghost use Rattle.rp_replica.specs.Packets.{with_packet};
 ghost use Rattle.rp_replica.specs.Plans.{turn_of, written_by, MayCommit, OnlySends};
-ghost use Rattle.rp_replica.specs.Tied.{IsAnswer};
+ghost use Rattle.rp_replica.specs.Invariant.{IsAnswer};
 ghost use Rattle.rp_replica.specs.Turning.{Stops};
 
 use crate::plan::Plan;
@@ -31,8 +31,8 @@ use std::alloc::Global;
 
 impl<M: Machine, D: Device> Replica<M, D> {
     /// Commits a plan: its packets are put after the others. Refused with `OutOfMemory`, it changes
-    /// nothing. Where the device fails while the record is written it is refused with `Device`: some
-    /// beginning of the record may then stand on the device, and nothing else has changed.
+    /// nothing. Where the device fails while the record is written it is refused with `Device`:
+    /// some beginning of the record may then be on the device, and nothing else has changed.
     pub(crate) fn commit(
         &mut self,
         alloc: Global,
@@ -50,20 +50,20 @@ impl<M: Machine, D: Device> Replica<M, D> {
         match plan {
             Plan::Pass(dropped) => return Ok(*dropped),
             Plan::Promise(to, position, ballot, last) => {
-                let told = Body::Promise {
+                let stated = Body::Promise {
                     position: *position,
                     ballot: *ballot,
                     last: *last,
                 };
-                self.keep_and_tell(out, &Rec::Promised(*position, *ballot), told, *to)?;
+                self.keep_and_send(out, &Rec::Promised(*position, *ballot), stated, *to)?;
             }
             Plan::Vote(to, position, ballot, action) => {
-                let told = Body::Accepted {
+                let stated = Body::Accepted {
                     position: *position,
                     ballot: *ballot,
                     action: *action,
                 };
-                self.keep_and_tell(out, &Rec::Voted(*position, *ballot, *action), told, *to)?;
+                self.keep_and_send(out, &Rec::Voted(*position, *ballot, *action), stated, *to)?;
             }
             Plan::PromiseRange(promise) => self.promise_range(alloc, out, promise)?,
             Plan::Lead(position, ballot, own) => self.begin(out, *position, *ballot, own)?,
@@ -96,7 +96,7 @@ impl<M: Machine, D: Device> Replica<M, D> {
         ensures unsent { OnErr result (out.new.run ≡ out.old.run) }
     {
         match *plan {
-            Plan::Repeat(to, position, ballot, action) => self.tell(
+            Plan::Repeat(to, position, ballot, action) => self.send_to(
                 out,
                 Body::Accepted {
                     position,
@@ -105,7 +105,7 @@ impl<M: Machine, D: Device> Replica<M, D> {
                 },
                 to,
             ),
-            Plan::Refuse(to, position, ballot, bound) => self.tell(
+            Plan::Refuse(to, position, ballot, bound) => self.send_to(
                 out,
                 Body::Nack {
                     position,
@@ -115,7 +115,7 @@ impl<M: Machine, D: Device> Replica<M, D> {
                 to,
             ),
             Plan::Inform(to, position, action) => {
-                self.tell(out, Body::Decided { position, action }, to)
+                self.send_to(out, Body::Decided { position, action }, to)
             }
             Plan::Answer(task, number, reply) => self.answer(out, task, number, reply),
             Plan::Report(first) => self.report_applied(alloc, out, first),
@@ -123,17 +123,17 @@ impl<M: Machine, D: Device> Replica<M, D> {
         }
     }
 
-    /// A node is told something.
-    fn tell(&self, out: &mut Outbox, told: Body, to: NodeId) -> Result<(), Fault>
-        requires may { MaySay (Node self.now.me) (Node to) told }
-        requires short { ¬ IsLongBody told }
-        ensures ok { OnOk result (Commits (sends self.now.running (says self.now.me told to ∷ []))
+    /// A body is sent to a node.
+    fn send_to(&self, out: &mut Outbox, stated: Body, to: NodeId) -> Result<(), Fault>
+        requires may { MaySay (Node self.now.me) (Node to) stated }
+        requires short { ¬ IsLongBody stated }
+        ensures ok { OnOk result (Commits (sends self.now.running (says self.now.me stated to ∷ []))
             self.now self.now out.old.run out.new.run Dropped.No) }
         ensures only { IsOkUnless result faults.OutOfMemory }
         ensures unsent { OnErr result (out.new.run ≡ out.old.run) }
     {
         out.reserve(1)?;
-        out.say(self.me, to, told);
+        out.say(self.me, to, stated);
         Ok(())
     }
 
@@ -158,37 +158,37 @@ impl<M: Machine, D: Device> Replica<M, D> {
         Ok(())
     }
 
-    /// Writes a promise or a vote, and tells it to a node.
+    /// Writes a promise or a vote, and sends it to a node.
     #[inline(always)]
-    fn keep_and_tell(
+    fn keep_and_send(
         &mut self,
         out: &mut Outbox,
         rec: &Rec,
-        told: Body,
+        stated: Body,
         to: NodeId,
     ) -> Result<(), Fault>
         requires working { self.old.failed ≡ false }
         requires right { IsRightRecord rec.now }
         requires place { is_in_log self.old.config.max_positions rec.now ≡ true }
         requires answer { IsAnswer rec.now }
-        requires may { MaySay (Node self.old.me) (Node to) told }
-        requires short { ¬ IsLongBody told }
+        requires may { MaySay (Node self.old.me) (Node to) stated }
+        requires short { ¬ IsLongBody stated }
         ensures ok { OnOk result (Commits
-            (writes rec.now self.old.running (says self.old.me told to ∷ []))
+            (writes rec.now self.old.running (says self.old.me stated to ∷ []))
             self.old self.new out.old.run out.new.run Dropped.No) }
         ensures err { IfErr result (λ fault. Stops (Some rec.now) self.old self.new fault) }
         ensures unsent { OnErr result (out.new.run ≡ out.old.run) }
     {
         out.reserve(1)?;
         self.keep(rec)?;
-        out.say(self.me, to, told);
+        out.say(self.me, to, stated);
         Ok(())
     }
 
     /// An item becomes pending.
     fn add(&mut self, item: RightAction)
         requires { length self.old.running.pending < most_pending }
-        ensures { self.new ≡ held_after self.old (notes (record self.old.running {
+        ensures { self.new ≡ after_turn self.old (notes (record self.old.running {
           pending = self.old.running.pending ++ item ∷ [];
         })) }
     {
@@ -202,7 +202,7 @@ impl<M: Machine, D: Device> Replica<M, D> {
         requires right { IsRightRecord rec.now }
         requires place { is_in_log self.old.config.max_positions rec.now ≡ true }
         requires answer { IsAnswer rec.now }
-        ensures ok { OnOk result (self.new ≡ held_after self.old
+        ensures ok { OnOk result (self.new ≡ after_turn self.old
             (writes rec.now self.old.running [])) }
         ensures err { IfErr result (λ fault. Stops (Some rec.now) self.old self.new fault) }
     {

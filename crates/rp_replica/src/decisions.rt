@@ -8,7 +8,7 @@ ghost use Rattle.rp_codec.specs.declared.packet.Body.TheVariants as bodies;
 ghost use Rattle.rp_model.specs.Learner.{learns, missing_position, asks_for};
 ghost use Rattle.rp_model.specs.Says.{says_to_others, notes};
 ghost use Rattle.rp_replica.specs.Committing.{Commits};
-ghost use Rattle.rp_replica.specs.Held.{held_after};
+ghost use Rattle.rp_replica.specs.State.{after_turn};
 ghost use Rattle.rp_replica.specs.Packets.{longest_text, with_packets};
 ghost use Rattle.rp_replica.specs.Plans.{MayHear, MayLearn, once_heard};
 ghost use Rattle.rp_replica.specs.Turning.{Stops};
@@ -23,7 +23,7 @@ use rp_store::Device;
 use std::alloc::Global;
 
 impl<M: Machine, D: Device> Replica<M, D> {
-    /// A vote makes a majority: the action is learned, and the other nodes are told.
+    /// A vote makes a majority: the action is learned, and the other nodes are informed.
     pub(crate) fn learn_by_votes(
         &mut self,
         out: &mut Outbox,
@@ -46,7 +46,7 @@ impl<M: Machine, D: Device> Replica<M, D> {
         Ok(())
     }
 
-    /// A node told a decision: the action is learned, and the node is asked for what is missing.
+    /// A node sent a decision: the action is learned, and the node is asked for what is missing.
     pub(crate) fn learn_by_decision(
         &mut self,
         out: &mut Outbox,
@@ -71,8 +71,8 @@ impl<M: Machine, D: Device> Replica<M, D> {
         Ok(())
     }
 
-    /// Notes a vote of one of the nodes that is counted, and settles nothing. Refused for want of
-    /// memory, it changes nothing.
+    /// Notes a vote of one of the nodes that is counted, and settles nothing. Out of memory, it
+    /// changes nothing.
     pub(crate) fn hear(
         &mut self,
         alloc: Global,
@@ -82,7 +82,7 @@ impl<M: Machine, D: Device> Replica<M, D> {
     ) -> Result<(), Fault>
         requires may { MayHear self.old from position vote.now }
         ensures ok { OnOk result (self.new
-            ≡ held_after self.old (notes (once_heard self.old from position vote.now))) }
+            ≡ after_turn self.old (notes (once_heard self.old from position vote.now))) }
         ensures err { OnErr result (self.new ≡ self.old) }
         ensures only { IsOkUnless result faults.OutOfMemory }
     {

@@ -1,4 +1,4 @@
-//! How the calls of a replica stand to the definitions of worlds.
+//! How the calls of a replica are related to the definitions of worlds.
 
 ghost use Rattle.std.specs.Prelude.{◌≡◌, ℕ, Some, None, Ok, Err, length};
 ghost use Rattle.rp_base.specs.declared.config.Config.{Config};
@@ -7,10 +7,10 @@ ghost use Rattle.rp_codec.specs.Message.{Message, IsPacket};
 ghost use Rattle.rp_codec.specs.Reading.{all_of};
 ghost use Rattle.rp_codec.specs.Text.{text_of};
 ghost use Rattle.rp_store.specs.Disk.{Disk};
-ghost use Rattle.rp_model.specs.Effect.{NodeInput, node_effect, turned, goes_on_as, restart_part};
+ghost use Rattle.rp_model.specs.Effect.{NodeInput, node_effect, turn_done, goes_on_as, restart_part};
 ghost use Rattle.rp_model.specs.Parts.{NodePart};
 ghost use Rattle.rp_model.specs.Parts.{Turn};
-ghost use Rattle.rp_replica.specs.Held.{Held, setting_of, part_of};
+ghost use Rattle.rp_replica.specs.State.{ReplicaState, setting_of, part_of};
 ghost use Rattle.rp_replica.specs.Inputs.{packet_given};
 ghost use Rattle.rp_replica.specs.Kept.{HoldsPart, HoldsOnly};
 ghost use Rattle.rp_replica.specs.Opening.{Opens};
@@ -22,13 +22,13 @@ use rp_machine::Machine;
 /// A call that takes effect is the effect of its input on the node's part of a world; one that is
 /// refused for its input is refused there too.
 pub fn turns_are_effects<M: Machine>()
-    ensures effect { (old : Held M) (input : NodeInput) (turn : Turn)
+    ensures effect { (old : ReplicaState M) (input : NodeInput) (turn : Turn)
         → effect_of M.next M.answers old input ≡ Ok turn
         → node_effect (setting_of M.next M.answers old) old.me (part_of old) input
-        ≡ Ok (turned (part_of old) turn) }
-    ensures part { (old new : Held M) (turn : Turn) (sent : Sent)
-        → Turns turn old new sent → part_of new ≡ (turned (part_of old) turn).part }
-    ensures refusal { (old : Held M) (input : NodeInput) (fault : Fault)
+        ≡ Ok (turn_done (part_of old) turn) }
+    ensures part { (old new : ReplicaState M) (turn : Turn) (sent : Sent)
+        → Turns turn old new sent → part_of new ≡ (turn_done (part_of old) turn).part }
+    ensures refusal { (old : ReplicaState M) (input : NodeInput) (fault : Fault)
         → effect_of M.next M.answers old input ≡ Err fault
         → node_effect (setting_of M.next M.answers old) old.me (part_of old) input ≡ Err fault }
 {}
@@ -39,15 +39,16 @@ pub fn texts_are_packets()
         → packet_given (all_of (text_of m)) ≡ Ok (NodeInput.Receive m) }
 {}
 
-/// What is opened over a device is what a restart makes of the stopped part that the device keeps; and
-/// where it holds no other records, it tells how many the part has.
+/// What is opened over a device is what a restart makes of the stopped part that the device keeps;
+/// and where it holds no other records, it reports how many the part has.
 pub fn opening_is_a_restart<M: Machine>()
-    ensures part { (me : ℕ) (config : Config) (begin : M) (disk : Disk) (held : Held M)
+    ensures part { (me : ℕ) (config : Config) (begin : M) (disk : Disk) (replica : ReplicaState M)
         (count cut_bytes : ℕ) (part : NodePart) → HoldsPart config.max_positions disk part
-        → part.running ≡ None → Opens me config begin disk held count cut_bytes
+        → part.running ≡ None → Opens me config begin disk replica count cut_bytes
         → restart_part part
-        ≡ record (goes_on_as (part_of held)) { opened = Some (length held.records, cut_bytes) } }
-    ensures count { (me : ℕ) (config : Config) (begin : M) (disk : Disk) (held : Held M)
+        ≡ record (goes_on_as (part_of replica))
+        { opened = Some (length replica.records, cut_bytes) } }
+    ensures count { (me : ℕ) (config : Config) (begin : M) (disk : Disk) (replica : ReplicaState M)
         (count cut_bytes : ℕ) (part : NodePart) → HoldsOnly disk part
-        → Opens me config begin disk held count cut_bytes → count ≡ length part.records }
+        → Opens me config begin disk replica count cut_bytes → count ≡ length part.records }
 {}

@@ -107,7 +107,7 @@ impl<M: Machine, D: Device> Replica<M, D> {
             (starts_above self.now.records self.now.running) b) }
         ensures value { IfSome result (λ b. b
             ≡ next_ballot self.now.me (starts_above self.now.records self.now.running)) }
-        ensures spent { IfNone result (2 ^ 32 ≤ round_of
+        ensures exhausted { IfNone result (2 ^ 32 ≤ round_of
             (next_ballot self.now.me (starts_above self.now.records self.now.running))) }
     {
         match self.proposer.ballot() {

@@ -4,15 +4,15 @@
 ghost use Rattle.std.specs.Prelude.{◌≡◌, ◌≤◌};
 ghost use Rattle.rp_base.specs.Action.{IsRight};
 ghost use Rattle.rp_base.specs.Number.{IsPosition};
-ghost use Rattle.rp_learner.specs.Standings.{vote_for};
+ghost use Rattle.rp_learner.specs.Status.{vote_for};
 ghost use Rattle.rp_model.specs.Learner.{on_ask, on_accepted, on_decided};
 ghost use Rattle.rp_replica.specs.Plans.{turn_of, MayCommit};
-ghost use Rattle.rp_replica.specs.Standing.{standing_of};
+ghost use Rattle.rp_replica.specs.Status.{status_of};
 
 use crate::plan::Plan;
 use crate::replica::Replica;
 use rp_base::{Action, Ballot, NodeId, Position, Vote};
-use rp_learner::Standing;
+use rp_learner::VoteStatus;
 use rp_machine::Machine;
 use rp_model::Dropped;
 use rp_store::Device;
@@ -31,16 +31,16 @@ impl<M: Machine, D: Device> Replica<M, D> {
     }
 
     /// What holds at a position of the log once a vote of one of the nodes is counted.
-    fn standing(
+    fn status(
         &self,
         from: NodeId,
         position: Position,
         ballot: Ballot,
         action: &Action,
-    ) -> Standing
+    ) -> VoteStatus
         requires sender { from ≤ self.now.config.nodes }
         requires place { IsPosition position }
-        ensures { result ≡ standing_of self.now.config.nodes self.now.records
+        ensures { result ≡ status_of self.now.config.nodes self.now.records
             self.now.running.heard from position (vote_for ballot action.now) }
     {
         self.learner.vote(from, position, ballot, action)
@@ -63,16 +63,16 @@ impl<M: Machine, D: Device> Replica<M, D> {
             from position (vote_for ballot action.now) }
         ensures may { MayCommit self.now result }
     {
-        match self.standing(from, position, ballot, action) {
-            Standing::Known | Standing::Beyond => Plan::Pass(Dropped::No),
-            Standing::Counting => {
+        match self.status(from, position, ballot, action) {
+            VoteStatus::Known | VoteStatus::Beyond => Plan::Pass(Dropped::No),
+            VoteStatus::Counting => {
                 let vote = Vote {
                     ballot,
                     action: *action,
                 };
                 Plan::Hear(from, position, vote)
             }
-            Standing::Learned => Plan::Learn(position, *action),
+            VoteStatus::Learned => Plan::Learn(position, *action),
         }
     }
 

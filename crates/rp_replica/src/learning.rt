@@ -5,8 +5,8 @@ ghost use Rattle.rp_base.specs.Action.{IsRight};
 ghost use Rattle.rp_base.specs.declared.action.Action.{Action};
 ghost use Rattle.rp_base.specs.declared.record.Rec.TheVariants.{Learned};
 ghost use Rattle.rp_model.specs.Learner.{missing_position};
-ghost use Rattle.rp_replica.specs.Applying.{learns_alone, told_first};
-ghost use Rattle.rp_replica.specs.Held.{held_after};
+ghost use Rattle.rp_replica.specs.Applying.{learns_alone, decided_packets};
+ghost use Rattle.rp_replica.specs.State.{after_turn};
 ghost use Rattle.rp_replica.specs.Packets.{longest_text, with_packets};
 ghost use Rattle.rp_replica.specs.Turning.{Stops};
 
@@ -21,14 +21,14 @@ use rp_machine::Machine;
 use rp_store::Device;
 
 impl<M: Machine, D: Device> Replica<M, D> {
-    /// Learns an action at a position of the log: it is written, the other nodes hear of it if this
-    /// one tells them, all that is ready then is applied, and each answer whose call is pending is
-    /// replied to. After the write it takes no memory.
+    /// Learns an action at a position of the log: it is written, the other nodes are informed if
+    /// this one informs them, all that is ready then is applied, and each answer whose call is
+    /// pending is replied to. After the write it takes no memory.
     pub(crate) fn learn(
         &mut self,
         position: Position,
         action: &Action,
-        tells: bool,
+        announces: bool,
         out: &mut Outbox,
     ) -> Result<(), Fault>
         requires working { self.old.failed ≡ false }
@@ -36,10 +36,10 @@ impl<M: Machine, D: Device> Replica<M, D> {
         requires right { IsRight action.now }
         requires room { longest_text
             * (self.old.config.nodes + length self.old.running.pending) ≤ out.old.room }
-        ensures learned { OnOk result (self.new ≡ held_after self.old
+        ensures learned { OnOk result (self.new ≡ after_turn self.old
             (learns_alone M.next M.answers self.old position action.now)) }
         ensures replied { OnOk result (out.new.run ≡ with_packets out.old.run
-            (told_first self.old.config.nodes self.old.me position action.now tells
+            (decided_packets self.old.config.nodes self.old.me position action.now announces
             ++ (learns_alone M.next M.answers self.old position action.now).sent)) }
         ensures room { OnOk result (out.old.room ≤ out.new.room
             + longest_text * (self.old.config.nodes + length self.old.running.pending)) }
@@ -53,7 +53,7 @@ impl<M: Machine, D: Device> Replica<M, D> {
             &mut self.acceptor,
             &Rec::Learned(position, *action),
         )?;
-        if tells {
+        if announces {
             let decided = Body::Decided {
                 position,
                 action: *action,
@@ -92,7 +92,7 @@ impl<M: Machine, D: Device> Replica<M, D> {
     }
 }
 
-/// What the log took since so many actions were taken.
+/// What the log took since n actions were taken.
 fn taken_since(log: &Log, count: u32) -> &[Action]
     requires { count ≤ length log.now.taken }
     ensures { result.now ≡ drop count log.now.taken }

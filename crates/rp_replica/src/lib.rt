@@ -18,8 +18,8 @@
 //! - `cut`: a node that stops within a step
 //! - `heard`: the votes that were heard, which memory does not hold
 //! - `sent`: the packets of one step
-//! - `standing`: what a replica's device holds
-//! - `laws`: how the calls stand to the definitions of worlds
+//! - `infallible`: what a replica's device holds
+//! - `laws`: how the calls are related to the definitions of worlds
 #![tactic(auto)]
 
 mod acceptor;
@@ -29,6 +29,7 @@ mod commit;
 mod cut;
 mod decisions;
 mod heard;
+mod infallible;
 mod input;
 mod laws;
 mod lead;
@@ -46,7 +47,6 @@ mod receiving;
 mod replica;
 mod report;
 mod sent;
-mod standing;
 mod turn;
 mod window;
 

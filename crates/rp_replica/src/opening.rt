@@ -8,7 +8,7 @@ ghost use Rattle.rp_log.specs.Recorded.{LearnedAlike};
 ghost use Rattle.rp_base.specs.Action.{IsRight};
 ghost use Rattle.rp_base.specs.declared.action.Action.{Action};
 ghost use Rattle.rp_log.specs.Contents.{IsTakenInOrder, action_at, next_to_take};
-ghost use Rattle.rp_replica.specs.Tied.{IsLearner, IsApplied, AllInLog};
+ghost use Rattle.rp_replica.specs.Invariant.{IsLearner, IsApplied, AllInLog};
 ghost use Rattle.std.specs.List.{AllByRecursion};
 ghost use Rattle.rp_base.specs.Right.{IsRightRecord};
 ghost use Rattle.rp_proposer.specs.Proposing as proposing;
@@ -137,15 +137,15 @@ pub struct Opening<M: Machine, D: Device> {
     pub replica: Replica<M, D>,
     /// How many records the device holds, those above the log too.
     pub records: u64,
-    /// How many bytes stood behind the records, and were cut off.
+    /// How many bytes were after the records, and were truncated.
     pub cut_bytes: u64,
 }
 
 impl<M: Machine, D: Device> Replica<M, D> {
-    /// Opens a device for a node of the configuration: it reads the records, cuts off what is torn
-    /// behind them, skips those above the log, and runs by the others. Nothing is proposed, heard or
-    /// pending. Refused with `OutOfMemory`, after which the device may be read, cut and synced,
-    /// or with `Device` where the device failed.
+    /// Opens a device for a node of the configuration: it reads the records, truncates what is torn
+    /// after them, skips those above the log, and runs by the others. Nothing is proposed, heard or
+    /// pending. Refused with `OutOfMemory`, after which the device may be read, truncated and
+    /// synced, or with `Device` where the device failed.
     pub fn open(
         alloc: Global,
         node: NodeId,

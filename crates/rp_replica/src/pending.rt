@@ -109,7 +109,7 @@ impl Pending {
         self.items.as_slices()
     }
 
-    /// Adds an item behind the others.
+    /// Adds an item after the others.
     pub(crate) fn push(&mut self, item: RightAction)
         requires { length self.old < most_pending }
         ensures { self.new ≡ self.old ++ item ∷ [] }

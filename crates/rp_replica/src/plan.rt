@@ -44,13 +44,13 @@ pub(crate) enum Plan {
     Promise(NodeId, Position, Ballot, Option<Vote>),
     /// A promise for a range, with the last votes there.
     PromiseRange(RangePromise),
-    /// A vote for an action, at a position in a ballot, that is told to a node.
+    /// A vote for an action, at a position in a ballot, that is sent to a node.
     Vote(NodeId, Position, Ballot, Action),
-    /// A vote that was cast before is told to a node again.
+    /// A vote that was cast before is sent to a node again.
     Repeat(NodeId, Position, Ballot, Action),
-    /// A node is told the bound that its ballot lies below.
+    /// A node gets the bound that its ballot lies below.
     Refuse(NodeId, Position, Ballot, Ballot),
-    /// A node is told what is learned at a position.
+    /// A node gets what is learned at a position.
     Inform(NodeId, Position, Action),
     /// A task gets the reply that is kept for its call.
     Answer(TaskId, u32, Reply),
@@ -73,9 +73,9 @@ pub(crate) enum Plan {
     Yield(Position, Ballot, Ballot),
     /// A vote counts, and makes no majority.
     Hear(NodeId, Position, Vote),
-    /// A vote makes a majority: the action is learned, and the other nodes are told.
+    /// A vote makes a majority: the action is learned, and the other nodes are informed.
     Learn(Position, Action),
-    /// A node told a decision: the action is learned, and the node is asked for what is missing.
+    /// A node sent a decision: the action is learned, and the node is asked for what is missing.
     Follow(NodeId, Position, Action),
     /// A report to the audit, from a position on.
     Report(Position),

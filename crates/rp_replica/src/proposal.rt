@@ -9,7 +9,7 @@ ghost use Rattle.rp_base.specs.Proposals.{proposal_at};
 ghost use Rattle.rp_model.specs.Leader.{begins_range, on_promise_range, on_nack};
 ghost use Rattle.rp_model.specs.Says.{says_to_all, notes, sends, writes};
 ghost use Rattle.rp_replica.specs.Committing.{Commits};
-ghost use Rattle.rp_replica.specs.Held.{held_after};
+ghost use Rattle.rp_replica.specs.State.{after_turn};
 ghost use Rattle.rp_replica.specs.Plans.{MayBegin, MayBeginRange, MayCount, MayCountRange, once_promised};
 ghost use Rattle.rp_replica.specs.Proposed.{started_running, offered_running};
 ghost use Rattle.rp_replica.specs.Turning.{Stops};
@@ -139,7 +139,7 @@ impl<M: Machine, D: Device> Replica<M, D> {
 
     /// A proposal is refused by a bound.
     pub(crate) fn note_refusal(&mut self, position: Position, ballot: Ballot, bound: Ballot)
-        ensures { self.new ≡ held_after self.old
+        ensures { self.new ≡ after_turn self.old
             (on_nack self.old.config.nodes self.old.running position ballot bound) }
     {
         self.proposer.nack(position, ballot, bound);
@@ -150,7 +150,7 @@ impl<M: Machine, D: Device> Replica<M, D> {
     fn start(&mut self, position: Position, ballot: Ballot, own: &Action) -> Result<(), Fault>
         requires working { self.old.failed ≡ false }
         requires may { MayBegin self.old position ballot own.now }
-        ensures ok { OnOk result (self.new ≡ held_after self.old (writes (Started ballot)
+        ensures ok { OnOk result (self.new ≡ after_turn self.old (writes (Started ballot)
             (started_running self.old.running position ballot own.now) [])) }
         ensures err { IfErr result (λ fault.
             Stops (Some (Started ballot)) self.old self.new fault) }
@@ -166,7 +166,7 @@ impl<M: Machine, D: Device> Replica<M, D> {
     fn start_range(&mut self, range: PositionRange, ballot: Ballot) -> Result<(), Fault>
         requires working { self.old.failed ≡ false }
         requires may { MayBeginRange self.old range ballot }
-        ensures ok { OnOk result (self.new ≡ held_after self.old (writes (Started ballot)
+        ensures ok { OnOk result (self.new ≡ after_turn self.old (writes (Started ballot)
             (begins_range self.old.config.nodes self.old.me self.old.records self.old.running
             range ballot).running [])) }
         ensures err { IfErr result (λ fault.
@@ -182,8 +182,9 @@ impl<M: Machine, D: Device> Replica<M, D> {
     /// The second phase of a prepared proposal begins.
     fn start_offer(&mut self, position: Position, action: &Action)
         requires right { IsRight action.now }
-        ensures { self.new ≡ held_after self.old (notes (offered_running
-            self.old.config.nodes self.old.running action.now (proposal_at self.old.running.proposals position))) }
+        ensures { self.new ≡ after_turn self.old (notes (offered_running
+            self.old.config.nodes self.old.running action.now
+            (proposal_at self.old.running.proposals position))) }
     {
         self.proposer.offer(position, *action);
     }
@@ -191,7 +192,7 @@ impl<M: Machine, D: Device> Replica<M, D> {
     /// A promise for a range counts at each proposal that takes it.
     pub(crate) fn note_range(&mut self, promise: &CountedRange)
         requires may { MayCountRange self.old promise.now }
-        ensures { self.new ≡ held_after self.old (on_promise_range self.old.config.nodes
+        ensures { self.new ≡ after_turn self.old (on_promise_range self.old.config.nodes
             self.old.running promise.now.from promise.now.range promise.now.ballot
             promise.now.votes) }
     {
@@ -208,7 +209,7 @@ impl<M: Machine, D: Device> Replica<M, D> {
     /// A promise counts, and makes no majority.
     pub(crate) fn note_promise(&mut self, promise: &CountedPromise)
         requires may { MayCount self.old promise.now }
-        ensures { self.new ≡ held_after self.old (notes (once_promised self.old promise.now)) }
+        ensures { self.new ≡ after_turn self.old (notes (once_promised self.old promise.now)) }
     {
         let CountedPromise {
             from,

@@ -21,8 +21,8 @@ use rp_store::Device;
 use std::alloc::{AllocError, Global};
 
 impl<M: Machine, D: Device> Replica<M, D> {
-    /// Writes a promise for a range, and tells it to the node that asked, with the last votes of the
-    /// range. The packet takes memory, so its text is made first; it is sent once the record is
+    /// Writes a promise for a range, and sends it to the node that asked, with the last votes of
+    /// the range. The packet takes memory, so its text is made first; it is sent once the record is
     /// written.
     #[inline(never)]
     pub(crate) fn promise_range(
@@ -33,8 +33,10 @@ impl<M: Machine, D: Device> Replica<M, D> {
     ) -> Result<(), Fault>
         requires working { self.old.failed ≡ false }
         requires may { MayPromiseRange self.old promise.now }
-        ensures ok { OnOk result (Commits (writes (PromisedRange promise.now.range promise.now.ballot)
-            self.old.running (says self.old.me (bodies.PromiseRange promise.now.range promise.now.ballot
+        ensures ok { OnOk result
+            (Commits (writes (PromisedRange promise.now.range promise.now.ballot)
+            self.old.running (says self.old.me
+            (bodies.PromiseRange promise.now.range promise.now.ballot
             (last_votes self.old.records promise.now.range)) promise.now.to ∷ []))
             self.old self.new out.old.run out.new.run Dropped.No) }
         ensures err { IfErr result (λ fault. Stops (Some
@@ -57,14 +59,14 @@ impl<M: Machine, D: Device> Replica<M, D> {
     {
         let RangePromise { to, range, ballot } = *promise;
         let votes = Votes::from_vec(self.acceptor.list_last_votes(alloc, range)?);
-        let told = Body::PromiseRange {
+        let stated = Body::PromiseRange {
             range,
             ballot,
             votes,
         };
         encode(
             alloc,
-            &Packet::new(Party::Node(self.me), Party::Node(to), told),
+            &Packet::new(Party::Node(self.me), Party::Node(to), stated),
         )
     }
 }

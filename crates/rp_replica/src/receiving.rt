@@ -172,7 +172,7 @@ fn owns(party: Party, ballot: Ballot) -> bool
 
 /// Whether the packet is for this node, and keeps to the configuration.
 fn is_for_node(config: Config, me: NodeId, packet: &Packet) -> bool
-    ensures told { result ≡ is_for_node config me packet.now }
+    ensures stated { result ≡ is_for_node config me packet.now }
     ensures packet { result ≡ true → IsPacket packet.now }
 {
     is_node(me, packet.to())

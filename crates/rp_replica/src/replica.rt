@@ -17,9 +17,9 @@ ghost use Rattle.rp_model.specs.Effect.{stop_part};
 ghost use Rattle.rp_model.specs.Parts.{is_in_log};
 ghost use Rattle.rp_model.specs.Says.{says, says_to_task, writes};
 ghost use Rattle.rp_replica.specs.Kept.{HoldsPart, HoldsItsRecords, HoldsOnly};
-ghost use Rattle.rp_replica.specs.Held.{held_after, part_of};
+ghost use Rattle.rp_replica.specs.State.{after_turn, part_of};
 ghost use Rattle.rp_replica.specs.Packets.{run_of};
-ghost use Rattle.rp_replica.specs.Tied.{IsAnswer};
+ghost use Rattle.rp_replica.specs.Invariant.{IsAnswer};
 ghost use Rattle.rp_replica.specs.Turning.{Stops};
 
 use crate::heard::Heard;
@@ -57,10 +57,10 @@ pub struct Replica<M: Machine, D: Device> {
 }
 
 impl<M: Machine, D: Device> Model for Replica<M, D> {
-    ghost use Rattle.rp_replica.specs.Held.{Held};
-    ghost use Rattle.rp_replica.specs.Tied.{Tied};
+    ghost use Rattle.rp_replica.specs.State.{ReplicaState};
+    ghost use Rattle.rp_replica.specs.Invariant.{IsReplica};
 
-    ghost Value = { Held M };
+    ghost Value = { ReplicaState M };
 
     ghost view = { λ r. record {
       me = r.me;
@@ -77,7 +77,9 @@ impl<M: Machine, D: Device> Model for Replica<M, D> {
       failed = r.store.failed;
     } };
 
-    ghost invariant = { λ r. Tied r.me r.config (D.disk r.store.device) r.store.failed r.acceptor.records r.proposer r.learner r.heard r.log r.machine };
+    ghost invariant = { λ r. IsReplica r.me r.config
+        (D.disk r.store.device) r.store.failed r.acceptor.records r.proposer r.learner r.heard r.log
+        r.machine };
 }
 
 /// Makes room to note the record.
@@ -155,7 +157,7 @@ impl<M: Machine, D: Device> Replica<M, D> {
         Ok(self.machine.machine().image(alloc)?)
     }
 
-    /// The device, as it stands. Unless it has failed it holds the records, and nothing behind them.
+    /// The device, as it is. Unless it has failed it holds the records, and nothing after them.
     pub fn close(self) -> D
         ensures disk { D.disk result ≡ self.disk }
         ensures holds { self.failed ≡ false

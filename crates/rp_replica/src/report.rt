@@ -1,4 +1,4 @@
-//! A replica that tells the audit what it has applied.
+//! A replica that reports to the audit what it has applied.
 
 ghost use Rattle.std.specs.Prelude.{◌≡◌, ◌-◌, ◌<◌, ◌^◌, [], ◌∷◌, length, take, drop, IfOk, OnOk, OnErr, IsOkUnless};
 ghost use Rattle.rp_base.specs.declared.fault.Fault.TheVariants as faults;
@@ -19,7 +19,7 @@ use std::alloc::{AllocError, Global};
 
 impl<M: Machine, D: Device> Replica<M, D> {
     /// A report to the audit of the actions applied at the positions from `first` on, as many as
-    /// `report_len` says. It copies what it tells and no more.
+    /// `report_len` says. It copies what it reports and no more.
     #[inline(never)]
     pub(crate) fn report_applied(
         &self,
@@ -37,23 +37,23 @@ impl<M: Machine, D: Device> Replica<M, D> {
         let body = Body::Report {
             first,
             applied: applied.len() as u16,
-            actions: Actions::from_vec(told(alloc, applied, first)?),
+            actions: Actions::from_vec(reported(alloc, applied, first)?),
         };
         out.push(&Packet::new(Party::Node(self.me), Party::Audit, body))?;
         Ok(())
     }
 }
 
-/// What a report tells of the actions that are applied.
-fn told(alloc: Global, applied: &[Action], first: Position) -> Result<Vec<Action>, AllocError>
+/// What a report says of the actions that are applied.
+fn reported(alloc: Global, applied: &[Action], first: Position) -> Result<Vec<Action>, AllocError>
     requires { length applied.now < 2 ^ 16 }
-    ensures told { IfOk result (λ told. told.items
+    ensures reported { IfOk result (λ reported. reported.items
         ≡ take (report_len first (length applied.now)) (drop (first - 1) applied.now)) }
-    ensures len { IfOk result (λ told. length told.items
+    ensures len { IfOk result (λ reported. length reported.items
         ≡ report_len first (length applied.now)) }
 {
     let before = usize::from(first.get() - 1).min(applied.len());
-    let (_, behind) = applied.split_at(before);
-    let (told, _) = behind.split_at(usize::from(report_len(first, applied.len() as u16)));
-    told.to_vec(alloc)
+    let (_, trailing) = applied.split_at(before);
+    let (reported, _) = trailing.split_at(usize::from(report_len(first, applied.len() as u16)));
+    reported.to_vec(alloc)
 }

@@ -18,7 +18,7 @@ use std::marker::Model;
 /// How many bytes the text of a packet has at most, if it takes no memory.
 const LONGEST_TEXT: usize = 40;
 
-/// The place of a text at which its receiver stands, from 0.
+/// The place of a text at which its receiver is, from 0.
 const RECEIVER: usize = 3;
 
 /// What a step sends.
@@ -40,9 +40,9 @@ pub(crate) struct Outbox {
 
 impl Model for Outbox {
     ghost use Rattle.std.specs.Prelude.{◌-◌, ◌≤◌, length, vec_len, vec_capacity};
-    ghost use Rattle.rp_replica.specs.Packets.{RoomyRun};
+    ghost use Rattle.rp_replica.specs.Packets.{BufferState};
 
-    ghost Value = { RoomyRun };
+    ghost Value = { BufferState };
 
     ghost view = { λ o. record {
       run = record { bytes = o.bytes.items; packets = o.packets };

@@ -120,7 +120,8 @@ impl<M: Machine, D: Device> Replica<M, D> {
     /// beyond the configuration, or in a ballot that its sender does not own, is dropped, and nothing
     /// happens.
     pub fn receive(&mut self, alloc: Global, bytes: &[u8]) -> Result<Sent, Fault>
-        ensures { Answers (effect_if_given M.next M.answers self.old (packet_given (all_of bytes.now)))
+        ensures { Answers (effect_if_given M.next M.answers self.old
+            (packet_given (all_of bytes.now)))
             self.old self.new result }
     {
         self.turn(alloc, &Input::Receive(bytes))
@@ -150,7 +151,8 @@ impl<M: Machine, D: Device> Replica<M, D> {
 
     /// The word to lead at a position, as `lead` with one.
     pub fn lead_at(&mut self, alloc: Global, position: Position) -> Result<Sent, Fault>
-        ensures { Answers (effect_of M.next M.answers self.old (inputs.NodeInput.Lead (Some position)))
+        ensures { Answers (effect_of M.next M.answers self.old
+            (inputs.NodeInput.Lead (Some position)))
             self.old self.new result }
     {
         self.turn(alloc, &Input::Lead(Some(position)))
@@ -160,7 +162,8 @@ impl<M: Machine, D: Device> Replica<M, D> {
     /// unless it or a higher one counted, and is dropped where 32 items are pending.
     pub fn interrupt(&mut self, alloc: Global, source: u8, occurrence: u32) -> Result<Sent, Fault>
         requires right { IsRight (actions.Interrupt source occurrence) }
-        ensures { Answers (effect_of M.next M.answers self.old (inputs.NodeInput.Interrupt source occurrence))
+        ensures { Answers (effect_of M.next M.answers self.old
+            (inputs.NodeInput.Interrupt source occurrence))
             self.old self.new result }
     {
         self.turn(alloc, &Input::Interrupt { source, occurrence })
@@ -176,7 +179,7 @@ impl<M: Machine, D: Device> Replica<M, D> {
     }
 
     /// A report to the audit of the actions applied at the positions from `first` on, as many as
-    /// `report_len` says. It copies what it tells and no more. Refused with `OutOfMemory` or
+    /// `report_len` says. It copies what it reports and no more. Refused with `OutOfMemory` or
     /// `Failed`.
     pub fn report(&mut self, alloc: Global, first: Position) -> Result<Sent, Fault>
         ensures { Answers (effect_of M.next M.answers self.old (inputs.NodeInput.Report first))

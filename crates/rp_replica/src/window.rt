@@ -3,7 +3,7 @@
 ghost use Rattle.std.specs.Prelude.{◌≡◌, ◌≢◌, ℕ, ◌+◌, ◌<◌, ◌≤◌, None, is_some, false};
 ghost use Rattle.rp_learner.specs.Places.{window, is_marked};
 ghost use Rattle.rp_log.specs.Contents.{action_at, next_to_take};
-ghost use Rattle.rp_replica.specs.Tied.{IsSettledAlike, Follows};
+ghost use Rattle.rp_replica.specs.Invariant.{IsSettledAlike, Follows};
 
 use crate::lead::position_at;
 use rp_learner::{Learner, WINDOW};

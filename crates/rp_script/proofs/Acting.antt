@@ -20,11 +20,11 @@ use Rattle.rp_codec.specs.declared.packet.Body.TheVariants as bodies
 use Rattle.rp_codec.specs.declared.packet.Party.{Party}
 use Rattle.rp_codec.specs.declared.packet.Party.TheVariants.{Node, Task, Audit}
 use Rattle.rp_model.specs.Effect as nodes
-use Rattle.rp_model.specs.Effect.{Setting, Done, NodeInput, turned_if, running_effect, effect_while, node_effect, cut_if, cut_effect, stops_while, restart_while, goes_on_as, stop_part}
+use Rattle.rp_model.specs.Effect.{Setting, Done, NodeInput, turn_done_if, running_effect, effect_while, node_effect, cut_if, cut_effect, stops_while, restart_while, goes_on_as, stop_part}
 use Rattle.rp_model.specs.Events.{event_of, step_of}
 use Rattle.rp_model.specs.Parts.{NodePart, Running, TaskPart, Turn}
 use Rattle.rp_model.specs.Tasks.{TaskInput, Submit, Again, Take, next_call, may_call, calls_if, asks_again, takes, takes_reply, task_hears, task_effect, asks}
-use Rattle.rp_model.specs.World.{World, Happening, part_at, nothing_happens, task_done, node_done_if, task_done_if, task_takes, task_is_told, node_takes, node_hears, node_is_told, arrives, delivers, stops, restarts, step_effect, cut_step, delivery_is_cut, arrival_is_cut, hearing_is_cut, node_is_cut, event_effect}
+use Rattle.rp_model.specs.World.{World, Transition, part_at, nothing_happens, task_done, node_done_if, task_done_if, task_takes, task_receives, node_takes, node_hears, node_receives, arrives, delivers, stops, restarts, step_effect, cut_step, delivery_is_cut, arrival_is_cut, hearing_is_cut, node_is_cut, event_effect}
 use Rattle.rp_model.specs.declared.event.Event.{Event}
 use Rattle.rp_model.specs.declared.event.Event.TheVariants as events
 use Rattle.rp_model.specs.declared.event.Step.{Step}
@@ -46,24 +46,24 @@ calls_as t [] = []
 calls_as t (asked ∷ rest) = Called t asked ∷ calls_as t rest
 
 -- the event leaves the tasks, and none of them takes a reply or makes a call
-pub record IsForNone (w : World) (event : Event) (happening : Happening) : Type 0 where
-  pub tasks : happening.world.tasks ≡ w.tasks
-  pub taken : happening.taken ≡ None
+pub record IsForNone (w : World) (event : Event) (transition : Transition) : Type 0 where
+  pub tasks : transition.world.tasks ≡ w.tasks
+  pub taken : transition.taken ≡ None
   pub called : called_by event ≡ []
 
 -- the event is this task's step
-pub record IsForTask (config : Config) (w : World) (event : Event) (happening : Happening) : Type 0 where
+pub record IsForTask (config : Config) (w : World) (event : Event) (transition : Transition) : Type 0 where
   pub t : ℕ
   pub part : TaskPart
   pub input : TaskInput
   pub done : Done TaskPart
   pub there : part_at w.tasks t ≡ Some part
-  pub came : task_effect config t part input ≡ Ok done
-  pub is : happening ≡ task_done w t done
+  pub resulted : task_effect config t part input ≡ Ok done
+  pub is : transition ≡ task_done w t done
   pub called : called_by event ≡ calls_as t (made_by input)
 
-abbrev pub IsFor : Config → World → Event → Result Happening Fault → Type 0
-IsFor config w event (Ok happening) = IsForNone w event happening ⊎ IsForTask config w event happening
+abbrev pub IsFor : Config → World → Event → Result Transition Fault → Type 0
+IsFor config w event (Ok transition) = IsForNone w event transition ⊎ IsForTask config w event transition
 IsFor config w event (Err fault) = Unit {0}
 
 -- ---- a node takes no reply
@@ -72,7 +72,7 @@ abbrev TakesNone : Result (Done NodePart) Fault → Type 0
 TakesNone (Ok done) = done.taken ≡ None
 TakesNone (Err fault) = Unit {0}
 
-turn_takes_none : (part : NodePart) (turn : Result Turn Fault) → TakesNone (turned_if part turn)
+turn_takes_none : (part : NodePart) (turn : Result Turn Fault) → TakesNone (turn_done_if part turn)
 turn_takes_none part (Ok turn) = refl
 turn_takes_none part (Err fault) = tt
 
@@ -108,19 +108,19 @@ module _ {S : Type 0} (s : Setting S) (event : Event) (no_call : called_by event
   hears_for w me message part None = nothing_for w
   hears_for w me message part (Some running) = node_for w me (node_effect s me part (nodes.Receive message)) (input_takes_none me part (nodes.Receive message) part.running)
 
-  told_for : (w : World) (me : ℕ) (message : Message) (part : Option NodePart) → IsFor s.config w event (node_is_told s w me message part)
-  told_for w me message None = nothing_for w
-  told_for w me message (Some part) = hears_for w me message part part.running
+  received_for : (w : World) (me : ℕ) (message : Message) (part : Option NodePart) → IsFor s.config w event (node_receives s w me message part)
+  received_for w me message None = nothing_for w
+  received_for w me message (Some part) = hears_for w me message part part.running
 
-  -- a message that comes to a task
-  task_told_for : (w : World) (t : ℕ) (message : Message) (part : Option TaskPart) → part_at w.tasks t ≡ part → IsFor s.config w event (task_is_told s.config w t message part)
-  task_told_for w t message None there = nothing_for w
-  task_told_for w t message (Some part) there =
-      inr (record { t = t; part = part; input = Take message; done = task_hears t part message.body; there = there; came = refl; is = refl; called = no_call })
+  -- a message that arrives at a task
+  task_received_for : (w : World) (t : ℕ) (message : Message) (part : Option TaskPart) → part_at w.tasks t ≡ part → IsFor s.config w event (task_receives s.config w t message part)
+  task_received_for w t message None there = nothing_for w
+  task_received_for w t message (Some part) there =
+      inr (record { t = t; part = part; input = Take message; done = task_hears t part message.body; there = there; resulted = refl; is = refl; called = no_call })
 
   arrival_for : (w : World) (message : Message) (party : Party) → IsFor s.config w event (arrives s w message party)
-  arrival_for w message (Node me) = told_for w me message (part_at w.nodes me)
-  arrival_for w message (Task t) = task_told_for w t message (part_at w.tasks t) refl
+  arrival_for w message (Node me) = received_for w me message (part_at w.nodes me)
+  arrival_for w message (Task t) = task_received_for w t message (part_at w.tasks t) refl
   arrival_for w message Audit = nothing_for w
 
   delivery_for : (w : World) (message : Option Message) → IsFor s.config w event (delivers s w message)
@@ -175,8 +175,8 @@ module _ {S : Type 0} (s : Setting S) (event : Event) (no_call : called_by event
 module _ {S : Type 0} (s : Setting S) (event : Event) where
   task_if_for : (w : World) (t : ℕ) (part : TaskPart) (input : TaskInput) → part_at w.tasks t ≡ Some part → called_by event ≡ calls_as t (made_by input)
       → (result : Result (Done TaskPart) Fault) → task_effect s.config t part input ≡ result → IsFor s.config w event (task_done_if w t result)
-  task_if_for w t part input there called (Ok done) came = inr (record { t = t; part = part; input = input; done = done; there = there; came = came; is = refl; called = called })
-  task_if_for w t part input there called (Err fault) came = tt
+  task_if_for w t part input there called (Ok done) resulted = inr (record { t = t; part = part; input = input; done = done; there = there; resulted = resulted; is = refl; called = called })
+  task_if_for w t part input there called (Err fault) resulted = tt
 
   task_takes_for : (w : World) (t : ℕ) (input : TaskInput) (part : Option TaskPart) → part_at w.tasks t ≡ part → called_by event ≡ calls_as t (made_by input)
       → IsFor s.config w event (task_takes s.config w t input part)
@@ -299,7 +299,7 @@ hears_steps t part message (bodies.Decided i v) = stays t part (Take message) re
 hears_steps t part message (bodies.Ask i) = stays t part (Take message) refl
 hears_steps t part message (bodies.Nack i b bound) = stays t part (Take message) refl
 hears_steps t part message (bodies.Reply number reply) = reply_steps t part message number reply
-hears_steps t part message (bodies.Report first applied told) = stays t part (Take message) refl
+hears_steps t part message (bodies.Report first applied printed) = stays t part (Take message) refl
 hears_steps t part message (bodies.PrepareRange range b) = stays t part (Take message) refl
 hears_steps t part message (bodies.PromiseRange range b votes) = stays t part (Take message) refl
 
@@ -311,4 +311,4 @@ task_steps config t part (Again node) = again_if t node part (nat_lt config.node
 task_steps config t part (Take message) = hears_steps t part message message.body
 
 pub task_steps_on : (config : Config) (t : ℕ) (part : TaskPart) (input : TaskInput) (done : Done TaskPart) → task_effect config t part input ≡ Ok done → StepsOn t part input done
-task_steps_on config t part input done came = subst (StepsOnIf t part input) came (task_steps config t part input)
+task_steps_on config t part input done resulted = subst (StepsOnIf t part input) resulted (task_steps config t part input)

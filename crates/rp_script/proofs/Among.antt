@@ -6,12 +6,12 @@ use Rattle.std.proofs.lemmas.Bool.Decides.{nat_tests}
 use Rattle.rp_machine.specs.Replay.{one_to}
 use Rattle.rp_script.specs.Output.{is_among, from_to}
 
-filter-behind : (test : ℕ → Bool) (xs : List ℕ) (x : ℕ) → filter test (xs ++ x ∷ []) ≡ filter test xs ++ cond (test x) (x ∷ []) []
-filter-behind test [] x = at (test x)
+filter-following : (test : ℕ → Bool) (xs : List ℕ) (x : ℕ) → filter test (xs ++ x ∷ []) ≡ filter test xs ++ cond (test x) (x ∷ []) []
+filter-following test [] x = at (test x)
   where
     at : (b : Bool) → cond b (x ∷ []) [] ≡ cond b (x ∷ []) []
     at b = refl
-filter-behind test (y ∷ ys) x = at (test y) (filter-behind test ys x)
+filter-following test (y ∷ ys) x = at (test y) (filter-following test ys x)
   where
     at : (b : Bool) → filter test (ys ++ x ∷ []) ≡ filter test ys ++ cond (test x) (x ∷ []) []
         → cond b (y ∷ filter test (ys ++ x ∷ [])) (filter test (ys ++ x ∷ [])) ≡ cond b (y ∷ filter test ys) (filter test ys) ++ cond (test x) (x ∷ []) []
@@ -29,5 +29,5 @@ among_from_to first (suc n) m one =
     let before = among_from_to first n m one in
     let here = one_among first n m (nat_le first (suc n)) refl in
     let parts : is_among (from_to first (suc n)) m ≡ (is_among (from_to first n) m || is_among (cond (nat_le first (suc n)) (suc n ∷ []) []) m) =
-    ap (λ l. is_among l m) (filter-behind (nat_le first) (one_to n) (suc n)) ∙ list_any-append (nat_eq m) (filter (nat_le first) (one_to n)) (cond (nat_le first (suc n)) (suc n ∷ []) []) in
+    ap (λ l. is_among l m) (filter-following (nat_le first) (one_to n) (suc n)) ∙ list_any-append (nat_eq m) (filter (nat_le first) (one_to n)) (cond (nat_le first (suc n)) (suc n ∷ []) []) in
     grind (arith, nat_tests, before, here, parts)

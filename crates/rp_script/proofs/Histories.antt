@@ -8,7 +8,7 @@ use Rattle.rp_base.specs.declared.fault.Fault.{Fault}
 use Rattle.rp_model.specs.Answers.{Happen}
 use Rattle.rp_model.specs.Effect.{Setting}
 use Rattle.rp_model.specs.Events.{Event, IsEvent, event_of}
-use Rattle.rp_model.specs.World.{World, Happening, opening_world, event_effect}
+use Rattle.rp_model.specs.World.{World, Transition, opening_world, event_effect}
 use Rattle.rp_model.specs.declared.event.Event.{Event as TakenEvent}
 use Rattle.rp_model.specs.declared.event.Event.TheVariants.{Node}
 use Rattle.rp_model.specs.declared.event.Step.TheVariants.{Deliver}
@@ -38,11 +38,11 @@ module _ {S : Type 0} (s : Setting S) where
   stays : (w : World) → Reaches s w w
   stays w = record { events = []; right = λ event h. absurd h; happened = refl }
 
-  comes : (w : World) (event : Event) (happening : Happening) → IsEvent event → event_effect s w event ≡ Ok happening → Reaches s w happening.world
-  comes w event happening right is = record {
+  results : (w : World) (event : Event) (transition : Transition) → IsEvent event → event_effect s w event ≡ Ok transition → Reaches s w transition.world
+  results w event transition right is = record {
     events = event ∷ [];
     right = λ other h. elim h [ inl same ↦ subst IsEvent (sym same) right | inr none ↦ absurd none ];
-    happened = (happening, is, refl);
+    happened = (transition, is, refl);
   }
 
   goes_on : (from middle to : World) → Reaches s from middle → Reaches s middle to → Reaches s from to
@@ -55,9 +55,9 @@ module _ {S : Type 0} (s : Setting S) where
 module _ {S : Type 0} (s : RunSetting S) where
   -- ---- an event, a drain, a line, lines
 
-  effect_leads : (line : ℕ) (play : Play) (event : TakenEvent) (answer : Result Happening Fault) → IsEvent (event_of event)
+  effect_leads : (line : ℕ) (play : Play) (event : TakenEvent) (answer : Result Transition Fault) → IsEvent (event_of event)
       → effect_of s play.world event ≡ answer → Reaches s.setting play.world (effect_said s line play event answer).play.world
-  effect_leads line play event (Ok happening) right is = comes s.setting play.world (event_of event) happening right is
+  effect_leads line play event (Ok transition) right is = results s.setting play.world (event_of event) transition right is
   effect_leads line play event (Err refusal) right is = stays s.setting play.world
 
   event_leads : (line : ℕ) (play : Play) (event : TakenEvent) → IsEvent (event_of event) → Reaches s.setting play.world (event_said s line play event).play.world

@@ -9,10 +9,10 @@ use Rattle.rp_model.specs.declared.effect.Dropped.TheVariants.{No, Full, Foreign
 use Rattle.rp_model.specs.declared.event.Event.{Event}
 use Rattle.rp_model.specs.declared.event.Event.TheVariants.{Submit, Again, Node, Cut, Stop, Restart}
 use Rattle.rp_model.specs.Parts.{NodePart}
-use Rattle.rp_model.specs.World.{World, Happening, part_at}
-use Rattle.rp_script.specs.FaultLine.{with_line_feed}
+use Rattle.rp_model.specs.World.{World, Transition, part_at}
+use Rattle.rp_script.specs.FaultMessage.{with_line_feed}
 use Rattle.rp_script.specs.Items.{Item, Note, Noted, item_text, items_text, note_line, notes_text}
-use Rattle.rp_script.specs.Output.{RunSetting, called_by, changed_notes, changed_text, dropped_notes, dropped_text, effect_text, full_notes, full_text, happening_items, node_of_event, nodes_items, nodes_text, opened_notes, opened_text, part_items, part_text, restarted_note, restarted_text, taken_items, taken_text, trace_notes, trace_text, traced_notes, traced_text}
+use Rattle.rp_script.specs.Output.{RunSetting, called_by, changed_notes, changed_text, dropped_notes, dropped_text, effect_text, full_notes, full_text, transition_items, node_of_event, nodes_items, nodes_text, opened_notes, opened_text, part_items, part_text, restarted_note, restarted_text, taken_items, taken_text, trace_notes, trace_text, traced_notes, traced_text}
 use Rattle.rp_script.specs.Printed.{full_line_of, opened_line_of, running_line_of}
 use Rattle.rp_script.specs.Trace.{message_line_of}
 
@@ -81,23 +81,23 @@ changed_prints sent event opened dropped =
     ∙ ap (λ (l : List ℕ). opened_text event opened ++ l) (dropped_prints place dropped)
 
 -- the packets, then how a restart went and what was dropped, and then the reply
-pub happening_prints : {S : Type 0} (s : RunSetting S) (before : World) (event : Event) (happening : Happening)
-    → items_text (happening_items s before event happening)
-    ≡ traced_text s.traced s.names (length before.sent + 1) happening.sends ++ effect_text s.names happening.world.sent event happening.opened happening.dropped happening.taken
-happening_prints s before event happening =
+pub transition_prints : {S : Type 0} (s : RunSetting S) (before : World) (event : Event) (transition : Transition)
+    → items_text (transition_items s before event transition)
+    ≡ traced_text s.traced s.names (length before.sent + 1) transition.sends ++ effect_text s.names transition.world.sent event transition.opened transition.dropped transition.taken
+transition_prints s before event transition =
     let number = length before.sent + 1 in
-    let packets = traced_text s.traced s.names number happening.sends in
-    let sent = happening.world.sent in
-    let opened = opened_text event happening.opened in
-    let dropped = dropped_text (node_of_event sent event) happening.dropped in
-    let traced = traced_notes s.traced s.names number happening.sends in
-    let changed = changed_notes sent event happening.opened happening.dropped in
-    let taken = taken_text s.names happening.taken in
-    call_prints_nothing event (Noted (traced ++ changed) ∷ taken_items s.names happening.taken)
-    ∙ ap (λ (l : List ℕ). notes_text (traced ++ changed) ++ l) (taken_prints s.names happening.taken)
+    let packets = traced_text s.traced s.names number transition.sends in
+    let sent = transition.world.sent in
+    let opened = opened_text event transition.opened in
+    let dropped = dropped_text (node_of_event sent event) transition.dropped in
+    let traced = traced_notes s.traced s.names number transition.sends in
+    let changed = changed_notes sent event transition.opened transition.dropped in
+    let taken = taken_text s.names transition.taken in
+    call_prints_nothing event (Noted (traced ++ changed) ∷ taken_items s.names transition.taken)
+    ∙ ap (λ (l : List ℕ). notes_text (traced ++ changed) ++ l) (taken_prints s.names transition.taken)
     ∙ ap (λ (l : List ℕ). l ++ taken)
-    (notes_text-append traced changed ∙ ap (λ (l : List ℕ). l ++ notes_text changed) (traced_prints s.traced s.names number happening.sends)
-    ∙ ap (λ (l : List ℕ). packets ++ l) (changed_prints sent event happening.opened happening.dropped))
+    (notes_text-append traced changed ∙ ap (λ (l : List ℕ). l ++ notes_text changed) (traced_prints s.traced s.names number transition.sends)
+    ∙ ap (λ (l : List ℕ). packets ++ l) (changed_prints sent event transition.opened transition.dropped))
     ∙ append_assoc packets (opened ++ dropped) taken
     ∙ ap (λ (l : List ℕ). packets ++ l) (append_assoc opened dropped taken)
 

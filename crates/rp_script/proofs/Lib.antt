@@ -1,6 +1,6 @@
 mod StreamLemmas
 mod Writing
-mod Telling
+mod PrintedNames
 mod Among
 mod Tracing
 mod Refusing
@@ -10,10 +10,10 @@ mod ItemTexts
 mod Acting
 mod Recounting
 mod Printing
-mod Saying
+mod RunParts
 mod Stepping
 mod Crossings
 mod LiveEvents
-mod LiveTelling
+mod LivePrinting
 mod Kept
 mod Failing

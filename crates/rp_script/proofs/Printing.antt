@@ -74,12 +74,12 @@ module _ {S : Type 0} (next : S → Action → S) (answers : S → Action → Li
   place_counts : (order : List Action) (call : CallName) (position : ℕ) (place : IsPlace next answers begin order call position) → Has place.action (kept_of next answers begin order)
   place_counts order call position place =
       let r = replay_of next answers begin place.before in
-      let onward = goes_on_from next answers (record { state = next r.state place.action; kept = r.kept ++ place.action ∷ []; given = r.given ++ answers r.state place.action }) place.behind in
-      let same : kept_of next answers begin (place.before ++ place.action ∷ place.behind) ≡ (r.kept ++ place.action ∷ []) ++ onward.further =
-      ap (λ (all : Replayed S). all.kept) (replay_from-append next answers (unmoved begin) place.before (place.action ∷ place.behind))
-      ∙ ap (λ (b : Bool). (replay_from next answers (if b then record { state = next r.state place.action; kept = r.kept ++ place.action ∷ []; given = r.given ++ answers r.state place.action } else r) place.behind).kept) place.takes_effect
+      let onward = goes_on_from next answers (record { state = next r.state place.action; kept = r.kept ++ place.action ∷ []; given = r.given ++ answers r.state place.action }) place.following in
+      let same : kept_of next answers begin (place.before ++ place.action ∷ place.following) ≡ (r.kept ++ place.action ∷ []) ++ onward.further =
+      ap (λ (all : Replayed S). all.kept) (replay_from-append next answers (unmoved begin) place.before (place.action ∷ place.following))
+      ∙ ap (λ (b : Bool). (replay_from next answers (if b then record { state = next r.state place.action; kept = r.kept ++ place.action ∷ []; given = r.given ++ answers r.state place.action } else r) place.following).kept) place.takes_effect
       ∙ onward.kept in
-      subst (λ (l : List Action). Has place.action l) (sym (ap (kept_of next answers begin) place.stands ∙ same))
+      subst (λ (l : List Action). Has place.action l) (sym (ap (kept_of next answers begin) place.occurs ∙ same))
       (has_left place.action (r.kept ++ place.action ∷ []) onward.further (has_right place.action r.kept (place.action ∷ []) (inl refl)))
 
   -- it is the one of that name among the calls that the task made

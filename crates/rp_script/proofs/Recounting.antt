@@ -21,14 +21,14 @@ use Rattle.rp_model.specs.Events.{event_of}
 use Rattle.rp_model.specs.Growing.{Grows}
 use Rattle.rp_model.specs.Parts.{NodePart, Running, TaskPart, fresh_task}
 use Rattle.rp_model.specs.Tasks.{TaskInput, Submit, Again, Take as TakeMessage, asks}
-use Rattle.rp_model.specs.World.{World, Happening, part_at, task_done, opening_world, event_effect}
+use Rattle.rp_model.specs.World.{World, Transition, part_at, task_done, opening_world, event_effect}
 use Rattle.rp_model.specs.declared.event.Event.{Event}
 use Rattle.rp_model.specs.declared.event.Event.TheVariants.{Node as NodeStep}
 use Rattle.rp_model.specs.declared.event.Step.TheVariants.{Deliver}
 use Rattle.rp_model.proofs.WorldGrowing.{GrowsIf, event_grows}
 use Rattle.rp_agreement.specs.Answered.{calls_so_far}
 use Rattle.rp_agreement.specs.Order.{Begins}
-use Rattle.rp_agreement.specs.Told.{Asks}
+use Rattle.rp_agreement.specs.Asked.{Asks}
 use Rattle.rp_agreement.proofs.PartPlaces.{part_below, put_there, put_beside}
 use Rattle.rp_script.specs.Agreeing.{call_for}
 use Rattle.rp_script.specs.Items.{Item, Called, Replied, Shown, Noted, Note, Refused, DrainLimit, Asked, asked_in, asked_by}
@@ -264,10 +264,10 @@ module _ {S : Type 0} (s : RunSetting S) where
       }
 
   -- a node goes on from what was shown
-  still_shown : (w : World) (happening : Happening) → Grows w happening → (node applied : ℕ) (image : List ℕ) → WasShown w node applied image → WasShown happening.world node applied image
-  still_shown w happening grows node applied image was =
+  still_shown : (w : World) (transition : Transition) → Grows w transition → (node applied : ℕ) (image : List ℕ) → WasShown w node applied image → WasShown transition.world node applied image
+  still_shown w transition grows node applied image was =
       let member = part_below w.nodes node was.part was.there in
-      let now = part_there happening.world.nodes node member.0 (omega (arith, member.1, grows.nodes)) in
+      let now = part_there transition.world.nodes node member.0 (omega (arith, member.1, grows.nodes)) in
       let further = grows.applied node was.part now.0 was.there now.1 in
       record {
         part = now.0;
@@ -287,17 +287,17 @@ module _ {S : Type 0} (s : RunSetting S) where
 
   -- ---- an event of no task
 
-  none_more : (items : List Item) (w : World) (event : Event) (happening : Happening) (notes : List Note) → Grows w happening → IsForNone w event happening → IsRecounted items w
-      → IsRecounted (items ++ (called_by event ++ Noted notes ∷ taken_items s.names happening.taken)) happening.world
-  none_more items w event happening notes grows is old =
-      subst (λ (l : List Item). IsRecounted (items ++ (l ++ Noted notes ∷ taken_items s.names happening.taken)) happening.world) (sym is.called)
-      (event_more items w happening.world 0 [] notes happening.taken
-      (still_shown w happening grows)
+  none_more : (items : List Item) (w : World) (event : Event) (transition : Transition) (notes : List Note) → Grows w transition → IsForNone w event transition → IsRecounted items w
+      → IsRecounted (items ++ (called_by event ++ Noted notes ∷ taken_items s.names transition.taken)) transition.world
+  none_more items w event transition notes grows is old =
+      subst (λ (l : List Item). IsRecounted (items ++ (l ++ Noted notes ∷ taken_items s.names transition.taken)) transition.world) (sym is.called)
+      (event_more items w transition.world 0 [] notes transition.taken
+      (still_shown w transition grows)
       (λ name answer was. record { under = was.under; part = was.part; there = ap (λ (l : List TaskPart). part_at l answer.task) is.tasks ∙ was.there; taken = was.taken })
       (λ answer e. absurd (taken_some answer (sym is.taken ∙ e)))
-      (λ t made. subst (WereMade happening.world t) (sym (append-nil (asked_by t items))) (record {
+      (λ t made. subst (WereMade transition.world t) (sym (append-nil (asked_by t items))) (record {
         many = λ part there. made.many part (ap (λ (l : List TaskPart). part_at l t) (sym is.tasks) ∙ there);
-        sent = λ k asked e. subst (λ (l : List Message). Asks l t (call_for t (suc k) asked)) (sym grows.sent) (still_asks w happening.sends t (call_for t (suc k) asked) (made.sent k asked e));
+        sent = λ k asked e. subst (λ (l : List Message). Asks l t (call_for t (suc k) asked)) (sym grows.sent) (still_asks w transition.sends t (call_for t (suc k) asked) (made.sent k asked e));
       }))
       old)
     where
@@ -402,20 +402,20 @@ module _ {S : Type 0} (s : RunSetting S) where
         (λ node applied image was. record { part = was.part; there = was.there; before = was.before; begins = was.begins; count = was.count; image_is = was.image_is })
         still_taken now_taken (λ k made. now_made k items made) old
 
-  event_adds : (items : List Item) (w : World) (event : Event) (happening : Happening) (notes : List Note) → event_effect s.setting w (event_of event) ≡ Ok happening → IsRecounted items w
-      → IsRecounted (items ++ (called_by event ++ Noted notes ∷ taken_items s.names happening.taken)) happening.world
-  event_adds items w event happening notes is old =
-      elim (subst (λ (r : Result Happening Fault). IsFor s.setting.config w event r) is (event_is_for s.setting w event)) [
-        | inl none ↦ none_more items w event happening notes (subst (λ (r : Result Happening Fault). GrowsIf w r) is (event_grows s.setting w (event_of event))) none old
+  event_adds : (items : List Item) (w : World) (event : Event) (transition : Transition) (notes : List Note) → event_effect s.setting w (event_of event) ≡ Ok transition → IsRecounted items w
+      → IsRecounted (items ++ (called_by event ++ Noted notes ∷ taken_items s.names transition.taken)) transition.world
+  event_adds items w event transition notes is old =
+      elim (subst (λ (r : Result Transition Fault). IsFor s.setting.config w event r) is (event_is_for s.setting w event)) [
+        | inl none ↦ none_more items w event transition notes (subst (λ (r : Result Transition Fault). GrowsIf w r) is (event_grows s.setting w (event_of event))) none old
         | inr task ↦
-            subst (λ (h : Happening). IsRecounted (items ++ (called_by event ++ Noted notes ∷ taken_items s.names h.taken)) h.world) (sym task.is)
+            subst (λ (h : Transition). IsRecounted (items ++ (called_by event ++ Noted notes ∷ taken_items s.names h.taken)) h.world) (sym task.is)
             (subst (λ (l : List Item). IsRecounted (items ++ (l ++ Noted notes ∷ taken_items s.names task.done.taken)) (task_done w task.t task.done).world) (sym task.called)
-            (task_more w task.t task.part task.input task.done task.there (task_steps_on s.setting.config task.t task.part task.input task.done task.came) items notes old))
+            (task_more w task.t task.part task.input task.done task.there (task_steps_on s.setting.config task.t task.part task.input task.done task.resulted) items notes old))
       ]
 
   -- ---- a run
 
-  -- what is said recounts its world, behind items that recount the world before it
+  -- what is said recounts its world, after items that recount the world before it
   abbrev Recounts : Play → Said → Type 0
   Recounts play said = (items : List Item) → IsRecounted items play.world → IsRecounted (items ++ said.items) said.play.world
 
@@ -430,10 +430,10 @@ module _ {S : Type 0} (s : RunSetting S) where
       subst (λ (l : List Item). IsRecounted l (further here.play).play.world) (append_assoc items here.items (further here.play).items)
       (second (items ++ here.items) (first items old))
 
-  recounts_effect : (line : ℕ) (play : Play) (event : Event) (answer : Result Happening Fault) → effect_of s play.world event ≡ answer → Recounts play (effect_said s line play event answer)
-  recounts_effect line play event (Ok happening) is items old =
-      event_adds items play.world event happening
-      (traced_notes s.traced s.names (length play.world.sent + 1) happening.sends ++ changed_notes happening.world.sent event happening.opened happening.dropped) is old
+  recounts_effect : (line : ℕ) (play : Play) (event : Event) (answer : Result Transition Fault) → effect_of s play.world event ≡ answer → Recounts play (effect_said s line play event answer)
+  recounts_effect line play event (Ok transition) is items old =
+      event_adds items play.world event transition
+      (traced_notes s.traced s.names (length play.world.sent + 1) transition.sends ++ changed_notes transition.world.sent event transition.opened transition.dropped) is old
   recounts_effect line play event (Err refusal) is items old = recounts_note play (Refused line refusal) items old
 
   recounts_event : (line : ℕ) (play : Play) (event : Event) → Recounts play (event_said s line play event)

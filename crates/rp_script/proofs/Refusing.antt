@@ -24,11 +24,11 @@ use Rattle.rp_model.specs.Parts.{Running}
 use Rattle.rp_model.specs.Parts.{TaskPart}
 use Rattle.rp_model.specs.Parts.{Turn}
 use Rattle.rp_model.specs.Effect as nodes
-use Rattle.rp_model.specs.Effect.{Setting, Done, NodeInput, turned, turned_if, effect_while, node_effect, cut_if, cut_effect, stops_while, restart_while, goes_on_as, stop_part, cut_part}
+use Rattle.rp_model.specs.Effect.{Setting, Done, NodeInput, turn_done, turn_done_if, effect_while, node_effect, cut_if, cut_effect, stops_while, restart_while, goes_on_as, stop_part, cut_part}
 use Rattle.rp_model.specs.Tasks as tasks
 use Rattle.rp_model.specs.Tasks.{next_call, may_call, calls_if, asks_again, task_hears}
 use Rattle.rp_model.specs.Events.{event_of, step_of}
-use Rattle.rp_model.specs.World.{World, Happening, part_at, with_part, nothing_happens, node_done, task_done, node_done_if, task_done_if, task_takes, task_is_told, node_takes, node_hears, node_is_told, arrives, delivers, stops, restarts, step_effect, cut_step, delivery_is_cut, arrival_is_cut, hearing_is_cut, node_is_cut, event_effect}
+use Rattle.rp_model.specs.World.{World, Transition, part_at, with_part, nothing_happens, node_done, task_done, node_done_if, task_done_if, task_takes, task_receives, node_takes, node_hears, node_receives, arrives, delivers, stops, restarts, step_effect, cut_step, delivery_is_cut, arrival_is_cut, hearing_is_cut, node_is_cut, event_effect}
 use Rattle.rp_deck.specs.Script.{IsUpTo, IsStepWithin, IsEventWithin}
 use Rattle.rp_base.specs.Proposals.{Proposal, proposal_at, is_prepared}
 use Rattle.rp_base.specs.Ranges.{Range}
@@ -39,8 +39,8 @@ abbrev pub IsNumbered : Fault → Type 0
 IsNumbered fault = (5 ≤ code_of fault) × (code_of fault ≤ 10)
 
 -- nodes and tasks neither come nor go, and a refusal has one of these numbers
-abbrev pub Keeps : World → Result Happening Fault → Type 0
-Keeps w (Ok happening) = (length happening.world.nodes ≡ length w.nodes) × (length happening.world.tasks ≡ length w.tasks)
+abbrev pub Keeps : World → Result Transition Fault → Type 0
+Keeps w (Ok transition) = (length transition.world.nodes ≡ length w.nodes) × (length transition.world.tasks ≡ length w.tasks)
 Keeps w (Err fault) = IsNumbered fault
 
 -- there is a part of each number from 1 to the number of parts
@@ -87,13 +87,13 @@ node_keeps w me done = (length_with w.nodes me done.part, refl)
 task_keeps : (w : World) (task : ℕ) (done : Done TaskPart) → Keeps w (Ok (task_done w task done))
 task_keeps w task done = (refl, length_with w.tasks task done.part)
 
--- what a call comes to
+-- the result of a call
 call_keeps : (w : World) (task node : ℕ) (part : TaskPart) (call : Result Action Fault) → ((fault : Fault) → call ≡ Err fault → IsNumbered fault)
     → Keeps w (task_done_if w task (calls_if task node part call))
 call_keeps w task node part (Err fault) numbered = numbered fault refl
 call_keeps w task node part (Ok call) numbered = (refl, length_with w.tasks task (record part { outstanding = Some call }))
 
-may_by : (spent beyond : Bool) (call : Action) (fault : Fault) → beyond ≡ false → cond spent (Err NumbersSpent) (cond beyond (Err BadConfig) (Ok call)) ≡ Err fault → IsNumbered fault
+may_by : (skipped beyond : Bool) (call : Action) (fault : Fault) → beyond ≡ false → cond skipped (Err NumbersSpent) (cond beyond (Err BadConfig) (Ok call)) ≡ Err fault → IsNumbered fault
 may_by true beyond call fault right is = let same : NumbersSpent ≡ fault = cc in subst IsNumbered same (omega arith, omega arith)
 may_by false true call fault right is = absurd (cc)
 may_by false false call fault right is = absurd (cc)
@@ -126,7 +126,7 @@ again_keeps config w task node (Some part) within found there = again_by config 
 
 -- ---- a node's input
 
--- what comes of it, or a refusal of such a number
+-- the result, or a refusal of such a number
 abbrev pub IsAllowed : Result (Done NodePart) Fault → Type 0
 IsAllowed (Ok done) = Unit {0}
 IsAllowed (Err fault) = IsNumbered fault
@@ -139,18 +139,18 @@ cut_allowed : (kept : ℕ) (part : NodePart) (answer : Result (Done NodePart) Fa
 cut_allowed kept part (Ok done) allowed = tt
 cut_allowed kept part (Err fault) allowed = allowed
 
-begun_by : (part : NodePart) (exhausted : Bool) (begins : Turn) → IsAllowed (turned_if part (cond exhausted (Err BallotsSpent) (Ok begins)))
+begun_by : (part : NodePart) (exhausted : Bool) (begins : Turn) → IsAllowed (turn_done_if part (cond exhausted (Err BallotsSpent) (Ok begins)))
 begun_by part true begins = (omega arith, omega arith)
 begun_by part false begins = tt
 
-lead_by : (part : NodePart) (learned full : Bool) (quiet : Turn) (led : Result Turn Fault) → IsAllowed (turned_if part led)
-    → IsAllowed (turned_if part (cond learned (Ok quiet) (cond full (Err LogFull) led)))
+lead_by : (part : NodePart) (learned full : Bool) (quiet : Turn) (led : Result Turn Fault) → IsAllowed (turn_done_if part led)
+    → IsAllowed (turn_done_if part (cond learned (Ok quiet) (cond full (Err LogFull) led)))
 lead_by part true full quiet led allowed = tt
 lead_by part false true quiet led allowed = (omega arith, omega arith)
 lead_by part false false quiet led allowed = allowed
 
 range_by : (part : NodePart) (full learned exhausted : Bool) (quiet begins : Turn)
-    → IsAllowed (turned_if part (cond full (Err LogFull) (cond learned (Ok quiet) (cond exhausted (Err BallotsSpent) (Ok begins)))))
+    → IsAllowed (turn_done_if part (cond full (Err LogFull) (cond learned (Ok quiet) (cond exhausted (Err BallotsSpent) (Ok begins)))))
 range_by part true learned exhausted quiet begins = (omega arith, omega arith)
 range_by part false true exhausted quiet begins = tt
 range_by part false false exhausted quiet begins = begun_by part exhausted begins
@@ -162,17 +162,17 @@ HasCount _ = Unit {0}
 
 module _ {S : Type 0} (s : Setting S) where
   led_by : (me : ℕ) (part : NodePart) (running : Running) (i : ℕ) (found : Option Proposal)
-      → IsAllowed (turned_if part (leads_at s.next s.answers s.begin s.config.nodes me part.records running i found))
+      → IsAllowed (turn_done_if part (leads_at s.next s.answers s.begin s.config.nodes me part.records running i found))
   led_by me part running i None = begun_by part _ _
   led_by me part running i (Some p) = by (is_prepared s.config.nodes p)
     where
       by : (prepared : Bool)
-          → IsAllowed (turned_if part (cond prepared (Ok (offers s.next s.answers s.begin s.config.nodes me part.records running p)) (begins_if s.next s.answers s.begin s.config.nodes me part.records running i)))
+          → IsAllowed (turn_done_if part (cond prepared (Ok (offers s.next s.answers s.begin s.config.nodes me part.records running p)) (begins_if s.next s.answers s.begin s.config.nodes me part.records running i)))
       by true = tt
       by false = begun_by part _ _
 
   range_found : (me : ℕ) (part : NodePart) (running : Running) (wrong over : Bool) (range : Range) → wrong ≡ false
-      → IsAllowed (turned_if part (on_lead_range s.config me part.records running (cond wrong (Err BadConfig) (cond over (Err LogFull) (Ok range)))))
+      → IsAllowed (turn_done_if part (on_lead_range s.config me part.records running (cond wrong (Err BadConfig) (cond over (Err LogFull) (Ok range)))))
   range_found me part running true over range counted = absurd (cc)
   range_found me part running false true range counted = (omega arith, omega arith)
   range_found me part running false false range counted = range_by part _ _ _ _ _
@@ -204,17 +204,17 @@ module _ {S : Type 0} (s : Setting S) where
   hears_keep w me message part None = nothing_keeps w
   hears_keep w me message part (Some running) = allowed_keeps w me _ (input_allowed me part (nodes.Receive message) part.running tt)
 
-  told_keeps : (w : World) (me : ℕ) (message : Message) (part : Option NodePart) → Keeps w (node_is_told s w me message part)
-  told_keeps w me message None = nothing_keeps w
-  told_keeps w me message (Some part) = hears_keep w me message part part.running
+  received_keeps : (w : World) (me : ℕ) (message : Message) (part : Option NodePart) → Keeps w (node_receives s w me message part)
+  received_keeps w me message None = nothing_keeps w
+  received_keeps w me message (Some part) = hears_keep w me message part part.running
 
-  task_told_keeps : (w : World) (task : ℕ) (message : Message) (part : Option TaskPart) → Keeps w (task_is_told s.config w task message part)
-  task_told_keeps w task message None = nothing_keeps w
-  task_told_keeps w task message (Some part) = task_keeps w task (task_hears task part message.body)
+  task_received_keeps : (w : World) (task : ℕ) (message : Message) (part : Option TaskPart) → Keeps w (task_receives s.config w task message part)
+  task_received_keeps w task message None = nothing_keeps w
+  task_received_keeps w task message (Some part) = task_keeps w task (task_hears task part message.body)
 
   arrival_keeps : (w : World) (message : Message) (party : Party) → Keeps w (arrives s w message party)
-  arrival_keeps w message (Node me) = told_keeps w me message (part_at w.nodes me)
-  arrival_keeps w message (Task task) = task_told_keeps w task message (part_at w.tasks task)
+  arrival_keeps w message (Node me) = received_keeps w me message (part_at w.nodes me)
+  arrival_keeps w message (Task task) = task_received_keeps w task message (part_at w.tasks task)
   arrival_keeps w message Audit = nothing_keeps w
 
   delivery_keeps : (w : World) (message : Option Message) → Keeps w (delivers s w message)

@@ -16,7 +16,7 @@ use Rattle.rp_model.specs.Answers.{IsDone, IsFaulted, IsRefused}
 use Rattle.rp_model.specs.Effect.{Setting}
 use Rattle.rp_model.specs.Events.{event_of}
 use Rattle.rp_model.specs.Parts.{fresh_node, fresh_task}
-use Rattle.rp_model.specs.World.{World, Happening, event_effect, node_of, opening_world, part_at}
+use Rattle.rp_model.specs.World.{World, Transition, event_effect, node_of, opening_world, part_at}
 use Rattle.rp_agreement.proofs.PartPlaces.{put_there}
 use Rattle.rp_world.specs.Failures.{AreCounted, RisesAt, RisesOnly}
 use Rattle.rp_world.specs.Steps.{Setup, IsSameSetup, setting_of}
@@ -31,9 +31,9 @@ pub always_ok : {P : Type 0} (answer : Result Unit Fault) → P → OnOk answer 
 always_ok (Ok done) p = p
 always_ok (Err fault) p = tt
 
-kept_lengths : (w : World) (answer : Result Happening Fault) (happening : Happening) → answer ≡ Ok happening → Keeps w answer
-    → (length happening.world.nodes ≡ length w.nodes) × (length happening.world.tasks ≡ length w.tasks)
-kept_lengths w answer happening is keeps = subst (Keeps w) is keeps
+kept_lengths : (w : World) (answer : Result Transition Fault) (transition : Transition) → answer ≡ Ok transition → Keeps w answer
+    → (length transition.world.nodes ≡ length w.nodes) × (length transition.world.tasks ≡ length w.tasks)
+kept_lengths w answer transition is keeps = subst (Keeps w) is keeps
 
 -- how a fault leaves the counts of failures
 abbrev pub FailsAsCounted : Option ℕ → List ℕ → List ℕ → Fault → Type 0
@@ -53,7 +53,7 @@ module _ {S P : Type 0} (next : S → Action → S) (answers : S → Action → 
   -- nodes and tasks neither come nor go
   pub parts_stay : (effect : Effect) → IsSameSetup old new → IsDone (setting_of next answers start old) old.world (event_of event) new.world effect → HasParts nodes new
   parts_stay effect same done =
-      let lengths = kept_lengths old.world (event_effect (setting_of next answers start old) old.world (event_of event)) done.happening done.came keeps in
+      let lengths = kept_lengths old.world (event_effect (setting_of next answers start old) old.world (event_of event)) done.transition done.resulted keeps in
       record {
         config = ap (λ (c : Config). c.nodes) same.config ∙ parts.config;
         nodes_there = ap (λ (w : World). length w.nodes) done.world ∙ lengths.0 ∙ parts.nodes_there;

@@ -24,7 +24,7 @@ module _ (names : List (List ℕ)) (sent : List Message) where
       ap (λ (l : List Message). trace_text names (suc place) l) both.0 ∙ sym (ap (λ (l : List Message). trace_text names (suc (suc place)) l) both.1)
   at_place place (Some m) here = ap (λ (l : List Message). trace_text names (suc place) l) (drop_at sent place m here)
 
-  -- the message of a number, and those behind it
+  -- the message of a number, and those after it
   pub trace_next : (number : ℕ) → 1 ≤ number
       → trace_text names number (drop (number - 1) sent) ≡ message_text names number (part_at sent number) ++ trace_text names (number + 1) (drop (number + 1 - 1) sent)
   trace_next zero one = absurd (omega arith)

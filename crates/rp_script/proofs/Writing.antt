@@ -1,4 +1,4 @@
--- Texts that are written one behind another, and beginnings of them.
+-- Texts that are written one after another, and beginnings of them.
 use Rattle.std.proofs.Common.{◌≡◌, ℕ, Option, Some, None, Result, Ok, Err, List, [], ◌++◌, take, drop, take-append-drop, IsErr, refl, sym, ap, ◌∙◌, append_assoc, append-nil, subst}
 use Rattle.std.specs.Io.KnownBytes.{Appends, Keeps}
 use Rattle.std.proofs.KnownBytes.{Appends-nil, Appends-trans}
@@ -24,8 +24,8 @@ begins_longer a b x y begun = (
 )
 
 -- the text, and a beginning of what follows it
-pub begins_behind : (a b c : Option (List ℕ)) (x y : List ℕ) → Appends a b x → Begins b c y → Begins a c (x ++ y)
-begins_behind a b c x y first begun = (
+pub begins_after : (a b c : Option (List ℕ)) (x y : List ℕ) → Appends a b x → Begins b c y → Begins a c (x ++ y)
+begins_after a b c x y first begun = (
   begun.0,
   record {
     front = x ++ begun.1.front;
@@ -35,15 +35,15 @@ begins_behind a b c x y first begun = (
 )
 
 -- the text, and then another
-pub writes_behind : (a b c : Option (List ℕ)) (x y : List ℕ) (answer : Result Unit Fault) → Appends a b x → Writes b c y answer → Writes a c (x ++ y) answer
-writes_behind a b c x y (Ok done) first next = Appends-trans a b c x y first next
-writes_behind a b c x y (Err fault) first next = begins_behind a b c x y first next
+pub writes_after : (a b c : Option (List ℕ)) (x y : List ℕ) (answer : Result Unit Fault) → Appends a b x → Writes b c y answer → Writes a c (x ++ y) answer
+writes_after a b c x y (Ok done) first next = Appends-trans a b c x y first next
+writes_after a b c x y (Err fault) first next = begins_after a b c x y first next
 
--- a failure behind the text
+-- a failure after the text
 pub begins_whole : (a b : Option (List ℕ)) (x y : List ℕ) → Appends a b x → Begins a b (x ++ y)
 begins_whole a b x y written = begins_part a b x y (x ++ y) refl written
 
--- what was kept behind the text
+-- what was kept after the text
 pub appends_kept : (a b c : Option (List ℕ)) (x : List ℕ) → Appends a b x → Keeps b c → Appends a c x
 appends_kept None b c x first kept = tt
 appends_kept (Some l) None c x first kept = absurd first
@@ -59,7 +59,7 @@ pub writes_kept : (a b c : Option (List ℕ)) (x : List ℕ) (answer : Result Un
 writes_kept a b c x (Ok done) first kept = appends_kept a b c x first kept
 writes_kept a b c x (Err fault) first kept = begins_all a c x (appends_kept a b c x first kept)
 
--- some first bytes, and a write that failed behind them
+-- some first bytes, and a write that failed after them
 pub begins_taking : (a b : Option (List ℕ)) (bytes : List ℕ) (n : ℕ) → Appends a b (take n bytes) → Begins a b bytes
 begins_taking a b bytes n taken = begins_part a b (take n bytes) (drop n bytes) bytes (sym (take-append-drop n bytes)) taken
 
@@ -75,7 +75,7 @@ writes_failed a b text (Err fault) failed begun = begun
 pub writes_nothing : (a : Option (List ℕ)) (text : List ℕ) (answer : Result Unit Fault) → IsErr answer → Writes a a text answer
 writes_nothing a text answer failed = writes_failed a a text answer failed (begins_nothing a text)
 
--- the last part, whatever becomes of it, behind nothing
+-- the last part, whatever becomes of it, after nothing
 pub writes_same : (a b : Option (List ℕ)) (x y : List ℕ) (answer : Result Unit Fault) → x ≡ y → Writes a b x answer → Writes a b y answer
 writes_same a b x y answer same written = subst (λ l. Writes a b l answer) same written
 
@@ -94,7 +94,7 @@ module _ (a b c : Option (List ℕ)) (rest whole : List ℕ) (so_far : WroteBefo
 
   pub wrote_some : (x y : List ℕ) → rest ≡ x ++ y → Begins b c x → Begins a c whole
   wrote_some x y is begun =
-      let longer = begins_behind a b c so_far.front (x ++ y) so_far.written (begins_longer b c x y begun) in
+      let longer = begins_after a b c so_far.front (x ++ y) so_far.written (begins_longer b c x y begun) in
       subst (λ l. Begins a c l) (sym (so_far.parts ∙ ap (λ l. so_far.front ++ l) is)) longer
 
   pub wrote_all : Appends b c rest → Appends a c whole

@@ -1,4 +1,4 @@
--- What holds of what a script's run prints, and of its world at any two lines (this project's own).
+-- What holds of what a script's run prints, and of its world at any two lines.
 use Rattle.std.specs.Prelude.{◌≡◌, ◌⊎◌, ℕ, ◌≤◌, Bool, Option, Some, List, length, take}
 use Rattle.std.specs.Io.KnownBytes.{Appends}
 use Rattle.rp_base.specs.Sets.{Has}

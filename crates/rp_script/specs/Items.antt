@@ -1,4 +1,4 @@
--- What a run does that its reader sees, item by item (this project's own).
+-- What a run does that its reader sees, item by item.
 use Rattle.std.specs.Prelude.{ℕ, ℤ, nat_eq, Option, Some, None, List, [], ◌++◌, filter_map, flat_map, if◌then◌else◌}
 use Rattle.rp_base.specs.declared.action.Operation.{Operation}
 use Rattle.rp_base.specs.declared.fault.Fault.{Fault}
@@ -6,7 +6,7 @@ use Rattle.rp_base.specs.declared.reply.Answer.{Answer}
 use Rattle.rp_codec.specs.declared.packet.Body.{Body}
 use Rattle.rp_script.specs.Printed.{reply_line_of, applied_line_of, refused_line_of, opened_line_of, running_line_of}
 use Rattle.rp_script.specs.Printed.{full_line_of, stopped_line_of, limit_line_of}
-use Rattle.rp_script.specs.FaultLine.{with_line_feed}
+use Rattle.rp_script.specs.FaultMessage.{with_line_feed}
 use Rattle.rp_script.specs.Trace.{trace_line_of}
 
 -- what a call asks for: an object, an operation of it and an argument
@@ -15,10 +15,10 @@ pub record Asked : Type 0 where
   pub operation : Operation
   pub arg : ℤ
 
--- What else a line is printed of: the packet of a number is sent, by one party to another, each under its name; a node
--- that was stopped runs again, with so many records found and bytes cut, or ran already; it has no place for one more
--- pending item; it is shown, and is stopped; a step of the line of a number was refused, and why; or `drain` in that
--- line delivered as many messages as it may.
+-- What else a line is printed of: the packet of a number is sent, by one party to another, each under its name; a
+-- node that was stopped runs again, with the numbers of records found and bytes truncated, or ran already; it has no
+-- place for one more pending item; it is shown, and is stopped; a step of the line of a number was refused, and why;
+-- or `drain` in that line delivered as many messages as it may.
 pub data Note : Type 0 where
   Sent : ℕ → List ℕ → List ℕ → Body → Note
   Opened : ℕ → ℕ → ℕ → Note

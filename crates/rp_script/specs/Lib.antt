@@ -1,5 +1,5 @@
 pub mod Agreeing
-pub mod FaultLine
+pub mod FaultMessage
 pub mod Faults
 pub mod Figures
 pub mod Given
@@ -11,5 +11,5 @@ pub mod Printed
 pub mod Runs
 pub mod Settled
 pub mod Stream
-pub mod Telling
+pub mod PartyText
 pub mod Trace

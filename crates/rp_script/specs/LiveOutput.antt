@@ -1,9 +1,9 @@
--- What a run in threads prints (this project's own).
+-- What a run in threads prints.
 use Rattle.std.specs.Prelude.{ℕ, suc, Bool, List, [], ◌∷◌, ◌++◌, flat_map, if◌then◌else◌}
 use Rattle.rp_base.specs.declared.reply.Answer.{Answer}
-use Rattle.rp_live.specs.declared.run.Lived.{Lived}
+use Rattle.rp_live.specs.declared.run.LiveOutcome.{LiveOutcome}
 use Rattle.rp_script.specs.Printed.{reply_line_of, applied_line_of, agreed_line}
-use Rattle.rp_script.specs.FaultLine.{with_line_feed}
+use Rattle.rp_script.specs.FaultMessage.{with_line_feed}
 use Rattle.rp_script.specs.Trace.{task_name}
 
 -- a reply, under the name of its task
@@ -28,6 +28,6 @@ abbrev pub agreed_text : Bool → List ℕ
 agreed_text agree = if agree then with_line_feed agreed_line else []
 
 -- the replies of all tasks, how many actions each node has applied, and whether the logs agree
-abbrev pub lived_text : List (List ℕ) → Lived → List ℕ
-lived_text names lived =
-    replies_text names lived.replies.items ++ (applied_text 1 lived.applied.items ++ agreed_text lived.agree)
+abbrev pub outcome_text : List (List ℕ) → LiveOutcome → List ℕ
+outcome_text names outcome =
+    replies_text names outcome.replies.items ++ (applied_text 1 outcome.applied.items ++ agreed_text outcome.agree)

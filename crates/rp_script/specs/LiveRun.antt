@@ -1,4 +1,4 @@
--- What a run of a deck in threads comes to.
+-- The result of a run of a deck in threads.
 use Rattle.std.specs.Prelude.{◌≡◌, ◌⊎◌, ℕ, pos, Option, Some, None, List, filter_map, replicate}
 use Rattle.std.specs.Io.KnownBytes.{Appends}
 use Rattle.std.specs.Arc.{arc_value}
@@ -6,11 +6,11 @@ use Rattle.rp_machine.specs.TallyRule.{tally_next, tally_answers}
 use Rattle.rp_object.specs.State.{first_state}
 use Rattle.rp_object.specs.Step.{objects_next, objects_answers}
 use Rattle.rp_model.specs.declared.event.Event.{Event}
-use Rattle.rp_live.specs.Lived.{IsLived}
+use Rattle.rp_live.specs.LiveOutcome.{IsLiveRun}
 use Rattle.rp_live.specs.declared.figures.Figures.{Figures}
-use Rattle.rp_live.specs.declared.run.Lived.{Lived}
+use Rattle.rp_live.specs.declared.run.LiveOutcome.{LiveOutcome}
 use Rattle.rp_script.specs.Given.{MeansDeck}
-use Rattle.rp_script.specs.LiveOutput.{lived_text}
+use Rattle.rp_script.specs.LiveOutput.{outcome_text}
 use Rattle.rp_script.specs.Output.{names_of}
 use Rattle.rp_script.specs.Stream.{Begins}
 use Rattle.rp_deck.specs.Live.{IsDeckFor}
@@ -33,30 +33,30 @@ event_of Show = None
 abbrev pub events_of : List Line → List Event
 events_of lines = filter_map (λ line. event_of line.command) lines
 
--- a run of a program over the configuration and the events of a deck may come to this, by the seed and for so many
+-- a run of a program over the configuration and the events of a deck may have this result, by the seed and for n
 -- turns
-abbrev pub ComesOf : Deck → DeckProgram → ℕ → ℕ → Lived → Type 0
-ComesOf deck (Tally objects) seed turns lived =
-    IsLived tally_next tally_answers (λ objects. replicate objects (pos 0)) deck.config objects
-    (events_of deck.script.items) seed turns lived
-ComesOf deck (Objects program) seed turns lived =
-    IsLived objects_next objects_answers (λ program. first_state (arc_value program.declarations)) deck.config program
-    (events_of deck.script.items) seed turns lived
+abbrev pub IsOutcomeOf : Deck → DeckProgram → ℕ → ℕ → LiveOutcome → Type 0
+IsOutcomeOf deck (Tally objects) seed turns outcome =
+    IsLiveRun tally_next tally_answers (λ objects. replicate objects (pos 0)) deck.config objects
+    (events_of deck.script.items) seed turns outcome
+IsOutcomeOf deck (Objects program) seed turns outcome =
+    IsLiveRun objects_next objects_answers (λ program. first_state (arc_value program.declarations)) deck.config program
+    (events_of deck.script.items) seed turns outcome
 
 -- and a run of the deck's own program
-abbrev pub MayCome : Deck → ℕ → ℕ → Lived → Type 0
-MayCome deck seed turns lived = ComesOf deck deck.program seed turns lived
+abbrev pub IsOutcome : Deck → ℕ → ℕ → LiveOutcome → Type 0
+IsOutcome deck seed turns outcome = IsOutcomeOf deck deck.program seed turns outcome
 
--- a text of what the deck that the reader's bytes mean may come to, by the seed and for so many turns, and the
--- figures of the same run
+-- a text of a possible result of the deck that the reader's bytes mean, by the seed and for n turns, and the figures
+-- of the same run
 pub record IsLiveText (seed turns : ℕ) (given : Option (List ℕ)) (text : List ℕ) (figures : Figures) : Type 0 where
   pub deck : Deck
   pub means : MeansDeck Live given deck
   pub taken : IsDeckFor Live deck
-  pub lived : Lived
-  pub came : MayCome deck seed turns lived
-  pub text_is : text ≡ lived_text (names_of deck.tasks) lived
-  pub figures_are : figures ≡ lived.figures
+  pub outcome : LiveOutcome
+  pub resulted : IsOutcome deck seed turns outcome
+  pub text_is : text ≡ outcome_text (names_of deck.tasks) outcome
+  pub figures_are : figures ≡ outcome.figures
 
 -- what a run in threads prints: such a text, whose run has these figures
 abbrev pub LivePrints : ℕ → ℕ → Option (List ℕ) → Option (List ℕ) → Option (List ℕ) → Figures → Type 0

@@ -1,4 +1,4 @@
--- What the script of a deck prints (this project's own).
+-- What the script of a deck prints.
 use Rattle.std.specs.Prelude.{ℕ, zero, suc, ◌+◌, ◌-◌, ◌^◌, ◌&&◌, ℤ, min, not, nat_eq, nat_le, pos, Bool, Option, Some}
 use Rattle.std.specs.Prelude.{None, Result, Ok, Err, List, [], ◌∷◌, ◌++◌, length, map, filter, replicate, find}
 use Rattle.std.specs.Prelude.{flat_map, if◌then◌else◌, String, string_bytes}
@@ -28,11 +28,11 @@ use Rattle.rp_model.specs.declared.event.Step.TheVariants.{Deliver, Lead, LeadRa
 use Rattle.rp_model.specs.Parts.{NodePart, Running}
 use Rattle.rp_model.specs.Effect.{Setting}
 use Rattle.rp_model.specs.Events.{event_of}
-use Rattle.rp_model.specs.World.{World, Happening, opening_world, event_effect, part_at}
+use Rattle.rp_model.specs.World.{World, Transition, opening_world, event_effect, part_at}
 use Rattle.rp_script.specs.Items.{Item, Called, Replied, Shown, Noted, Note, Sent, Opened, AlreadyRunning, PendingFull}
 use Rattle.rp_script.specs.Items.{Stopped, Refused, DrainLimit, item_text, items_text}
 use Rattle.rp_script.specs.Printed.{opened_line_of, running_line_of, full_line_of, stopped_line_of}
-use Rattle.rp_script.specs.FaultLine.{with_line_feed}
+use Rattle.rp_script.specs.FaultMessage.{with_line_feed}
 use Rattle.rp_script.specs.Trace.{task_name, message_line_of, party_text_of}
 use Rattle.rp_deck.specs.declared.deck.Command.{Command}
 use Rattle.rp_deck.specs.declared.deck.Command.TheVariants.{Take, Lose, Drain, Show}
@@ -41,15 +41,15 @@ use Rattle.rp_deck_declarations.specs.declared.deck_program.DeckProgram.{DeckPro
 use Rattle.rp_deck_declarations.specs.declared.deck_program.DeckProgram.TheVariants.{Tally, Objects}
 use Rattle.rp_deck.specs.declared.deck.Line.{Line}
 
--- What stays through a run: the configuration and the machine, how a state of it is shown, the tasks'
--- names in order, and whether the packets are told.
+-- What stays through a run: the configuration and the machine, how a state of it is shown, the tasks' names in order,
+-- and whether the packets are printed.
 pub record RunSetting (S : Type 0) : Type 0 where
   pub setting : Setting S
   pub image : S → List ℕ
   pub names : List (List ℕ)
   pub traced : Bool
 
--- where a run stands: its world, and the numbers of the messages that are settled
+-- the state of a run: its world, and the numbers of the messages that are settled
 pub record Play : Type 0 where
   pub world : World
   pub settled : List ℕ
@@ -71,7 +71,7 @@ nothing_said play = record { items = []; play = play }
 abbrev pub note_said : Play → Note → Said
 note_said play note = record { items = Noted (note ∷ []) ∷ []; play = play }
 
--- one thing, and then what comes of the play after it
+-- one thing, and then the result of the play after it
 abbrev pub and_then : Said → (Play → Said) → Said
 and_then here further = record { items = here.items ++ (further here.play).items; play = (further here.play).play }
 
@@ -118,7 +118,7 @@ lost line play first last =
     then record { items = []; play = record { world = play.world; settled = from_to first last ++ play.settled } }
     else note_said play (Refused line NoSuchMessage)
 
--- ---- what is told of an event that happened
+-- ---- what is printed of an event that happened
 
 -- a packet by its number, if there is one
 abbrev pub message_text : List (List ℕ) → ℕ → Option Message → List ℕ
@@ -254,24 +254,23 @@ effect_text names sent event opened dropped taken =
 
 module _ {S : Type 0} (s : RunSetting S) where
   -- the effect of an event
-  abbrev pub effect_of : World → Event → Result Happening Fault
+  abbrev pub effect_of : World → Event → Result Transition Fault
   effect_of world event = event_effect s.setting world (event_of event)
 
-  -- Where something happens in a world: the call that is made, what is noted, packets first if they are
-  -- told, and the reply that is taken.
-  abbrev pub happening_items : World → Event → Happening → List Item
-  happening_items before event happening =
-      called_by event ++ Noted (traced_notes s.traced s.names (length before.sent + 1) happening.sends
-      ++ changed_notes happening.world.sent event happening.opened happening.dropped)
-      ∷ taken_items s.names happening.taken
+  -- Where something happens in a world: the call that is made, what is noted, packets first if they are printed, and
+  -- the reply that is taken.
+  abbrev pub transition_items : World → Event → Transition → List Item
+  transition_items before event transition =
+      called_by event ++ Noted (traced_notes s.traced s.names (length before.sent + 1) transition.sends
+      ++ changed_notes transition.world.sent event transition.opened transition.dropped)
+      ∷ taken_items s.names transition.taken
 
-  -- What happened is told, and settles its messages. What was refused prints why, and leaves the play as it
-  -- is.
-  abbrev pub effect_said : ℕ → Play → Event → Result Happening Fault → Said
-  effect_said line play event (Ok happening) =
+  -- What happened is printed, and settles its messages. What was refused prints why, and leaves the play as it is.
+  abbrev pub effect_said : ℕ → Play → Event → Result Transition Fault → Said
+  effect_said line play event (Ok transition) =
       record {
-        items = happening_items play.world event happening;
-        play = record { world = happening.world; settled = settled_by event ++ play.settled };
+        items = transition_items play.world event transition;
+        play = record { world = transition.world; settled = settled_by event ++ play.settled };
       }
   effect_said line play event (Err refusal) = note_said play (Refused line refusal)
 
@@ -279,8 +278,7 @@ module _ {S : Type 0} (s : RunSetting S) where
   unfoldable pub event_said : ℕ → Play → Event → Said
   event_said line play event = effect_said line play event (effect_of play.world event)
 
-  -- The least unsettled message, if there is one, is delivered, and so on, until none is left or so many were
-  -- delivered.
+  -- The least unsettled message, if there is one, is delivered, and so on, until none is left or n were delivered.
   unfoldable pub drain_from : ℕ → Play → Option ℕ → ℕ → Said
   drain_from line play None most = nothing_said play
   drain_from line play (Some message) zero = note_said play (DrainLimit line)
@@ -319,7 +317,7 @@ module _ {S : Type 0} (s : RunSetting S) where
   unfoldable pub nodes_text : World → ℕ → List ℕ
   nodes_text world count = flat_map (λ node. part_text node (part_at world.nodes node)) (one_to count)
 
-  -- a command of the line of this number, where a `drain` may deliver so many messages
+  -- a command of the line of this number, where a `drain` may deliver n messages
   abbrev pub command_said : ℕ → ℕ → Play → Command → Said
   command_said most line play (Take event) = event_said line play event
   command_said most line play (Lose first last) = lost line play first last
@@ -336,7 +334,7 @@ module _ {S : Type 0} (s : RunSetting S) where
   abbrev pub opening_play : Play
   opening_play = record { world = opening_world s.setting.config.nodes; settled = [] }
 
-  -- what a script comes to, where a `drain` may deliver so many messages
+  -- the result of a script, where a `drain` may deliver n messages
   abbrev pub run_said : ℕ → List Line → Said
   run_said most lines = script_said most opening_play lines
 
@@ -350,7 +348,7 @@ drain_limit = 100000
 abbrev pub output_at : {S : Type 0} → ℕ → Deck → RunSetting S → List ℕ
 output_at most deck s = text_of (run_said s most deck.script.items)
 
--- a run of a tally of so many sums
+-- a run of a tally of n sums
 abbrev pub tally_run : Bool → Deck → ℕ → RunSetting (List ℤ)
 tally_run traced deck objects = record {
   setting =
@@ -375,7 +373,7 @@ objects_run traced deck program = record {
   traced = traced;
 }
 
--- the output of a deck, where packets are told or not
+-- the output of a deck, where packets are printed or not
 abbrev pub output_by : Bool → Deck → DeckProgram → List ℕ
 output_by traced deck (Tally objects) = output_at drain_limit deck (tally_run traced deck objects)
 output_by traced deck (Objects program) = output_at drain_limit deck (objects_run traced deck program)

@@ -1,4 +1,4 @@
--- The lines that a run prints, without their ends (this project's own).
+-- The lines that a run prints, without their ends.
 use Rattle.std.specs.Prelude.{ℕ, List, ◌++◌, codes, decimal, true, false}
 use Rattle.std.specs.Fmt.{signed_decimal}
 use Rattle.rp_base.specs.Fault.{code_of, name_of}
@@ -25,7 +25,7 @@ abbrev pub refused_line_of : ℕ → Fault → List ℕ
 refused_line_of line fault =
     codes "line " ++ (decimal line ++ (codes ": refused " ++ (decimal (code_of fault) ++ (codes " " ++ name_of fault))))
 
--- a stopped node runs again: how many records it found, and how many bytes it cut
+-- a stopped node runs again: how many records it found, and how many bytes it truncated
 abbrev pub opened_line_of : ℕ → ℕ → ℕ → List ℕ
 opened_line_of node records bytes =
     codes "node " ++ (decimal node ++ (codes " open records " ++ (decimal records ++ (codes " cut " ++ decimal bytes))))

@@ -1,4 +1,4 @@
--- How a run in memory stands to a play, and what it writes.
+-- How a run in memory is related to a play, and what it writes.
 use Rattle.std.specs.Prelude.{◌≡◌, ℕ, Option, Result, Ok, Err, List, length, replicate}
 use Rattle.std.specs.Io.KnownBytes.{Appends}
 use Rattle.rp_base.specs.declared.action.Action.{Action}
@@ -32,19 +32,19 @@ opening_setup config program = record {
   failures = replicate config.nodes 0;
 }
 
--- the cluster has so many nodes, and eight tasks
+-- the cluster has n nodes, and eight tasks
 pub record HasParts {P : Type 0} (nodes : ℕ) (cluster : Setup P) : Type 0 where
   pub config : cluster.config.nodes ≡ nodes
   pub nodes_there : length cluster.world.nodes ≡ nodes
   pub tasks : length cluster.world.tasks ≡ 8
 
--- a world and what is settled of it stand where the play does
+-- a world and what is settled of it are those of the play
 pub record Follows (world : World) (settled : Settled) (play : Play) : Type 0 where
   pub world_is : world ≡ play.world
   pub settled_are : (m : ℕ) → is_settled settled m ≡ is_among play.settled m
 
--- The run has come to the play that is said, and what it wrote is the text; or it wrote a beginning of the
--- text where something failed.
+-- The run has reached the play that is said, and what it wrote is the text; or it wrote a beginning of the text where
+-- something failed.
 abbrev pub Says : World → Settled → Option (List ℕ) → Option (List ℕ) → Said → Result Unit Fault → Type 0
 Says world settled old new said (Ok done) = Follows world settled said.play × Appends old new (text_of said)
 Says world settled old new said (Err fault) = Begins old new (text_of said)

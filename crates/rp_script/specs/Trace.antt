@@ -1,4 +1,4 @@
--- The line that a trace tells of a packet, without its end (this project's own).
+-- The line of a trace for a packet, without its end.
 use Rattle.std.specs.Prelude.{ℕ, Option, Some, None, List, [], ◌++◌, codes, decimal}
 use Rattle.rp_base.specs.declared.action.Action.{Action}
 use Rattle.rp_base.specs.declared.action.Action.TheVariants as actions
@@ -41,7 +41,7 @@ abbrev pub range_text_of : Range → ℕ → List ℕ
 range_text_of range ballot =
     decimal range.first ++ (codes " " ++ (decimal range.count ++ (codes " " ++ decimal ballot)))
 
--- the kind of a packet, and what tells it from others of its kind
+-- the kind of a packet, and what distinguishes it from others of its kind
 abbrev pub body_text_of : Body → List ℕ
 body_text_of (Call action) = codes "call " ++ decimal (call_number action)
 body_text_of (Prepare position ballot) = codes "prepare " ++ ballot_text_of position ballot
@@ -52,7 +52,7 @@ body_text_of (Decided position action) = codes "decided " ++ decimal position
 body_text_of (Ask position) = codes "ask " ++ decimal position
 body_text_of (Nack position ballot bound) = codes "nack " ++ ballot_text_of position ballot
 body_text_of (Reply number reply) = codes "reply " ++ decimal number
-body_text_of (Report first applied told) = codes "report " ++ decimal first
+body_text_of (Report first applied printed) = codes "report " ++ decimal first
 body_text_of (PrepareRange range ballot) = codes "prepare_range " ++ range_text_of range ballot
 body_text_of (PromiseRange range ballot votes) = codes "promise_range " ++ range_text_of range ballot
 

@@ -91,7 +91,7 @@ pub fn run_deck<W: Write>(
     }
 }
 
-/// So many empty devices.
+/// Empty devices, n of them.
 fn devices(alloc: Global, count: u8) -> Result<Vec<MemDevice>, AllocError>
     ensures count { IfOk result (λ devices. length devices.items ≡ count) }
     ensures empty { IfOk result (λ devices. All (λ d. d.contents ≡ []) devices.items) }

@@ -1,11 +1,11 @@
-//! Prints what an event came to.
+//! Prints the result of an event.
 
 ghost use Rattle.std.specs.Prelude.{◌≡◌, ◌≤◌, ◌-◌, ◌++◌, Some, drop, IfErr, IfOk};
 ghost use Rattle.rp_model.specs.World.{part_at};
 ghost use Rattle.rp_script.specs.Output.{names_of, message_text, trace_text, traced_text, opened_text, full_text, dropped_text, node_of_event, node_of_step, receiver_of, taken_text, effect_text};
 ghost use Rattle.rp_script.specs.Trace.{task_name, party_text_of, message_line_of};
-ghost use Rattle.rp_script.specs.Telling.{shown_party};
-ghost use Rattle.rp_script.specs.FaultLine.{with_line_feed};
+ghost use Rattle.rp_script.specs.PartyText.{shown_party};
+ghost use Rattle.rp_script.specs.FaultMessage.{with_line_feed};
 ghost use Rattle.rp_script.specs.Stream.{Writes};
 ghost use Rattle.rp_script.specs.Faults.{IsRunFault};
 
@@ -24,9 +24,9 @@ use rp_world::Cluster;
 use std::alloc::Global;
 use std::io::Write;
 
-/// Prints what an event came to: its packets, if they are told, how a restart went, a pending item that
-/// was dropped, and the reply that a task takes.
-pub fn tell_effect<M: Machine, D: CutDevice, W: Write>(
+/// Prints the result of an event: its packets, if they are printed, how a restart went, a pending
+/// item that was dropped, and the reply that a task takes.
+pub fn print_effect<M: Machine, D: CutDevice, W: Write>(
     alloc: Global,
     cluster: &Cluster<M, D>,
     options: &RunOptions<'_>,
@@ -35,7 +35,7 @@ pub fn tell_effect<M: Machine, D: CutDevice, W: Write>(
     writer: &mut W,
 ) -> Result<(), Fault>
     requires { 1 ≤ effect.now.first }
-    ensures told { Writes (W.contents writer.old) (W.contents writer.new)
+    ensures printed { Writes (W.contents writer.old) (W.contents writer.new)
         (traced_text options.now.traced (names_of options.now.tasks.now) effect.now.first
         (drop (effect.now.first - 1) cluster.now.world.sent)
         ++ effect_text (names_of options.now.tasks.now) cluster.now.world.sent event.now
@@ -43,15 +43,15 @@ pub fn tell_effect<M: Machine, D: CutDevice, W: Write>(
     ensures fault { IfErr result IsRunFault }
 {
     let tasks = options.tasks;
-    tell_trace(alloc, cluster, options, effect.first, writer)?;
-    tell_restart(alloc, event, effect.opened, writer)?;
-    tell_dropped(alloc, cluster, event, effect.dropped, writer)?;
-    tell_taken(alloc, tasks, effect.taken, writer)
+    print_trace(alloc, cluster, options, effect.first, writer)?;
+    print_restart(alloc, event, effect.opened, writer)?;
+    print_dropped(alloc, cluster, event, effect.dropped, writer)?;
+    print_taken(alloc, tasks, effect.taken, writer)
 }
 
-/// Prints the packets from a number on, if they are told.
+/// Prints the packets from a number on, if they are printed.
 #[inline(always)]
-fn tell_trace<M: Machine, D: CutDevice, W: Write>(
+fn print_trace<M: Machine, D: CutDevice, W: Write>(
     alloc: Global,
     cluster: &Cluster<M, D>,
     options: &RunOptions<'_>,
@@ -59,13 +59,13 @@ fn tell_trace<M: Machine, D: CutDevice, W: Write>(
     writer: &mut W,
 ) -> Result<(), Fault>
     requires { 1 ≤ first }
-    ensures told { Writes (W.contents writer.old) (W.contents writer.new)
+    ensures printed { Writes (W.contents writer.old) (W.contents writer.new)
         (traced_text options.now.traced (names_of options.now.tasks.now) first
         (drop (first - 1) cluster.now.world.sent)) result }
     ensures fault { IfErr result IsRunFault }
 {
     if options.traced {
-        tell_packets(alloc, cluster, options.tasks, first, writer)
+        print_packets(alloc, cluster, options.tasks, first, writer)
     } else {
         Ok(())
     }
@@ -73,7 +73,7 @@ fn tell_trace<M: Machine, D: CutDevice, W: Write>(
 
 /// Prints the packets from a number on.
 #[inline(never)]
-fn tell_packets<M: Machine, D: CutDevice, W: Write>(
+fn print_packets<M: Machine, D: CutDevice, W: Write>(
     alloc: Global,
     cluster: &Cluster<M, D>,
     tasks: &IndexMap<String, Task>,
@@ -81,31 +81,31 @@ fn tell_packets<M: Machine, D: CutDevice, W: Write>(
     writer: &mut W,
 ) -> Result<(), Fault>
     requires { 1 ≤ first }
-    ensures told { Writes (W.contents writer.old) (W.contents writer.new)
+    ensures printed { Writes (W.contents writer.old) (W.contents writer.new)
         (trace_text (names_of tasks.now) first (drop (first - 1) cluster.now.world.sent)) result }
     ensures fault { IfErr result IsRunFault }
 {
     for number in first..cluster.messages() + 1 {
-        tell_message(alloc, cluster, tasks, number, writer)?;
+        print_message(alloc, cluster, tasks, number, writer)?;
     }
     Ok(())
 }
 
 /// Prints the message of a number, if there is one.
-fn tell_message<M: Machine, D: CutDevice, W: Write>(
+fn print_message<M: Machine, D: CutDevice, W: Write>(
     alloc: Global,
     cluster: &Cluster<M, D>,
     tasks: &IndexMap<String, Task>,
     number: u64,
     writer: &mut W,
 ) -> Result<(), Fault>
-    ensures told { Writes (W.contents writer.old) (W.contents writer.new)
+    ensures printed { Writes (W.contents writer.old) (W.contents writer.new)
         (message_text (names_of tasks.now) number
         (part_at cluster.now.world.sent number)) result }
     ensures fault { IfErr result IsRunFault }
 {
     match sent_packet(alloc, cluster, number)? {
-        Some(packet) => tell_packet(alloc, tasks, number, &packet, writer),
+        Some(packet) => print_packet(alloc, tasks, number, &packet, writer),
         None => Ok(()),
     }
 }
@@ -127,14 +127,14 @@ fn sent_packet<M: Machine, D: CutDevice>(
 }
 
 /// Prints a packet by its number.
-fn tell_packet<W: Write>(
+fn print_packet<W: Write>(
     alloc: Global,
     tasks: &IndexMap<String, Task>,
     number: u64,
     packet: &Packet,
     writer: &mut W,
 ) -> Result<(), Fault>
-    ensures told { Writes (W.contents writer.old) (W.contents writer.new)
+    ensures printed { Writes (W.contents writer.old) (W.contents writer.new)
         (with_line_feed (message_line_of (names_of tasks.now) number packet.now)) result }
     ensures fault { IfErr result IsRunFault }
 {
@@ -149,7 +149,7 @@ fn tell_packet<W: Write>(
     print(alloc, writer, line)
 }
 
-/// How a party is told.
+/// How a party is printed.
 fn party_text(tasks: &IndexMap<String, Task>, party: Party) -> PartyText<'_>
     ensures { shown_party result ≡ party_text_of (names_of tasks.now) party }
 {
@@ -172,13 +172,13 @@ fn task_name(tasks: &IndexMap<String, Task>, task: TaskId) -> &str
 
 /// Prints how a restart went.
 #[inline(always)]
-fn tell_restart<W: Write>(
+fn print_restart<W: Write>(
     alloc: Global,
     event: &Event,
     opened: Option<(u64, u64)>,
     writer: &mut W,
 ) -> Result<(), Fault>
-    ensures told { Writes (W.contents writer.old) (W.contents writer.new)
+    ensures printed { Writes (W.contents writer.old) (W.contents writer.new)
         (opened_text event.now opened) result }
     ensures fault { IfErr result IsRunFault }
 {
@@ -201,32 +201,32 @@ fn tell_restart<W: Write>(
 
 /// Prints that a pending item found no place, if one did not.
 #[inline(always)]
-fn tell_dropped<M: Machine, D: CutDevice, W: Write>(
+fn print_dropped<M: Machine, D: CutDevice, W: Write>(
     alloc: Global,
     cluster: &Cluster<M, D>,
     event: &Event,
     dropped: Dropped,
     writer: &mut W,
 ) -> Result<(), Fault>
-    ensures told { Writes (W.contents writer.old) (W.contents writer.new)
+    ensures printed { Writes (W.contents writer.old) (W.contents writer.new)
         (dropped_text (node_of_event cluster.now.world.sent event.now) dropped) result }
     ensures fault { IfErr result IsRunFault }
 {
     match dropped {
-        Dropped::Full => tell_full(alloc, cluster, event, writer),
+        Dropped::Full => print_full(alloc, cluster, event, writer),
         Dropped::No | Dropped::Foreign => Ok(()),
     }
 }
 
 /// Prints that the node of an event has no place for one more pending item.
 #[inline(never)]
-fn tell_full<M: Machine, D: CutDevice, W: Write>(
+fn print_full<M: Machine, D: CutDevice, W: Write>(
     alloc: Global,
     cluster: &Cluster<M, D>,
     event: &Event,
     writer: &mut W,
 ) -> Result<(), Fault>
-    ensures told { Writes (W.contents writer.old) (W.contents writer.new)
+    ensures printed { Writes (W.contents writer.old) (W.contents writer.new)
         (full_text (node_of_event cluster.now.world.sent event.now)) result }
     ensures fault { IfErr result IsRunFault }
 {
@@ -292,31 +292,31 @@ fn receiver<M: Machine, D: CutDevice>(
 
 /// Prints the reply that a task takes, if it takes one.
 #[inline(always)]
-fn tell_taken<W: Write>(
+fn print_taken<W: Write>(
     alloc: Global,
     tasks: &IndexMap<String, Task>,
     taken: Option<Answer>,
     writer: &mut W,
 ) -> Result<(), Fault>
-    ensures told { Writes (W.contents writer.old) (W.contents writer.new)
+    ensures printed { Writes (W.contents writer.old) (W.contents writer.new)
         (taken_text (names_of tasks.now) taken) result }
     ensures fault { IfErr result IsRunFault }
 {
     match taken {
-        Some(answer) => tell_reply(alloc, tasks, answer, writer),
+        Some(answer) => print_reply(alloc, tasks, answer, writer),
         None => Ok(()),
     }
 }
 
 /// Prints a reply under the name of its task.
 #[inline(never)]
-pub fn tell_reply<W: Write>(
+pub fn print_reply<W: Write>(
     alloc: Global,
     tasks: &IndexMap<String, Task>,
     answer: Answer,
     writer: &mut W,
 ) -> Result<(), Fault>
-    ensures told { Writes (W.contents writer.old) (W.contents writer.new)
+    ensures printed { Writes (W.contents writer.old) (W.contents writer.new)
         (taken_text (names_of tasks.now) (Some answer)) result }
     ensures fault { IfErr result IsRunFault }
 {

@@ -1,27 +1,27 @@
-//! Runs a deck, in the order of its script or in threads, and prints what comes of it.
+//! Runs a deck, in the order of its script or in threads, and prints the result.
 //!
 //! In reading order:
 //! - `deck_run`: runs the script of a deck
 //! - `options`: how a script is run
 //! - `agreeing`: at any two lines of a script nodes agree, and replies are those of one order
 //! - `run`: runs the lines of a script, at any machine and over any devices
-//! - `effects`: prints what an event came to
+//! - `effects`: prints the result of an event
 //! - `settled`: which messages of a run are settled
 //! - `printed`: the lines that a run prints
-//! - `trace`: the line that a trace tells of a packet
+//! - `trace`: the line of a trace for a packet
 //! - `live_run`: runs a deck in threads
 //! - `figures`: the line of figures that a run in threads reports
-//! - `live_output`: prints what came of a run in threads
+//! - `live_output`: prints the result of a run in threads
 //! - `deck_read`: reads a deck from a reader
 //! - `stream`: reads all that a reader gives, and writes what a run prints
-//! - `fault_line`: what is told of a fault
+//! - `fault_message`: what is printed of a fault
 #![tactic(auto)]
 
 mod agreeing;
 mod deck_read;
 mod deck_run;
 mod effects;
-mod fault_line;
+mod fault_message;
 mod figures;
 mod live_output;
 mod live_run;
@@ -33,7 +33,7 @@ mod stream;
 mod trace;
 
 pub use deck_run::{run_deck, run_script};
-pub use fault_line::{FaultLine, is_refusal, reason_text, tell};
+pub use fault_message::{FaultMessage, is_refusal, reason_text, tell};
 pub use figures::FiguresLine;
 pub use live_run::run_live;
 pub use options::RunOptions;

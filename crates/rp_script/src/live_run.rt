@@ -4,22 +4,22 @@ ghost use Rattle.std.specs.Prelude.{◌≡◌, All, IfErr, IfOk, OnErr};
 ghost use Rattle.std.specs.Arc.{arc_value};
 ghost use Rattle.rp_script.specs.Faults.{IsBadDeck, IsProgramFault, IsRunFault};
 ghost use Rattle.rp_script.specs.Given.{IsMeant};
-ghost use Rattle.rp_script.specs.LiveRun.{LiveBegins, LivePrints, MayCome, event_of, events_of};
+ghost use Rattle.rp_script.specs.LiveRun.{LiveBegins, LivePrints, IsOutcome, event_of, events_of};
 ghost use Rattle.rp_base.specs.Config.{IsRightConfig};
 ghost use Rattle.rp_object.specs.State.{first_state};
 ghost use Rattle.rp_object.specs.Step.{objects_next, objects_answers};
 ghost use Rattle.rp_live.specs.Events.{IsLive};
 ghost use Rattle.rp_live.specs.Faults.{IsLiveFault};
-ghost use Rattle.rp_live.specs.Lived.{IsLived};
+ghost use Rattle.rp_live.specs.LiveOutcome.{IsLiveRun};
 ghost use Rattle.rp_deck.specs.Deck.{IsRightDeck};
 ghost use Rattle.rp_deck.specs.Live.{IsDeckFor};
 
 use crate::deck_read::read_given;
 use crate::figures::{FiguresLine, milliseconds_since};
-use crate::live_output::print_lived;
+use crate::live_output::write_outcome;
 use rp_base::{Config, Fault};
 use rp_deck::{Command, Deck, DeckProgram, Line, Mode};
-use rp_live::{Lived, live};
+use rp_live::{LiveOutcome, live};
 use rp_machine::Tally;
 use rp_model::Event;
 use rp_object::{Objects, Program};
@@ -29,11 +29,11 @@ use std::sync::Wait;
 use std::thread::Threads;
 use std::time::{Clock, Instant};
 
-/// Reads a deck, runs its nodes and tasks in threads for so many turns each, and then prints what
-/// came of it. Which packets are lost, repeated and reordered follows from the seed. It returns how
-/// the run went, in figures. The deck is the one that the reader's bytes mean. Where they mean none,
+/// Reads a deck, runs its nodes and tasks in threads for n turns each, and then prints the result.
+/// Which packets are lost, repeated and reordered follows from the seed. It returns how the run
+/// went, in figures. The deck is the one that the reader's bytes mean. Where they mean none,
 /// nothing is printed, and the fault has the first bad line and the first reason on it. Any other
-/// fault leaves nothing printed, or a beginning of what came of the run.
+/// fault leaves nothing printed, or a beginning of the result of the run.
 pub fn run_live<T: Threads + Wait + Clock, R: Read, W: Write>(
     rt: &T,
     alloc: Global,
@@ -53,11 +53,11 @@ pub fn run_live<T: Threads + Wait + Clock, R: Read, W: Write>(
 {
     let deck = read_given(alloc, reader, Mode::Live)?;
     let begun = Instant::now(rt);
-    let lived = live_deck(rt, alloc, &deck, seed, turns)?;
+    let outcome = live_deck(rt, alloc, &deck, seed, turns)?;
     let milliseconds = milliseconds_since(rt, begun);
-    match print_lived(alloc, &deck.tasks, &lived, writer) {
+    match write_outcome(alloc, &deck.tasks, &outcome, writer) {
         Ok(()) => Ok(FiguresLine {
-            figures: lived.figures,
+            figures: outcome.figures,
             milliseconds,
         }),
         Err(fault) => Err(fault),
@@ -71,10 +71,10 @@ fn live_deck<T: Threads + Wait>(
     deck: &Deck,
     seed: u32,
     turns: u32,
-) -> Result<Lived, Fault>
+) -> Result<LiveOutcome, Fault>
     requires right { IsRightDeck deck.now }
     requires live { IsDeckFor Mode.Live deck.now }
-    ensures lived { IfOk result (MayCome deck.now seed turns) }
+    ensures outcome { IfOk result (IsOutcome deck.now seed turns) }
     ensures fault { IfErr result IsRunFault }
 {
     let events = events_of(alloc, deck.script.as_slice())?;
@@ -98,10 +98,10 @@ fn live_objects<T: Threads + Wait>(
     events: &[Event],
     seed: u32,
     turns: u64,
-) -> Result<Lived, Fault>
+) -> Result<LiveOutcome, Fault>
     requires config { IsRightConfig config }
     requires events { All (IsLive config.nodes) events.now }
-    ensures lived { IfOk result (IsLived objects_next objects_answers
+    ensures outcome { IfOk result (IsLiveRun objects_next objects_answers
         (λ program. first_state (arc_value program.declarations))
         config program.now events.now seed turns) }
     ensures only { IfErr result IsLiveFault }

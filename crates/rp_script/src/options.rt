@@ -11,7 +11,7 @@ use rp_deck::Task;
 pub struct RunOptions<'a> {
     pub config: Config,
     pub tasks: &'a IndexMap<String, Task>,
-    /// Whether the packets are told.
+    /// Whether the packets are printed.
     pub traced: bool,
     /// The most messages that one `drain` delivers.
     pub most: u32,

@@ -70,7 +70,7 @@ pub struct OpenedLine {
     pub node: NodeId,
     /// How many records it found.
     pub records: u64,
-    /// How many bytes behind them it cut.
+    /// How many bytes after them it truncated.
     pub bytes: u64,
 }
 

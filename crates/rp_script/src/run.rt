@@ -9,8 +9,8 @@ ghost use Rattle.rp_script.specs.Runs.{run_setting, opening_setup, HasParts, Fol
 ghost use Rattle.rp_script.specs.Stream.{Writes};
 ghost use Rattle.rp_script.specs.Faults.{IsDeviceRunFault, IsRunFault};
 
-use crate::effects::tell_effect;
-use crate::fault_line::is_refusal;
+use crate::effects::print_effect;
+use crate::fault_message::is_refusal;
 use crate::options::RunOptions;
 use crate::printed::{AppliedLine, DrainLimitLine, RefusedLine, StoppedLine};
 use crate::settled::Settled;
@@ -80,7 +80,8 @@ impl<M: Machine, D: CutDevice> Run<M, D> {
         ensures said { (play : Play) → Follows self.old.cluster.world self.old.settled play
             → Says self.new.cluster.world self.new.settled
             (W.contents writer.old) (W.contents writer.new)
-            (command_said (run_setting M.next M.answers M.begin M.image self.old.cluster options.now)
+            (command_said (run_setting M.next M.answers M.begin M.image self.old.cluster
+            options.now)
             options.now.most line.now.number play line.now.command) result }
         ensures fault { IfErr result (IsDeviceRunFault self.old.cluster.failures
             self.new.cluster.failures) }
@@ -94,7 +95,7 @@ impl<M: Machine, D: CutDevice> Run<M, D> {
         }
     }
 
-    /// Takes a step, settles its messages and prints what it tells; or prints that it was refused.
+    /// Takes a step, settles its messages and prints its effect; or prints that it was refused.
     fn step<W: Write>(
         &mut self,
         alloc: Global,
@@ -120,7 +121,7 @@ impl<M: Machine, D: CutDevice> Run<M, D> {
         match self.cluster.step(alloc, event) {
             Ok(effect) => {
                 self.settled.settle_by(event)?;
-                tell_effect(alloc, &self.cluster, options, event, &effect, writer)
+                print_effect(alloc, &self.cluster, options, event, &effect, writer)
             }
             Err(fault) if is_refusal(&fault) => print(alloc, writer, RefusedLine { line, fault }),
             Err(fault) => Err(fault),
@@ -152,7 +153,7 @@ impl<M: Machine, D: CutDevice> Run<M, D> {
         Ok(self.settled.settle_all(first, last)?)
     }
 
-    /// Delivers the least message that is not settled, until none is left or so many were delivered.
+    /// Delivers the least message that is not settled, until none is left or n were delivered.
     fn drain<W: Write>(
         &mut self,
         alloc: Global,

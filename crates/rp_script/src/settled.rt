@@ -104,7 +104,7 @@ impl Settled {
         }
     }
 
-    /// Settles the least number, and passes those that are settled behind it.
+    /// Settles the least number, and passes those that are settled after it.
     fn pass(&mut self)
         requires { least_of self.old + 1 < 2 ^ 64 }
         ensures { (m : ℕ) → is_settled self.new m

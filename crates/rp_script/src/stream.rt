@@ -47,7 +47,8 @@ pub fn read_whole<R: Read>(alloc: Global, reader: &mut R) -> Result<Vec<u8>, Fau
     Err(Fault::Io)
 }
 
-/// Writes all bytes. `Io` where a write fails or takes nothing, and then a beginning of them stands.
+/// Writes all bytes. `Io` where a write fails or takes nothing, and then a beginning of them is
+/// written.
 pub fn write_whole<W: Write>(writer: &mut W, bytes: &[u8]) -> Result<(), Fault>
     ensures written { Writes (W.contents writer.old) (W.contents writer.new) bytes.now result }
     ensures fault { IfErr result IsWriteFault }

@@ -1,4 +1,4 @@
-//! The line that a trace tells of a packet. The caller ends it by a line feed.
+//! The line of a trace for a packet. The caller ends it by a line feed.
 
 ghost use Rattle.std.specs.Prelude.{◌≡◌, Some};
 ghost use Rattle.rp_script.specs.Trace.{body_text_of, call_number, trace_line_of};
@@ -16,7 +16,7 @@ pub enum PartyText<'a> {
 }
 
 impl fmt::Display for PartyText<'_> {
-    ghost use Rattle.rp_script.specs.Telling.{shown_party};
+    ghost use Rattle.rp_script.specs.PartyText.{shown_party};
 
     ghost output = { λ p. Some (shown_party p) };
 
@@ -71,7 +71,7 @@ impl fmt::Display for RangeText {
     }
 }
 
-/// The kind of a packet, and what tells it from others of its kind: `prepare 1 9`.
+/// The kind of a packet, and what distinguishes it from others of its kind: `prepare 1 9`.
 #[derive(Clone, Copy, Debug)]
 pub struct BodyText<'a> {
     pub body: &'a Body,
@@ -167,7 +167,7 @@ pub struct TraceLine<'a> {
 }
 
 impl fmt::Display for TraceLine<'_> {
-    ghost use Rattle.rp_script.specs.Telling.{shown_party};
+    ghost use Rattle.rp_script.specs.PartyText.{shown_party};
 
     ghost output = { λ l. Some (trace_line_of l.number (shown_party l.from) (shown_party l.to)
         l.body.body.now) };

@@ -1,4 +1,4 @@
--- What the calls of a device leave, one behind another.
+-- What the calls of a device leave, one after another.
 use Rattle.std.proofs.Common.{◌≡◌, ◌⊎◌, inl, inr, ℕ, suc, ◌+◌, ◌<◌, ◌≤◌, List, ◌++◌, length, take, Result, Ok, Err, refl, sym, ap, subst, ◌∙◌, arith}
 use Rattle.std.specs.Prelude.{IfErr, OnErr, IsErrAnd}
 use Rattle.std.proofs.lemmas.List.{take_all, take_at}
@@ -67,7 +67,7 @@ read_refused old new e (inr is) refused failed =
     let f = failed is in
     subst (λ (g : Fault). IsNotOpened old g new) (sym is) (keeps_all old new f.contents (omega (arith, f.stable)) f.appends, f.cause)
 
--- ---- the whole records, and what is torn behind them
+-- ---- the whole records, and what is torn after them
 
 -- where the whole records end
 pub whole_length : (contents : List ℕ) (records : List Rec) (torn : List ℕ) → AreRecordsOf contents records torn → length contents ≡ length (records_text records) + length torn
@@ -126,7 +126,7 @@ trim_refused old mid new e same kept (inr is) refused failed =
     let cause : old.failures < new.failures = subst (λ (d : Disk). d.failures < new.failures) same (failed is) in
     subst (λ (f : Fault). IsNotOpened old f new) (sym is) (kept, cause)
 
--- a sync behind a trim that failed
+-- a sync after a trim that failed
 pub opening_failed : (old new : Disk) (e : Fault) → e ≡ Device → KeepsRecords old new → old.failures < new.failures → IsNotOpened old e new
 opening_failed old new e is kept cause = subst (λ (f : Fault). IsNotOpened old f new) (sym is) (kept, cause)
 

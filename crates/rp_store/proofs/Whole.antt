@@ -101,7 +101,7 @@ record Fits (others records : List Rec) (rest torn : List ℕ) : Type 0 where
   pub parts : records ≡ others ++ more
   pub left : List ℕ
   pub are : AreTextsOf more left
-  pub behind : rest ≡ left ++ torn
+  pub following : rest ≡ left ++ torn
 
 fits : (others records : List Rec) (front rest texts torn : List ℕ) → AllByRecursion IsRecord others → AllByRecursion IsRecord records → AreTextsOf others front → AreTextsOf records texts → (BeginsWithRecord torn → ⊥)
     → front ++ rest ≡ texts ++ torn → Fits others records rest torn
@@ -110,21 +110,21 @@ fits [] records front rest texts torn left right first second none e = record {
   parts = refl;
   left = texts;
   are = second;
-  behind = ap (λ (l : List ℕ). l ++ rest) (sym first) ∙ e;
+  following = ap (λ (l : List ℕ). l ++ rest) (sym first) ∙ e;
 }
 fits (o ∷ others) [] front rest texts torn left right (after, (v, has, parts), first) second none e =
     absurd (none (o, after ++ rest, left.0, (v, has, ap (λ (l : List ℕ). l ++ torn) (sym second) ∙ sym e ∙ ap (λ (l : List ℕ). l ++ rest) parts ∙ append_assoc (record_text_at v o) after rest)))
-fits (o ∷ others) (r ∷ records) front rest texts torn left right (after, (v, has, parts), first) (behind, (w, also, pieces), second) none e =
-    let same = same_record o r (after ++ rest) (behind ++ torn) (front ++ rest) left.0 right.0
+fits (o ∷ others) (r ∷ records) front rest texts torn left right (after, (v, has, parts), first) (following, (w, also, pieces), second) none e =
+    let same = same_record o r (after ++ rest) (following ++ torn) (front ++ rest) left.0 right.0
     (v, has, ap (λ (l : List ℕ). l ++ rest) parts ∙ append_assoc (record_text_at v o) after rest)
-    (w, also, e ∙ ap (λ (l : List ℕ). l ++ torn) pieces ∙ append_assoc (record_text_at w r) behind torn) in
-    let deeper = fits others records after rest behind torn left.1 right.1 first second none same.1 in
+    (w, also, e ∙ ap (λ (l : List ℕ). l ++ torn) pieces ∙ append_assoc (record_text_at w r) following torn) in
+    let deeper = fits others records after rest following torn left.1 right.1 first second none same.1 in
     record {
       more = deeper.more;
       parts = ap (λ (rs : List Rec). r ∷ rs) deeper.parts ∙ ap (λ (q : Rec). q ∷ (others ++ deeper.more)) (sym same.0);
       left = deeper.left;
       are = deeper.are;
-      behind = deeper.behind;
+      following = deeper.following;
     }
 
 -- what ends where no record begins is the longest
@@ -137,7 +137,7 @@ are_records contents records texts torn are whole each none = record {
   longest = λ others front rest all first e.
       let same = sym e ∙ whole in
       let f = fits others records front rest texts torn all each first are none same in
-      omega (arith, ap length same, length-append front rest, length-append texts torn, ap length f.behind, length-append f.left torn);
+      omega (arith, ap length same, length-append front rest, length-append texts torn, ap length f.following, length-append f.left torn);
 }
 
 pub none_torn : (contents : List ℕ) (records : List Rec) (torn : List ℕ) → AreRecordsOf contents records torn → BeginsWithRecord torn → ⊥
@@ -151,10 +151,10 @@ same_reading contents torn rest records others are also =
     let same = sym also.whole ∙ are.whole in
     let f = fits others records also.texts rest are.texts torn also.each are.each also.are are.are (none_torn contents records torn are) same in
     let short = also.longest records are.texts torn are.each are.are are.whole in
-    let little : length f.left ≤ 0 = omega (arith, short, ap length same, length-append also.texts rest, length-append are.texts torn, ap length f.behind, length-append f.left torn) in
+    let little : length f.left ≤ 0 = omega (arith, short, ap length same, length-append also.texts rest, length-append are.texts torn, ap length f.following, length-append f.left torn) in
     let nothing : f.left ≡ [] = nil_from_length f.left (omega (arith, little)) in
     let none = no_text f.more f.left f.are little in
-    (f.parts ∙ ap (λ (rs : List Rec). others ++ rs) none ∙ append-nil others, sym (f.behind ∙ ap (λ (l : List ℕ). l ++ torn) nothing))
+    (f.parts ∙ ap (λ (rs : List Rec). others ++ rs) none ∙ append-nil others, sym (f.following ∙ ap (λ (l : List ℕ). l ++ torn) nothing))
 
 -- ---- contents that end with their records
 
@@ -217,11 +217,11 @@ pub after_stop : (contents torn rest : List ℕ) (front more others : List Rec) 
 after_stop contents torn rest front more others kept are long left =
     let parted = texts_part front more are.texts are.are in
     let within : length parted.front ≤ kept = omega (arith, long, texts_long front parted.front parted.firsts) in
-    let behind = parted.rest ++ torn in
-    let whole : contents ≡ parted.front ++ behind =
+    let following = parted.rest ++ torn in
+    let whole : contents ≡ parted.front ++ following =
     are.whole ∙ ap (λ (l : List ℕ). l ++ torn) parted.parts ∙ append_assoc parted.front parted.rest torn in
-    let cut = sym (ap (λ (l : List ℕ). take kept l) whole ∙ take_past parted.front behind kept within) in
-    let f = fits front others parted.front (take (kept - length parted.front) behind) left.texts rest (all_front front more are.each) left.each parted.firsts left.are (none_torn _ others rest left) (cut ∙ left.whole) in
+    let cut = sym (ap (λ (l : List ℕ). take kept l) whole ∙ take_past parted.front following kept within) in
+    let f = fits front others parted.front (take (kept - length parted.front) following) left.texts rest (all_front front more are.each) left.each parted.firsts left.are (none_torn _ others rest left) (cut ∙ left.whole) in
     (f.more, f.parts)
 
 -- ---- what a refused opening leaves
@@ -261,9 +261,9 @@ record_found rest r used (s, after, is, (v, has, parts)) only =
     let same : r ≡ s = ap (λ (x : Rec × ℕ). x.0) pair in
     let len : used ≡ length (record_text s) = ap (λ (x : Rec × ℕ). x.1) pair in
     let long : length (record_text_at v s) ≡ used = record_long_at v s ∙ sym len in
-    let behind : drop used rest ≡ after = ap (λ (l : List ℕ). drop used l) parts ∙ drop_at (record_text_at v s) after used long in
+    let following : drop used rest ≡ after = ap (λ (l : List ℕ). drop used l) parts ∙ drop_at (record_text_at v s) after used long in
     subst (λ (q : Rec). IsRecord q × IsRecordTextBefore q (drop used rest) rest) (sym same)
-    (is, (v, has, parts ∙ ap (λ (l : List ℕ). record_text_at v s ++ l) (sym behind)))
+    (is, (v, has, parts ∙ ap (λ (l : List ℕ). record_text_at v s ++ l) (sym following)))
 
 -- and that text has some bytes, all of them there
 pub record_taken : (rest : List ℕ) (r : Rec) (used : ℕ) → BeginsWithRecord rest

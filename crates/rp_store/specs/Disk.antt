@@ -1,5 +1,5 @@
--- What a device holds, and what its calls do to it (this project's own). A device only appends: what
--- it was given stands in order, and only a cut takes bytes away, from the end.
+-- What a device holds, and what its calls do to it. A device only appends: what it was given is there in order, and
+-- only a cut takes bytes away, from the end.
 use Rattle.std.specs.Prelude.{◌≡◌, ℕ, suc, ◌+◌, ◌<◌, ◌≤◌, min, nat_lt, if◌then◌else◌, List, [], ◌++◌, length, take}
 
 -- Its bytes, how many of them a stop leaves for sure, how many calls failed so far, and how many
@@ -46,7 +46,7 @@ disk_of m = record {
   cuts = m.cuts;
 }
 
--- after an append: the bytes stand at the end, and none of them is stable
+-- after an append: the bytes are at the end, and none of them is stable
 abbrev pub appended : List ℕ → Disk → Disk
 appended bytes d = record d { contents = d.contents ++ bytes; appends = suc d.appends }
 
@@ -58,11 +58,11 @@ synced d = record d { stable = length d.contents; syncs = suc d.syncs }
 abbrev pub read_once : Disk → Disk
 read_once d = record d { reads = suc d.reads }
 
--- after a cut: so many bytes from the front are left
+-- after a cut: n bytes from the front are left
 abbrev pub cut_to : ℕ → Disk → Disk
 cut_to len d = record d { contents = take len d.contents; stable = min d.stable len; cuts = suc d.cuts }
 
--- after a stop: what was stable, and so many of the bytes behind it, or all if there are no more
+-- after a stop: what was stable, and n of the bytes after it, or all if there are no more
 abbrev pub stopped : ℕ → Disk → Disk
 stopped kept d = record d { contents = take (d.stable + kept) d.contents }
 
@@ -74,8 +74,8 @@ pub record ReadFailed (old new : Disk) : Type 0 where
   pub appends : new.appends ≡ old.appends
   pub cuts : new.cuts ≡ old.cuts
 
--- after an append, or the sync behind one, that failed: the old contents and some beginning of the
--- bytes; no sync succeeded, and nothing was read or cut
+-- after an append, or the sync after one, that failed: the old contents and some beginning of the bytes; no sync
+-- succeeded, and nothing was read or cut
 pub record AppendFailed (bytes : List ℕ) (old new : Disk) : Type 0 where
   pub cause : old.failures < new.failures
   pub contents : (kept : ℕ) × (new.contents ≡ old.contents ++ take kept bytes)
@@ -117,7 +117,7 @@ pub record KeepsFront (len : ℕ) (old new : Disk) : Type 0 where
   pub stable : min old.stable len ≤ new.stable
   pub appends : new.appends ≡ old.appends
 
--- What stood behind the front is off, by one cut if there was something and by none else.
+-- What was after the front is off, by one cut if there was something and by none else.
 pub record IsTrimmed (len torn : ℕ) (old new : Disk) : Type 0 where
   pub contents : new.contents ≡ take len old.contents
   pub stable : min old.stable len ≤ new.stable

@@ -1,4 +1,4 @@
--- What opening a device does (this project's own).
+-- What opening a device does.
 use Rattle.std.specs.Prelude.{◌≡◌, ℕ, suc, ◌<◌, nat_lt, if◌then◌else◌, List, [], ◌++◌, length}
 use Rattle.rp_base.specs.declared.fault.Fault.{Fault}
 use Rattle.rp_base.specs.declared.fault.Fault.TheVariants.{OutOfMemory, Device}
@@ -6,9 +6,8 @@ use Rattle.rp_base.specs.declared.record.Rec.{Rec}
 use Rattle.rp_store.specs.Disk.{Disk, IsReadAtMost}
 use Rattle.rp_store.specs.Records.{AreRecordsOf, KeepsRecords}
 
--- The whole records of the device are told and kept, what was torn behind them is cut off, and all
--- that is left is stable. It was read once and synced once, cut only where something was torn, and
--- nothing was appended.
+-- The whole records of the device are returned and kept, what was torn after them is truncated, and all that is left
+-- is stable. It was read once and synced once, truncated only where something was torn, and nothing was appended.
 pub record IsOpened (old : Disk) (records : List Rec) (cut_bytes : ℕ) (new : Disk) : Type 0 where
   pub found : (torn : List ℕ) × AreRecordsOf old.contents records torn × (cut_bytes ≡ length torn)
   pub contents : old.contents ≡ new.contents ++ found.0

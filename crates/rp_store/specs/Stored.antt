@@ -1,4 +1,4 @@
--- What a store is to its callers (this project's own).
+-- What a store is to its callers.
 use Rattle.std.specs.Prelude.{◌≡◌, ℕ, Bool, true, false, List}
 use Rattle.rp_base.specs.declared.fault.Fault.{Fault}
 use Rattle.rp_base.specs.declared.fault.Fault.TheVariants.{OutOfMemory, Device, Failed}
@@ -14,13 +14,13 @@ pub record IsUnchanged {D : Type 0} (disk : D → Disk) (old new : Stored D) : T
   pub disk_same : disk new.device ≡ disk old.device
   pub failed : new.failed ≡ old.failed
 
--- The text stands behind the old contents, and all is stable after one sync. Nothing was read or cut.
+-- The text is after the old contents, and all is stable after one sync. Nothing was read or cut.
 pub record IsPut {D : Type 0} (disk : D → Disk) (text : List ℕ) (old new : Stored D) : Type 0 where
   pub disk_is : disk new.device ≡ synced (appended text (disk old.device))
   pub worked : old.failed ≡ false
   pub working : new.failed ≡ false
 
--- some beginning of the text may stand behind the old contents, and the device has failed
+-- some beginning of the text may be after the old contents, and the device has failed
 pub record FailsInPut {D : Type 0} (disk : D → Disk) (text : List ℕ) (old new : Stored D) : Type 0 where
   pub disk_is : AppendFailed text (disk old.device) (disk new.device)
   pub worked : old.failed ≡ false

@@ -1,4 +1,4 @@
--- What a stop inside a put leaves (this project's own).
+-- What a stop inside a put leaves.
 use Rattle.std.specs.Prelude.{◌≡◌, ℕ, true, false, List}
 use Rattle.rp_base.specs.declared.fault.Fault.TheVariants.{OutOfMemory, Failed}
 use Rattle.rp_store.specs.declared.store.NotTorn.{NotTorn}
@@ -6,8 +6,8 @@ use Rattle.rp_store.specs.declared.store.NotTorn.TheVariants.{Failed as DeviceFa
 use Rattle.rp_store.specs.Disk.{Disk, appended, stopped, AppendFailed}
 use Rattle.rp_store.specs.Stored.{Stored, IsUnchanged}
 
--- The store had not failed, and its device holds the old contents and the first bytes of the text, so
--- many as a stop keeps. Nothing was synced.
+-- The store had not failed, and its device holds the old contents and the first bytes of the text, as many as a stop
+-- keeps. Nothing was synced.
 pub record IsTorn {D : Type 0} (disk : D → Disk) (text : List ℕ) (kept : ℕ) (old : Stored D) (new : D) : Type 0 where
   pub disk_is : disk new ≡ stopped kept (appended text (disk old.device))
   pub worked : old.failed ≡ false

@@ -10,7 +10,7 @@ use std::alloc::Global;
 /// Bytes that stay where they were put. What was synced stays whatever happens. Of what was
 /// appended since, a stop of the node leaves some beginning.
 ///
-/// A call fails with `Fault::Device`, which raises the failure count, or is refused for want of
+/// A call fails with `Fault::Device`, which raises the failure count, or is refused when out of
 /// memory with `Fault::OutOfMemory`, and then nothing has changed. There is no other fault. A call
 /// that succeeds is counted by its kind.
 pub trait Device: Drop {
@@ -18,7 +18,7 @@ pub trait Device: Drop {
     ghost disk: { Self → Disk };
 
     /// Puts the bytes at the end. They are stable once `sync` has succeeded. Where it fails, some
-    /// beginning of them may stand there.
+    /// beginning of them may be there.
     fn append(&mut self, bytes: &[u8]) -> Result<(), Fault>
         ensures ok { OnOk result (disk self.new ≡ appended bytes.now (disk self.old)) }
         ensures refused { IsErrOf result Fault.OutOfMemory → disk self.new ≡ disk self.old }

@@ -13,7 +13,7 @@ pub fn one_reading()
 {}
 
 /// A stop inside `put`, or a failure there, leaves the old contents and some beginning of the
-/// record's text: the old records with what is torn behind them, or those and the new one.
+/// record's text: the old records with what is torn after them, or those and the new one.
 pub fn stop_inside_put()
     ensures before { (contents : List ℕ) (records : List Rec) (r : Rec) (kept : ℕ)
         → AreRecordsOf contents records [] → IsRecord r → kept < length (record_text r)

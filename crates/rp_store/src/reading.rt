@@ -7,7 +7,7 @@ use rp_base::Rec;
 use rp_codec::decode_front;
 use std::alloc::{AllocError, Global};
 
-/// The records of the bytes, and how many bytes are torn behind them. It goes over the bytes once.
+/// The records of the bytes, and how many bytes are torn after them. It goes over the bytes once.
 pub(crate) fn whole_records(alloc: Global, bytes: &[u8]) -> Result<(Vec<Rec>, usize), AllocError>
     ensures records { IfOk result (λ found. (torn : List ℕ)
         × AreRecordsOf bytes.now found.0.items torn × (length torn ≡ found.1)) }

@@ -36,20 +36,20 @@ pub struct Opened<D: Device> {
     pub store: Store<D>,
     /// The whole records that the device held, in order.
     pub records: Vec<Rec>,
-    /// How many bytes stood behind them.
+    /// How many bytes were after them.
     pub cut_bytes: u64,
 }
 
 /// A record that was not torn.
 #[derive(Drop)]
 pub enum NotTorn<D: Device> {
-    /// The device failed. Some beginning of the record's text may stand at its end.
+    /// The device failed. Some beginning of the record's text may be at its end.
     Failed(D),
     /// Nothing has changed: 1 memory ran out, 3 the device had failed before.
     Refused(Fault, Store<D>),
 }
 
-/// Cuts off what is torn behind the whole records, if anything is.
+/// Truncates what is torn after the whole records, if anything is.
 fn trim<D: Device>(device: &mut D, whole: usize, torn: usize) -> Result<(), Fault>
     requires { whole + torn ≡ length (D.disk device.old).contents }
     ensures ok { OnOk result (IsTrimmed whole torn (D.disk device.old) (D.disk device.new)) }
@@ -66,7 +66,7 @@ fn trim<D: Device>(device: &mut D, whole: usize, torn: usize) -> Result<(), Faul
     device.cut(whole as u64)
 }
 
-/// Reads the device, cuts off what is torn and syncs. One sync, whatever it holds.
+/// Reads the device, truncates what is torn and syncs. One sync, whatever it holds.
 fn restore<D: Device>(alloc: Global, device: &mut D) -> Result<(Vec<Rec>, u64), Fault>
     ensures ok { IfOk result (λ found.
         IsOpened (D.disk device.old) found.0.items found.1 (D.disk device.new)) }
@@ -96,10 +96,10 @@ fn write<D: Device>(device: &mut D, text: &[u8]) -> Result<(), Fault>
 impl<D: Device> Store<D> {
     ghost use Rattle.rp_store.specs.Stored.{IsPut, IsNotPut};
 
-    /// Reads the records of a device, of version 1 and 2 in any order, cuts off what is torn behind
+    /// Reads the records of a device, of version 1 and 2 in any order, truncates what is torn after
     /// them, and syncs, so that all that it read is stable. It appends nothing. Refused with
-    /// `OutOfMemory`, and then nothing has changed, or with `Device` where the device failed: it holds
-    /// each whole record that it held, and behind them some beginning of what was torn.
+    /// `OutOfMemory`, and then nothing has changed, or with `Device` where the device failed: it
+    /// holds each whole record that it held, and after them some beginning of what was torn.
     pub fn open(alloc: Global, device: D) -> Result<Opened<D>, (Fault, D)>
         ensures ok { IfOk result (λ opened. IsOpened (D.disk device)
             opened.records.items opened.cut_bytes (D.disk opened.store.device)) }
@@ -121,11 +121,12 @@ impl<D: Device> Store<D> {
         }
     }
 
-    /// Appends the record's text, of version 2, and syncs. It never cuts, and reads nothing. It takes
-    /// no memory but the device's, and costs what the text is long, whatever the device holds. The
-    /// record is a right one: opening would cut off any other, and all records behind it. Refused with
-    /// `Failed` where the device failed since it was opened, or with `OutOfMemory`: then nothing has
-    /// changed. After `Device`, some beginning of the text may stand at the end.
+    /// Appends the record's text, of version 2, and syncs. It never cuts, and reads nothing. It
+    /// takes no memory but the device's, and costs what the text is long, whatever the device
+    /// holds. The record is a right one: opening would truncate any other, and all records after
+    /// it. Refused with `Failed` where the device failed since it was opened, or with
+    /// `OutOfMemory`: then nothing has changed. After `Device`, some beginning of the text may be
+    /// at the end.
     #[inline(always)]
     pub fn put(&mut self, rec: &Rec) -> Result<(), Fault>
         requires { IsRightRecord rec.now }
@@ -155,7 +156,7 @@ impl<D: Device> Store<D> {
         self.device.len()
     }
 
-    /// The device, as it stands.
+    /// The device, as it is.
     pub fn close(self) -> D
         ensures { result ≡ self.device }
     {

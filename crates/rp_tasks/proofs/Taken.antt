@@ -43,5 +43,5 @@ released_took word text line h =
     let i = word % length line.held in
     elim (Has-append text (take i line.held) (drop (suc i) line.held) h) [
       | inl before ↦ Has-take text i line.held before
-      | inr behind ↦ Has-drop text (suc i) line.held behind
+      | inr following ↦ Has-drop text (suc i) line.held following
     ]

@@ -1,9 +1,9 @@
--- A task's calls as its stub keeps them (this project's own).
+-- A task's calls as its stub keeps them.
 use Rattle.std.specs.Prelude.{ℕ, ◌+◌, Option, Some, None, is_some, if◌then◌else◌}
 use Rattle.rp_base.specs.declared.fault.Fault.{Fault}
 use Rattle.rp_base.specs.declared.fault.Fault.TheVariants.{TaskBusy, NumbersSpent}
 use Rattle.rp_base.specs.declared.action.Action.{Action}
-use Rattle.rp_base.specs.Calls.{are_spent}
+use Rattle.rp_base.specs.Calls.{are_exhausted}
 
 -- a task, how many calls it has made, and the one that has no reply yet
 pub record Calls : Type 0 where
@@ -15,11 +15,11 @@ pub record Calls : Type 0 where
 abbrev pub no_calls : ℕ → Calls
 no_calls task = record { task = task; made = 0; outstanding = None }
 
--- why the next call is refused, if it is: while one is outstanding, and else once the numbers are spent
+-- why the next call is refused, if it is: while one is outstanding, and else once the numbers are exhausted
 abbrev pub refusal_of : Calls → Option Fault
 refusal_of calls =
     if is_some calls.outstanding then Some TaskBusy
-    else if are_spent calls.made then Some NumbersSpent else None
+    else if are_exhausted calls.made then Some NumbersSpent else None
 
 -- the calls once this one is made
 abbrev pub with_call : Calls → Action → Calls

@@ -1,6 +1,7 @@
--- A line that loses packets, doubles them and changes their order, as its words say (this project's
--- own). The words are the stream of ChaCha20 (RFC 8439, with a counter and a nonce of 64 bits each).
-use Rattle.std.specs.Prelude.{ℕ, ◌%◌, nat_lt, Option, List, [], ◌++◌, length, take, replicate, remove, slice_get, if◌then◌else◌}
+-- A line that loses packets, doubles them and changes their order, as its words say. The words are the stream of
+-- ChaCha20 (RFC 8439, with a counter and a nonce of 64 bits each).
+use Rattle.std.specs.Prelude.{ℕ, ◌%◌, nat_lt, Option, List, [], ◌++◌, length, take, replicate, remove, slice_get}
+use Rattle.std.specs.Prelude.{if◌then◌else◌}
 use Rattle.rand_chacha.specs.ChaCha.{ChaCha, next_word, of_seed}
 
 -- the packets that are held, in the order in which they were accepted, and the generator of the words
@@ -25,8 +26,7 @@ drawn line = record line { words = (next_word 10 line.words).1 }
 abbrev pub copies_of : ℕ → ℕ
 copies_of word = if nat_lt (word % 16) 2 then 0 else if nat_lt (word % 16) 4 then 2 else 1
 
--- the line once it took a packet: the copies stand behind what is held, and what finds no place
--- among 16 is lost
+-- the line once it took a packet: the copies are after what is held, and what finds no place among 16 is lost
 abbrev pub accepted : ℕ → List ℕ → Line → Line
 accepted word packet line = record line { held = take 16 (line.held ++ replicate (copies_of word) packet) }
 

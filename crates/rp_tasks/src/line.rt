@@ -15,7 +15,7 @@ use std::snapshot::Snapshot;
 /// How many packets a line holds at most.
 const ROOM: usize = 16;
 
-/// In so many cases of a word a packet is lost in two, and doubled in two.
+/// Of n cases of a word a packet is lost in two, and doubled in two.
 const CASES: u32 = 16;
 
 /// How many buffers a line keeps for second copies.
@@ -154,7 +154,7 @@ impl FaultLine {
     }
 
     /// Gives on the packet whose place, counted from 0 in the order of acceptance, is the word
-    /// modulo the number held; those behind it move up. `None` where nothing is held.
+    /// modulo the number held; those after it move up. `None` where nothing is held.
     pub fn release_by(&mut self, word: u32) -> Option<Vec<u8>>
         ensures packet { option_map (λ packet. packet.items) result ≡ picked word self.old }
         ensures after { self.new ≡ released word self.old }
@@ -215,7 +215,7 @@ impl FaultLine {
         }
     }
 
-    /// Holds a packet behind the others, or loses it where there is no place.
+    /// Holds a packet after the others, or loses it where there is no place.
     fn hold_one(&mut self, packet: Vec<u8>)
         ensures { self.new
             ≡ record self.old { held = take 16 (self.old.held ++ packet.items ∷ []) } }

@@ -135,7 +135,7 @@ fn a_fault_has_its_number_and_name(rt: HostRuntime) {
 }
 
 #[test]
-fn a_node_that_comes_twice_counts_once(rt: HostRuntime) {
+fn a_node_that_is_added_twice_counts_once(rt: HostRuntime) {
     let cases: [(&[u8], usize); 4] = [
         (&[], 0),
         (&[4], 1),

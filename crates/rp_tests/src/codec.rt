@@ -244,7 +244,7 @@ fn an_entry_is_read_by_the_version_of_its_text(rt: HostRuntime) -> Result<(), Fa
         (2, 5, Err(PacketReason::Field)),
         (3, 1, Err(PacketReason::Version)),
     ];
-    for (version, index, wanted) in cases {
+    for (version, index, expected) in cases {
         let found = match decode(rt.alloc(), &entry_call(version, index))? {
             Ok(packet) => match packet.body() {
                 Body::Call {
@@ -257,7 +257,7 @@ fn an_entry_is_read_by_the_version_of_its_text(rt: HostRuntime) -> Result<(), Fa
             },
             Err(reason) => Err(reason),
         };
-        assert_eq!(rt; found, wanted);
+        assert_eq!(rt; found, expected);
     }
     Ok(())
 }
@@ -270,11 +270,11 @@ const REPORT: [u8; 26] = [
 
 const REPORT_OF_NONE: [u8; 9] = [2, 10, 1, 32, 0, 2, 0, 1, 0];
 
-fn report(alloc: Global, first: u16, applied: u16, told: &[Action]) -> Result<Body, Fail> {
+fn report(alloc: Global, first: u16, applied: u16, stated: &[Action]) -> Result<Body, Fail> {
     Ok(Body::Report {
         first: Position::new(first).ok_or("a position")?,
         applied,
-        actions: Actions::from_vec(Vec::from_slice(alloc, told)?),
+        actions: Actions::from_vec(Vec::from_slice(alloc, stated)?),
     })
 }
 
@@ -303,7 +303,7 @@ fn a_node_asks_and_reports(rt: HostRuntime) -> Result<(), Fail> {
 }
 
 #[test]
-fn a_report_tells_at_most_200_actions(rt: HostRuntime) -> Result<(), Fail> {
+fn a_report_has_at_most_200_actions(rt: HostRuntime) -> Result<(), Fail> {
     let most = report(rt.alloc(), 1, 300, &[call(); 200])?;
     let packet = Packet::checked(node(1)?, Party::Audit, most).ok_or("the report keeps the rules")?;
     let text = encode(rt.alloc(), &packet)?;
@@ -549,7 +549,7 @@ fn no_wrong_packet_is_made(rt: HostRuntime) -> Result<(), Fail> {
 }
 
 #[test]
-fn a_packet_tells_its_parts(rt: HostRuntime) -> Result<(), Fail> {
+fn a_packet_gives_its_parts(rt: HostRuntime) -> Result<(), Fail> {
     let packet = decode(rt.alloc(), &NACK)??;
     assert_eq!(rt; packet.from(), node(3)?);
     assert_eq!(rt; packet.to(), node(1)?);

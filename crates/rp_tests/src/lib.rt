@@ -1,5 +1,5 @@
-//! Tests of texts, of the parts of a node and of tasks by their public calls: worked rows, vectors from outside,
-//! happy paths. They stand above the crates, so that each crate is proved once.
+//! Tests of texts, of the parts of a node and of tasks by their public calls: worked rows, vectors
+//! from outside, happy paths. They are above the crates, so that each crate is proved once.
 #![tactic(auto)]
 
 #[cfg(test)]

@@ -60,7 +60,7 @@ fn what_is_learned_first_at_a_position_stays(rt: HostRuntime) -> Result<(), Fail
 }
 
 #[test]
-fn the_ends_of_what_is_learned_are_told(rt: HostRuntime) -> Result<(), Fail> {
+fn the_ends_of_what_is_learned_are_returned(rt: HostRuntime) -> Result<(), Fail> {
     let cases: [(&[u16], u32, Option<u16>); 6] = [
         (&[], 1, None),
         (&[1], 2, Some(1)),

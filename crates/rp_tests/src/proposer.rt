@@ -84,13 +84,13 @@ fn the_own_action_is_offered_once_where_no_vote_is_reported(rt: HostRuntime) -> 
     one_offer_at_most();
     let mut proposer = leader(rt.alloc())?;
     let first = Position::first();
-    for (sender, want) in [
+    for (sender, expected) in [
         (2, Progress::Waiting),
         (1, Progress::Offer(A)),
         (3, Progress::Waiting),
     ] {
         let progress = proposer.promise(node(sender)?, first, ballot(9)?, None);
-        assert_eq!(rt; progress, want, "{sender}");
+        assert_eq!(rt; progress, expected, "{sender}");
         proposer.note_promise(node(sender)?, first, ballot(9)?, None);
     }
     Ok(())

@@ -121,7 +121,7 @@ fn the_stream_says_what_is_lost_and_given_on(rt: HostRuntime) -> Result<(), Fail
 }
 
 #[test]
-fn a_call_comes_out_of_the_line_as_it_went_in(rt: HostRuntime) -> Result<(), Fail> {
+fn a_call_leaves_the_line_as_it_entered_it(rt: HostRuntime) -> Result<(), Fail> {
     let mut stub = Stub::new(TaskId::first());
     let from = Party::Task(TaskId::first());
     let to = Party::Node(NodeId::new(1).ok_or("node 1")?);

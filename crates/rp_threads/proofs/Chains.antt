@@ -7,7 +7,7 @@ use Rattle.rp_base.specs.declared.fault.Fault.TheVariants.{OutOfMemory, Device, 
 use Rattle.rp_base.specs.declared.reply.Answer.{Answer}
 use Rattle.rp_tasks.specs.Line.{Line}
 use Rattle.rp_boxes.specs.Parts.{Part}
-use Rattle.rp_boxes.specs.Seats.{Chair, IsStopped}
+use Rattle.rp_boxes.specs.Seats.{SeatState, IsStopped}
 use Rattle.rp_threads.specs.Loops.{IsSameSeat, counted, events_of, is_refusal, sender_at, total_of, turns_off}
 use Rattle.rp_threads.specs.Rounds.{NodeAt, AreTurns, IsEndedBy, IsNextTurn, IsNodeFault, IsUnmade, before_turns, is_to_lead}
 use Rattle.rp_threads.specs.Threads.{IsLooped, end_of}
@@ -20,15 +20,15 @@ use Rattle.rp_threads.proofs.Rounds.{led_off, counted_total, counted_events, cou
 use Rattle.rp_threads.proofs.Steps.{same_seat, same_on}
 use Rattle.rp_threads.proofs.Stops.{IsSound, IsLeft, IsCause, sound_same, sound_on, turned_sound, unmade_left}
 
--- What so many turns leave of a seat, and what they count.
-record HasTurned {P : Type 0} (first : NodeAt P) (n : ℕ) (now : NodeAt P) : Type 0 where
+-- What n turns leave of a seat, and what they count.
+record HasMadeTurn {P : Type 0} (first : NodeAt P) (n : ℕ) (now : NodeAt P) : Type 0 where
   same : IsSameSeat first.seat now.seat
   sound : IsSound first.seat now.seat
   total : total_of now.counts ≡ total_of first.counts + n
   events : now.seat.part.events + (first.counts.received + first.counts.led) ≡ first.seat.part.events + (now.counts.received + now.counts.led)
   idle : first.counts.idle ≡ 0 → now.counts.idle ≤ turns_off (8 + first.seat.number) n
 
-none_turned : {P : Type 0} (first : NodeAt P) → HasTurned first 0 first
+none_turned : {P : Type 0} (first : NodeAt P) → HasMadeTurn first 0 first
 none_turned first = record {
   same = same_seat first.seat first.seat refl;
   sound = sound_same first.seat first.seat refl;
@@ -38,7 +38,7 @@ none_turned first = record {
 }
 
 module _ {S P : Type 0} (next : S → Action → S) (answers : S → Action → List Answer) (begin : P → S) (lets : ℕ → ℕ → Bool) (heard : ℕ → ℕ → ℕ → Type 0) (nodes : ℕ) where
-  one_turned : (first before now : NodeAt P) (n : ℕ) → HasTurned first n before → IsNextTurn next answers begin lets heard nodes (suc n) before now → HasTurned first (suc n) now
+  one_turned : (first before now : NodeAt P) (n : ℕ) → HasMadeTurn first n before → IsNextTurn next answers begin lets heard nodes (suc n) before now → HasMadeTurn first (suc n) now
   one_turned first before now n has t =
       let from = sender_at nodes (suc n) in
       let number = before.seat.number in
@@ -63,13 +63,13 @@ module _ {S P : Type 0} (next : S → Action → S) (answers : S → Action → 
             (counted_idle t.made before.counts number first.seat.number n (suc n) refl has.same.number off (has.idle none));
       }
 
-  all_turned : (first : NodeAt P) (n : ℕ) (now : NodeAt P) → AreTurns next answers begin lets heard nodes first n now → HasTurned first n now
-  all_turned first zero now are = subst (λ (at : NodeAt P). HasTurned first 0 at) (sym are) (none_turned first)
+  all_turned : (first : NodeAt P) (n : ℕ) (now : NodeAt P) → AreTurns next answers begin lets heard nodes first n now → HasMadeTurn first n now
+  all_turned first zero now are = subst (λ (at : NodeAt P). HasMadeTurn first 0 at) (sym are) (none_turned first)
   all_turned first (suc n) now are = one_turned first are.0 now n (all_turned first n are.0 are.1) are.2
 
   -- ---- ends of loops
 
-  cause_of : (first before last : Chair P) (fault : Fault) → is_refusal fault ≡ false → IsSound first before → IsLeft before last fault → IsNodeFault first last fault
+  cause_of : (first before last : SeatState P) (fault : Fault) → is_refusal fault ≡ false → IsSound first before → IsLeft before last fault → IsNodeFault first last fault
   cause_of first before last fault ends sound (inl device) =
       subst (IsNodeFault first last) (sym device.0) (subst (λ (n : ℕ). n < last.failures) sound.failures device.1)
   cause_of first before last fault ends sound (inr (left)) = elim left.1 [
@@ -80,11 +80,11 @@ module _ {S P : Type 0} (next : S → Action → S) (answers : S → Action → 
     ]
   ]
 
-  kept_failures : (first before last : Chair P) (fault : Fault) → IsSound first before → IsLeft before last fault → fault ≢ Device → last.failures ≡ first.failures
+  kept_failures : (first before last : SeatState P) (fault : Fault) → IsSound first before → IsLeft before last fault → fault ≢ Device → last.failures ≡ first.failures
   kept_failures first before last fault sound (inl device) other = absurd (other device.0)
   kept_failures first before last fault sound (inr left) other = left.0.failures ∙ sound.failures
 
-  module _ {M D : Type 0} (turns : ℕ) (seat : Chair P) (line : Line) (lost : ℕ) where
+  module _ {M D : Type 0} (turns : ℕ) (seat : SeatState P) (line : Line) (lost : ℕ) where
     abbrev IsEnd : NodeEnd M D P → Type 0
     IsEnd end = IsLooped next answers begin lets heard nodes turns seat line end
 
@@ -103,7 +103,7 @@ module _ {S P : Type 0} (next : S → Action → S) (answers : S → Action → 
           fault = tt;
         }
 
-    pub ended : (done : ℕ) (before : NodeAt P) (last : Chair P) (after : Line) (fault : Fault) → AreTurns next answers begin lets heard nodes (before_turns seat line) done before → done < turns
+    pub ended : (done : ℕ) (before : NodeAt P) (last : SeatState P) (after : Line) (fault : Fault) → AreTurns next answers begin lets heard nodes (before_turns seat line) done before → done < turns
         → is_refusal fault ≡ false → lets before.seat.number (suc done) ≡ true
         → IsUnmade next answers begin (sender_at nodes (suc done)) (is_to_lead before.seat.number (suc done)) before.seat last before.line after fault
         → IsEnd (end_of before.counts last lost (Some fault))

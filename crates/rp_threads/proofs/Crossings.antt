@@ -28,7 +28,7 @@ use Rattle.rp_base.specs.contracts.history.History.TheKnot as knot
 use Rattle.rp_base.specs.declared.history.History.TheDeep as deep
 use Rattle.rp_learner.specs.contracts.learner.Learner as Learner
 use Rattle.rp_learner.specs.contracts.place.Place as Place
-use Rattle.rp_learner.specs.contracts.tally.Tallies as Tallies
+use Rattle.rp_learner.specs.contracts.vote_counts.VoteCounts as VoteCounts
 use Rattle.rp_machine.specs.declared.machine.Machine as machine
 use Rattle.rp_machine.specs.contracts.numbered.Numbered as Numbered
 use Rattle.rp_machine.specs.contracts.numbered.Numbered.TheInside as numbered
@@ -68,11 +68,11 @@ history_send T s = tied_send (knot.frame T) (knot.step T) (knot.sizes T) (keeps 
 
 -- ---- a replica
 
-tallies_send : IsSend Tallies.the_row
-tallies_send = search (crosses, sendable) depth 40 fits 20000
+counts_send : IsSend VoteCounts.the_row
+counts_send = search (crosses, sendable) depth 40 fits 20000
 
 learned_place_send : IsSend Place.the_row
-learned_place_send = search (crosses, sendable, tallies_send) depth 20 fits 20000
+learned_place_send = search (crosses, sendable, counts_send) depth 20 fits 20000
 
 learner_send : IsSend Learner.the_row
 learner_send = search (crosses, sendable, learned_place_send, cells.the_send, deed.the_send) depth 40 fits 20000

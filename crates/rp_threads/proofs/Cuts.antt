@@ -1,4 +1,4 @@
--- Texts of packets that are joined are cut at the length of the first.
+-- Texts of packets that are joined are split at the length of the first.
 use Rattle.std.proofs.Common.{◌≡◌, ◌≢◌, ℕ, ◌==◌, ◌≤◌, Bool, true, false, List, [], ◌∷◌, ◌++◌, length, take, drop, inl, inr, refl, sym, ap, subst, ◌∙◌, arith, length-append}
 use Rattle.std.proofs.lemmas.Bool.{eqb-true}
 use Rattle.std.proofs.Math.Seq.{take-append_seam, drop-append_seam}
@@ -12,7 +12,7 @@ use Rattle.rp_boxes.specs.Parts.{Part}
 use Rattle.rp_boxes.specs.Seats.{IsSentText}
 use Rattle.rp_threads.specs.Turns.{AreSentTexts}
 
--- so many bytes are the text of the first packet, and the others follow
+-- n bytes are the text of the first packet, and the others follow
 pub record IsFirst (part : Part) (texts : List ℕ) (len : ℕ) : Type 0 where
   pub within : len ≤ length texts
   pub text : IsSentText part (take len texts)

@@ -9,20 +9,20 @@ use Rattle.rp_codec.specs.declared.packet.Party.{Party}
 use Rattle.rp_model.specs.Parts.{Running}
 use Rattle.rp_tasks.specs.Line.{Line}
 use Rattle.rp_boxes.specs.Parts.{Part}
-use Rattle.rp_boxes.specs.Seats.{Chair, HasApplied, IsRunning}
+use Rattle.rp_boxes.specs.Seats.{SeatState, HasApplied, IsRunning}
 use Rattle.rp_threads.specs.Loops.{is_refusal, is_idle, events_of, IsSameSeat}
-use Rattle.rp_threads.specs.Rounds.{HasPending, IsToLeadAt, IsLeadAnew, IsLedAnew, IsStoppedAnew, IsMade, IsUnmade, IsMadeOrSkipped, turned_so}
+use Rattle.rp_threads.specs.Rounds.{HasPending, IsToLeadAt, IsLeadAnew, IsLedAnew, IsStoppedAnew, IsMade, IsUnmade, IsMadeOrSkipped, result_of_turn}
 use Rattle.rp_threads.specs.Turns.{IsEventBy, IsStopBy, IsNodeTurn}
 use Rattle.rp_threads.specs.declared.turns.Turn.{Turn}
 use Rattle.rp_threads.specs.declared.turns.Turn.TheVariants.{Received, Led, Idle}
-use Rattle.rp_threads.specs.declared.turns.Turned.{Turned}
+use Rattle.rp_threads.specs.declared.turns.TurnResult.{TurnResult}
 use Rattle.rp_threads.proofs.Steps.{same_part, same_seat, same_on, stop_same, stop_stays, turn_same, turn_events, turn_idle, fault_same, fault_events}
 
-module _ {S P : Type 0} (next : S → Action → S) (answers : S → Action → List Answer) (begin : P → S) (from : Party) (lead : Bool) (old new : Chair P) (line after : Line) where
+module _ {S P : Type 0} (next : S → Action → S) (answers : S → Action → List Answer) (begin : P → S) (from : Party) (lead : Bool) (old new : SeatState P) (line after : Line) where
   -- ---- it stays the same seat
 
   pub made_same : (turn : Turn) (sent : ℕ) → IsMade next answers begin from lead old new line after turn sent → IsSameSeat old new
-  made_same turn sent (inl own) = turn_same next answers begin from lead old new line after (turned_so turn sent) own
+  made_same turn sent (inl own) = turn_same next answers begin from lead old new line after (result_of_turn turn sent) own
   made_same turn sent (inr anew) =
       let led = anew.1 in
       same_on old led.between new (turn_same next answers begin from lead old led.between line after led.turned led.first) (same_part led.between new _ led.leads.turn.after)
@@ -42,18 +42,18 @@ module _ {S P : Type 0} (next : S → Action → S) (answers : S → Action → 
   -- ---- one event more, or none
 
   -- an idle turn is no event
-  idle_events : (between : Chair P) (turned : Turned) → IsNodeTurn next answers begin from lead old between line after turned → turned.turn ≡ Idle → between.part.events ≡ old.part.events
+  idle_events : (between : SeatState P) (turned : TurnResult) → IsNodeTurn next answers begin from lead old between line after turned → turned.turn ≡ Idle → between.part.events ≡ old.part.events
   idle_events between turned t idle =
       let e : between.part.events ≡ old.part.events + 0 =
       turn_events next answers begin from lead old between line after turned t ∙ ap (λ (u : Turn). old.part.events + events_of (Some u)) idle in
       omega (arith, e)
 
   made_events : (turn : Turn) (sent : ℕ) → IsMade next answers begin from lead old new line after turn sent → new.part.events ≡ old.part.events + events_of (Some turn)
-  made_events turn sent (inl own) = turn_events next answers begin from lead old new line after (turned_so turn sent) own
+  made_events turn sent (inl own) = turn_events next answers begin from lead old new line after (result_of_turn turn sent) own
   made_events turn sent (inr anew) =
       let led = anew.1 in
       let first = idle_events led.between led.turned led.first led.idle in
-      let more : new.part.events ≡ led.between.part.events + 1 = ap (λ (c : Chair P). c.part.events) led.leads.turn.after in
+      let more : new.part.events ≡ led.between.part.events + 1 = ap (λ (c : SeatState P). c.part.events) led.leads.turn.after in
       let one : events_of (Some turn) ≡ 1 = ap (λ (u : Turn). events_of (Some u)) anew.0 in
       omega (arith, first, more, one)
 
@@ -61,19 +61,19 @@ module _ {S P : Type 0} (next : S → Action → S) (answers : S → Action → 
   unmade_events fault refuses (inl lost) = fault_events next answers begin from lead old new line after fault refuses (inl lost)
   unmade_events fault refuses (inr (inl stopped)) = fault_events next answers begin from lead old new line after fault refuses (inr stopped)
   unmade_events fault refuses (inr (inr anew)) =
-      ap (λ (c : Chair P). c.part.events) (stop_stays next answers begin (IsLeadAnew anew.between.part) anew.between new fault refuses anew.stops)
+      ap (λ (c : SeatState P). c.part.events) (stop_stays next answers begin (IsLeadAnew anew.between.part) anew.between new fault refuses anew.stops)
       ∙ idle_events anew.between anew.turned anew.first anew.idle
 
   pub turned_events : (heard : ℕ → Type 0) (passes : Bool) (made : Option Turn) → IsMadeOrSkipped next answers begin from lead old new line after heard passes made
       → new.part.events ≡ old.part.events + events_of made
   turned_events heard passes (Some turn) made = made_events turn made.1 made.2
-  turned_events heard passes None (inl stays) = let e : new.part.events ≡ old.part.events = ap (λ (c : Chair P). c.part.events) stays.1 in omega (arith, e)
+  turned_events heard passes None (inl stays) = let e : new.part.events ≡ old.part.events = ap (λ (c : SeatState P). c.part.events) stays.1 in omega (arith, e)
   turned_events heard passes None (inr refused) = let e = unmade_events refused.1 refused.2 refused.3 in omega (arith, e)
 
   -- ---- an idle turn was not to lead
 
   made_idle : (turn : Turn) (sent : ℕ) → IsMade next answers begin from lead old new line after turn sent → turn ≡ Idle → lead ≡ false
-  made_idle turn sent (inl own) idle = turn_idle next answers begin from lead old new line after (turned_so turn sent) own idle
+  made_idle turn sent (inl own) idle = turn_idle next answers begin from lead old new line after (result_of_turn turn sent) own idle
   made_idle turn sent (inr anew) idle = let clash : Led ≡ Idle = sym anew.0 ∙ idle in absurd (cc)
 
   pub turned_idle : (heard : ℕ → Type 0) (passes : Bool) (made : Option Turn) → IsMadeOrSkipped next answers begin from lead old new line after heard passes made → made ≡ Some Idle → lead ≡ false
@@ -87,7 +87,7 @@ idle_of Received is = absurd (cc)
 idle_of Led is = absurd (cc)
 idle_of Idle is = refl
 
-module _ (part : Part) (waits : Bool) (told : (running : Running) → IsRunning part running → waits ≡ nat_lt 0 (length running.pending)) (yes : waits ≡ true) where
+module _ (part : Part) (waits : Bool) (stated : (running : Running) → IsRunning part running → waits ≡ nat_lt 0 (length running.pending)) (yes : waits ≡ true) where
   some_wait : (n : ℕ) → nat_lt 0 n ≡ true → 0 < n
   some_wait n is = grind (arith, common_steps)
 
@@ -96,7 +96,7 @@ module _ (part : Part) (waits : Bool) (told : (running : Running) → IsRunning 
       let waiting : (running : Option Running) → has.0.running ≡ running → IsSome running → HasPending part =
       λ running is some. elim running as (λ (o : Option Running). has.0.running ≡ o → IsSome o → HasPending part) [
         | None ↦ λ is some. let clash : false ≡ true = some in absurd (cc)
-        | Some r ↦ λ is some. let runs : IsRunning part r = (has.0, has.1, is) in (r, runs, some_wait (length r.pending) (sym (told r runs) ∙ yes))
+        | Some r ↦ λ is some. let runs : IsRunning part r = (has.0, has.1, is) in (r, runs, some_wait (length r.pending) (sym (stated r runs) ∙ yes))
       ] is some in
       waiting has.0.running refl has.2
 
@@ -104,15 +104,15 @@ module _ (part : Part) (waits : Bool) (told : (running : Running) → IsRunning 
   to_lead applied None has at = tt
   to_lead applied (Some position) has at = record { applied = applied; has = has; next = at; pending = has_pending applied has }
 
-module _ {S P : Type 0} (next : S → Action → S) (answers : S → Action → List Answer) (begin : P → S) (from : Party) (lead : Bool) (old new between : Chair P) (line after : Line) (turned : Turned)
+module _ {S P : Type 0} (next : S → Action → S) (answers : S → Action → List Answer) (begin : P → S) (from : Party) (lead : Bool) (old new between : SeatState P) (line after : Line) (turned : TurnResult)
     (first : IsNodeTurn next answers begin from lead old between line after turned) (idle : turned.turn ≡ Idle) where
-  pub led_anew : (result : Result Turned Fault)
+  pub led_anew : (result : Result TurnResult Fault)
       → IfOk result (λ made. (made.turn ≡ Led) × IsEventBy next answers begin (IsLeadAnew between.part) between new made.sent)
       → IfOk result (λ made. IsMade next answers begin from lead old new line after made.turn made.sent)
   led_anew (Ok made) ok = inr (ok.0, record { between = between; turned = turned; first = first; idle = idle; leads = ok.1 })
   led_anew (Err fault) ok = tt
 
-  pub not_led_anew : (result : Result Turned Fault)
+  pub not_led_anew : (result : Result TurnResult Fault)
       → IfErr result (λ fault. IsStopBy next answers begin (IsLeadAnew between.part) between new fault)
       → IfErr result (λ fault. IsUnmade next answers begin from lead old new line after fault)
   not_led_anew (Ok made) err = tt

@@ -2,7 +2,7 @@
 use Rattle.std.proofs.Common.{◌≡◌, ℕ, suc, ◌<◌, List, [], ◌∷◌, ◌++◌, length, slice_index_or, refl, sym, ◌∙◌, subst, arith, ap, append_assoc, append-nil}
 use Rattle.std.specs.List.{AllZip}
 
--- an element stands at this place, and it fits the other
+-- an element is at this place, and it fits the other
 pub record FitsAt {A B : Type 0} (R : A → B → Type 0) (xs : List A) (i : ℕ) (y : B) : Type 0 where
   pub item : A
   pub is : item ≡ slice_index_or xs i item

@@ -12,31 +12,31 @@ use Rattle.rp_replica.specs.declared.input.Input.{Input}
 use Rattle.rp_replica.specs.declared.sent.Sent.{Sent}
 use Rattle.rp_tasks.specs.Line.{Line}
 use Rattle.rp_boxes.specs.Parts.{Part}
-use Rattle.rp_boxes.specs.Seats.{Chair, IsTurn}
+use Rattle.rp_boxes.specs.Seats.{SeatState, IsTurn}
 use Rattle.rp_threads.specs.Turns.{MayFetch, IsBrought, IsLost, turn_of, IsReceipt, IsLead, AreSent, IsAllOffered, IsEventBy, IsStopBy, Works, Fails, IsNodeTurn, IsStoppedTurn}
 use Rattle.rp_threads.specs.Loops.{IsSameSeat, events_of, is_refusal}
 use Rattle.rp_threads.specs.Lines.{given_on, line_after}
 use Rattle.rp_threads.specs.declared.turns.Turn.{Turn}
 use Rattle.rp_threads.specs.declared.turns.Turn.TheVariants.{Received, Led, Idle}
-use Rattle.rp_threads.specs.declared.turns.Turned.{Turned}
+use Rattle.rp_threads.specs.declared.turns.TurnResult.{TurnResult}
 
 -- ---- the same seat
 
-pub same_but : {P : Type 0} (old new : Chair P) (failures : ℕ) (part : Part) → new ≡ record old { failures = failures; part = part } → IsSameSeat old new
+pub same_but : {P : Type 0} (old new : SeatState P) (failures : ℕ) (part : Part) → new ≡ record old { failures = failures; part = part } → IsSameSeat old new
 same_but {P} old new failures part is = record {
-  table = ap (λ (c : Chair P). c.table) is;
-  config = ap (λ (c : Chair P). c.config) is;
-  program = ap (λ (c : Chair P). c.program) is;
-  number = ap (λ (c : Chair P). c.number) is;
+  table = ap (λ (c : SeatState P). c.table) is;
+  config = ap (λ (c : SeatState P). c.config) is;
+  program = ap (λ (c : SeatState P). c.program) is;
+  number = ap (λ (c : SeatState P). c.number) is;
 }
 
-pub same_part : {P : Type 0} (old new : Chair P) (part : Part) → new ≡ record old { part = part } → IsSameSeat old new
+pub same_part : {P : Type 0} (old new : SeatState P) (part : Part) → new ≡ record old { part = part } → IsSameSeat old new
 same_part old new part is = same_but old new old.failures part is
 
-pub same_seat : {P : Type 0} (old new : Chair P) → new ≡ old → IsSameSeat old new
+pub same_seat : {P : Type 0} (old new : SeatState P) → new ≡ old → IsSameSeat old new
 same_seat {P} old new is = same_part old new old.part is
 
-pub same_on : {P : Type 0} (a b c : Chair P) → IsSameSeat a b → IsSameSeat b c → IsSameSeat a c
+pub same_on : {P : Type 0} (a b c : SeatState P) → IsSameSeat a b → IsSameSeat b c → IsSameSeat a c
 same_on a b c ab bc = record {
   table = bc.table ∙ ab.table;
   config = bc.config ∙ ab.config;
@@ -46,60 +46,60 @@ same_on a b c ab bc = record {
 
 -- ---- a fetch is no event
 
-pub may_same : {P : Type 0} (fetched : Option (List ℕ)) (from to : Party) (old new : Chair P) → MayFetch fetched from to old new → IsSameSeat old new
+pub may_same : {P : Type 0} (fetched : Option (List ℕ)) (from to : Party) (old new : SeatState P) → MayFetch fetched from to old new → IsSameSeat old new
 may_same None from to old new f = same_seat old new f
 may_same (Some text) from to old new f = same_part old new _ f.after
 
-pub may_events : {P : Type 0} (fetched : Option (List ℕ)) (from to : Party) (old new : Chair P) → MayFetch fetched from to old new → new.part.events ≡ old.part.events
-may_events {P} None from to old new f = ap (λ (c : Chair P). c.part.events) f
-may_events {P} (Some text) from to old new f = ap (λ (c : Chair P). c.part.events) f.after
+pub may_events : {P : Type 0} (fetched : Option (List ℕ)) (from to : Party) (old new : SeatState P) → MayFetch fetched from to old new → new.part.events ≡ old.part.events
+may_events {P} None from to old new f = ap (λ (c : SeatState P). c.part.events) f
+may_events {P} (Some text) from to old new f = ap (λ (c : SeatState P). c.part.events) f.after
 
 module _ {S P : Type 0} (next : S → Action → S) (answers : S → Action → List Answer) (begin : P → S) where
   -- ---- what a step's packets are
 
-  pub sent_by : (old new : Chair P) (input : Input) (sent : Sent) → IsTurn next answers begin old input new sent → AreSent new.part sent
+  pub sent_by : (old new : SeatState P) (input : Input) (sent : Sent) → IsTurn next answers begin old input new sent → AreSent new.part sent
   sent_by old new input sent t = record {
     packets = t.done.sends;
-    texts = t.tells.bytes;
-    count = t.tells.packets;
-    sent_all = λ m has. subst (λ (c : Chair P). Has m c.part.sent) (sym t.after) (has_right m old.part.sent t.done.sends has);
+    texts = t.describes.bytes;
+    count = t.describes.packets;
+    sent_all = λ m has. subst (λ (c : SeatState P). Has m c.part.sent) (sym t.after) (has_right m old.part.sent t.done.sends has);
   }
 
   -- ---- an event
 
   -- by this input, once its packets were offered
-  pub event_by : (old new : Chair P) (input : Input) (sent : Sent) (turn : IsTurn next answers begin old input new sent) → IsAllOffered next answers begin (Node new.number) new sent
+  pub event_by : (old new : SeatState P) (input : Input) (sent : Sent) (turn : IsTurn next answers begin old input new sent) → IsAllOffered next answers begin (Node new.number) new sent
       → IsEventBy next answers begin (λ given. given ≡ input) old new sent.packets
   event_by old new input sent turn offered = record {
     input = input;
     is = refl;
     sent = sent;
     turn = turn;
-    told = refl;
-    offered = offered turn.done.sends turn.tells.bytes turn.tells.packets
-        (λ m has. subst (λ (c : Chair P). Has m c.part.sent) (sym turn.after) (has_right m old.part.sent turn.done.sends has));
+    stated = refl;
+    offered = offered turn.done.sends turn.describes.bytes turn.describes.packets
+        (λ m has. subst (λ (c : SeatState P). Has m c.part.sent) (sym turn.after) (has_right m old.part.sent turn.done.sends has));
   }
 
-  pub event_got : (old new : Chair P) (input : Input) (sent : Sent) → IsTurn next answers begin old input new sent → new.part.got ≡ old.part.got
-  event_got old new input sent t = ap (λ (c : Chair P). c.part.got) t.after
+  pub event_got : (old new : SeatState P) (input : Input) (sent : Sent) → IsTurn next answers begin old input new sent → new.part.got ≡ old.part.got
+  event_got old new input sent t = ap (λ (c : SeatState P). c.part.got) t.after
 
-  pub stop_got : (Is : Input → Type 0) (old new : Chair P) (fault : Fault) → IsStopBy next answers begin Is old new fault → new.part.got ≡ old.part.got
+  pub stop_got : (Is : Input → Type 0) (old new : SeatState P) (fault : Fault) → IsStopBy next answers begin Is old new fault → new.part.got ≡ old.part.got
   stop_got Is old new fault s = elim s.why [
-    | inl cut ↦ ap (λ (c : Chair P). c.part.got) cut.after
+    | inl cut ↦ ap (λ (c : SeatState P). c.part.got) cut.after
     | inr other ↦ elim other [
-      | inl none ↦ ap (λ (c : Chair P). c.part.got) none.unchanged
+      | inl none ↦ ap (λ (c : SeatState P). c.part.got) none.unchanged
       | inr unsent ↦ event_got old new s.input unsent.sent unsent.turn
     ]
   ]
 
-  pub stop_same : (Is : Input → Type 0) (old new : Chair P) (fault : Fault) → IsStopBy next answers begin Is old new fault → IsSameSeat old new
+  pub stop_same : (Is : Input → Type 0) (old new : SeatState P) (fault : Fault) → IsStopBy next answers begin Is old new fault → IsSameSeat old new
   stop_same Is old new fault s = elim s.why [
     | inl cut ↦ same_but old new new.failures _ cut.after
     | inr other ↦ elim other [ inl none ↦ same_seat old new none.unchanged | inr unsent ↦ same_part old new _ unsent.turn.after ]
   ]
 
   -- a refusal to lead leaves the seat as it is
-  pub stop_stays : (Is : Input → Type 0) (old new : Chair P) (fault : Fault) → is_refusal fault ≡ true → IsStopBy next answers begin Is old new fault → new ≡ old
+  pub stop_stays : (Is : Input → Type 0) (old new : SeatState P) (fault : Fault) → is_refusal fault ≡ true → IsStopBy next answers begin Is old new fault → new ≡ old
   stop_stays Is old new fault refuses s = elim s.why [
     | inl cut ↦ let clash : false ≡ true = ap is_refusal (sym cut.device) ∙ refuses in absurd (cc)
     | inr other ↦ elim other [ inl none ↦ none.unchanged | inr unsent ↦ let clash : false ≡ true = ap is_refusal (sym unsent.memory) ∙ refuses in absurd (cc) ]
@@ -107,52 +107,52 @@ module _ {S P : Type 0} (next : S → Action → S) (answers : S → Action → 
 
   -- ---- the work of a turn
 
-  pub works_same : (given : Option (List ℕ)) (lead : Bool) (old new : Chair P) (count : ℕ) → Works next answers begin given lead old new count → IsSameSeat old new
+  pub works_same : (given : Option (List ℕ)) (lead : Bool) (old new : SeatState P) (count : ℕ) → Works next answers begin given lead old new count → IsSameSeat old new
   works_same (Some text) lead old new count w = same_part old new _ w.turn.after
   works_same None true old new count w = same_part old new _ w.turn.after
   works_same None false old new count w = same_seat old new w.0
 
-  pub works_events : (given : Option (List ℕ)) (lead : Bool) (old new : Chair P) (count : ℕ) → Works next answers begin given lead old new count
+  pub works_events : (given : Option (List ℕ)) (lead : Bool) (old new : SeatState P) (count : ℕ) → Works next answers begin given lead old new count
       → new.part.events ≡ old.part.events + events_of (Some (turn_of given lead))
-  works_events (Some text) lead old new count w = ap (λ (c : Chair P). c.part.events) w.turn.after
-  works_events None true old new count w = ap (λ (c : Chair P). c.part.events) w.turn.after
-  works_events None false old new count w = let e : new.part.events ≡ old.part.events = ap (λ (c : Chair P). c.part.events) w.0 in omega (arith, e)
+  works_events (Some text) lead old new count w = ap (λ (c : SeatState P). c.part.events) w.turn.after
+  works_events None true old new count w = ap (λ (c : SeatState P). c.part.events) w.turn.after
+  works_events None false old new count w = let e : new.part.events ≡ old.part.events = ap (λ (c : SeatState P). c.part.events) w.0 in omega (arith, e)
 
-  pub fails_same : (given : Option (List ℕ)) (lead : Bool) (old new : Chair P) (fault : Fault) → Fails next answers begin given lead old new fault → IsSameSeat old new
+  pub fails_same : (given : Option (List ℕ)) (lead : Bool) (old new : SeatState P) (fault : Fault) → Fails next answers begin given lead old new fault → IsSameSeat old new
   fails_same (Some text) lead old new fault f = stop_same (IsReceipt text) old new fault f
   fails_same None true old new fault f = stop_same IsLead old new fault f
   fails_same None false old new fault f = absurd f
 
-  pub fails_stays : (given : Option (List ℕ)) (lead : Bool) (old new : Chair P) (fault : Fault) → is_refusal fault ≡ true → Fails next answers begin given lead old new fault → new ≡ old
+  pub fails_stays : (given : Option (List ℕ)) (lead : Bool) (old new : SeatState P) (fault : Fault) → is_refusal fault ≡ true → Fails next answers begin given lead old new fault → new ≡ old
   fails_stays (Some text) lead old new fault refuses f = stop_stays (IsReceipt text) old new fault refuses f
   fails_stays None true old new fault refuses f = stop_stays IsLead old new fault refuses f
   fails_stays None false old new fault refuses f = absurd f
 
   -- the node receives what is given on
-  pub received : (given : Option (List ℕ)) (text : List ℕ) (lead : Bool) (input : Input) (old new : Chair P) (count : ℕ) → given ≡ Some text → IsReceipt text input
+  pub received : (given : Option (List ℕ)) (text : List ℕ) (lead : Bool) (input : Input) (old new : SeatState P) (count : ℕ) → given ≡ Some text → IsReceipt text input
       → IsEventBy next answers begin (λ i. i ≡ input) old new count → Works next answers begin given lead old new count
   received given text lead input old new count is receipt e =
       subst (λ (o : Option (List ℕ)). Works next answers begin o lead old new count) (sym is)
-      (record { input = e.input; is = subst (IsReceipt text) (sym e.is) receipt; sent = e.sent; turn = e.turn; told = e.told; offered = e.offered })
+      (record { input = e.input; is = subst (IsReceipt text) (sym e.is) receipt; sent = e.sent; turn = e.turn; stated = e.stated; offered = e.offered })
 
-  pub receipt_stopped : (given : Option (List ℕ)) (text : List ℕ) (lead : Bool) (input : Input) (old new : Chair P) (fault : Fault) → given ≡ Some text → IsReceipt text input
+  pub receipt_stopped : (given : Option (List ℕ)) (text : List ℕ) (lead : Bool) (input : Input) (old new : SeatState P) (fault : Fault) → given ≡ Some text → IsReceipt text input
       → IsStopBy next answers begin (λ i. i ≡ input) old new fault → Fails next answers begin given lead old new fault
   receipt_stopped given text lead input old new fault is receipt e =
       subst (λ (o : Option (List ℕ)). Fails next answers begin o lead old new fault) (sym is)
       (record { input = e.input; is = subst (IsReceipt text) (sym e.is) receipt; why = e.why })
 
   -- nothing is given on, and the node leads
-  pub led : (given : Option (List ℕ)) (lead : Bool) (old new : Chair P) (count : ℕ) → given ≡ None → lead ≡ true
+  pub led : (given : Option (List ℕ)) (lead : Bool) (old new : SeatState P) (count : ℕ) → given ≡ None → lead ≡ true
       → IsEventBy next answers begin IsLead old new count → Works next answers begin given lead old new count
   led given lead old new count is leads e =
       subst (λ (o : Option (List ℕ)). Works next answers begin o lead old new count) (sym is) (subst (λ (b : Bool). Works next answers begin None b old new count) (sym leads) e)
 
-  pub lead_stopped : (given : Option (List ℕ)) (lead : Bool) (old new : Chair P) (fault : Fault) → given ≡ None → lead ≡ true
+  pub lead_stopped : (given : Option (List ℕ)) (lead : Bool) (old new : SeatState P) (fault : Fault) → given ≡ None → lead ≡ true
       → IsStopBy next answers begin IsLead old new fault → Fails next answers begin given lead old new fault
   lead_stopped given lead old new fault is leads e =
       subst (λ (o : Option (List ℕ)). Fails next answers begin o lead old new fault) (sym is) (subst (λ (b : Bool). Fails next answers begin None b old new fault) (sym leads) e)
 
-  pub idles : (given : Option (List ℕ)) (lead : Bool) (seat : Chair P) → given ≡ None → lead ≡ false → Works next answers begin given lead seat seat 0
+  pub idles : (given : Option (List ℕ)) (lead : Bool) (seat : SeatState P) → given ≡ None → lead ≡ false → Works next answers begin given lead seat seat 0
   idles given lead seat is leads =
       subst (λ (o : Option (List ℕ)). Works next answers begin o lead seat seat 0) (sym is) (subst (λ (b : Bool). Works next answers begin None b seat seat 0) (sym leads) (refl, refl))
 
@@ -166,12 +166,12 @@ module _ {S P : Type 0} (next : S → Action → S) (answers : S → Action → 
 
   -- ---- whole turns
 
-  module _ (from : Party) (lead : Bool) (old new : Chair P) (line after : Line) where
-    pub turn_same : (turned : Turned) → IsNodeTurn next answers begin from lead old new line after turned → IsSameSeat old new
+  module _ (from : Party) (lead : Bool) (old new : SeatState P) (line after : Line) where
+    pub turn_same : (turned : TurnResult) → IsNodeTurn next answers begin from lead old new line after turned → IsSameSeat old new
     turn_same turned t =
         same_on old t.between new (may_same t.brought.fetched from (Node old.number) old t.between t.brought.fetch) (works_same (given_on t.full) lead t.between new turned.sent t.works)
 
-    pub turn_events : (turned : Turned) → IsNodeTurn next answers begin from lead old new line after turned → new.part.events ≡ old.part.events + events_of (Some turned.turn)
+    pub turn_events : (turned : TurnResult) → IsNodeTurn next answers begin from lead old new line after turned → new.part.events ≡ old.part.events + events_of (Some turned.turn)
     turn_events turned t =
         works_events (given_on t.full) lead t.between new turned.sent t.works
         ∙ ap (λ (n : ℕ). n + events_of (Some (turn_of (given_on t.full) lead))) (may_events t.brought.fetched from (Node old.number) old t.between t.brought.fetch)
@@ -183,7 +183,7 @@ module _ {S P : Type 0} (next : S → Action → S) (answers : S → Action → 
 
     pub stopped_events : (fault : Fault) → is_refusal fault ≡ true → IsStoppedTurn next answers begin from lead old new line after fault → new.part.events ≡ old.part.events
     stopped_events fault refuses t =
-        ap (λ (c : Chair P). c.part.events) (fails_stays (given_on t.full) lead t.between new fault refuses t.fails)
+        ap (λ (c : SeatState P). c.part.events) (fails_stays (given_on t.full) lead t.between new fault refuses t.fails)
         ∙ may_events t.brought.fetched from (Node old.number) old t.between t.brought.fetch
 
     -- a fault, of which nothing or the loss of a packet came
@@ -193,21 +193,21 @@ module _ {S P : Type 0} (next : S → Action → S) (answers : S → Action → 
 
     pub fault_events : (fault : Fault) → is_refusal fault ≡ true → IsLost from (Node old.number) old new line after fault ⊎ IsStoppedTurn next answers begin from lead old new line after fault
         → new.part.events ≡ old.part.events
-    fault_events fault refuses (inl lost) = ap (λ (c : Chair P). c.part.events) lost.fetch.after
+    fault_events fault refuses (inl lost) = ap (λ (c : SeatState P). c.part.events) lost.fetch.after
     fault_events fault refuses (inr stopped) = stopped_events fault refuses stopped
 
-    pub turn_idle : (turned : Turned) → IsNodeTurn next answers begin from lead old new line after turned → turned.turn ≡ Idle → lead ≡ false
+    pub turn_idle : (turned : TurnResult) → IsNodeTurn next answers begin from lead old new line after turned → turned.turn ≡ Idle → lead ≡ false
     turn_idle turned t idle = idle_not_led (given_on t.full) lead turned.turn t.turn idle
 
     -- what was brought, and the work after it
-    module _ (between : Chair P) (full : Line) (brought : IsBrought from (Node old.number) old between line full) (gives : after ≡ line_after full) where
-      pub is_turn : (result : Result Turned Fault) → IfOk result (λ turned. turned.turn ≡ turn_of (given_on full) lead)
+    module _ (between : SeatState P) (full : Line) (brought : IsBrought from (Node old.number) old between line full) (gives : after ≡ line_after full) where
+      pub is_turn : (result : Result TurnResult Fault) → IfOk result (λ turned. turned.turn ≡ turn_of (given_on full) lead)
           → IfOk result (λ turned. Works next answers begin (given_on full) lead between new turned.sent)
           → IfOk result (λ turned. IsNodeTurn next answers begin from lead old new line after turned)
       is_turn (Ok turned) turn works = record { between = between; full = full; brought = brought; turn = turn; works = works; gives = gives }
       is_turn (Err fault) turn works = tt
 
-      pub is_stopped : (result : Result Turned Fault) → IfErr result (λ fault. Fails next answers begin (given_on full) lead between new fault)
+      pub is_stopped : (result : Result TurnResult Fault) → IfErr result (λ fault. Fails next answers begin (given_on full) lead between new fault)
           → IfErr result (λ fault. IsLost from (Node old.number) old new line after fault ⊎ IsStoppedTurn next answers begin from lead old new line after fault)
       is_stopped (Ok turned) fails = tt
       is_stopped (Err fault) fails = inr (record { between = between; full = full; brought = brought; fails = fails; gives = gives })

@@ -13,7 +13,7 @@ use Rattle.rp_codec.specs.Message.{Message}
 use Rattle.rp_codec.specs.Reading.{all_of}
 use Rattle.rp_codec.specs.declared.packet.Party.{Party}
 use Rattle.rp_codec.specs.declared.packet.Party.TheVariants.{Node}
-use Rattle.rp_model.specs.Effect.{Setting, Done, NodeInput, Receive, Lead, LeadRange, Interrupt, Tick, Report, turned, turned_if, effect_while, running_effect}
+use Rattle.rp_model.specs.Effect.{Setting, Done, NodeInput, Receive, Lead, LeadRange, Interrupt, Tick, Report, turn_done, turn_done_if, effect_while, running_effect}
 use Rattle.rp_model.specs.Leader.{chosen_position, is_out_of_reach, begins, begins_if, offers, leads_at, starts_above}
 use Rattle.rp_model.specs.Parts.{NodePart, Running, Turn}
 use Rattle.rp_model.specs.Says.{notes}
@@ -23,13 +23,13 @@ use Rattle.rp_replica.specs.Inputs.{given_by, packet_given}
 use Rattle.rp_replica.specs.declared.sent.Sent.{Sent}
 use Rattle.rp_tasks.specs.Line.{Line}
 use Rattle.rp_boxes.specs.Parts.{Part, Role, OfNode}
-use Rattle.rp_boxes.specs.Seats.{Chair, IsReason, IsStopped, IsTurn, IsNoTurn, setting_at}
+use Rattle.rp_boxes.specs.Seats.{SeatState, IsReason, IsStopped, IsTurn, IsNoTurn, setting_at}
 use Rattle.rp_threads.specs.Lines.{given_on}
 use Rattle.rp_threads.specs.Loops.{is_refusal}
-use Rattle.rp_threads.specs.Rounds.{IsLeadAnew, IsMade, IsUnmade, IsMadeOrSkipped, turned_so}
+use Rattle.rp_threads.specs.Rounds.{IsLeadAnew, IsMade, IsUnmade, IsMadeOrSkipped, result_of_turn}
 use Rattle.rp_threads.specs.Turns.{MayFetch, IsBrought, IsReceipt, IsLead, IsEventBy, IsStopBy, Works, Fails, IsNodeTurn}
 use Rattle.rp_threads.specs.declared.turns.Turn as declared
-use Rattle.rp_threads.specs.declared.turns.Turned.{Turned}
+use Rattle.rp_threads.specs.declared.turns.TurnResult.{TurnResult}
 use Rattle.rp_threads.proofs.Rounds.{refusal_stays}
 
 same_node : (role : Role) (a b : NodePart) → role ≡ OfNode a → role ≡ OfNode b → a ≡ b
@@ -41,9 +41,9 @@ same_stopped old new same stopped = (stopped.0, sym same ∙ stopped.1, stopped.
 
 -- ---- a node that made a step runs
 
-turned_runs : (node : NodePart) (turn : Result Turn Fault) (done : Done NodePart) → turned_if node turn ≡ Ok done → done.part.running ≡ None → ⊥
+turned_runs : (node : NodePart) (turn : Result Turn Fault) (done : Done NodePart) → turn_done_if node turn ≡ Ok done → done.part.running ≡ None → ⊥
 turned_runs node (Ok turn) done is none =
-    let e : turned node turn ≡ done = cc in
+    let e : turn_done node turn ≡ done = cc in
     let some : Some turn.running ≡ None = ap (λ (d : Done NodePart). d.part.running) e ∙ none in
     cc
 turned_runs node (Err fault) done is none = cc
@@ -124,7 +124,7 @@ lead_no_range input is = subst LeadsNoRange (sym is) tt
 anew_no_range : (part : Part) (input : Input) → IsLeadAnew part input → LeadsNoRange input
 anew_no_range part input anew = subst LeadsNoRange (sym anew.2) tt
 
-turned_refused : (node : NodePart) (turn : Result Turn Fault) (fault : Fault) → turned_if node turn ≡ Err fault → turn ≡ Err fault
+turned_refused : (node : NodePart) (turn : Result Turn Fault) (fault : Fault) → turn_done_if node turn ≡ Err fault → turn ≡ Err fault
 turned_refused node (Ok turn) fault is = absurd (cc)
 turned_refused node (Err other) fault is = cc
 
@@ -146,77 +146,77 @@ module _ {S : Type 0} (s : Setting S) (me : ℕ) (node : NodePart) where
       → ((fault ≡ Failed) × (running ≡ None)) ⊎ ((fault ≡ OutOfMemory) ⊎ (is_refusal fault ≡ true))
   reason input None fault none why = inl (why, refl)
   reason input (Some running) fault none why =
-      let told : (effect : Result (Done NodePart) Fault) → effect_while s me node input (Some running) ≡ effect → IsReason (Some running) effect fault
+      let stated : (effect : Result (Done NodePart) Fault) → effect_while s me node input (Some running) ≡ effect → IsReason (Some running) effect fault
       → (fault ≡ OutOfMemory) ⊎ (is_refusal fault ≡ true) =
       λ effect. elim effect as (λ (e : Result (Done NodePart) Fault). effect_while s me node input (Some running) ≡ e → IsReason (Some running) e fault → (fault ≡ OutOfMemory) ⊎ (is_refusal fault ≡ true)) [
         | Ok done ↦ λ is why. inl why
         | Err refusal ↦ λ is why. inr (subst (λ (f : Fault). is_refusal f ≡ true) (sym why)
             (running_refused input running refusal none (turned_refused node (running_effect s me node.records running input) refusal is)))
       ] in
-      inr (told (effect_while s me node input (Some running)) refl why)
+      inr (stated (effect_while s me node input (Some running)) refl why)
 
 -- ---- the seat
 
 -- why a step is not made at a seat
-abbrev pub IsCause : {P : Type 0} → Chair P → Fault → Type 0
+abbrev pub IsCause : {P : Type 0} → SeatState P → Fault → Type 0
 IsCause old fault = ((fault ≡ Failed) × IsStopped old.part) ⊎ ((fault ≡ OutOfMemory) ⊎ (is_refusal fault ≡ true))
 
 -- As many calls of the device have failed as before, and the node is stopped only if it was.
-pub record IsSound {P : Type 0} (old new : Chair P) : Type 0 where
+pub record IsSound {P : Type 0} (old new : SeatState P) : Type 0 where
   pub failures : new.failures ≡ old.failures
   pub stopped : IsStopped new.part → IsStopped old.part
 
 -- the device failed, or else the seat is sound and there is another cause
-abbrev pub IsLeft : {P : Type 0} → Chair P → Chair P → Fault → Type 0
+abbrev pub IsLeft : {P : Type 0} → SeatState P → SeatState P → Fault → Type 0
 IsLeft old new fault = ((fault ≡ Device) × (old.failures < new.failures)) ⊎ (IsSound old new × IsCause old fault)
 
 module _ {P : Type 0} where
-  pub sound_same : (old new : Chair P) → new ≡ old → IsSound old new
-  sound_same old new is = record { failures = ap (λ (c : Chair P). c.failures) is; stopped = subst (λ (c : Chair P). IsStopped c.part) is }
+  pub sound_same : (old new : SeatState P) → new ≡ old → IsSound old new
+  sound_same old new is = record { failures = ap (λ (c : SeatState P). c.failures) is; stopped = subst (λ (c : SeatState P). IsStopped c.part) is }
 
-  pub sound_on : (a b c : Chair P) → IsSound a b → IsSound b c → IsSound a c
+  pub sound_on : (a b c : SeatState P) → IsSound a b → IsSound b c → IsSound a c
   sound_on a b c ab bc = record { failures = bc.failures ∙ ab.failures; stopped = λ stopped. ab.stopped (bc.stopped stopped) }
 
-  may_sound : (fetched : Option (List ℕ)) (from to : Party) (old new : Chair P) → MayFetch fetched from to old new → IsSound old new
+  may_sound : (fetched : Option (List ℕ)) (from to : Party) (old new : SeatState P) → MayFetch fetched from to old new → IsSound old new
   may_sound None from to old new f = sound_same old new f
   may_sound (Some text) from to old new f = record {
-    failures = ap (λ (c : Chair P). c.failures) f.after;
-    stopped = same_stopped old.part new.part (ap (λ (c : Chair P). c.part.role) f.after);
+    failures = ap (λ (c : SeatState P). c.failures) f.after;
+    stopped = same_stopped old.part new.part (ap (λ (c : SeatState P). c.part.role) f.after);
   }
 
   -- one step after what is sound
-  left_on : (old between new : Chair P) (fault : Fault) → IsSound old between → IsLeft between new fault → IsLeft old new fault
+  left_on : (old between new : SeatState P) (fault : Fault) → IsSound old between → IsLeft between new fault → IsLeft old new fault
   left_on old between new fault sound (inl device) = inl (device.0, subst (λ (n : ℕ). n < new.failures) sound.failures device.1)
   left_on old between new fault sound (inr left) = inr (
     sound_on old between new sound left.0,
     elim left.1 [ inl failed ↦ inl (failed.0, sound.stopped failed.1) | inr other ↦ inr other ],
   )
 
-  sound_left : (old new : Chair P) (fault : Fault) → (fault ≡ Device → ⊥) → IsLeft old new fault → IsSound old new
+  sound_left : (old new : SeatState P) (fault : Fault) → (fault ≡ Device → ⊥) → IsLeft old new fault → IsSound old new
   sound_left old new fault other (inl device) = absurd (other device.0)
   sound_left old new fault other (inr left) = left.0
 
 module _ {S P : Type 0} (next : S → Action → S) (answers : S → Action → List Answer) (begin : P → S) where
-  turn_runs : (old new : Chair P) (input : Input) (sent : Sent) → IsTurn next answers begin old input new sent → IsStopped new.part → ⊥
+  turn_runs : (old new : SeatState P) (input : Input) (sent : Sent) → IsTurn next answers begin old input new sent → IsStopped new.part → ⊥
   turn_runs old new input sent t stopped =
-      let role : new.part.role ≡ OfNode t.done.part = ap (λ (c : Chair P). c.part.role) t.after in
+      let role : new.part.role ≡ OfNode t.done.part = ap (λ (c : SeatState P). c.part.role) t.after in
       let same : t.done.part ≡ stopped.0 = same_node new.part.role t.done.part stopped.0 role stopped.1 in
-      while_runs (setting_at next answers begin old) old.number t.node t.given t.node.running t.done t.comes (ap (λ (n : NodePart). n.running) same ∙ stopped.2)
+      while_runs (setting_at next answers begin old) old.number t.node t.given t.node.running t.done t.results (ap (λ (n : NodePart). n.running) same ∙ stopped.2)
 
-  event_sound : (old new : Chair P) (input : Input) (sent : Sent) → IsTurn next answers begin old input new sent → IsSound old new
+  event_sound : (old new : SeatState P) (input : Input) (sent : Sent) → IsTurn next answers begin old input new sent → IsSound old new
   event_sound old new input sent t = record {
-    failures = ap (λ (c : Chair P). c.failures) t.after;
+    failures = ap (λ (c : SeatState P). c.failures) t.after;
     stopped = λ stopped. absurd (turn_runs old new input sent t stopped);
   }
 
-  no_turn : (old new : Chair P) (input : Input) (fault : Fault) → LeadsNoRange input → IsNoTurn next answers begin old input new fault → IsCause old fault
+  no_turn : (old new : SeatState P) (input : Input) (fault : Fault) → LeadsNoRange input → IsNoTurn next answers begin old input new fault → IsCause old fault
   no_turn old new input fault small none =
       elim (reason (setting_at next answers begin old) old.number none.node none.given none.node.running fault (given_no_range input none.given small none.gives) none.why) [
         | inl failed ↦ inl (failed.0, (none.node, none.was, failed.1))
         | inr other ↦ inr other
       ]
 
-  pub stop_left : (Is : Input → Type 0) (old new : Chair P) (fault : Fault) → ((input : Input) → Is input → LeadsNoRange input) → IsStopBy next answers begin Is old new fault → IsLeft old new fault
+  pub stop_left : (Is : Input → Type 0) (old new : SeatState P) (fault : Fault) → ((input : Input) → Is input → LeadsNoRange input) → IsStopBy next answers begin Is old new fault → IsLeft old new fault
   stop_left Is old new fault small s = elim s.why [
     | inl cut ↦ inl (cut.device, cut.failed)
     | inr other ↦ elim other [
@@ -225,26 +225,26 @@ module _ {S P : Type 0} (next : S → Action → S) (answers : S → Action → 
     ]
   ]
 
-  works_sound : (given : Option (List ℕ)) (lead : Bool) (old new : Chair P) (count : ℕ) → Works next answers begin given lead old new count → IsSound old new
+  works_sound : (given : Option (List ℕ)) (lead : Bool) (old new : SeatState P) (count : ℕ) → Works next answers begin given lead old new count → IsSound old new
   works_sound (Some text) lead old new count w = event_sound old new w.input w.sent w.turn
   works_sound None true old new count w = event_sound old new w.input w.sent w.turn
   works_sound None false old new count w = sound_same old new w.0
 
-  fails_left : (given : Option (List ℕ)) (lead : Bool) (old new : Chair P) (fault : Fault) → Fails next answers begin given lead old new fault → IsLeft old new fault
+  fails_left : (given : Option (List ℕ)) (lead : Bool) (old new : SeatState P) (fault : Fault) → Fails next answers begin given lead old new fault → IsLeft old new fault
   fails_left (Some text) lead old new fault f = stop_left (IsReceipt text) old new fault (receipt_no_range text) f
   fails_left None true old new fault f = stop_left IsLead old new fault lead_no_range f
   fails_left None false old new fault f = absurd f
 
-  module _ (from : Party) (lead : Bool) (old new : Chair P) (line after : Line) where
-    brought_sound : (between : Chair P) (full : Line) → IsBrought from (Node old.number) old between line full → IsSound old between
+  module _ (from : Party) (lead : Bool) (old new : SeatState P) (line after : Line) where
+    brought_sound : (between : SeatState P) (full : Line) → IsBrought from (Node old.number) old between line full → IsSound old between
     brought_sound between full b = may_sound b.fetched from (Node old.number) old between b.fetch
 
-    turn_sound : (between : Chair P) (turned : Turned) → IsNodeTurn next answers begin from lead old between line after turned → IsSound old between
-    turn_sound between turned t =
-        sound_on old t.between between (brought_sound t.between t.full t.brought) (works_sound (given_on t.full) lead t.between between turned.sent t.works)
+    turn_sound : (between : SeatState P) (turn_done : TurnResult) → IsNodeTurn next answers begin from lead old between line after turn_done → IsSound old between
+    turn_sound between turn_done t =
+        sound_on old t.between between (brought_sound t.between t.full t.brought) (works_sound (given_on t.full) lead t.between between turn_done.sent t.works)
 
     made_sound : (turn : declared.Turn) (sent : ℕ) → IsMade next answers begin from lead old new line after turn sent → IsSound old new
-    made_sound turn sent (inl own) = turn_sound new (turned_so turn sent) own
+    made_sound turn sent (inl own) = turn_sound new (result_of_turn turn sent) own
     made_sound turn sent (inr anew) =
         let led = anew.1 in
         sound_on old led.between new (turn_sound led.between led.turned led.first) (event_sound led.between new led.leads.input led.leads.sent led.leads.turn)

@@ -5,7 +5,7 @@ use Rattle.std.proofs.lemmas.Nat.{mod_below}
 use Rattle.std.proofs.lemmas.Option.{slice_get_within, slice_get_past}
 use Rattle.std.specs.Prelude.{IfErr, IfOk, OnOk}
 use Rattle.rp_base.specs.Action.{is_right}
-use Rattle.rp_base.specs.Calls.{are_spent, next_call}
+use Rattle.rp_base.specs.Calls.{are_exhausted, next_call}
 use Rattle.rp_base.specs.declared.action.Action.{Action}
 use Rattle.rp_base.specs.declared.config.Config.{Config}
 use Rattle.rp_base.specs.declared.fault.Fault.{Fault}
@@ -18,7 +18,7 @@ use Rattle.rp_model.specs.Parts.{TaskPart, fresh_task}
 use Rattle.rp_model.specs.Tasks.{TaskInput, Submit, Again, asks_again, calls_if, may_call}
 use Rattle.rp_tasks.specs.Line.{Line}
 use Rattle.rp_boxes.specs.Parts.{Part, Role, OfTask, fresh_part}
-use Rattle.rp_boxes.specs.Seats.{Chair}
+use Rattle.rp_boxes.specs.Seats.{SeatState}
 use Rattle.rp_boxes.specs.TaskSeats.{IsNoTaskTurn}
 use Rattle.rp_threads.specs.Lines.{given_on, line_after}
 use Rattle.rp_threads.specs.Loops.{IsSameSeat, node_at}
@@ -51,20 +51,20 @@ less_of m n is = grind (arith, common_steps)
 -- ---- what is heard
 
 module _ {S P : Type 0} (next : S → Action → S) (answers : S → Action → List Answer) (begin : P → S) (calls : List TaskCall) where
-  -- the same seat, with so many calls made
-  abbrev pub IsMadeOn : Chair P → Chair P → Calls → Calls → Type 0
+  -- the same seat, with n calls made
+  abbrev pub IsMadeOn : SeatState P → SeatState P → Calls → Calls → Type 0
   IsMadeOn old new before after = IsSameSeat old new × (HasMade calls old before.made before.waits → HasMade calls new after.made after.waits)
 
-  fetch_made : (fetched : Option (List ℕ)) (from to : Party) (old new : Chair P) (so_far : Calls) → MayFetch fetched from to old new → IsMadeOn old new so_far so_far
+  fetch_made : (fetched : Option (List ℕ)) (from to : Party) (old new : SeatState P) (so_far : Calls) → MayFetch fetched from to old new → IsMadeOn old new so_far so_far
   fetch_made None from to old new so_far f =
-      (same_seat old new f, λ h. subst (λ (c : Chair P). HasMade calls c so_far.made so_far.waits) (sym f) h)
+      (same_seat old new f, λ h. subst (λ (c : SeatState P). HasMade calls c so_far.made so_far.waits) (sym f) h)
   fetch_made (Some text) from to old new so_far f =
       (same_part old new _ f.after, fetched_made calls old new f.packet so_far.made so_far.waits f.after)
 
-  heard_on : (given : Option (List ℕ)) (old new : Chair P) (answered : Bool) (turn : ℕ) (so_far : Calls) → Hears given old new answered → IsMadeOn old new so_far (heard_by answered turn so_far)
+  heard_on : (given : Option (List ℕ)) (old new : SeatState P) (answered : Bool) (turn : ℕ) (so_far : Calls) → Hears given old new answered → IsMadeOn old new so_far (heard_by answered turn so_far)
   heard_on None old new answered turn so_far h =
       subst (λ (b : Bool). IsMadeOn old new so_far (heard_by b turn so_far)) (sym h.1)
-      (same_seat old new h.0, λ made. subst (λ (c : Chair P). HasMade calls c so_far.made so_far.waits) (sym h.0) made)
+      (same_seat old new h.0, λ made. subst (λ (c : SeatState P). HasMade calls c so_far.made so_far.waits) (sym h.0) made)
   heard_on (Some text) old new answered turn so_far h =
       subst (λ (b : Bool). IsMadeOn old new so_far (heard_by b turn so_far)) (sym h.2)
       (same_part old new _ h.1.after, λ made. heard_if (is_some h.0) (heard_made calls old new text h.0 so_far.made so_far.waits h.1 made))
@@ -73,11 +73,11 @@ module _ {S P : Type 0} (next : S → Action → S) (answers : S → Action → 
       heard_if true made = made
       heard_if false made = made
 
-  made_then : (a b c : Chair P) (x y z : Calls) → IsMadeOn a b x y → IsMadeOn b c y z → IsMadeOn a c x z
+  made_then : (a b c : SeatState P) (x y z : Calls) → IsMadeOn a b x y → IsMadeOn b c y z → IsMadeOn a c x z
   made_then a b c x y z ab bc = (same_on a b c ab.0 bc.0, λ made. bc.1 (ab.1 made))
 
   module _ (nodes : ℕ) where
-    hears_on : (turn : ℕ) (old : TaskAt P) (new : Chair P) (line : Line) (so_far : Calls) → IsHeard nodes calls turn old new line so_far
+    hears_on : (turn : ℕ) (old : TaskAt P) (new : SeatState P) (line : Line) (so_far : Calls) → IsHeard nodes calls turn old new line so_far
         → IsMadeOn old.seat new old.so_far so_far
     hears_on turn old new line so_far h =
         subst (λ (c : Calls). IsMadeOn old.seat new old.so_far c) (sym h.counts)
@@ -87,17 +87,17 @@ module _ {S P : Type 0} (next : S → Action → S) (answers : S → Action → 
 
     -- ---- what is asked
 
-    submit_on : (call : Option TaskCall) (old new : Chair P) (so_far : Calls) → slice_get calls so_far.made ≡ call → Asks next answers begin (submitted call) old new
+    submit_on : (call : Option TaskCall) (old new : SeatState P) (so_far : Calls) → slice_get calls so_far.made ≡ call → Asks next answers begin (submitted call) old new
         → IsMadeOn old new (record so_far { waits = false }) (with_call call so_far)
-    submit_on None old new so_far at a = (same_seat old new a, λ h. subst (λ (c : Chair P). HasMade calls c so_far.made false) (sym a) h)
+    submit_on None old new so_far at a = (same_seat old new a, λ h. subst (λ (c : SeatState P). HasMade calls c so_far.made false) (sym a) h)
     submit_on (Some call) old new so_far at a = (same_part old new _ a.turn.after, λ h. call_made calls old new call so_far.made a.sent a.turn at h)
 
-    again_on : (due : Bool) (node : ℕ) (old new : Chair P) (so_far : Calls) → Asks next answers begin (if due then Some (Again node) else None) old new
+    again_on : (due : Bool) (node : ℕ) (old new : SeatState P) (so_far : Calls) → Asks next answers begin (if due then Some (Again node) else None) old new
         → IsMadeOn old new (record so_far { waits = true }) (record so_far { waits = true })
     again_on true node old new so_far a = (same_part old new _ a.turn.after, λ h. again_made calls old new node so_far.made true a.sent a.turn h)
-    again_on false node old new so_far a = (same_seat old new a, λ h. subst (λ (c : Chair P). HasMade calls c so_far.made true) (sym a) h)
+    again_on false node old new so_far a = (same_seat old new a, λ h. subst (λ (c : SeatState P). HasMade calls c so_far.made true) (sym a) h)
 
-    asked_on : (waits : Bool) (turn : ℕ) (old new : Chair P) (so_far : Calls) → Asks next answers begin (asked_by waits nodes calls so_far.made turn) old new
+    asked_on : (waits : Bool) (turn : ℕ) (old new : SeatState P) (so_far : Calls) → Asks next answers begin (asked_by waits nodes calls so_far.made turn) old new
         → IsMadeOn old new (record so_far { waits = waits }) (made_by waits calls so_far)
     asked_on true turn old new so_far a = again_on (nat_eq (turn % 16) 0) (node_at nodes (turn / 16)) old new so_far a
     asked_on false turn old new so_far a = submit_on (slice_get calls so_far.made) old new so_far refl a
@@ -115,32 +115,32 @@ module _ {S P : Type 0} (next : S → Action → S) (answers : S → Action → 
 
     -- ---- what is refused
 
-    module _ (seat : Chair P) (task : TaskPart) (made : ℕ) (replies : length task.replies ≡ made) (call : TaskCall) (at : slice_get calls made ≡ Some call) where
+    module _ (seat : SeatState P) (task : TaskPart) (made : ℕ) (replies : length task.replies ≡ made) (call : TaskCall) (at : slice_get calls made ≡ Some call) where
       abbrev own : Action
       own = next_call seat.number (length task.replies) call.object call.operation call.arg
 
-      tested_fault : (spent over : Bool) (fault : Fault) → are_spent (length task.replies) ≡ spent → (nat_lt seat.config.nodes call.node || not (is_right own)) ≡ over
-          → calls_if seat.number call.node task (if spent then Err NumbersSpent else if over then Err BadConfig else Ok own) ≡ Err fault
+      tested_fault : (skipped over : Bool) (fault : Fault) → are_exhausted (length task.replies) ≡ skipped → (nat_lt seat.config.nodes call.node || not (is_right own)) ≡ over
+          → calls_if seat.number call.node task (if skipped then Err NumbersSpent else if over then Err BadConfig else Ok own) ≡ Err fault
           → IsTaskFault nodes calls seat made fault
-      tested_fault true over fault spent bad is =
+      tested_fault true over fault skipped bad is =
           let e : NumbersSpent ≡ fault = cc in
-          subst (IsTaskFault nodes calls seat made) e (subst (λ (k : ℕ). are_spent k ≡ true) replies spent)
-      tested_fault false true fault spent bad is =
+          subst (IsTaskFault nodes calls seat made) e (subst (λ (k : ℕ). are_exhausted k ≡ true) replies skipped)
+      tested_fault false true fault skipped bad is =
           let e : BadConfig ≡ fault = cc in
           subst (IsTaskFault nodes calls seat made) e (inr (
             call,
             at,
             subst (λ (k : ℕ). (nat_lt seat.config.nodes call.node || not (is_right (call_after seat.number k call))) ≡ true) replies bad,
           ))
-      tested_fault false false fault spent bad is = absurd (cc)
+      tested_fault false false fault skipped bad is = absurd (cc)
 
       call_fault : (outstanding : Option Action) (fault : Fault) → outstanding ≡ None → calls_if seat.number call.node task (may_call seat.config call.node task own outstanding) ≡ Err fault
           → IsTaskFault nodes calls seat made fault
       call_fault (Some waits) fault none is = absurd (cc)
       call_fault None fault none is =
-          tested_fault (are_spent (length task.replies)) (nat_lt seat.config.nodes call.node || not (is_right own)) fault refl refl is
+          tested_fault (are_exhausted (length task.replies)) (nat_lt seat.config.nodes call.node || not (is_right own)) fault refl refl is
 
-    again_fault : (seat : Chair P) (made turn : ℕ) (task : TaskPart) (over : Bool) (fault : Fault) → 1 ≤ nodes → nat_lt seat.config.nodes (node_at nodes turn) ≡ over
+    again_fault : (seat : SeatState P) (made turn : ℕ) (task : TaskPart) (over : Bool) (fault : Fault) → 1 ≤ nodes → nat_lt seat.config.nodes (node_at nodes turn) ≡ over
         → (if over then Err BadConfig else Ok (asks_again seat.number (node_at nodes turn) task task.outstanding)) ≡ Err fault → IsTaskFault nodes calls seat made fault
     again_fault seat made turn task true fault some above is =
         let e : BadConfig ≡ fault = cc in
@@ -149,10 +149,10 @@ module _ {S P : Type 0} (next : S → Action → S) (answers : S → Action → 
         subst (IsTaskFault nodes calls seat made) e (inl (omega (arith, below, over)))
     again_fault seat made turn task false fault some above is = absurd (cc)
 
-    memory_fault : (seat : Chair P) (made : ℕ) (fault : Fault) → fault ≡ OutOfMemory → IsTaskFault nodes calls seat made fault
+    memory_fault : (seat : SeatState P) (made : ℕ) (fault : Fault) → fault ≡ OutOfMemory → IsTaskFault nodes calls seat made fault
     memory_fault seat made fault is = subst (IsTaskFault nodes calls seat made) (sym is) tt
 
-    submit_fault : (call : Option TaskCall) (old new : Chair P) (made : ℕ) (fault : Fault) → slice_get calls made ≡ call → HasMade calls old made false
+    submit_fault : (call : Option TaskCall) (old new : SeatState P) (made : ℕ) (fault : Fault) → slice_get calls made ≡ call → HasMade calls old made false
         → IsRefused (submitted call) old new fault → IsTaskFault nodes calls old made fault
     submit_fault None old new made fault at h r = absurd r
     submit_fault (Some call) old new made fault at h r = elim r.why [
@@ -164,7 +164,7 @@ module _ {S P : Type 0} (next : S → Action → S) (answers : S → Action → 
           call_fault old r.task made replies call at r.task.outstanding fault (ap (λ (p : TaskPart). p.outstanding) task ∙ h.waiting) refused
     ]
 
-    retry_fault : (due : Bool) (turn : ℕ) (old new : Chair P) (made : ℕ) (fault : Fault) → 1 ≤ nodes
+    retry_fault : (due : Bool) (turn : ℕ) (old new : SeatState P) (made : ℕ) (fault : Fault) → 1 ≤ nodes
         → IsRefused (if due then Some (Again (node_at nodes turn)) else None) old new fault → IsTaskFault nodes calls old made fault
     retry_fault true turn old new made fault some r = elim r.why [
       | inl memory ↦ memory_fault old made fault memory.0
@@ -172,13 +172,13 @@ module _ {S P : Type 0} (next : S → Action → S) (answers : S → Action → 
     ]
     retry_fault false turn old new made fault some r = absurd r
 
-    asked_fault : (waits : Bool) (turn : ℕ) (old new : Chair P) (made : ℕ) (fault : Fault) → 1 ≤ nodes → HasMade calls old made waits
+    asked_fault : (waits : Bool) (turn : ℕ) (old new : SeatState P) (made : ℕ) (fault : Fault) → 1 ≤ nodes → HasMade calls old made waits
         → IsRefused (asked_by waits nodes calls made turn) old new fault → IsTaskFault nodes calls old made fault
     asked_fault true turn old new made fault some h r = retry_fault (nat_eq (turn % 16) 0) (turn / 16) old new made fault some r
     asked_fault false turn old new made fault some h r = submit_fault (slice_get calls made) old new made fault refl h r
 
     -- the seat of a fault is the first one
-    at_first : (first old : Chair P) (made : ℕ) (fault : Fault) → IsSameSeat first old → IsTaskFault nodes calls old made fault → IsTaskFault nodes calls first made fault
+    at_first : (first old : SeatState P) (made : ℕ) (fault : Fault) → IsSameSeat first old → IsTaskFault nodes calls old made fault → IsTaskFault nodes calls first made fault
     at_first first old made OutOfMemory same f = tt
     at_first first old made NumbersSpent same f = f
     at_first first old made BadConfig same f = elim f [
@@ -192,12 +192,12 @@ module _ {S P : Type 0} (next : S → Action → S) (answers : S → Action → 
     ]
     at_first first old made _ same f = absurd f
 
-    refused_same : (asked : Option TaskInput) (old new : Chair P) (fault : Fault) → IsRefused asked old new fault → new ≡ old
+    refused_same : (asked : Option TaskInput) (old new : SeatState P) (fault : Fault) → IsRefused asked old new fault → new ≡ old
     refused_same None old new fault r = absurd r
     refused_same (Some input) old new fault r = r.unchanged
 
     -- a turn that was not made: as many calls are made as before, and why
-    pub unmade_on : (turn : ℕ) (first : Chair P) (old new : TaskAt P) (fault : Fault) → 1 ≤ nodes → IsSameSeat first old.seat → HasMade calls old.seat old.so_far.made old.so_far.waits
+    pub unmade_on : (turn : ℕ) (first : SeatState P) (old new : TaskAt P) (fault : Fault) → 1 ≤ nodes → IsSameSeat first old.seat → HasMade calls old.seat old.so_far.made old.so_far.waits
         → IsUnmadeTurn nodes calls turn old new fault
         → IsSameSeat first new.seat × HasMade calls new.seat new.so_far.made new.so_far.waits × IsTaskFault nodes calls first new.so_far.made fault
     unmade_on turn first old new fault some same h (inl lost) =
@@ -218,13 +218,13 @@ module _ {S P : Type 0} (next : S → Action → S) (answers : S → Action → 
         let stays = refused_same (asked_in nodes calls turn new.so_far) u.heard new.seat fault u.refused in
         let now = same_on first old.seat u.heard same on.0 in (
           same_on first u.heard new.seat now (same_seat u.heard new.seat stays),
-          subst (λ (c : Chair P). HasMade calls c new.so_far.made new.so_far.waits) (sym stays) made,
+          subst (λ (c : SeatState P). HasMade calls c new.so_far.made new.so_far.waits) (sym stays) made,
           at_first first u.heard new.so_far.made fault now (asked_fault new.so_far.waits turn u.heard new.seat new.so_far.made fault some made u.refused),
         )
 
     -- ---- the first call is made in the first turn
 
-    some_made : (waits : Bool) (so_far : Calls) (seat : Chair P) → HasMade calls seat so_far.made waits → 0 < length calls → 0 < (made_by waits calls so_far).made
+    some_made : (waits : Bool) (so_far : Calls) (seat : SeatState P) → HasMade calls seat so_far.made waits → 0 < length calls → 0 < (made_by waits calls so_far).made
     some_made true so_far seat h some = let e = h.waiting.2 in omega (arith, e)
     some_made false so_far seat h some = with_some calls (slice_get calls so_far.made) so_far refl some
 
@@ -239,7 +239,7 @@ module _ {S P : Type 0} (next : S → Action → S) (answers : S → Action → 
 
     -- ---- ends of loops
 
-    module _ {M : Type 0} (gate_heard : ℕ → ℕ → Type 0) (turns : ℕ) (seat : Chair P) (line : Line) (fresh : seat.part ≡ fresh_part (OfTask fresh_task)) (lost : ℕ) where
+    module _ {M : Type 0} (gate_heard : ℕ → ℕ → Type 0) (turns : ℕ) (seat : SeatState P) (line : Line) (fresh : seat.part ≡ fresh_part (OfTask fresh_task)) (lost : ℕ) where
       abbrev IsEnd : TaskEnd M P → Type 0
       IsEnd end = IsTaskLooped next answers begin gate_heard nodes turns calls seat line end
 
@@ -273,19 +273,19 @@ module _ {S P : Type 0} (next : S → Action → S) (answers : S → Action → 
 
 -- ---- one turn, by its steps
 
-module _ {S P : Type 0} (next : S → Action → S) (answers : S → Action → List Answer) (begin : P → S) (nodes : ℕ) (calls : List TaskCall) (turn : ℕ) (old new : TaskAt P) (between : Chair P) (full : Line)
+module _ {S P : Type 0} (next : S → Action → S) (answers : S → Action → List Answer) (begin : P → S) (nodes : ℕ) (calls : List TaskCall) (turn : ℕ) (old new : TaskAt P) (between : SeatState P) (full : Line)
     (brought : IsBrought (Node (node_at nodes turn)) (Task old.seat.number) old.seat between old.line full) where
   -- what the line gave on was heard, or memory ran out
   pub unheard : (fault : Fault) → fault ≡ OutOfMemory → new.seat ≡ between → new.line ≡ line_after full → new.so_far ≡ old.so_far → IsUnmadeTurn nodes calls turn old new fault
   unheard fault memory stays gives counts = inr (inl (record {
     full = full;
-    brought = subst (λ (c : Chair P). IsBrought (Node (node_at nodes turn)) (Task old.seat.number) old.seat c old.line full) (sym stays) brought;
+    brought = subst (λ (c : SeatState P). IsBrought (Node (node_at nodes turn)) (Task old.seat.number) old.seat c old.line full) (sym stays) brought;
     gives = gives;
     memory = memory;
     counts = counts;
   }))
 
-  module _ (heard : Chair P) (so_far : Calls) (answered : Bool) (hears : Hears (given_on full) between heard answered) (gives : new.line ≡ line_after full)
+  module _ (heard : SeatState P) (so_far : Calls) (answered : Bool) (hears : Hears (given_on full) between heard answered) (gives : new.line ≡ line_after full)
       (counts : so_far ≡ heard_by answered turn old.so_far) where
     abbrev is_heard : IsHeard nodes calls turn old heard new.line so_far
     is_heard = record { between = between; full = full; brought = brought; answered = answered; hears = hears; gives = gives; counts = counts }

@@ -3,7 +3,7 @@ use Rattle.std.proofs.Common.{◌≡◌, ◌⊎◌, ℕ, suc, ◌+◌, ◌<◌, 
 use borrow.Author.Count.{below_more}
 use Rattle.std.proofs.lemmas.Grind.{common_steps}
 use Rattle.std.proofs.lemmas.Option.{slice_get_within}
-use Rattle.rp_base.specs.Calls.{are_spent, is_reply_to, next_call}
+use Rattle.rp_base.specs.Calls.{are_exhausted, is_reply_to, next_call}
 use Rattle.rp_base.specs.Action.{is_right}
 use Rattle.rp_base.specs.Sets.{Has}
 use Rattle.rp_base.specs.declared.action.Action.{Action}
@@ -22,11 +22,11 @@ use Rattle.rp_model.specs.Tasks.{TaskInput, Submit, Again, asks, may_call, calls
 use Rattle.rp_codec.specs.Text.{text_of}
 use Rattle.rp_replica.specs.Packets.{texts_of}
 use Rattle.rp_replica.specs.declared.sent.Sent.{Sent}
-use Rattle.rp_world.specs.Going.{reply_told}
+use Rattle.rp_world.specs.Going.{reply_in}
 use Rattle.rp_boxes.specs.Parts.{Part, Role, OfTask, part_after, with_got, fresh_part}
-use Rattle.rp_boxes.specs.Seats.{Chair, IsSentText}
-use Rattle.rp_boxes.specs.TaskSeats.{IsTaskTurn, IsReplyTurn, told_effect}
-use Rattle.rp_boxes.proofs.TaskTurns.{tells_effect, told_quiet}
+use Rattle.rp_boxes.specs.Seats.{SeatState, IsSentText}
+use Rattle.rp_boxes.specs.TaskSeats.{IsTaskTurn, IsReplyTurn, reply_effect}
+use Rattle.rp_boxes.proofs.TaskTurns.{reply_effect_is, reply_quiet}
 use Rattle.rp_threads.specs.Tasks.{Waits, AsksForOne, call_after, first_asked, HasMade}
 use Rattle.rp_threads.specs.TaskRounds.{IsAskedBy}
 use Rattle.rp_threads.specs.Turns.{AreSent, IsAllOffered}
@@ -41,7 +41,7 @@ same_task role a b is_a is_b = let e : OfTask a ≡ OfTask b = sym is_a ∙ is_b
 none_taken : (n : ℕ) → (nat_lt 0 n && nat_eq n 0) ≡ true → ⊥
 none_taken n is = grind (arith, common_steps)
 
--- so many calls were made and it waits so, and they are as many after it was told something
+-- n calls were made and it waits so, and they are as many after it got something
 abbrev IsSame : ℕ → List TaskCall → Bool → ℕ → Done TaskPart → Type 0
 IsSame task calls waits made done =
     let still = if is_some done.taken then false else waits in
@@ -54,12 +54,12 @@ module _ (number n : ℕ) (reply : Reply) (replies : List Answer) (calls : List 
   abbrev ended : TaskPart
   ended = record { outstanding = None; replies = replies ++ answer ∷ [] }
 
-  abbrev told_by : Option Action → Bool → Done TaskPart
-  told_by outstanding b =
+  abbrev stated_by : Option Action → Bool → Done TaskPart
+  stated_by outstanding b =
       if b then record (goes_on_as ended) { taken = Some answer } else goes_on_as (record { outstanding = outstanding; replies = replies })
 
   taken_same : (waits : Bool) (outstanding : Option Action) (b : Bool) → is_reply_to n outstanding ≡ b → length replies + (if waits then 1 else 0) ≡ made
-      → Waits number calls made waits outstanding → IsSame number calls waits made (told_by outstanding b)
+      → Waits number calls made waits outstanding → IsSame number calls waits made (stated_by outstanding b)
   taken_same true (Some call) true is count w = (omega (arith, length-append replies (answer ∷ []), count), refl)
   taken_same true (Some call) false is count w = (count, w)
   taken_same true None b is count w = absurd (let clash = w.4 in cc)
@@ -67,11 +67,11 @@ module _ (number n : ℕ) (reply : Reply) (replies : List Answer) (calls : List 
   taken_same false None true is count w = absurd (none_taken n is)
   taken_same false None false is count w = (count, w)
 
-told_same : (number : ℕ) (task : TaskPart) (told : Option (ℕ × Reply)) (calls : List TaskCall) (made : ℕ) (waits : Bool) → length task.replies + (if waits then 1 else 0) ≡ made
-    → Waits number calls made waits task.outstanding → IsSame number calls waits made (told_effect number task told)
-told_same number task None calls made waits count w = (count, w)
-told_same number task (Some told) calls made waits count w =
-    taken_same number told.0 told.1 task.replies calls made waits task.outstanding (is_reply_to told.0 task.outstanding) refl count w
+stated_same : (number : ℕ) (task : TaskPart) (stated : Option (ℕ × Reply)) (calls : List TaskCall) (made : ℕ) (waits : Bool) → length task.replies + (if waits then 1 else 0) ≡ made
+    → Waits number calls made waits task.outstanding → IsSame number calls waits made (reply_effect number task stated)
+stated_same number task None calls made waits count w = (count, w)
+stated_same number task (Some stated) calls made waits count w =
+    taken_same number stated.0 stated.1 task.replies calls made waits task.outstanding (is_reply_to stated.0 task.outstanding) refl count w
 
 -- ---- what is asked
 
@@ -80,7 +80,7 @@ abbrev calling : ℕ → ℕ → TaskPart → Action → Done TaskPart
 calling number node task call = record (goes_on_as (record task { outstanding = Some call })) { sends = asks number node call ∷ [] }
 
 module _ (number node : ℕ) (task : TaskPart) (call : Action) (done : Done TaskPart) where
-  tested : (spent over : Bool) → calls_if number node task (if spent then Err NumbersSpent else if over then Err BadConfig else Ok call) ≡ Ok done → done ≡ calling number node task call
+  tested : (skipped over : Bool) → calls_if number node task (if skipped then Err NumbersSpent else if over then Err BadConfig else Ok call) ≡ Ok done → done ≡ calling number node task call
   tested true over is = absurd (cc)
   tested false true is = absurd (cc)
   tested false false is = cc
@@ -88,7 +88,7 @@ module _ (number node : ℕ) (task : TaskPart) (call : Action) (done : Done Task
   called : (config : Config) (outstanding : Option Action) → outstanding ≡ None → calls_if number node task (may_call config node task call outstanding) ≡ Ok done
       → done ≡ calling number node task call
   called config (Some other) w is = absurd (cc)
-  called config None w is = tested (are_spent (length task.replies)) (nat_lt config.nodes node || not (is_right call)) is
+  called config None w is = tested (are_exhausted (length task.replies)) (nat_lt config.nodes node || not (is_right call)) is
 
 asked_part : (number node : ℕ) (task : TaskPart) (outstanding : Option Action) → (asks_again number node task outstanding).part ≡ task
 asked_part number node task None = refl
@@ -101,20 +101,20 @@ asked number node task done false is = cc
 
 -- ---- the seat
 
-module _ {P : Type 0} (calls : List TaskCall) (old new : Chair P) where
+module _ {P : Type 0} (calls : List TaskCall) (old new : SeatState P) where
   -- a packet was fetched
   pub fetched_made : (m : Message) (made : ℕ) (waits : Bool) → new ≡ record old { part = with_got m old.part } → HasMade calls old made waits → HasMade calls new made waits
   fetched_made m made waits is h = record {
     task = h.task;
-    is = ap (λ (c : Chair P). c.part.role) is ∙ h.is;
+    is = ap (λ (c : SeatState P). c.part.role) is ∙ h.is;
     some = h.some;
-    each = λ k call less at. subst (λ (c : Chair P). Has (first_asked c.number k call) c.part.sent) (sym is) (h.each k call less at);
-    only = subst (λ (c : Chair P). (p : Message) → Has p c.part.sent → AsksForOne c.number calls made p) (sym is) h.only;
+    each = λ k call less at. subst (λ (c : SeatState P). Has (first_asked c.number k call) c.part.sent) (sym is) (h.each k call less at);
+    only = subst (λ (c : SeatState P). (p : Message) → Has p c.part.sent → AsksForOne c.number calls made p) (sym is) h.only;
     count = h.count;
-    waiting = subst (λ (c : Chair P). Waits c.number calls made waits h.task.outstanding) (sym is) h.waiting;
+    waiting = subst (λ (c : SeatState P). Waits c.number calls made waits h.task.outstanding) (sym is) h.waiting;
   }
 
-  -- an event, after which so many were made
+  -- an event, after which n were made
   module _ (task : TaskPart) (sends : List Message) (is : new ≡ record old { part = part_after old.part (OfTask task) sends }) where
     event_made : (made : ℕ) (waits : Bool) → made ≤ length calls
         → ((k : ℕ) (call : TaskCall) → k < made → slice_get calls k ≡ Some call → Has (first_asked old.number k call) (old.part.sent ++ sends))
@@ -122,12 +122,12 @@ module _ {P : Type 0} (calls : List TaskCall) (old new : Chair P) where
         → length task.replies + (if waits then 1 else 0) ≡ made → Waits old.number calls made waits task.outstanding → HasMade calls new made waits
     event_made made waits some each only count waiting = record {
       task = task;
-      is = ap (λ (c : Chair P). c.part.role) is;
+      is = ap (λ (c : SeatState P). c.part.role) is;
       some = some;
-      each = λ k call less at. subst (λ (c : Chair P). Has (first_asked c.number k call) c.part.sent) (sym is) (each k call less at);
-      only = subst (λ (c : Chair P). (p : Message) → Has p c.part.sent → AsksForOne c.number calls made p) (sym is) only;
+      each = λ k call less at. subst (λ (c : SeatState P). Has (first_asked c.number k call) c.part.sent) (sym is) (each k call less at);
+      only = subst (λ (c : SeatState P). (p : Message) → Has p c.part.sent → AsksForOne c.number calls made p) (sym is) only;
       count = count;
-      waiting = subst (λ (c : Chair P). Waits c.number calls made waits task.outstanding) (sym is) waiting;
+      waiting = subst (λ (c : SeatState P). Waits c.number calls made waits task.outstanding) (sym is) waiting;
     }
 
     -- as many as before, where what is sent asks for one of them
@@ -138,18 +138,18 @@ module _ {P : Type 0} (calls : List TaskCall) (old new : Chair P) where
         (λ p has. elim (has_split p old.part.sent sends has) [ inl there ↦ h.only p there | inr here ↦ more p here ])
         count waiting
 
-  -- a packet came to the task
+  -- a packet arrived at the task
   pub heard_made : (bytes : List ℕ) (taken : Option Answer) (made : ℕ) (waits : Bool) → IsReplyTurn old bytes new taken → HasMade calls old made waits
       → HasMade calls new made (if is_some taken then false else waits)
   heard_made bytes taken made waits r h =
-      let told = reply_told r.packet.body in
+      let stated = reply_in r.packet.body in
       let task : r.task ≡ h.task = same_task old.part.role r.task h.task r.was h.is in
-      let hears : task_hears old.number r.task r.packet.body ≡ r.done = let e = r.comes in cc in
-      let done : told_effect old.number h.task told ≡ r.done =
-      ap (λ (t : TaskPart). told_effect old.number t told) (sym task) ∙ tells_effect old.number r.task r.packet.body ∙ hears in
-      let same = subst (IsSame old.number calls waits made) done (told_same old.number h.task told calls made waits h.count h.waiting) in
-      let quiet : r.done.sends ≡ [] = ap (λ (d : Done TaskPart). d.sends) (sym done) ∙ told_quiet old.number h.task told in
-      subst (λ (a : Option Answer). HasMade calls new made (if is_some a then false else waits)) (sym r.told)
+      let hears : task_hears old.number r.task r.packet.body ≡ r.done = let e = r.results in cc in
+      let done : reply_effect old.number h.task stated ≡ r.done =
+      ap (λ (t : TaskPart). reply_effect old.number t stated) (sym task) ∙ reply_effect_is old.number r.task r.packet.body ∙ hears in
+      let same = subst (IsSame old.number calls waits made) done (stated_same old.number h.task stated calls made waits h.count h.waiting) in
+      let quiet : r.done.sends ≡ [] = ap (λ (d : Done TaskPart). d.sends) (sym done) ∙ reply_quiet old.number h.task stated in
+      subst (λ (a : Option Answer). HasMade calls new made (if is_some a then false else waits)) (sym r.stated)
       (still_made r.done.part r.done.sends r.after made waits (if is_some r.done.taken then false else waits) h
       (λ p has. absurd (subst (λ (l : List Message). Has p l) quiet has)) same.0 same.1)
 
@@ -167,7 +167,7 @@ module _ {P : Type 0} (calls : List TaskCall) (old new : Chair P) where
   pub again_made : (node made : ℕ) (waits : Bool) (sent : Sent) → IsTaskTurn old (Again node) new sent → HasMade calls old made waits → HasMade calls new made waits
   again_made node made waits sent t h =
       let task : t.task ≡ h.task = same_task old.part.role t.task h.task t.was h.is in
-      let done : t.done ≡ asks_again old.number node t.task t.task.outstanding = asked old.number node t.task t.done (nat_lt old.config.nodes node) t.comes in
+      let done : t.done ≡ asks_again old.number node t.task t.task.outstanding = asked old.number node t.task t.done (nat_lt old.config.nodes node) t.results in
       let part : t.done.part ≡ h.task = ap (λ (d : Done TaskPart). d.part) done ∙ asked_part old.number node t.task t.task.outstanding ∙ task in
       let waiting = subst (λ (p : TaskPart). Waits old.number calls made waits p.outstanding) (sym task) h.waiting in
       still_made t.done.part t.done.sends t.after made waits waits h
@@ -197,7 +197,7 @@ module _ {P : Type 0} (calls : List TaskCall) (old new : Chair P) where
       let action = next_call number (length t.task.replies) call.object call.operation call.arg in
       let own : action ≡ call_after number made call = ap (λ (k : ℕ). call_after number k call) replies in
       let done : t.done ≡ calling number call.node t.task action =
-      called number call.node t.task action t.done old.config t.task.outstanding (ap (λ (p : TaskPart). p.outstanding) task ∙ h.waiting) t.comes in
+      called number call.node t.task action t.done old.config t.task.outstanding (ap (λ (p : TaskPart). p.outstanding) task ∙ h.waiting) t.results in
       let sends : t.done.sends ≡ first_asked number made call ∷ [] =
       ap (λ (d : Done TaskPart). d.sends) done ∙ ap (λ (a : Action). asks number call.node a ∷ []) own in
       let packet : Has (first_asked number made call) t.done.sends = subst (λ (l : List Message). Has (first_asked number made call) l) (sym sends) (inl refl) in
@@ -217,12 +217,12 @@ module _ {P : Type 0} (calls : List TaskCall) (old new : Chair P) where
 
 -- ---- the packets of a step
 
-pub sent_once : {P : Type 0} (old new : Chair P) (input : TaskInput) (sent : Sent) → IsTaskTurn old input new sent → AreSent new.part sent
+pub sent_once : {P : Type 0} (old new : SeatState P) (input : TaskInput) (sent : Sent) → IsTaskTurn old input new sent → AreSent new.part sent
 sent_once {P} old new input sent t = record {
   packets = t.done.sends;
-  texts = t.tells.bytes;
-  count = t.tells.count;
-  sent_all = λ m has. subst (λ (c : Chair P). Has m c.part.sent) (sym t.after) (has_right m old.part.sent t.done.sends has);
+  texts = t.describes.bytes;
+  count = t.describes.count;
+  sent_all = λ m has. subst (λ (c : SeatState P). Has m c.part.sent) (sym t.after) (has_right m old.part.sent t.done.sends has);
 }
 
 few_submitted : (number node : ℕ) (task : TaskPart) (call : Result Action Fault) (done : Done TaskPart) → calls_if number node task call ≡ Ok done → length done.sends ≤ 1
@@ -233,19 +233,19 @@ few_again : (number node : ℕ) (task : TaskPart) (outstanding : Option Action) 
 few_again number node task None = omega arith
 few_again number node task (Some call) = omega arith
 
-module _ {P : Type 0} (old new : Chair P) (sent : Sent) where
+module _ {P : Type 0} (old new : SeatState P) (sent : Sent) where
   -- a call is asked by one packet at most
   pub few_of_call : (node object : ℕ) (operation : Operation) (arg : ℤ) → IsTaskTurn old (Submit node object operation arg) new sent → sent.packets ≤ 1
   few_of_call node object operation arg t =
       let call = next_call old.number (length t.task.replies) object operation arg in
-      let few = few_submitted old.number node t.task (may_call old.config node t.task call t.task.outstanding) t.done t.comes in
-      omega (arith, few, t.tells.count)
+      let few = few_submitted old.number node t.task (may_call old.config node t.task call t.task.outstanding) t.done t.results in
+      omega (arith, few, t.describes.count)
 
   pub few_of_again : (node : ℕ) → IsTaskTurn old (Again node) new sent → sent.packets ≤ 1
   few_of_again node t =
-      let done : t.done ≡ asks_again old.number node t.task t.task.outstanding = asked old.number node t.task t.done (nat_lt old.config.nodes node) t.comes in
+      let done : t.done ≡ asks_again old.number node t.task t.task.outstanding = asked old.number node t.task t.done (nat_lt old.config.nodes node) t.results in
       let few : length t.done.sends ≤ 1 = subst (λ (d : Done TaskPart). length d.sends ≤ 1) (sym done) (few_again old.number node t.task t.task.outstanding) in
-      omega (arith, few, t.tells.count)
+      omega (arith, few, t.describes.count)
 
   -- what is asked, once its packet was offered
   pub asked_by_turn : {S : Type 0} (next : S → Action → S) (answers : S → Action → List Answer) (begin : P → S) (input : TaskInput) (turn : IsTaskTurn old input new sent)
@@ -253,14 +253,14 @@ module _ {P : Type 0} (old new : Chair P) (sent : Sent) where
   asked_by_turn next answers begin input turn offered = record {
     sent = sent;
     turn = turn;
-    offered = offered turn.done.sends turn.tells.bytes turn.tells.count
-        (λ m has. subst (λ (c : Chair P). Has m c.part.sent) (sym turn.after) (has_right m old.part.sent turn.done.sends has));
+    offered = offered turn.done.sends turn.describes.bytes turn.describes.count
+        (λ m has. subst (λ (c : SeatState P). Has m c.part.sent) (sym turn.after) (has_right m old.part.sent turn.done.sends has));
   }
 
 -- ---- at first
 
 -- a fresh task made no call
-pub none_made : {P : Type 0} (calls : List TaskCall) (seat : Chair P) → seat.part ≡ fresh_part (OfTask fresh_task) → HasMade calls seat 0 false
+pub none_made : {P : Type 0} (calls : List TaskCall) (seat : SeatState P) → seat.part ≡ fresh_part (OfTask fresh_task) → HasMade calls seat 0 false
 none_made calls seat fresh = record {
   task = fresh_task;
   is = ap (λ (p : Part). p.role) fresh;

@@ -7,7 +7,7 @@ use Rattle.rp_base.proofs.Members.{has_left}
 use Rattle.rp_codec.specs.Message.{Message}
 use Rattle.rp_codec.specs.declared.packet.Party.{Party}
 use Rattle.rp_tasks.specs.Line.{Line, word_of, drawn, accepted, picked, released}
-use Rattle.rp_boxes.specs.Seats.{Chair, IsFetched}
+use Rattle.rp_boxes.specs.Seats.{SeatState, IsFetched}
 use Rattle.rp_threads.specs.Lines.{IsTextAmong, HoldsTextsOf, line_with, given_on, left_of, line_after}
 use Rattle.rp_threads.specs.Turns.{IsBrought}
 
@@ -40,10 +40,10 @@ last_has x (y ∷ ys) = inr (last_has x ys)
 holds_of_more : (packets : List Message) (m : Message) (line : Line) → HoldsTextsOf packets line → HoldsTextsOf (packets ++ m ∷ []) line
 holds_of_more packets m line holds = record { each = λ text has. let h = holds.each text has in (h.0, has_left h.0 packets (m ∷ []) h.1, h.2) }
 
-module _ {P : Type 0} (from to : Party) (text : List ℕ) (old new : Chair P) (line : Line) (f : IsFetched from to text old new) (holds : HoldsTextsOf old.part.got line) where
+module _ {P : Type 0} (from to : Party) (text : List ℕ) (old new : SeatState P) (line : Line) (f : IsFetched from to text old new) (holds : HoldsTextsOf old.part.got line) where
   -- what was got once a packet was fetched
   got_now : new.part.got ≡ old.part.got ++ f.packet ∷ []
-  got_now = ap (λ (c : Chair P). c.part.got) f.after
+  got_now = ap (λ (c : SeatState P). c.part.got) f.after
 
   -- the line as it was
   pub fetched_holds : HoldsTextsOf new.part.got line
@@ -63,7 +63,7 @@ module _ {P : Type 0} (from to : Party) (text : List ℕ) (old new : Chair P) (l
   accepted_holds after (Ok x) keeps ok err = subst (HoldsTextsOf new.part.got) (sym ok) (taken_holds keeps)
   accepted_holds after (Err e) keeps ok err = subst (HoldsTextsOf new.part.got) (sym err) fetched_holds
 
-pub is_brought : {P A : Type 0} (from to : Party) (text : List ℕ) (old new : Chair P) (line after : Line) (result : Result A Fault) → IsFetched from to text old new
+pub is_brought : {P A : Type 0} (from to : Party) (text : List ℕ) (old new : SeatState P) (line after : Line) (result : Result A Fault) → IsFetched from to text old new
     → OnOk result (after ≡ line_with (Some text) line) → OnOk result (IsBrought from to old new line after)
 is_brought from to text old new line after (Ok x) f ok = record { fetched = Some text; fetch = f; takes = ok }
 is_brought from to text old new line after (Err e) f ok = tt

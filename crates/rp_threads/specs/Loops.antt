@@ -1,11 +1,11 @@
--- How the turns of a loop are numbered and counted (this project's own).
+-- How the turns of a loop are numbered and counted.
 use Rattle.std.specs.Prelude.{◌≡◌, ℕ, zero, suc, ◌+◌, ◌%◌, ◌/◌, nat_eq, Bool, true, false, Option, Some, None}
 use Rattle.std.specs.Prelude.{if◌then◌else◌}
 use Rattle.rp_base.specs.declared.fault.Fault.{Fault}
 use Rattle.rp_base.specs.declared.fault.Fault.TheVariants.{BallotsSpent, LogFull}
 use Rattle.rp_codec.specs.declared.packet.Party.{Party}
 use Rattle.rp_codec.specs.declared.packet.Party.TheVariants.{Node, Task}
-use Rattle.rp_boxes.specs.Seats.{Chair}
+use Rattle.rp_boxes.specs.Seats.{SeatState}
 use Rattle.rp_threads.specs.declared.loops.Counts.{Counts}
 use Rattle.rp_threads.specs.declared.turns.Turn.{Turn}
 use Rattle.rp_threads.specs.declared.turns.Turn.TheVariants.{Received, Led, Idle}
@@ -46,18 +46,18 @@ events_of None = 0
 
 -- no turn yet
 abbrev pub no_turns : Counts
-no_turns = record { received = 0; led = 0; idle = 0; spent = 0 }
+no_turns = record { received = 0; led = 0; idle = 0; skipped = 0 }
 
 -- the counts with one turn more, which was made or skipped
 abbrev pub counted : Option Turn → Counts → Counts
 counted (Some Received) counts = record counts { received = counts.received + 1 }
 counted (Some Led) counts = record counts { led = counts.led + 1 }
 counted (Some Idle) counts = record counts { idle = counts.idle + 1 }
-counted None counts = record counts { spent = counts.spent + 1 }
+counted None counts = record counts { skipped = counts.skipped + 1 }
 
 -- all turns that are counted
 abbrev pub total_of : Counts → ℕ
-total_of counts = counts.received + counts.led + counts.idle + counts.spent
+total_of counts = counts.received + counts.led + counts.idle + counts.skipped
 
 -- how many of the turns 1 to n are not 0 modulo k
 abbrev pub turns_off : ℕ → ℕ → ℕ
@@ -65,7 +65,7 @@ turns_off k zero = 0
 turns_off k (suc n) = if nat_eq (suc n % k) 0 then turns_off k n else suc (turns_off k n)
 
 -- The same seat, whatever events its actor had since.
-pub record IsSameSeat {P : Type 0} (old new : Chair P) : Type 0 where
+pub record IsSameSeat {P : Type 0} (old new : SeatState P) : Type 0 where
   pub table : new.table ≡ old.table
   pub config : new.config ≡ old.config
   pub program : new.program ≡ old.program

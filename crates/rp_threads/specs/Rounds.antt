@@ -1,5 +1,4 @@
--- The turns of a node's loop: each is the turn of its node, and where nothing comes a second try to lead (this
--- project's own).
+-- The turns of a node's loop: each is the turn of its node, and where nothing comes a second try to lead.
 use Rattle.std.specs.Prelude.{◌≡◌, ◌⊎◌, ℕ, zero, suc, ◌+◌, ◌%◌, ◌<◌, ◌≤◌, nat_eq, Bool, true, false, Option, Some, None}
 use Rattle.std.specs.Prelude.{List, length}
 use Rattle.rp_base.specs.declared.action.Action.{Action}
@@ -13,13 +12,13 @@ use Rattle.rp_replica.specs.declared.input.Input.{Input}
 use Rattle.rp_replica.specs.declared.input.Input.TheVariants.{Lead}
 use Rattle.rp_tasks.specs.Line.{Line}
 use Rattle.rp_boxes.specs.Parts.{Part}
-use Rattle.rp_boxes.specs.Seats.{Chair, HasApplied, IsRunning, IsStopped}
+use Rattle.rp_boxes.specs.Seats.{SeatState, HasApplied, IsRunning, IsStopped}
 use Rattle.rp_threads.specs.Loops.{sender_at, is_refusal, no_turns, counted}
 use Rattle.rp_threads.specs.Turns.{IsLost, IsEventBy, IsStopBy, IsNodeTurn, IsStoppedTurn}
 use Rattle.rp_threads.specs.declared.loops.Counts.{Counts}
 use Rattle.rp_threads.specs.declared.turns.Turn.{Turn}
 use Rattle.rp_threads.specs.declared.turns.Turn.TheVariants.{Led, Idle}
-use Rattle.rp_threads.specs.declared.turns.Turned.{Turned}
+use Rattle.rp_threads.specs.declared.turns.TurnResult.{TurnResult}
 
 -- something waits at the node to be proposed or decided
 abbrev pub HasPending : Part → Type 0
@@ -36,31 +35,31 @@ pub record IsToLeadAt (part : Part) (position : ℕ) : Type 0 where
 abbrev pub IsLeadAnew : Part → Input → Type 0
 IsLeadAnew part input = (position : ℕ) × IsToLeadAt part position × (input ≡ Lead (Some position))
 
--- a turn of this kind, in which so many packets were sent
-abbrev pub turned_so : Turn → ℕ → Turned
-turned_so turn sent = record { turn = turn; sent = sent }
+-- a turn of this kind, in which n packets were sent
+abbrev pub result_of_turn : Turn → ℕ → TurnResult
+result_of_turn turn sent = record { turn = turn; sent = sent }
 
 module _ {S P : Type 0} (next : S → Action → S) (answers : S → Action → List Answer) (begin : P → S) where
-  module _ (from : Party) (lead : Bool) (old new : Chair P) (line after : Line) where
-    -- The turn of the node was idle, and it led anew: so many packets were sent.
+  module _ (from : Party) (lead : Bool) (old new : SeatState P) (line after : Line) where
+    -- The turn of the node was idle, and it led anew: n packets were sent.
     pub record IsLedAnew (sent : ℕ) : Type 0 where
-      pub between : Chair P
-      pub turned : Turned
+      pub between : SeatState P
+      pub turned : TurnResult
       pub first : IsNodeTurn next answers begin from lead old between line after turned
       pub idle : turned.turn ≡ Idle
       pub leads : IsEventBy next answers begin (IsLeadAnew between.part) between new sent
 
     -- The turn of the node was idle, and the step by which it was to lead anew was cut, or was none.
     pub record IsStoppedAnew (fault : Fault) : Type 0 where
-      pub between : Chair P
-      pub turned : Turned
+      pub between : SeatState P
+      pub turned : TurnResult
       pub first : IsNodeTurn next answers begin from lead old between line after turned
       pub idle : turned.turn ≡ Idle
       pub stops : IsStopBy next answers begin (IsLeadAnew between.part) between new fault
 
-    -- the turn that was made, in which so many packets were sent: the node's own, or one in which it led anew
+    -- the turn that was made, in which n packets were sent: the node's own, or one in which it led anew
     abbrev pub IsMade : Turn → ℕ → Type 0
-    IsMade turn sent = IsNodeTurn next answers begin from lead old new line after (turned_so turn sent)
+    IsMade turn sent = IsNodeTurn next answers begin from lead old new line after (result_of_turn turn sent)
         ⊎ ((turn ≡ Led) × IsLedAnew sent)
 
     -- a fault, by which no turn was made
@@ -77,12 +76,12 @@ module _ {S P : Type 0} (next : S → Action → S) (answers : S → Action → 
 
 -- where a node's loop is: its seat, its line, and how many turns of each kind it made
 pub record NodeAt (P : Type 0) : Type 0 where
-  pub seat : Chair P
+  pub seat : SeatState P
   pub line : Line
   pub counts : Counts
 
 -- before its first turn
-abbrev pub before_turns : {P : Type 0} → Chair P → Line → NodeAt P
+abbrev pub before_turns : {P : Type 0} → SeatState P → Line → NodeAt P
 before_turns seat line = record { seat = seat; line = line; counts = no_turns }
 
 -- in the turns that are 0 modulo 8 and its number a node is to lead
@@ -91,7 +90,7 @@ is_to_lead number turn = nat_eq (turn % (8 + number)) 0
 
 -- Why a node's loop may end before its last turn: out of memory; its device failed in that turn; or the node was
 -- stopped from the first, since its device had failed.
-abbrev pub IsNodeFault : {P : Type 0} → Chair P → Chair P → Fault → Type 0
+abbrev pub IsNodeFault : {P : Type 0} → SeatState P → SeatState P → Fault → Type 0
 IsNodeFault first last OutOfMemory = Unit {0}
 IsNodeFault first last Device = first.failures < last.failures
 IsNodeFault first last Failed = IsStopped first.part
@@ -99,9 +98,9 @@ IsNodeFault first last _ = ⊥
 
 module _ {S P : Type 0} (next : S → Action → S) (answers : S → Action → List Answer) (begin : P → S)
     (lets : ℕ → ℕ → Bool) (heard : ℕ → ℕ → ℕ → Type 0) (nodes : ℕ) where
-  -- the turn of this number, of a node among so many: the gate is asked about it and hears of it, and the box of its
-  -- sender is emptied
-  abbrev pub IsTurnOf : ℕ → Chair P → Chair P → Line → Line → Option Turn → Type 0
+  -- the turn of this number, of a node among n: the gate is asked about it and hears of it, and the box of its sender
+  -- is emptied
+  abbrev pub IsTurnOf : ℕ → SeatState P → SeatState P → Line → Line → Option Turn → Type 0
   IsTurnOf turn old new line after made =
       IsMadeOrSkipped next answers begin (sender_at nodes turn) (is_to_lead old.number turn) old new line after
       (heard old.number turn) (lets old.number turn) made
@@ -117,7 +116,7 @@ module _ {S P : Type 0} (next : S → Action → S) (answers : S → Action → 
   AreTurns first zero now = now ≡ first
   AreTurns first (suc n) now = (before : NodeAt P) × AreTurns first n before × IsNextTurn (suc n) before now
 
-  -- After some turns the next one, of at most so many, was not made, by a fault that is no refusal to lead.
+  -- After some turns the next one, of at most n, was not made, by a fault that is no refusal to lead.
   pub record IsEndedBy (first : NodeAt P) (turns : ℕ) (last : NodeAt P) (fault : Fault) : Type 0 where
     pub cause : IsNodeFault first.seat last.seat fault
     pub done : ℕ

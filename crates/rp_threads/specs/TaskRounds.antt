@@ -1,10 +1,10 @@
--- The turns of a task's loop: it fetches from one node, takes what its line gives on, and asks (this project's own).
+-- The turns of a task's loop: it fetches from one node, takes what its line gives on, and asks.
 use Rattle.std.specs.Prelude.{◌≡◌, ◌⊎◌, ℕ, zero, suc, ◌+◌, ◌%◌, ◌/◌, ◌<◌, ◌||◌, not, nat_eq, nat_lt, Bool, true, false}
 use Rattle.std.specs.Prelude.{is_some, Option, Some, None, List, slice_get, if◌then◌else◌}
 use Rattle.rp_base.specs.Action.{is_right}
 use Rattle.rp_base.specs.Sets.{Has}
 use Rattle.rp_base.specs.declared.action.Action.{Action}
-use Rattle.rp_base.specs.Calls.{are_spent}
+use Rattle.rp_base.specs.Calls.{are_exhausted}
 use Rattle.rp_base.specs.declared.config.Config.{Config}
 use Rattle.rp_base.specs.declared.fault.Fault.{Fault}
 use Rattle.rp_base.specs.declared.fault.Fault.TheVariants.{OutOfMemory, NumbersSpent, BadConfig}
@@ -15,7 +15,7 @@ use Rattle.rp_codec.specs.declared.packet.Party.TheVariants.{Node, Task}
 use Rattle.rp_model.specs.Tasks.{TaskInput, Submit, Again}
 use Rattle.rp_replica.specs.declared.sent.Sent.{Sent}
 use Rattle.rp_tasks.specs.Line.{Line}
-use Rattle.rp_boxes.specs.Seats.{Chair}
+use Rattle.rp_boxes.specs.Seats.{SeatState}
 use Rattle.rp_boxes.specs.TaskSeats.{IsTaskTurn, IsNoTaskTurn, IsReplyTurn}
 use Rattle.rp_threads.specs.Lines.{given_on, line_after}
 use Rattle.rp_threads.specs.Loops.{node_at}
@@ -27,7 +27,7 @@ use Rattle.rp_threads.specs.declared.tasks.TaskCall.{TaskCall}
 -- ---- a reply
 
 -- the task takes what the line gives on, if it gives something: whether a call has its reply now
-abbrev pub Hears : {P : Type 0} → Option (List ℕ) → Chair P → Chair P → Bool → Type 0
+abbrev pub Hears : {P : Type 0} → Option (List ℕ) → SeatState P → SeatState P → Bool → Type 0
 Hears None old new answered = (new ≡ old) × (answered ≡ false)
 Hears (Some text) old new answered =
     (taken : Option Answer) × IsReplyTurn old text new taken × (answered ≡ is_some taken)
@@ -54,18 +54,18 @@ asked_in nodes calls turn so_far = asked_by so_far.waits nodes calls so_far.made
 
 module _ {S P : Type 0} (next : S → Action → S) (answers : S → Action → List Answer) (begin : P → S) where
   -- One event, by this input; its packet, if it sends one, was offered to its box.
-  pub record IsAskedBy (input : TaskInput) (old new : Chair P) : Type 0 where
+  pub record IsAskedBy (input : TaskInput) (old new : SeatState P) : Type 0 where
     pub sent : Sent
     pub turn : IsTaskTurn old input new sent
     pub offered : (m : Message) → Has m turn.done.sends → IsOffered next answers begin (Task new.number) new (text_of m)
 
   -- the seat once that is asked
-  abbrev pub Asks : Option TaskInput → Chair P → Chair P → Type 0
+  abbrev pub Asks : Option TaskInput → SeatState P → SeatState P → Type 0
   Asks None old new = new ≡ old
   Asks (Some input) old new = IsAskedBy input old new
 
 -- it is refused
-abbrev pub IsRefused : {P : Type 0} → Option TaskInput → Chair P → Chair P → Fault → Type 0
+abbrev pub IsRefused : {P : Type 0} → Option TaskInput → SeatState P → SeatState P → Fault → Type 0
 IsRefused None old new fault = ⊥
 IsRefused (Some input) old new fault = IsNoTaskTurn old input new fault
 
@@ -91,16 +91,16 @@ IsBadCall config task calls made =
     (call : TaskCall) × (slice_get calls made ≡ Some call)
     × ((nat_lt config.nodes call.node || not (is_right (call_after task made call))) ≡ true)
 
-abbrev pub IsTaskFault : {P : Type 0} → ℕ → List TaskCall → Chair P → ℕ → Fault → Type 0
+abbrev pub IsTaskFault : {P : Type 0} → ℕ → List TaskCall → SeatState P → ℕ → Fault → Type 0
 IsTaskFault nodes calls seat made OutOfMemory = Unit {0}
-IsTaskFault nodes calls seat made NumbersSpent = are_spent made ≡ true
+IsTaskFault nodes calls seat made NumbersSpent = are_exhausted made ≡ true
 IsTaskFault nodes calls seat made BadConfig = (seat.config.nodes < nodes) ⊎ IsBadCall seat.config seat.number calls made
 IsTaskFault nodes calls seat made _ = ⊥
 
 module _ {P : Type 0} (nodes : ℕ) (calls : List TaskCall) where
   -- What a task brings and hears in a turn: it fetches from the next node in rotation.
-  pub record IsHeard (turn : ℕ) (old : TaskAt P) (new : Chair P) (line : Line) (so_far : Calls) : Type 0 where
-    pub between : Chair P
+  pub record IsHeard (turn : ℕ) (old : TaskAt P) (new : SeatState P) (line : Line) (so_far : Calls) : Type 0 where
+    pub between : SeatState P
     pub full : Line
     pub brought : IsBrought (Node (node_at nodes turn)) (Task old.seat.number) old.seat between old.line full
     pub answered : Bool
@@ -118,7 +118,7 @@ module _ {P : Type 0} (nodes : ℕ) (calls : List TaskCall) where
 
   -- The turn was not made: what the task asks is refused.
   pub record IsUnasked (turn : ℕ) (old new : TaskAt P) (fault : Fault) : Type 0 where
-    pub heard : Chair P
+    pub heard : SeatState P
     pub hears : IsHeard turn old heard new.line new.so_far
     pub refused : IsRefused (asked_in nodes calls turn new.so_far) heard new.seat fault
 
@@ -133,7 +133,7 @@ module _ {S P : Type 0} (next : S → Action → S) (answers : S → Action → 
     (calls : List TaskCall) where
   -- The turn of this number.
   pub record IsTaskTurnOf (turn : ℕ) (old new : TaskAt P) : Type 0 where
-    pub heard : Chair P
+    pub heard : SeatState P
     pub so_far : Calls
     pub hears : IsHeard nodes calls turn old heard new.line so_far
     pub asks : Asks next answers begin (asked_in nodes calls turn so_far) heard new.seat
@@ -148,7 +148,7 @@ module _ {S P : Type 0} (next : S → Action → S) (answers : S → Action → 
       (before : TaskAt P) × AreTaskTurns first n before × IsTaskTurnOf next answers begin nodes calls (suc n) before now
       × gate_heard before.seat.number (suc n)
 
-  -- After some turns the next one, of at most so many, was not made. The gate heard of it too.
+  -- After some turns the next one, of at most n, was not made. The gate heard of it too.
   pub record IsTaskEndedBy (first : TaskAt P) (turns : ℕ) (last : TaskAt P) (fault : Fault) : Type 0 where
     pub cause : IsTaskFault nodes calls first.seat last.so_far.made fault
     pub done : ℕ

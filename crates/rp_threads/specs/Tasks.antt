@@ -1,4 +1,4 @@
--- The calls that a task's loop made (this project's own).
+-- The calls that a task's loop made.
 use Rattle.std.specs.Prelude.{◌≡◌, ℕ, suc, ◌+◌, ◌<◌, ◌≤◌, Bool, true, false, Option, Some, None, List, length}
 use Rattle.std.specs.Prelude.{slice_get, if◌then◌else◌, ℤ}
 use Rattle.rp_base.specs.Sets.{Has}
@@ -12,7 +12,7 @@ use Rattle.rp_replica.specs.Packets.{texts_of}
 use Rattle.rp_replica.specs.declared.sent.Sent.{Sent}
 use Rattle.rp_tasks.specs.Line.{Line}
 use Rattle.rp_boxes.specs.Parts.{Part, OfTask}
-use Rattle.rp_boxes.specs.Seats.{Chair}
+use Rattle.rp_boxes.specs.Seats.{SeatState}
 use Rattle.rp_threads.specs.declared.tasks.Calls.{Calls}
 use Rattle.rp_threads.specs.declared.tasks.TaskCall.{TaskCall}
 
@@ -20,7 +20,7 @@ use Rattle.rp_threads.specs.declared.tasks.TaskCall.{TaskCall}
 abbrev pub called : ℕ → ℕ → Operation → ℤ → TaskCall
 called node object operation arg = record { node = node; object = object; operation = operation; arg = arg }
 
--- the call that a task makes after so many, as nodes know it
+-- the call that a task makes after n, as nodes know it
 abbrev pub call_after : ℕ → ℕ → TaskCall → Action
 call_after task made call = next_call task made call.object call.operation call.arg
 
@@ -28,22 +28,22 @@ call_after task made call = next_call task made call.object call.operation call.
 abbrev pub first_asked : ℕ → ℕ → TaskCall → Message
 first_asked task made call = asks task call.node (call_after task made call)
 
--- whether a task that made so many of these calls waits: then for the last of them
+-- whether a task that made n of these calls waits: then for the last of them
 abbrev pub Waits : ℕ → List TaskCall → ℕ → Bool → Option Action → Type 0
 Waits task calls made true outstanding =
     (k : ℕ) × (call : TaskCall) × (made ≡ suc k) × (slice_get calls k ≡ Some call)
     × (outstanding ≡ Some (call_after task k call))
 Waits task calls made false outstanding = outstanding ≡ None
 
--- the packet asks a node for one of the first so many of these calls
+-- the packet asks a node for one of the first n of these calls
 abbrev pub AsksForOne : ℕ → List TaskCall → ℕ → Message → Type 0
 AsksForOne task calls made packet =
     (k : ℕ) × (call : TaskCall) × (node : ℕ) × (k < made) × (slice_get calls k ≡ Some call)
     × (packet ≡ asks task node (call_after task k call))
 
--- The task of this seat made so many calls, all of them from the front of this list, each asked of its node, and each
+-- The task of this seat made n calls, all of them from the front of this list, each asked of its node, and each
 -- packet that it sent asks for one of them; it waits for the last of them, or has all replies.
-pub record HasMade {P : Type 0} (calls : List TaskCall) (seat : Chair P) (made : ℕ) (waits : Bool) : Type 0 where
+pub record HasMade {P : Type 0} (calls : List TaskCall) (seat : SeatState P) (made : ℕ) (waits : Bool) : Type 0 where
   pub task : TaskPart
   pub is : seat.part.role ≡ OfTask task
   pub some : made ≤ length calls
@@ -55,11 +55,11 @@ pub record HasMade {P : Type 0} (calls : List TaskCall) (seat : Chair P) (made :
 
 -- where a task's loop is: its seat, its line, and how many calls it made
 pub record TaskAt (P : Type 0) : Type 0 where
-  pub seat : Chair P
+  pub seat : SeatState P
   pub line : Line
   pub so_far : Calls
 
 -- before its first turn
-abbrev pub before_calls : {P : Type 0} → Chair P → Line → TaskAt P
+abbrev pub before_calls : {P : Type 0} → SeatState P → Line → TaskAt P
 before_calls seat line =
     record { seat = seat; line = line; so_far = record { made = 0; waits = false; last_reply = 0 } }

@@ -1,4 +1,4 @@
--- What a turn of a node comes to (this project's own).
+-- The result of a turn of a node.
 use Rattle.std.specs.Prelude.{◌≡◌, ◌⊎◌, ℕ, Bool, true, false, Option, Some, None, List, length}
 use Rattle.rp_base.specs.declared.action.Action.{Action}
 use Rattle.rp_base.specs.declared.fault.Fault.{Fault}
@@ -16,27 +16,28 @@ use Rattle.rp_replica.specs.declared.sent.Sent.{Sent}
 use Rattle.rp_tasks.specs.Line.{Line}
 use Rattle.rp_boxes.specs.Moments.{WasPut, WasInUse}
 use Rattle.rp_boxes.specs.Parts.{Part}
-use Rattle.rp_boxes.specs.Seats.{Chair, IsFetched, IsTurn, IsCutTurn, IsNoTurn}
+use Rattle.rp_boxes.specs.Seats.{SeatState, IsFetched, IsTurn, IsCutTurn, IsNoTurn}
 use Rattle.rp_threads.specs.Lines.{line_with, given_on, line_after}
 use Rattle.rp_threads.specs.declared.turns.Turn.{Turn}
 use Rattle.rp_threads.specs.declared.turns.Turn.TheVariants.{Received, Led, Idle}
-use Rattle.rp_threads.specs.declared.turns.Turned.{Turned}
+use Rattle.rp_threads.specs.declared.turns.TurnResult.{TurnResult}
 
 -- ---- what comes in
 
 -- a packet was fetched of which this is the text, or none was
-abbrev pub MayFetch : {P : Type 0} → Option (List ℕ) → Party → Party → Chair P → Chair P → Type 0
+abbrev pub MayFetch : {P : Type 0} → Option (List ℕ) → Party → Party → SeatState P → SeatState P → Type 0
 MayFetch None from to old new = new ≡ old
 MayFetch (Some text) from to old new = IsFetched from to text old new
 
 -- The line took what was fetched, if a packet was.
-pub record IsBrought {P : Type 0} (from to : Party) (old new : Chair P) (line after : Line) : Type 0 where
+pub record IsBrought {P : Type 0} (from to : Party) (old new : SeatState P) (line after : Line) : Type 0 where
   pub fetched : Option (List ℕ)
   pub fetch : MayFetch fetched from to old new
   pub takes : after ≡ line_with fetched line
 
 -- A packet was fetched, and the line was out of memory to take it: it is lost, and the line stays.
-pub record IsLost {P : Type 0} (from to : Party) (old new : Chair P) (line after : Line) (fault : Fault) : Type 0 where
+pub record IsLost {P : Type 0} (from to : Party) (old new : SeatState P) (line after : Line)
+    (fault : Fault) : Type 0 where
   pub packet : List ℕ
   pub fetch : IsFetched from to packet old new
   pub memory : fault ≡ OutOfMemory
@@ -78,60 +79,60 @@ pub record AreSent (part : Part) (sent : Sent) : Type 0 where
 
 module _ {S P : Type 0} (next : S → Action → S) (answers : S → Action → List Answer) (begin : P → S) where
   -- the packet of this text went from the seat of a party into its box, or that box was not empty
-  abbrev pub IsOffered : Party → Chair P → List ℕ → Type 0
+  abbrev pub IsOffered : Party → SeatState P → List ℕ → Type 0
   IsOffered from seat text = WasPut next answers begin from text seat ⊎ WasInUse next answers begin from text seat
 
   -- The bytes are the texts of packets that the party sent, and each of these was offered to its box.
-  pub record AreOffered (from : Party) (seat : Chair P) (bytes : List ℕ) : Type 0 where
+  pub record AreOffered (from : Party) (seat : SeatState P) (bytes : List ℕ) : Type 0 where
     pub are : AreSentTexts seat.part bytes
     pub each : (m : Message) → Has m are.packets → IsOffered from seat (text_of m)
 
   -- each packet that a step gives out was offered to its box
-  abbrev pub IsAllOffered : Party → Chair P → Sent → Type 0
+  abbrev pub IsAllOffered : Party → SeatState P → Sent → Type 0
   IsAllOffered from seat sent =
       (packets : List Message) → sent.bytes.items ≡ texts_of packets → sent.packets ≡ length packets
       → ((m : Message) → Has m packets → Has m seat.part.sent) → (m : Message) → Has m packets
       → IsOffered from seat (text_of m)
 
-  -- One event, by such an input; so many packets were sent, each of which was offered to its box.
-  pub record IsEventBy (Is : Input → Type 0) (old new : Chair P) (packets : ℕ) : Type 0 where
+  -- One event, by such an input; n packets were sent, each of which was offered to its box.
+  pub record IsEventBy (Is : Input → Type 0) (old new : SeatState P) (packets : ℕ) : Type 0 where
     pub input : Input
     pub is : Is input
     pub sent : Sent
     pub turn : IsTurn next answers begin old input new sent
-    pub told : packets ≡ sent.packets
+    pub stated : packets ≡ sent.packets
     pub offered : (m : Message) → Has m turn.done.sends → IsOffered (Node new.number) new (text_of m)
 
   -- One event, but memory ran out before each of its packets was offered to its box.
-  pub record IsUnsent (old : Chair P) (input : Input) (new : Chair P) (fault : Fault) : Type 0 where
+  pub record IsUnsent (old : SeatState P) (input : Input) (new : SeatState P) (fault : Fault) : Type 0 where
     pub memory : fault ≡ OutOfMemory
     pub sent : Sent
     pub turn : IsTurn next answers begin old input new sent
 
   -- The step by such an input was cut, or was none, or not all of its packets were offered.
-  pub record IsStopBy (Is : Input → Type 0) (old new : Chair P) (fault : Fault) : Type 0 where
+  pub record IsStopBy (Is : Input → Type 0) (old new : SeatState P) (fault : Fault) : Type 0 where
     pub input : Input
     pub is : Is input
     pub why : IsCutTurn next answers begin old input new fault
         ⊎ (IsNoTurn next answers begin old input new fault ⊎ IsUnsent old input new fault)
 
   -- what the turn does to the seat, by what the line gives on and whether the node is to lead
-  abbrev pub Works : Option (List ℕ) → Bool → Chair P → Chair P → ℕ → Type 0
+  abbrev pub Works : Option (List ℕ) → Bool → SeatState P → SeatState P → ℕ → Type 0
   Works (Some text) lead old new packets = IsEventBy (IsReceipt text) old new packets
   Works None true old new packets = IsEventBy IsLead old new packets
   Works None false old new packets = (new ≡ old) × (packets ≡ 0)
 
   -- how it fails
-  abbrev pub Fails : Option (List ℕ) → Bool → Chair P → Chair P → Fault → Type 0
+  abbrev pub Fails : Option (List ℕ) → Bool → SeatState P → SeatState P → Fault → Type 0
   Fails (Some text) lead old new fault = IsStopBy (IsReceipt text) old new fault
   Fails None true old new fault = IsStopBy IsLead old new fault
   Fails None false old new fault = ⊥
 
   -- One event or none: the line takes what is fetched, and what it then gives on is received. Where it holds
   -- nothing, the node leads if it is to, and is else idle.
-  pub record IsNodeTurn (from : Party) (lead : Bool) (old new : Chair P) (line after : Line) (turned : Turned)
+  pub record IsNodeTurn (from : Party) (lead : Bool) (old new : SeatState P) (line after : Line) (turned : TurnResult)
       : Type 0 where
-    pub between : Chair P
+    pub between : SeatState P
     pub full : Line
     pub brought : IsBrought from (Node old.number) old between line full
     pub turn : turned.turn ≡ turn_of (given_on full) lead
@@ -139,9 +140,9 @@ module _ {S P : Type 0} (next : S → Action → S) (answers : S → Action → 
     pub gives : after ≡ line_after full
 
   -- The step after that was cut, or was none; the packet that the line gave on is lost.
-  pub record IsStoppedTurn (from : Party) (lead : Bool) (old new : Chair P) (line after : Line) (fault : Fault)
+  pub record IsStoppedTurn (from : Party) (lead : Bool) (old new : SeatState P) (line after : Line) (fault : Fault)
       : Type 0 where
-    pub between : Chair P
+    pub between : SeatState P
     pub full : Line
     pub brought : IsBrought from (Node old.number) old between line full
     pub fails : Fails (given_on full) lead between new fault

@@ -12,8 +12,8 @@ pub trait Gate {
     /// Whether the node of a number makes the turn of a number.
     ghost lets: { ℕ → ℕ → Bool };
 
-    /// What holds once the gate heard that the node of a number made the turn of a number and sent so
-    /// many packets in it.
+    /// What holds once the gate heard that the node of a number made the turn of a number and sent
+    /// n packets in it.
     ghost heard: { ℕ → ℕ → ℕ → Type 0 };
 
     /// What holds once the gate heard that the task of a number makes the turn of a number.
@@ -23,7 +23,7 @@ pub trait Gate {
     fn before(&self, node: NodeId, turn: u64) -> bool
         ensures { result ≡ lets node turn };
 
-    /// The node made this turn, in which it sent so many packets; none where the turn was refused.
+    /// The node made this turn, in which it sent n packets; none where the turn was refused.
     fn after(&self, node: NodeId, turn: u64, sent: usize)
         ensures { heard node turn sent };
 

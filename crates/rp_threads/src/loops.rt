@@ -10,7 +10,7 @@ ghost use Rattle.rp_threads.specs.Turns.{IsEventBy, IsStopBy};
 use crate::gate::Gate;
 use crate::patience::Patience;
 use crate::rotation::sender;
-use crate::turns::{Turn, Turned, node_step, node_turn};
+use crate::turns::{Turn, TurnResult, node_step, node_turn};
 use rp_base::{Fault, Position};
 use rp_boxes::NodeSeat;
 use rp_codec::Party;
@@ -20,15 +20,15 @@ use rp_store::Device;
 use rp_tasks::FaultLine;
 use std::alloc::Global;
 
-/// A node that made its turns, and how many were of each kind. A turn is spent where the gate does
-/// not let it pass, or where the node is refused to lead.
+/// A node that made its turns, and how many were of each kind. A turn is skipped where the gate
+/// does not let it pass, or where the node is refused to lead.
 #[derive(Drop)]
 pub struct NodeEnd<M: Machine, D: Device> {
     pub seat: NodeSeat<M, D>,
     pub received: u64,
     pub led: u64,
     pub idle: u64,
-    pub spent: u64,
+    pub skipped: u64,
     /// How many packets were lost on its line and at boxes that were not empty.
     pub lost: u64,
     /// Why the node stopped before its last turn.
@@ -41,11 +41,11 @@ struct Counts {
     received: u64,
     led: u64,
     idle: u64,
-    spent: u64,
+    skipped: u64,
 }
 
 impl Counts {
-    /// Counts a turn that was made, or spent.
+    /// Counts a turn that was made or skipped.
     fn count(&mut self, made: Option<Turn>)
         requires { total_of self.old + 1 < 2 ^ 64 }
         ensures { self.new ≡ counted made self.old }
@@ -54,7 +54,7 @@ impl Counts {
             Some(Turn::Received) => self.received += 1,
             Some(Turn::Led) => self.led += 1,
             Some(Turn::Idle) => self.idle += 1,
-            None => self.spent += 1,
+            None => self.skipped += 1,
         }
     }
 }
@@ -88,8 +88,8 @@ fn is_idle(turn: Turn) -> bool
     }
 }
 
-/// The position behind so many, if there is one.
-fn position_behind(applied: u32) -> Option<Position>
+/// The position after n, if there is one.
+fn position_after(applied: u32) -> Option<Position>
     ensures { IfSome result (λ position. position ≡ applied + 1) }
 {
     Position::new(u16::try_from(applied).ok()?.checked_add(1)?)
@@ -109,7 +109,7 @@ fn position_to_lead<M: Machine, D: Device>(
     if !seat.has_pending() || !patience.is_over(seat.number(), applied) {
         return None;
     }
-    position_behind(applied)
+    position_after(applied)
 }
 
 /// The node leads anew at a position.
@@ -117,7 +117,7 @@ fn lead_at<M: Machine, D: Device>(
     seat: &mut NodeSeat<M, D>,
     alloc: Global,
     position: Position,
-) -> Result<Turned, Fault>
+) -> Result<TurnResult, Fault>
     requires { IsToLeadAt seat.old.part position }
     ensures got { seat.new.part.got ≡ seat.old.part.got }
     ensures ok { IfOk result (λ turned. (turned.turn ≡ Turn.Led)
@@ -127,7 +127,7 @@ fn lead_at<M: Machine, D: Device>(
         (IsLeadAnew seat.old.part) seat.old seat.new fault) }
 {
     let sent = node_step(seat, alloc, &Input::Lead(Some(position)))?;
-    Ok(Turned {
+    Ok(TurnResult {
         turn: Turn::Led,
         sent,
     })
@@ -135,7 +135,7 @@ fn lead_at<M: Machine, D: Device>(
 
 impl<M: Machine, D: Device> Worker<M, D> {
     /// A turn of the node, which leads anew where that was idle and its patience is over.
-    fn work(&mut self, alloc: Global, from: Party, lead: bool) -> Result<Turned, Fault>
+    fn work(&mut self, alloc: Global, from: Party, lead: bool) -> Result<TurnResult, Fault>
         requires held { HoldsTextsOf self.old.seat.part.got self.old.line }
         ensures held { HoldsTextsOf self.new.seat.part.got self.new.line }
         ensures ok { IfOk result (λ turned. IsMade M.next M.answers M.begin from lead
@@ -163,13 +163,13 @@ impl<M: Machine, D: Device> Worker<M, D> {
             received: counts.received,
             led: counts.led,
             idle: counts.idle,
-            spent: counts.spent,
+            skipped: counts.skipped,
             lost,
             fault,
         }
     }
 
-    /// One turn of a loop. `None` where it is spent.
+    /// One turn of a loop. `None` where it is skipped.
     fn turn<G: Gate>(
         &mut self,
         alloc: Global,
@@ -207,12 +207,12 @@ impl<M: Machine, D: Device> Worker<M, D> {
     }
 }
 
-/// So many turns of a node, with the boxes of the nodes 1 to `nodes` and of the tasks emptied in
-/// rotation. The node is to lead in the turns whose number is 0 modulo 8 and its own number; and where
-/// a turn is idle while something is pending, it leads anew at the first position that it has not
-/// applied, once it has waited for so long (`Patience`). A fault ends the loop, but where it only
-/// refuses that the node leads: `OutOfMemory`, `Device` where its device failed, or `Failed` where it
-/// had failed before the first turn. It waits for nobody, unless the gate does.
+/// Turns of a node, n of them, with the boxes of the nodes 1 to `nodes` and of the tasks emptied in
+/// rotation. The node is to lead in the turns whose number is 0 modulo 8 and its own number; and
+/// where a turn is idle while something is pending, it leads anew at the first position that it has
+/// not applied, once it has waited for so long (`Patience`). A fault ends the loop, but where it
+/// only refuses that the node leads: `OutOfMemory`, `Device` where its device failed, or `Failed`
+/// where it had failed before the first turn. It waits for nobody, unless the gate does.
 pub fn node_loop<M: Machine, D: Device, G: Gate>(
     seat: NodeSeat<M, D>,
     line: FaultLine,
@@ -234,7 +234,7 @@ pub fn node_loop<M: Machine, D: Device, G: Gate>(
         received: 0,
         led: 0,
         idle: 0,
-        spent: 0,
+        skipped: 0,
     };
     for done in 0..turns {
         match worker.turn(alloc, nodes, gate, done + 1) {

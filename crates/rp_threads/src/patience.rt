@@ -30,8 +30,8 @@ impl Patience {
         }
     }
 
-    /// Hears of a quiet turn of the node of this number, which has applied so many actions. Whether it
-    /// is to lead now; then it waits anew.
+    /// Hears of a quiet turn of the node of this number, which has applied n actions. Whether it is
+    /// to lead now; then it waits anew.
     pub(crate) fn is_over(&mut self, node: NodeId, applied: u32) -> bool {
         if applied != self.applied {
             *self = Patience {

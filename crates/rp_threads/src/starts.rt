@@ -33,10 +33,10 @@ pub struct TaskStart<M: Machine> {
     pub line: FaultLine,
 }
 
-/// The thread of a node owes what `node_loop` promises of its seat and line, of so many nodes and so
-/// many turns.
+/// The thread of a node guarantees what `node_loop` promises of its seat and line, of n nodes and n
+/// turns.
 #[derive(Drop)]
-pub(crate) struct NodeOwes<M: Machine, D: Device, G: Gate> {
+pub(crate) struct NodeGuarantee<M: Machine, D: Device, G: Gate> {
     pub(crate) seat: Snapshot<NodeSeat<M, D>>,
     pub(crate) line: Snapshot<FaultLine>,
     pub(crate) gate: PhantomData<G>,
@@ -44,17 +44,17 @@ pub(crate) struct NodeOwes<M: Machine, D: Device, G: Gate> {
     pub(crate) turns: u64,
 }
 
-impl<M: Machine, D: Device, G: Gate> Promise<NodeEnd<M, D>> for NodeOwes<M, D, G> {
+impl<M: Machine, D: Device, G: Gate> Promise<NodeEnd<M, D>> for NodeGuarantee<M, D, G> {
     ghost use Rattle.rp_threads.specs.Threads.{IsLooped};
 
-    ghost kept_by = { λ owes end. IsLooped M.next M.answers M.begin G.lets G.heard
-        owes.nodes owes.turns owes.seat.value owes.line.value end };
+    ghost kept_by = { λ guarantee end. IsLooped M.next M.answers M.begin G.lets G.heard
+        guarantee.nodes guarantee.turns guarantee.seat.value guarantee.line.value end };
 }
 
-/// The thread of a task owes what `task_loop` promises of its seat, calls and line, of so many nodes
-/// and so many turns.
+/// The thread of a task guarantees what `task_loop` promises of its seat, calls and line, of n
+/// nodes and n turns.
 #[derive(Drop)]
-pub(crate) struct TaskOwes<M: Machine, G: Gate> {
+pub(crate) struct TaskGuarantee<M: Machine, G: Gate> {
     pub(crate) seat: Snapshot<TaskSeat<M>>,
     pub(crate) calls: Snapshot<Vec<TaskCall>>,
     pub(crate) line: Snapshot<FaultLine>,
@@ -63,11 +63,12 @@ pub(crate) struct TaskOwes<M: Machine, G: Gate> {
     pub(crate) turns: u64,
 }
 
-impl<M: Machine, G: Gate> Promise<TaskEnd<M>> for TaskOwes<M, G> {
+impl<M: Machine, G: Gate> Promise<TaskEnd<M>> for TaskGuarantee<M, G> {
     ghost use Rattle.rp_threads.specs.Threads.{IsTaskLooped};
 
-    ghost kept_by = { λ owes end. IsTaskLooped M.next M.answers M.begin G.heard_task
-        owes.nodes owes.turns owes.calls.value.items owes.seat.value owes.line.value end };
+    ghost kept_by = { λ guarantee end. IsTaskLooped M.next M.answers M.begin G.heard_task
+        guarantee.nodes guarantee.turns guarantee.calls.value.items guarantee.seat.value
+        guarantee.line.value end };
 }
 
 /// Starts a node's loop in a thread. Refused where no thread can be made; the seat is dropped then.
@@ -78,7 +79,7 @@ pub(crate) fn start_node<'s, E, M: Machine + Send + 's, D: Device + Send + 's, G
     nodes: u8,
     gate: &'s G,
     turns: u64,
-) -> Result<PromisedHandle<NodeEnd<M, D>, NodeOwes<M, D, G>>, AllocError>
+) -> Result<PromisedHandle<NodeEnd<M, D>, NodeGuarantee<M, D, G>>, AllocError>
 where
     M::Program: Send,
     requires nodes { nodes ≤ 7 }
@@ -89,7 +90,7 @@ where
     ensures turns { IfOk result (λ handle. handle.promise.turns ≡ turns) }
 {
     let NodeStart { seat, line } = start;
-    let owes = NodeOwes {
+    let guarantee = NodeGuarantee {
         seat: Snapshot::of(&seat),
         line: Snapshot::of(&line),
         gate: PhantomData::<G>,
@@ -97,10 +98,11 @@ where
         turns,
     };
     let handle = scope.spawn_with(
-        owes,
+        guarantee,
         move || -> NodeEnd<M, D>
             requires { (nodes ≤ 7) × (line.held ≡ []) }
-            ensures { IsLooped M.next M.answers M.begin G.lets G.heard nodes turns seat line result }
+            ensures { IsLooped M.next M.answers M.begin G.lets G.heard nodes turns seat line
+                result }
         { node_loop(seat, line, alloc, nodes, gate, turns) },
     )?;
     Ok(handle)
@@ -114,7 +116,7 @@ pub(crate) fn start_task<'s, E, M: Machine + Send + 's, G: Gate + Sync>(
     nodes: u8,
     gate: &'s G,
     turns: u64,
-) -> Result<PromisedHandle<TaskEnd<M>, TaskOwes<M, G>>, AllocError>
+) -> Result<PromisedHandle<TaskEnd<M>, TaskGuarantee<M, G>>, AllocError>
 where
     M::Program: Send,
     requires nodes { (1 ≤ nodes) × (nodes ≤ 7) }
@@ -127,7 +129,7 @@ where
     ensures turns { IfOk result (λ handle. handle.promise.turns ≡ turns) }
 {
     let TaskStart { seat, calls, line } = start;
-    let owes = TaskOwes {
+    let guarantee = TaskGuarantee {
         seat: Snapshot::of(&seat),
         calls: Snapshot::of(&calls),
         line: Snapshot::of(&line),
@@ -136,7 +138,7 @@ where
         turns,
     };
     let handle = scope.spawn_with(
-        owes,
+        guarantee,
         move || -> TaskEnd<M>
             requires nodes { (1 ≤ nodes) × (nodes ≤ 7) }
             requires line { line.held ≡ [] }

@@ -23,7 +23,7 @@ use rp_replica::Sent;
 use rp_tasks::{FaultLine, gives_what_it_took};
 use std::alloc::Global;
 
-/// In every turn of so many a task asks another node for the call that it waits for.
+/// In every nth turn a task asks another node for the call that it waits for.
 const PATIENCE: u64 = 16;
 
 /// A call that a task is to make, and the node that it asks first.
@@ -160,7 +160,8 @@ fn make<M: Machine>(
     arg: i64,
 ) -> Result<(), Fault>
     ensures got { seat.new.part.got ≡ seat.old.part.got }
-    ensures ok { OnOk result (Asks M.next M.answers M.begin (submitted (Some (called node object operation arg)))
+    ensures ok { OnOk result
+        (Asks M.next M.answers M.begin (submitted (Some (called node object operation arg)))
         seat.old seat.new) }
     ensures err { IfErr result (IsRefused (submitted (Some (called node object operation arg)))
         seat.old seat.new) }
@@ -193,7 +194,9 @@ fn ask<M: Machine>(
 ) -> Result<(), Fault>
     requires nodes { (1 ≤ nodes) × (nodes ≤ 7) }
     ensures got { seat.new.part.got ≡ seat.old.part.got }
-    ensures ok { OnOk result (Asks M.next M.answers M.begin (asked_in nodes calls.now turn so_far.old) seat.old seat.new) }
+    ensures ok { OnOk result
+        (Asks M.next M.answers M.begin
+        (asked_in nodes calls.now turn so_far.old) seat.old seat.new) }
     ensures made { OnOk result (so_far.new ≡ asked_for calls.now so_far.old) }
     ensures err { IfErr result (λ fault. (so_far.new ≡ so_far.old)
         × IsRefused (asked_in nodes calls.now turn so_far.old) seat.old seat.new fault) }
@@ -257,12 +260,12 @@ impl<M: Machine> Caller<M> {
     }
 }
 
-/// So many turns of a task. In each it fetches from one of the nodes 1 to `nodes`, in rotation,
-/// through its line, and takes the reply that the line may give on. It makes its calls in order, the
-/// first in the first turn and each other once the one before has its reply; while it waits it asks
-/// the next node again in every 16th turn. A fault ends the loop: `OutOfMemory`, `NumbersSpent` where
-/// no number is left for the next call, or `BadConfig` where that is not right or asks a node above
-/// the last. It waits for nobody, unless the gate does.
+/// Turns of a task, n of them. In each it fetches from one of the nodes 1 to `nodes`, in rotation,
+/// through its line, and takes the reply that the line may give on. It makes its calls in order,
+/// the first in the first turn and each other once the one before has its reply; while it waits it
+/// asks the next node again in every 16th turn. A fault ends the loop: `OutOfMemory`,
+/// `NumbersSpent` where no number is left for the next call, or `BadConfig` where that is not right
+/// or asks a node above the last. It waits for nobody, unless the gate does.
 pub fn task_loop<M: Machine, G: Gate>(
     seat: TaskSeat<M>,
     calls: &[TaskCall],

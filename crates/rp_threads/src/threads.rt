@@ -8,7 +8,7 @@ ghost use Rattle.rp_threads.specs.Threads.{IsLooped, IsTaskLooped};
 
 use crate::gate::Gate;
 use crate::loops::NodeEnd;
-use crate::starts::{NodeOwes, NodeStart, TaskOwes, TaskStart, start_node, start_task};
+use crate::starts::{NodeGuarantee, NodeStart, TaskGuarantee, TaskStart, start_node, start_task};
 use crate::tasks::TaskEnd;
 use rp_machine::Machine;
 use rp_store::Device;
@@ -25,7 +25,7 @@ fn start_nodes<'s, E, M: Machine + Send + 's, D: Device + Send + 's, G: Gate + S
     nodes: u8,
     gate: &'s G,
     turns: u64,
-) -> Result<Vec<PromisedHandle<NodeEnd<M, D>, NodeOwes<M, D, G>>>, AllocError>
+) -> Result<Vec<PromisedHandle<NodeEnd<M, D>, NodeGuarantee<M, D, G>>>, AllocError>
 where
     M::Program: Send,
     requires nodes { nodes ≤ 7 }
@@ -50,7 +50,7 @@ fn start_tasks<'s, E, M: Machine + Send + 's, G: Gate + Sync>(
     nodes: u8,
     gate: &'s G,
     turns: u64,
-) -> Result<Vec<PromisedHandle<TaskEnd<M>, TaskOwes<M, G>>>, AllocError>
+) -> Result<Vec<PromisedHandle<TaskEnd<M>, TaskGuarantee<M, G>>>, AllocError>
 where
     M::Program: Send,
     requires nodes { (1 ≤ nodes) × (nodes ≤ 7) }
@@ -71,7 +71,7 @@ where
 /// Joins the threads of nodes.
 fn join_nodes<R: Threads, M: Machine, D: Device, G: Gate>(
     rt: &R,
-    handles: Vec<PromisedHandle<NodeEnd<M, D>, NodeOwes<M, D, G>>>,
+    handles: Vec<PromisedHandle<NodeEnd<M, D>, NodeGuarantee<M, D, G>>>,
 ) -> Result<Vec<NodeEnd<M, D>>, AllocError>
     ensures { IfOk result (λ ends. AllZip (λ handle end.
         IsLooped M.next M.answers M.begin G.lets G.heard handle.promise.nodes handle.promise.turns
@@ -84,7 +84,7 @@ fn join_nodes<R: Threads, M: Machine, D: Device, G: Gate>(
 /// Joins the threads of tasks.
 fn join_tasks<R: Threads, M: Machine, G: Gate>(
     rt: &R,
-    handles: Vec<PromisedHandle<TaskEnd<M>, TaskOwes<M, G>>>,
+    handles: Vec<PromisedHandle<TaskEnd<M>, TaskGuarantee<M, G>>>,
 ) -> Result<Vec<TaskEnd<M>>, AllocError>
     ensures { IfOk result (λ ends. AllZip (λ handle end.
         IsTaskLooped M.next M.answers M.begin G.heard_task handle.promise.nodes
@@ -126,10 +126,10 @@ where
     Ok((nodes, tasks))
 }
 
-/// Runs each node and each task in a thread of its own, so many turns each, and answers once all of
-/// them have ended, with their ends in the order of the starts. The nodes are taken to be those of
-/// the numbers 1 to so many. A node turns as `node_loop` says and a task as `task_loop` does, both by
-/// the gate. `AllocError` where no thread can be made for one of them, or where memory is wanting for the
+/// Runs each node and each task in a thread of its own, n turns each, and answers once all of them
+/// have ended, with their ends in the order of the starts. The nodes are taken to be those of the
+/// numbers 1 to n. A node turns as `node_loop` says and a task as `task_loop` does, both by the
+/// gate. `AllocError` where no thread can be made for one of them, or where memory runs out for the
 /// list of them: the threads that were started still run to their end, and no seat comes back.
 pub fn run_threads<R: Threads + Wait, M: Machine + Send, D: Device + Send, G: Gate + Sync>(
     rt: &R,

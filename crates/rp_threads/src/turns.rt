@@ -30,7 +30,7 @@ pub enum Turn {
 
 /// A turn that was made.
 #[derive(Clone, Copy, Debug, PartialEq, Eq)]
-pub struct Turned {
+pub struct TurnResult {
     pub turn: Turn,
     /// How many packets the node sent.
     pub sent: usize,
@@ -86,7 +86,7 @@ fn work<M: Machine, D: Device>(
     line: &mut FaultLine,
     alloc: Global,
     lead: bool,
-) -> Result<Turned, Fault>
+) -> Result<TurnResult, Fault>
     requires held { HoldsTextsOf seat.old.part.got line.old }
     ensures held { HoldsTextsOf seat.new.part.got line.new }
     ensures line { line.new ≡ line_after line.old }
@@ -101,19 +101,19 @@ fn work<M: Machine, D: Device>(
         Some(packet) => {
             let sent = node_step(seat, alloc, &Input::Receive(packet.as_slice()))?;
             seat.lend(packet);
-            Ok(Turned {
+            Ok(TurnResult {
                 turn: Turn::Received,
                 sent,
             })
         }
         None if lead => {
             let sent = node_step(seat, alloc, &Input::Lead(None))?;
-            Ok(Turned {
+            Ok(TurnResult {
                 turn: Turn::Led,
                 sent,
             })
         }
-        None => Ok(Turned {
+        None => Ok(TurnResult {
             turn: Turn::Idle,
             sent: 0,
         }),
@@ -131,7 +131,7 @@ pub fn node_turn<M: Machine, D: Device>(
     alloc: Global,
     from: Party,
     lead: bool,
-) -> Result<Turned, Fault>
+) -> Result<TurnResult, Fault>
     requires held { HoldsTextsOf seat.old.part.got line.old }
     ensures held { HoldsTextsOf seat.new.part.got line.new }
     ensures ok { IfOk result (λ turned. IsNodeTurn M.next M.answers M.begin

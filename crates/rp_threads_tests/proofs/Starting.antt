@@ -1,4 +1,4 @@
--- What starts is as the threads want it.
+-- What starts is as the threads require it.
 use Rattle.std.proofs.Common.{◌≡◌, ℕ, ◌<◌, ◌+◌, List, [], ◌∷◌, ◌++◌, length, slice_get, slice_index_or, All, refl, sym, ap, subst, arith}
 use Rattle.std.specs.Prelude.{IfSome}
 use Rattle.std.proofs.lemmas.List.Elements.{All-push}
@@ -7,7 +7,7 @@ use Rattle.rp_base.specs.declared.config.Config.{Config}
 use Rattle.rp_model.specs.Parts.{fresh_task}
 use Rattle.rp_boxes.specs.Making.{AreFirstSeats}
 use Rattle.rp_boxes.specs.Parts.{fresh_part, OfTask}
-use Rattle.rp_boxes.specs.Seats.{Chair}
+use Rattle.rp_boxes.specs.Seats.{SeatState}
 
 -- the first of them is this one
 pub first_is : {A : Type 0} (P : A → Type 0) (xs : List A) (x : A) → 0 < length xs → x ≡ slice_index_or xs 0 x → IfSome (slice_get xs 0) P → P x
@@ -15,10 +15,10 @@ first_is P [] x some is holds = absurd (omega (arith, some))
 first_is P (y ∷ ys) x some is holds = subst P (sym is) holds
 
 -- the first task made no call
-pub first_fresh : {P : Type 0} (table : TableId) (config : Config) (program : P) (tasks : List (Chair P)) → AreFirstSeats table config program 8 [] tasks
+pub first_fresh : {P : Type 0} (table : TableId) (config : Config) (program : P) (tasks : List (SeatState P)) → AreFirstSeats table config program 8 [] tasks
     → IfSome (slice_get tasks 0) (λ seat. seat.part ≡ fresh_part (OfTask fresh_task))
 first_fresh table config program [] are = tt
-first_fresh {P} table config program (seat ∷ others) are = ap (λ (c : Chair P). c.part) (are 0)
+first_fresh {P} table config program (seat ∷ others) are = ap (λ (c : SeatState P). c.part) (are 0)
 
 pub none_of : {A : Type 0} (P : A → Type 0) (xs : List A) → xs ≡ [] → All P xs
 none_of P xs none = subst (All P) (sym none) (λ k d below. absurd (omega (arith, below)))

@@ -92,15 +92,15 @@ fn add_both<M: Machine>(
     Ok([adds(audit, alloc, report)?, adds(audit, alloc, other)?])
 }
 
-/// What reports of the first node come to, and what is known of it then.
+/// The results of reports of the first node, and what is known of it then.
 #[derive(Drop)]
 struct Heard {
     outcomes: [Added; 4],
     known: Vec<Action>,
 }
 
-/// Node 1 reports before it has applied anything, and once it has applied one action, two and three. The report of one
-/// is added behind that of two.
+/// Node 1 reports before it has applied anything, and once it has applied one action, two and
+/// three. The report of one is added after that of two.
 fn hear<M: Machine, D: Device>(
     alloc: Global,
     program: &M::Program,
@@ -115,7 +115,7 @@ fn hear<M: Machine, D: Device>(
     let one = reported(alloc, nodes.as_mut_slice(), &mut audit, 1)?;
     tick(alloc, nodes.as_mut_slice(), 2)?;
     let two = reported(alloc, nodes.as_mut_slice(), &mut audit, 1)?;
-    let [second, behind] = add_both(&mut audit, alloc, two.as_slice(), one.as_slice())?;
+    let [second, following] = add_both(&mut audit, alloc, two.as_slice(), one.as_slice())?;
     tick(alloc, nodes.as_mut_slice(), 3)?;
     let three = reported(alloc, nodes.as_mut_slice(), &mut audit, 3)?;
     let third = audit.add(alloc, three.as_slice())?;
@@ -123,7 +123,7 @@ fn hear<M: Machine, D: Device>(
     let mut known = Vec::new(alloc);
     known.extend_from_slice(audit.known(node))?;
     Ok(Heard {
-        outcomes: [gap, second, behind, third],
+        outcomes: [gap, second, following, third],
         known,
     })
 }

@@ -186,29 +186,29 @@ fn led_in<M: Machine, D: Device>(
     }
 }
 
-/// What a node tells behind its turns, and how many of its actions are known of its report.
+/// What a node reports after its turns, and how many of its actions are known of its report.
 #[derive(Clone, Copy)]
-struct NodeTold {
+struct NodeOutcome {
     received: u64,
-    spent: u64,
+    skipped: u64,
     applied: u32,
     known: u32,
 }
 
 /// A node reports to the audit.
-fn tell<M: Machine, D: Device>(
+fn outcome_at<M: Machine, D: Device>(
     end: &mut NodeEnd<M, D>,
     audit: &mut Audit<M>,
     alloc: Global,
-) -> Result<NodeTold, Fault> {
+) -> Result<NodeOutcome, Fault> {
     if let Some(fault) = end.fault {
         return Err(fault);
     }
     let applied = end.seat.applied()?;
     node_step(&mut end.seat, alloc, &Input::Report(Position::first()))?;
-    Ok(NodeTold {
+    Ok(NodeOutcome {
         received: end.received,
-        spent: end.spent,
+        skipped: end.skipped,
         applied,
         known: hear(audit, alloc, end.seat.number())?,
     })
@@ -232,10 +232,10 @@ fn asked<M: Machine>(task: &mut TaskSeat<M>, alloc: Global) -> Result<bool, Faul
     Ok(matches!(further, Err(Fault::TaskBusy)))
 }
 
-/// What is told once all threads have ended.
+/// What is reported once all threads have ended.
 #[derive(Drop)]
-struct Told {
-    nodes: Vec<NodeTold>,
+struct Outcome {
+    nodes: Vec<NodeOutcome>,
     agree: bool,
     made: usize,
     asked: bool,
@@ -249,7 +249,7 @@ fn run_three<R: Threads + Wait, M: Machine + Send, D: Device + Send, G: Gate + S
     program: &M::Program,
     devices: Vec<D>,
     gate: &G,
-) -> Result<Told, Fault>
+) -> Result<Outcome, Fault>
 where
     M::Program: Send,
 {
@@ -258,9 +258,9 @@ where
     let tasks = task_starts(alloc, all.tasks)?;
     let (mut nodes, mut tasks) = run_threads(rt, alloc, nodes, tasks, gate, TURNS)?;
     let mut audit = Audit::new(alloc, all.audit);
-    let mut told = Vec::new(alloc);
+    let mut stated = Vec::new(alloc);
     for end in nodes.iter_mut() {
-        told.push(tell(end, &mut audit, alloc)?)?;
+        stated.push(outcome_at(end, &mut audit, alloc)?)?;
     }
     audit.look();
     let agree = begin(&audit, 1, 2)? && begin(&audit, 2, 3)? && begin(&audit, 1, 3)?;
@@ -270,8 +270,8 @@ where
     if let Some(fault) = task.fault {
         return Err(fault);
     }
-    Ok(Told {
-        nodes: told,
+    Ok(Outcome {
+        nodes: stated,
         agree,
         made: task.made,
         asked: asked(&mut task.seat, alloc)?,
@@ -285,17 +285,17 @@ fn three_nodes_and_a_task_run_in_threads(rt: HostRuntime) -> Result<(), Fail> {
     let program = TallyProgram::new(1).ok_or("one object")?;
     let devices = devices(alloc)?;
     let gate = InStep::new();
-    let told = run_three::<_, Tally, MemDevice, _>(&rt, alloc, &program, devices, &gate)?;
+    let stated = run_three::<_, Tally, MemDevice, _>(&rt, alloc, &program, devices, &gate)?;
     assert_eq!(rt; gate.late.load(Ordering::SeqCst), 0);
-    assert_eq!(rt; told.nodes.len(), 3);
-    for node in &told.nodes {
-        assert_eq!(rt; node.spent, 0);
+    assert_eq!(rt; stated.nodes.len(), 3);
+    for node in &stated.nodes {
+        assert_eq!(rt; node.skipped, 0);
         assert!(rt; node.received > 0);
         assert!(rt; node.known >= node.applied);
     }
-    assert!(rt; told.agree);
-    assert_eq!(rt; told.made, 1);
-    assert!(rt; told.asked);
-    assert!(rt; told.ballot > 9);
+    assert!(rt; stated.agree);
+    assert_eq!(rt; stated.made, 1);
+    assert!(rt; stated.asked);
+    assert!(rt; stated.ballot > 9);
     Ok(())
 }

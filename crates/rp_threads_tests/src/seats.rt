@@ -25,7 +25,7 @@ fn first_call<M: Machine>(task: &mut TaskSeat<M>, alloc: Global) -> Result<Sent,
     task.call(alloc, node, 1, Operation::Procedure(1), 5)
 }
 
-/// What is told of the box from the task to node 1.
+/// What is known of the box from the task to node 1.
 #[derive(Drop)]
 struct Boxed {
     /// The packet that was given back at the second put.
@@ -97,9 +97,9 @@ fn receive_all<M: Machine, D: Device>(
     Ok(())
 }
 
-/// What the seats tell behind one call.
+/// What the seats report after one call.
 #[derive(Drop)]
-struct Told {
+struct Outcome {
     reply: Option<Vec<u8>>,
     report: Vec<u8>,
     applied: Vec<u32>,
@@ -110,7 +110,7 @@ fn one_call<M: Machine, D: Device>(
     alloc: Global,
     program: &M::Program,
     devices: Vec<D>,
-) -> Result<Told, Fault> {
+) -> Result<Outcome, Fault> {
     let mut all: AllSeats<M, D> = seats(alloc, CONFIG, program, devices)?;
     let task = all.tasks.first_mut().ok_or(Fault::BadConfig)?;
     let packet = first_call(task, alloc)?.bytes;
@@ -133,7 +133,7 @@ fn one_call<M: Machine, D: Device>(
     let task = all.tasks.first_mut().ok_or(Fault::BadConfig)?;
     let reply = task.fetch(first);
     let leader = all.nodes.first_mut().ok_or(Fault::BadConfig)?;
-    Ok(Told {
+    Ok(Outcome {
         reply,
         report: leader.report(alloc, Position::first())?.bytes,
         applied,
@@ -145,15 +145,15 @@ fn one_call_is_decided_by_seats(rt: HostRuntime) -> Result<(), Fail> {
     let alloc = rt.alloc();
     let program = TallyProgram::new(1).ok_or("one object")?;
     let devices = devices(alloc)?;
-    let told = one_call::<Tally, MemDevice>(alloc, &program, devices)?;
-    assert_eq!(rt; told.applied.as_slice(), [1, 1, 1].as_slice());
-    let reply = told.reply.ok_or("a reply is in the box")?;
+    let stated = one_call::<Tally, MemDevice>(alloc, &program, devices)?;
+    assert_eq!(rt; stated.applied.as_slice(), [1, 1, 1].as_slice());
+    let reply = stated.reply.ok_or("a reply is in the box")?;
     assert_eq!(rt;
         reply.as_slice(),
         b"\x02\x09\x01\x11\0\0\0\x01\x01\0\0\0\0\0\0\0\x05".as_slice()
     );
     assert_eq!(rt;
-        told.report.as_slice(),
+        stated.report.as_slice(),
         b"\x02\x0a\x01\x20\0\x01\0\x01\x01\x01\x01\0\0\0\x01\x01\x02\x01\0\0\0\0\0\0\0\x05".as_slice()
     );
     Ok(())

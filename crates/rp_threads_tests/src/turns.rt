@@ -10,7 +10,7 @@ use rp_threads::{Open, TaskCall, Turn, node_step, node_turn, task_loop};
 use std::alloc::Global;
 use std::test::Fail;
 
-/// What a turn came to, and the packet that is then in a box.
+/// The result of a turn, and the packet that is then in a box.
 #[derive(Drop)]
 struct Made {
     turn: Option<Turn>,
@@ -88,7 +88,7 @@ fn delivers<M: Machine, D: Device>(
 }
 
 #[test]
-fn each_packet_of_a_step_comes_into_its_box(rt: HostRuntime) -> Result<(), Fail> {
+fn each_packet_of_a_step_is_put_into_its_box(rt: HostRuntime) -> Result<(), Fail> {
     let alloc = rt.alloc();
     let program = TallyProgram::new(1).ok_or("one object")?;
     let devices = devices(alloc)?;

@@ -42,7 +42,7 @@ pub same_place : {Y : Type 0} (name : List ℕ) (keys : List (String Y))
     → position (λ key. bytes_eq name (string_bytes key)) keys ≡ place_of name (map (λ key. string_bytes key) keys)
 same_place name keys = λ i. cond (nat_lt (same_prefix name keys i) (sym (same_len keys) i)) (Some (same_prefix name keys i)) None
 
--- ---- what it stands for
+-- ---- what it denotes
 
 below_suc : (m l : ℕ) → nat_lt (1 + m) (suc l) ≡ nat_lt m l
 below_suc m l = by (nat_lt m l) refl

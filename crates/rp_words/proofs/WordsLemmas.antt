@@ -128,13 +128,13 @@ of_fits (negsuc n) h = let small = h.sfits in grind (arith, nat_tests)
 pub number_is_text : (word : List ℕ) → IsNumber word → IsUtf8 word
 number_is_text word number = IsUtf8-from_ascii word (number_is_ascii word number)
   where
-    behind_sign : (b : ℕ) (bs : List ℕ) (minus : Bool) → (b == 45) ≡ minus → IsAscii (cond minus (drop 1 (b ∷ bs)) (b ∷ bs)) → IsAscii (b ∷ bs)
-    behind_sign b bs true is rest = ascii_in_front b bs (grind (arith, nat_tests)) rest
-    behind_sign b bs false is rest = rest
+    after_sign : (b : ℕ) (bs : List ℕ) (minus : Bool) → (b == 45) ≡ minus → IsAscii (cond minus (drop 1 (b ∷ bs)) (b ∷ bs)) → IsAscii (b ∷ bs)
+    after_sign b bs true is rest = ascii_in_front b bs (grind (arith, nat_tests)) rest
+    after_sign b bs false is rest = rest
 
     by_sign : (word : List ℕ) → IsAscii (without_minus word) → IsAscii word
     by_sign [] rest = ascii_nil
-    by_sign (b ∷ bs) rest = behind_sign b bs (b == 45) refl rest
+    by_sign (b ∷ bs) rest = after_sign b bs (b == 45) refl rest
 
     number_is_ascii : (word : List ℕ) → IsNumber word → IsAscii word
     number_is_ascii word number = by_sign word (subst IsAscii (without_sign word number.no_plus) (IsAscii-from_digits (without_leading_sign word) number.digits.1))

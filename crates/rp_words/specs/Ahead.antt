@@ -26,6 +26,6 @@ abbrev pub text_of : TextLine → LineText
 text_of line = record { number = line.number; first = line.first.now; rest = unread line.words }
 
 -- a line that is first among those ahead and is then read, or none is left
-abbrev pub Comes : Option TextLine → List LineText → List LineText → Type 0
-Comes (Some line) old new = old ≡ text_of line ∷ new
-Comes None old new = old ≡ []
+abbrev pub IsNextLine : Option TextLine → List LineText → List LineText → Type 0
+IsNextLine (Some line) old new = old ≡ text_of line ∷ new
+IsNextLine None old new = old ≡ []

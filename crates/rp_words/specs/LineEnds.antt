@@ -3,7 +3,7 @@ use Rattle.std.specs.Prelude.{ℕ, ◌-◌, not, List, [], ◌∷◌, take, leng
 use Rattle.std.specs.List.{prefix_len, ends_with}
 use Rattle.rp_words.specs.Lines.{is_line_feed}
 
--- how many bytes stand before the first line feed
+-- how many bytes are before the first line feed
 abbrev pub line_end : List ℕ → ℕ
 line_end bytes = prefix_len (λ byte. not (is_line_feed byte)) bytes
 

@@ -3,7 +3,7 @@ use Rattle.std.specs.Prelude.{◌≢◌, ℕ, ℤ, Some, List, slice_get, FitsSi
 use Rattle.std.specs.Int.{w64}
 use Rattle.std.specs.Str.Parse.{IsNumeral, without_leading_sign, signed_digits_value}
 
--- what a word stands for
+-- the value of a word
 abbrev pub number_read : List ℕ → ℤ
 number_read word = signed_digits_value 10 word
 

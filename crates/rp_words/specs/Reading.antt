@@ -3,7 +3,8 @@
 use Rattle.std.specs.Prelude.{◌≡◌, ℕ, ◌==◌, nat_lt, not, ℤ, Bool, List, take, drop, position}
 use Rattle.std.specs.Prelude.{Option, Some, None, Result, Ok, Err, if◌then◌else◌}
 use Rattle.rp_base.specs.declared.fault.DeckReason.{DeckReason}
-use Rattle.rp_base.specs.declared.fault.DeckReason.TheVariants.{WrongNumberOfWords, BadNumber, BadName, DuplicateName, TooMany}
+use Rattle.rp_base.specs.declared.fault.DeckReason.TheVariants.{WrongNumberOfWords, BadNumber, BadName, DuplicateName}
+use Rattle.rp_base.specs.declared.fault.DeckReason.TheVariants.{TooMany}
 use Rattle.rp_words.specs.declared.line_error.LineError.{LineError}
 use Rattle.rp_words.specs.declared.line_error.LineError.TheVariants.{OutOfMemory, Bad}
 use Rattle.rp_words.specs.Tables.{is_declared}

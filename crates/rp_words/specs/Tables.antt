@@ -1,4 +1,4 @@
--- Names in declared order. What they stand for is a list beside them.
+-- Names in declared order. What they denote is a list beside them.
 use Rattle.std.specs.Prelude.{ℕ, Bool, List, map, Option, Some, None, position, slice_get, String, string_bytes}
 use Rattle.std.specs.List.{list_any}
 use Rattle.std.specs.Map.{keys_of}
@@ -18,7 +18,7 @@ abbrev pub value_at : {X : Type 0} → List X → Option ℕ → Option X
 value_at values None = None
 value_at values (Some place) = slice_get values place
 
--- what the name stands for
+-- what the name denotes
 abbrev pub find : {X : Type 0} → List ℕ → List (List ℕ) → List X → Option X
 find name names values = value_at values (place_of name names)
 

@@ -1,5 +1,6 @@
 -- The words of a line, which of them are names, and which are numbers.
-use Rattle.std.specs.Prelude.{ℕ, ◌==◌, ◌||◌, ◌&&◌, Bool, true, false, not, List, [], ◌∷◌, take, drop, length, IsTrue, nat_le, if◌then◌else◌}
+use Rattle.std.specs.Prelude.{ℕ, ◌==◌, ◌||◌, ◌&&◌, Bool, true, false, not, List, [], ◌∷◌, take, drop, length, IsTrue}
+use Rattle.std.specs.Prelude.{nat_le, if◌then◌else◌}
 use Rattle.std.specs.Prelude.{◌-◌, ◌^◌, ℤ, pos, negsuc, neg_ℤ, int_le, codes, Option, Some, None}
 use Rattle.std.specs.List.{prefix_len, list_all}
 use Rattle.std.specs.Char.{is_ascii_digit, is_ascii_alphabetic}
@@ -48,7 +49,7 @@ is_name word = nat_le (length word) 16 && begins_with is_ascii_alphabetic word &
 abbrev pub IsName : List ℕ → Type 0
 IsName word = IsTrue (is_name word)
 
--- without the `-` that may stand first
+-- without the `-` that may come first
 abbrev pub without_minus : List ℕ → List ℕ
 without_minus word = if starts_with_minus word then drop 1 word else word
 
@@ -56,7 +57,7 @@ without_minus word = if starts_with_minus word then drop 1 word else word
 abbrev pub is_digits : List ℕ → Bool
 is_digits word = begins_with is_ascii_digit word && list_all is_ascii_digit word
 
--- what a number's word stands for
+-- the number of a word
 abbrev pub number_written : List ℕ → ℤ
 number_written word =
     let size = pos (digits_value 10 (without_minus word)) in

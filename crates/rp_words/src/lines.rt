@@ -49,7 +49,7 @@ pub struct Lines<'a> {
     ghost fits: { count + length rest.now + 1 < 2 ^ 32 },
 }
 
-/// How many bytes stand before the first line feed.
+/// How many bytes are before the first line feed.
 fn length_of_line(bytes: &[u8]) -> usize
     ensures value { result ≡ line_end bytes.now }
     ensures within { result ≤ length bytes.now }
@@ -75,7 +75,7 @@ fn begins_comment(word: &[u8]) -> bool
 }
 
 impl<'a> Lines<'a> {
-    ghost use Rattle.rp_words.specs.Ahead.{left, lines_read, ahead, after_last, Comes};
+    ghost use Rattle.rp_words.specs.Ahead.{left, lines_read, ahead, after_last, IsNextLine};
 
     /// The lines of a text.
     pub fn new(text: &'a [u8]) -> Self
@@ -125,7 +125,7 @@ impl<'a> Lines<'a> {
 
     /// The next line that holds words and is no comment.
     pub fn next(&mut self) -> Option<TextLine<'a>>
-        ensures next { Comes result (ahead self.old) (ahead self.new) }
+        ensures next { IsNextLine result (ahead self.old) (ahead self.new) }
         ensures last { after_last self.new ≡ after_last self.old }
         ensures end { IfNone result (lines_read self.new + 1 ≡ after_last self.old) }
         ensures number { IfSome result (λ line. line.number ≡ lines_read self.new) }

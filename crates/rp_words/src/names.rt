@@ -72,7 +72,8 @@ pub fn insert_new<V: Drop>(
     value: V,
 ) -> Result<(), LineError>
     requires { is_declared (string_bytes name) (key_names table.old) ≡ false }
-    ensures names { OnOk result (key_names table.new ≡ key_names table.old ++ string_bytes name ∷ []) }
+    ensures names { OnOk result
+        (key_names table.new ≡ key_names table.old ++ string_bytes name ∷ []) }
     ensures values { OnOk result (values table.new ≡ values table.old ++ value ∷ []) }
     ensures len { OnOk result (index_map_len table.new ≡ index_map_len table.old + 1) }
     ensures unique { OnOk result (IsUnique string_eq table.new) }

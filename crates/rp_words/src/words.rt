@@ -21,7 +21,7 @@ fn is_blank(byte: u8) -> bool
     byte == b' ' || byte == b'\t'
 }
 
-/// How many blanks stand before the first word.
+/// How many blanks are before the first word.
 fn blanks_in_front(bytes: &[u8]) -> usize
     ensures value { result ≡ prefix_len is_blank bytes.now }
     ensures within { result ≤ length bytes.now }
@@ -29,7 +29,7 @@ fn blanks_in_front(bytes: &[u8]) -> usize
     bytes.iter().take_while(|byte| is_blank(**byte)).count()
 }
 
-/// How many bytes stand before the first blank.
+/// How many bytes are before the first blank.
 fn length_of_word(bytes: &[u8]) -> usize
     ensures value { result ≡ prefix_len (λ byte. not (is_blank byte)) bytes.now }
     ensures within { result ≤ length bytes.now }
@@ -47,14 +47,14 @@ fn begins_with_letter(word: &[u8]) -> bool
     }
 }
 
-/// Whether the byte may stand in a name: a letter, a digit or an underscore.
+/// Whether the byte is allowed in a name: a letter, a digit or an underscore.
 fn is_of_name(byte: u8) -> bool
     ensures { result ≡ is_of_name byte }
 {
     byte.is_ascii_alphabetic() || byte.is_ascii_digit() || byte == b'_'
 }
 
-/// Whether each byte may stand in a name.
+/// Whether each byte is allowed in a name.
 fn are_of_name(word: &[u8]) -> bool
     ensures { result ≡ list_all is_of_name word.now }
 {
@@ -80,7 +80,7 @@ pub fn read_name(word: &[u8]) -> Result<&str, DeckReason>
     str::from_utf8(word).map_err(|_| DeckReason::BadName)
 }
 
-/// How many bytes stand before the first dot, if there is one.
+/// How many bytes are before the first dot, if there is one.
 fn place_of_dot(word: &[u8]) -> Option<usize>
     ensures place { result ≡ position (λ byte. byte == 46) word.now }
     ensures within { IfSome result (λ dot. dot < length word.now) }

@@ -1,4 +1,4 @@
--- What a task's calls come to in the world.
+-- The results of a task's calls in the world.
 use Rattle.std.proofs.Common.{◌≡◌, ℕ, suc, ◌+◌, ◌-◌, ◌^◌, ◌<◌, ◌≤◌, Bool, true, false, if◌then◌else◌, Option, Some, None, Result, Ok, Err, List, [], ◌∷◌, ◌++◌, length, slice_get, slice_set, inl, inr, refl, sym, ap, subst, ◌∙◌, arith}
 use Rattle.std.specs.Prelude.{ℤ, nat_le, nat_lt, not, ◌||◌, FitsSigned, IsErrAnd, min}
 use Rattle.std.specs.Int.{w64}
@@ -14,11 +14,11 @@ use Rattle.rp_base.specs.declared.fault.Fault.{Fault}
 use Rattle.rp_base.specs.declared.fault.Fault.TheVariants.{OutOfMemory, BadConfig, NumbersSpent}
 use Rattle.rp_codec.specs.Message.{Message, IsCallBy}
 use Rattle.rp_store.specs.Disk.{Disk}
-use Rattle.rp_model.specs.Answers.{Tells}
+use Rattle.rp_model.specs.Answers.{Describes}
 use Rattle.rp_model.specs.Effect.{Done, goes_on_as}
 use Rattle.rp_model.specs.Parts.{TaskPart}
 use Rattle.rp_model.specs.Tasks.{TaskInput, Submit, Again, asks, next_call, may_call, calls_if, asks_again, task_effect}
-use Rattle.rp_model.specs.World.{World, Happening, part_at, with_part, task_done, task_done_if, task_takes}
+use Rattle.rp_model.specs.World.{World, Transition, part_at, with_part, task_done, task_done_if, task_takes}
 use Rattle.rp_model.specs.declared.effect.Dropped.TheVariants.{No}
 use Rattle.rp_model.specs.declared.effect.Effect.{Effect}
 use Rattle.rp_world.specs.Callers.{Caller}
@@ -30,7 +30,7 @@ use Rattle.rp_world.proofs.Moving.{part_same, task_here, tasks_moved}
 
 -- ---- what a task may call
 
--- the test for an operation tells which are right
+-- the test for an operation decides which are right
 operation_right : (operation : Operation) → is_right_operation operation ≡ true → IsRightOperation operation
 operation_right (Function index) e = let both = and_parts _ _ e in (leb-true 1 index both.0, leb-true index 8 both.1)
 operation_right (Procedure index) e = let both = and_parts _ _ e in (leb-true 1 index both.0, leb-true index 8 both.1)
@@ -76,16 +76,16 @@ made config task node part object operation arg None fits =
     let few : length part.replies < 2 ^ 32 - 1 = leb-false (2 ^ 32 - 1) (length part.replies) left in
     (refl, call_right task (suc (length part.replies)) object operation arg (omega (arith, few)) fits (neither (nat_lt config.nodes node) (is_right call) allowed))))
 
--- ---- what is told
+-- ---- what is reported
 
--- an effect that tells of so many messages and nothing else
-abbrev pub told_of : ℕ → ℕ → Effect
-told_of first sent = record { first = first; sent = sent; dropped = No; taken = None; opened = None }
+-- an effect that reports n messages and nothing else
+abbrev pub stated_of : ℕ → ℕ → Effect
+stated_of first sent = record { first = first; sent = sent; dropped = No; taken = None; opened = None }
 
 -- an answer that is this fault
-at_fault : (w new : World) (effect : Result Happening Fault) (cut : ℕ → Result Happening Fault) (fault : Fault) (r : Result Effect Fault) → IsErrAnd r (λ e. e ≡ fault)
+at_fault : (w new : World) (effect : Result Transition Fault) (cut : ℕ → Result Transition Fault) (fault : Fault) (r : Result Effect Fault) → IsErrAnd r (λ e. e ≡ fault)
     → Answers w effect cut new (let f : Result Effect Fault = Err fault in f) → Answers w effect cut new r
-at_fault w new effect cut fault (Ok told) is answers = absurd is
+at_fault w new effect cut fault (Ok stated) is answers = absurd is
 at_fault w new effect cut fault (Err e) is answers = subst (λ (f : Fault). Answers w effect cut new (let x : Result Effect Fault = Err f in x)) (sym is) answers
 
 -- no task may ask a node above the last
@@ -102,7 +102,7 @@ module _ {S D P : Type 0} (disk : D → Disk) (config : Config) (begin : S) (nod
   abbrev w : World
   w = world_of disk most nodes tasks messages
 
-  abbrev whole : TaskInput → Result Happening Fault
+  abbrev whole : TaskInput → Result Transition Fault
   whole input = task_takes config w me input (part_at w.tasks me)
 
   whole_is : (input : TaskInput) (result : Result (Done TaskPart) Fault) → task_effect config me t.part input ≡ result → whole input ≡ task_done_if w me result
@@ -111,9 +111,9 @@ module _ {S D P : Type 0} (disk : D → Disk) (config : Config) (begin : S) (nod
   stays : (later : Sending) → later.sent ≡ messages.sent → world_of disk most nodes tasks later ≡ w
   stays later sent = ap (λ (ms : List Message). let x : World = record { nodes = w.nodes; tasks = w.tasks; sent = ms } in x) sent
 
-  tells : (done : Done TaskPart) (told : Effect) → (count : ℕ) → told ≡ told_of (length w.sent + 1) count → count ≡ min (length done.sends) (2 ^ 32 - 1) → done.dropped ≡ No → done.taken ≡ None → done.opened ≡ None
-      → Tells (length w.sent) (task_done w me done) told
-  tells done told count is counted dropped taken opened = record {
+  describes : (done : Done TaskPart) (stated : Effect) → (count : ℕ) → stated ≡ stated_of (length w.sent + 1) count → count ≡ min (length done.sends) (2 ^ 32 - 1) → done.dropped ≡ No → done.taken ≡ None → done.opened ≡ None
+      → Describes (length w.sent) (task_done w me done) stated
+  describes done stated count is counted dropped taken opened = record {
     first = ap (λ (e : Effect). e.first) is;
     count = ap (λ (e : Effect). e.sent) is ∙ counted;
     dropped = ap (λ (e : Effect). e.dropped) is ∙ sym dropped;
@@ -122,29 +122,29 @@ module _ {S D P : Type 0} (disk : D → Disk) (config : Config) (begin : S) (nod
   }
 
   -- the input takes effect
-  goes : (input : TaskInput) (done : Done TaskPart) (new : Caller) (later : Sending) (told : Effect) → task_effect config me t.part input ≡ Ok done → new.part ≡ done.part → later.sent ≡ messages.sent ++ done.sends
-      → Tells (length w.sent) (task_done w me done) told → Goes w (whole input) (world_of disk most nodes (slice_set tasks i new) later) told
-  goes input done new later told came part sent tells = record {
-    happening = task_done w me done;
-    came = whole_is input (Ok done) came;
+  goes : (input : TaskInput) (done : Done TaskPart) (new : Caller) (later : Sending) (stated : Effect) → task_effect config me t.part input ≡ Ok done → new.part ≡ done.part → later.sent ≡ messages.sent ++ done.sends
+      → Describes (length w.sent) (task_done w me done) stated → Goes w (whole input) (world_of disk most nodes (slice_set tasks i new) later) stated
+  goes input done new later stated resulted part sent describes = record {
+    transition = task_done w me done;
+    resulted = whole_is input (Ok done) resulted;
     world = ap (λ (ps : List TaskPart). let x : World = record { nodes = w.nodes; tasks = ps; sent = later.sent } in x)
         (tasks_moved disk config begin nodes tasks i me placed t here new ∙ ap (with_part w.tasks me) part)
         ∙ ap (λ (ms : List Message). let x : World = record { nodes = w.nodes; tasks = with_part w.tasks me done.part; sent = ms } in x) sent;
-    tells = tells;
+    describes = describes;
   }
 
   -- it is refused
   refused : (input : TaskInput) (fault : Fault) (r : Result Effect Fault) → task_effect config me t.part input ≡ Err fault → IsErrAnd r (λ e. e ≡ fault) → Answers w (whole input) no_cut w r
-  refused input fault r came is = at_fault w w (whole input) no_cut fault r is (inl (record { came = whole_is input (Err fault) came; unchanged = refl }))
+  refused input fault r resulted is = at_fault w w (whole input) no_cut fault r is (inl (record { resulted = whole_is input (Err fault) resulted; unchanged = refl }))
 
-  -- memory is wanting for it
-  wants : (input : TaskInput) (done : Done TaskPart) (later : Sending) (r : Result Effect Fault) → task_effect config me t.part input ≡ Ok done → later.sent ≡ messages.sent → IsErrAnd r (λ e. e ≡ OutOfMemory)
+  -- memory runs out for it
+  runs_out : (input : TaskInput) (done : Done TaskPart) (later : Sending) (r : Result Effect Fault) → task_effect config me t.part input ≡ Ok done → later.sent ≡ messages.sent → IsErrAnd r (λ e. e ≡ OutOfMemory)
       → Answers w (whole input) no_cut (world_of disk most nodes tasks later) r
-  wants input done later r came sent is =
+  runs_out input done later r resulted sent is =
       at_fault w (world_of disk most nodes tasks later) (whole input) no_cut OutOfMemory r is
-      (inr (inl (record { memory = refl; wanted = task_done w me done; came = whole_is input (Ok done) came; unchanged = stays later sent })))
+      (inr (inl (record { memory = refl; intended = task_done w me done; resulted = whole_is input (Ok done) resulted; unchanged = stays later sent })))
 
-  -- the task stands at its place
+  -- the task is at its place
   to_same : (Q : List Caller → Type 0) → Q tasks → Q (slice_set tasks i t)
   to_same Q q = subst Q (sym (part_same tasks i t here)) q
 
@@ -182,15 +182,15 @@ module _ {S D P : Type 0} (disk : D → Disk) (config : Config) (begin : S) (nod
       abbrev done : Done TaskPart
       done = record (goes_on_as (record t.part { outstanding = Some call })) { sends = asks me node call ∷ [] }
 
-      pub call_wants : (later : Sending) (r : Result Effect Fault) → later.sent ≡ messages.sent → IsErrAnd r (λ e. e ≡ OutOfMemory)
+      pub call_runs_out : (later : Sending) (r : Result Effect Fault) → later.sent ≡ messages.sent → IsErrAnd r (λ e. e ≡ OutOfMemory)
           → Answers w (whole input) no_cut (world_of disk most nodes (slice_set tasks i t) later) r
-      call_wants later r sent at = to_same (λ ts. Answers w (whole input) no_cut (world_of disk most nodes ts later) r) (wants input done later r (effect_is (Ok call) is) sent at)
+      call_runs_out later r sent at = to_same (λ ts. Answers w (whole input) no_cut (world_of disk most nodes ts later) r) (runs_out input done later r (effect_is (Ok call) is) sent at)
 
-      pub called : (new : Caller) (later : Sending) (told : Effect) → new.part ≡ record t.part { outstanding = Some next } → later.sent ≡ messages.sent ++ asks me node call ∷ [] → told ≡ told_of (length w.sent + 1) 1
-          → Goes w (whole input) (world_of disk most nodes (slice_set tasks i new) later) told
-      called new later told part sent is_told =
-          goes input done new later told (effect_is (Ok call) is) (part ∙ ap (λ (c : Action). let p : TaskPart = record t.part { outstanding = Some c } in p) (sym made_so.0)) sent
-          (tells done told 1 is_told refl refl refl refl)
+      pub called : (new : Caller) (later : Sending) (stated : Effect) → new.part ≡ record t.part { outstanding = Some next } → later.sent ≡ messages.sent ++ asks me node call ∷ [] → stated ≡ stated_of (length w.sent + 1) 1
+          → Goes w (whole input) (world_of disk most nodes (slice_set tasks i new) later) stated
+      called new later stated part sent is_stated =
+          goes input done new later stated (effect_is (Ok call) is) (part ∙ ap (λ (c : Action). let p : TaskPart = record t.part { outstanding = Some c } in p) (sym made_so.0)) sent
+          (describes done stated 1 is_stated refl refl refl refl)
 
   -- ---- a call asked for again
 
@@ -201,21 +201,21 @@ module _ {S D P : Type 0} (disk : D → Disk) (config : Config) (begin : S) (nod
           ap (λ (b : Bool). let r : Result (Done TaskPart) Fault = if b then Err BadConfig else Ok (asks_again me node t.part t.part.outstanding) in r) (le-ltb config.nodes node within)
           ∙ ap (λ (p : Option Action). let r : Result (Done TaskPart) Fault = Ok (asks_again me node t.part p) in r) is
 
-      pub asks_nothing : t.part.outstanding ≡ None → (told : Effect) → told ≡ told_of (length w.sent + 1) 0 → Goes w (whole (Again node)) w told
-      asks_nothing none told is_told =
-          from_same (λ ts. Goes w (whole (Again node)) (world_of disk most nodes ts messages) told)
-          (goes (Again node) (goes_on_as t.part) t messages told (again_is None none) refl (sym (append-nil messages.sent)) (tells (goes_on_as t.part) told 0 is_told refl refl refl refl))
+      pub asks_nothing : t.part.outstanding ≡ None → (stated : Effect) → stated ≡ stated_of (length w.sent + 1) 0 → Goes w (whole (Again node)) w stated
+      asks_nothing none stated is_stated =
+          from_same (λ ts. Goes w (whole (Again node)) (world_of disk most nodes ts messages) stated)
+          (goes (Again node) (goes_on_as t.part) t messages stated (again_is None none) refl (sym (append-nil messages.sent)) (describes (goes_on_as t.part) stated 0 is_stated refl refl refl refl))
 
       module _ (call : Action) (waits : t.part.outstanding ≡ Some call) where
         abbrev asked : Done TaskPart
         asked = asks_again me node t.part (Some call)
 
-        pub again_wants : (later : Sending) (r : Result Effect Fault) → later.sent ≡ messages.sent → IsErrAnd r (λ e. e ≡ OutOfMemory)
+        pub again_runs_out : (later : Sending) (r : Result Effect Fault) → later.sent ≡ messages.sent → IsErrAnd r (λ e. e ≡ OutOfMemory)
             → Answers w (whole (Again node)) no_cut (world_of disk most nodes tasks later) r
-        again_wants later r sent at = wants (Again node) asked later r (again_is (Some call) waits) sent at
+        again_runs_out later r sent at = runs_out (Again node) asked later r (again_is (Some call) waits) sent at
 
-        pub asks_more : (later : Sending) (told : Effect) → later.sent ≡ messages.sent ++ asks me node call ∷ [] → told ≡ told_of (length w.sent + 1) 1
-            → Goes w (whole (Again node)) (world_of disk most nodes tasks later) told
-        asks_more later told sent is_told =
-            from_same (λ ts. Goes w (whole (Again node)) (world_of disk most nodes ts later) told)
-            (goes (Again node) asked t later told (again_is (Some call) waits) refl sent (tells asked told 1 is_told refl refl refl refl))
+        pub asks_more : (later : Sending) (stated : Effect) → later.sent ≡ messages.sent ++ asks me node call ∷ [] → stated ≡ stated_of (length w.sent + 1) 1
+            → Goes w (whole (Again node)) (world_of disk most nodes tasks later) stated
+        asks_more later stated sent is_stated =
+            from_same (λ ts. Goes w (whole (Again node)) (world_of disk most nodes ts later) stated)
+            (goes (Again node) asked t later stated (again_is (Some call) waits) refl sent (describes asked stated 1 is_stated refl refl refl refl))

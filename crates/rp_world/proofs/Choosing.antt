@@ -13,7 +13,7 @@ use Rattle.rp_codec.specs.Text.{text_of}
 use Rattle.rp_codec.specs.declared.packet.Party.{Party}
 use Rattle.rp_codec.specs.declared.packet.Party.TheVariants.{Node, Task, Audit}
 use Rattle.rp_model.specs.Effect as nodes
-use Rattle.rp_model.specs.Effect.{Setting, NodeInput, node_effect, effect_while, turned_if, cut_if}
+use Rattle.rp_model.specs.Effect.{Setting, NodeInput, node_effect, effect_while, turn_done_if, cut_if}
 use Rattle.rp_model.specs.Events.{Step, Deliver, LeadRange}
 use Rattle.rp_model.specs.Leader.{on_lead_range}
 use Rattle.rp_model.specs.Parts.{NodePart, Running}
@@ -25,10 +25,10 @@ use Rattle.rp_store.specs.Disk.{Disk}
 use Rattle.rp_world.specs.Choosing.{AreNodesOf, IsOf, IsOfNone, IsRefused}
 use Rattle.rp_world.specs.Callers.{Caller}
 use Rattle.rp_world.specs.Messages.{Sending}
-use Rattle.rp_world.specs.Nodes.{StandsFor, member_of}
+use Rattle.rp_world.specs.Nodes.{Represents, member_of}
 use Rattle.rp_world.specs.Shape.{IsWorld, part_by, world_of}
 use Rattle.rp_world.specs.declared.node.Node.{Node as OneNode}
-use Rattle.rp_world.proofs.Moving.{no_node, part_here, stands_here}
+use Rattle.rp_world.proofs.Moving.{no_node, part_here, represents_here}
 
 there_is : {A : Type 0} (xs : List A) (i : ℕ) → i < length xs → (x : A) × (slice_get xs i ≡ Some x)
 there_is {A = A} [] i within = absurd (omega (arith, within))
@@ -117,8 +117,8 @@ module _ {S D P : Type 0} (disk : D → Disk) (begin : S) (nodes : List (OneNode
       pub one_among : part_at w.nodes me ≡ Some its_part
       one_among = ap (λ (l : List NodePart). part_at l me) are.parts ∙ part_here disk are.config begin nodes are.tasks i me placed n here
 
-      pub stands_among : StandsFor disk (member_of me are.config begin) n its_part
-      stands_among = stands_here disk are.config begin nodes are.tasks i me placed n here are.kept
+      pub represents_among : Represents disk (member_of me are.config begin) n its_part
+      represents_among = represents_here disk are.config begin nodes are.tasks i me placed n here are.kept
 
 -- ---- the word to lead at a range
 
@@ -161,9 +161,9 @@ module _ {S : Type 0} (s : Setting S) (w : World) (me first count : ℕ) where
 
   module _ (part : NodePart) (here : part_at w.nodes me ≡ Some part) where
     refuses : (fault : Fault) → node_effect s me part given_range ≡ Err fault → fault ≢ Device → IsRefused s w (LeadRange me first count) fault
-    refuses fault came reason = record {
-      whole = ap (node_takes s w me given_range) here ∙ ap (node_done_if w me) came;
-      none = record { cut = λ kept. ap (node_is_cut s w me given_range kept) here ∙ ap (λ effect. node_done_if w me (cut_if kept part effect)) came; reason = reason };
+    refuses fault resulted reason = record {
+      whole = ap (node_takes s w me given_range) here ∙ ap (node_done_if w me) resulted;
+      none = record { cut = λ kept. ap (node_is_cut s w me given_range kept) here ∙ ap (λ effect. node_done_if w me (cut_if kept part effect)) resulted; reason = reason };
     }
 
     -- the node is stopped
@@ -172,7 +172,7 @@ module _ {S : Type 0} (s : Setting S) (w : World) (me first count : ℕ) where
 
     refused_while : (known : Option Running) (fault : Fault) → IsSome known → range_of first count ≡ Err fault → effect_while s me part given_range known ≡ Err fault
     refused_while None fault runs is = absurd cc
-    refused_while (Some running) fault runs is = ap (λ found. turned_if part (on_lead_range s.config me part.records running found)) is
+    refused_while (Some running) fault runs is = ap (λ found. turn_done_if part (on_lead_range s.config me part.records running found)) is
 
     -- it runs, and the numbers make no range
     pub leads_no_range : (fault : Fault) → IsSome part.running → range_of first count ≡ Err fault → IsRefused s w (LeadRange me first count) fault

@@ -22,13 +22,13 @@ use Rattle.rp_replica.specs.declared.input.Input.{Input}
 use Rattle.rp_replica.specs.declared.input.Input.TheVariants.{Receive, Lead, LeadRange, Interrupt, Tick, Report}
 use Rattle.rp_replica.specs.declared.sent.Sent.{Sent}
 use Rattle.rp_replica.specs.Cutting.{CutsIf, IsNotCutIf, cut_disk}
-use Rattle.rp_replica.specs.Held.{Held, setting_of, with_text}
+use Rattle.rp_replica.specs.State.{ReplicaState, setting_of, with_text}
 use Rattle.rp_replica.specs.Inputs.{packet_given, effect_if_given, input_effect}
 use Rattle.rp_replica.specs.Opening.{IsRefusedOpening}
 use Rattle.rp_replica.specs.Turning.{Answers, TurnsIf, Stops, StopsIf, IsRefused}
 use Rattle.rp_world.specs.Failures.{RisesAt}
 use Rattle.rp_world.specs.Going.{Counts}
-use Rattle.rp_world.specs.Nodes.{Member, StandsFor, NotTaken, failures_in, IsCounted, setting_at, node_step}
+use Rattle.rp_world.specs.Nodes.{Member, Represents, NotTaken, failures_in, IsCounted, setting_at, node_step}
 use Rattle.rp_world.specs.declared.node.Node.{Node}
 use Rattle.rp_world.proofs.Moving.{get_map, set_map, set_same}
 
@@ -52,11 +52,11 @@ torn_counted : (kept : ℕ) (disk : Disk) (written : Option Rec) → (cut_disk k
 torn_counted kept disk None = refl
 torn_counted kept disk (Some rec) = refl
 
-no_packet : {S : Type 0} (next : S → Action → S) (answers : S → Action → List Answer) (old : Held S) (read : Result Message PacketReason) → NoDevice (effect_if_given next answers old (packet_given read))
+no_packet : {S : Type 0} (next : S → Action → S) (answers : S → Action → List Answer) (old : ReplicaState S) (read : Result Message PacketReason) → NoDevice (effect_if_given next answers old (packet_given read))
 no_packet next answers old (Ok message) = tt
 no_packet next answers old (Err reason) = tt
 
-module _ {S : Type 0} (next : S → Action → S) (answers : S → Action → List Answer) (old : Held S) where
+module _ {S : Type 0} (next : S → Action → S) (answers : S → Action → List Answer) (old : ReplicaState S) where
   -- no input is refused as a fault of the device
   input_so : (input : Input) → NoDevice (input_effect next answers old input)
   input_so (Receive bytes) = no_packet next answers old (all_of bytes.now)
@@ -66,41 +66,41 @@ module _ {S : Type 0} (next : S → Action → S) (answers : S → Action → Li
   input_so (Tick now) = tt
   input_so (Report first) = tt
 
-  stops_counted : (new : Held S) (written : Option Rec) (fault : Fault) → Stops written old new fault → IsCounted old.disk.failures new.disk.failures (let r : Result Sent Fault = Err fault in r)
-  stops_counted new written OutOfMemory stops = ap (λ (h : Held S). h.disk.failures) stops.0
+  stops_counted : (new : ReplicaState S) (written : Option Rec) (fault : Fault) → Stops written old new fault → IsCounted old.disk.failures new.disk.failures (let r : Result Sent Fault = Err fault in r)
+  stops_counted new written OutOfMemory stops = ap (λ (h : ReplicaState S). h.disk.failures) stops.0
   stops_counted new written Device stops = stops.0.disk.cause
-  stops_counted new written Failed stops = ap (λ (h : Held S). h.disk.failures) stops.0
+  stops_counted new written Failed stops = ap (λ (h : ReplicaState S). h.disk.failures) stops.0
   stops_counted new written _ stops = absurd stops
 
-  refused_counted : (new : Held S) (refusal fault : Fault) → (let r : Result Turn Fault = Err refusal in NoDevice r) → IsRefused refusal old new fault → (n : ℕ) × (n ≡ old.disk.failures) × (n ≡ new.disk.failures) × (fault ≢ Device)
+  refused_counted : (new : ReplicaState S) (refusal fault : Fault) → (let r : Result Turn Fault = Err refusal in NoDevice r) → IsRefused refusal old new fault → (n : ℕ) × (n ≡ old.disk.failures) × (n ≡ new.disk.failures) × (fault ≢ Device)
   refused_counted new refusal fault none refused = (
     old.disk.failures,
     refl,
-    sym (ap (λ (h : Held S). h.disk.failures) refused.0),
+    sym (ap (λ (h : ReplicaState S). h.disk.failures) refused.0),
     λ device.
         elim refused.1 [
-          | inl told ↦ absurd (subst (λ (f : Fault). let r : Result Turn Fault = Err f in NoDevice r) (sym told.0 ∙ device) none)
+          | inl stated ↦ absurd (subst (λ (f : Fault). let r : Result Turn Fault = Err f in NoDevice r) (sym stated.0 ∙ device) none)
           | inr gone ↦ absurd (let same : Failed ≡ Device = sym gone.0 ∙ device in cc)
         ],
   )
 
-  by_refusal : (new : Held S) (refusal fault : Fault) → (let r : Result Turn Fault = Err refusal in NoDevice r) → IsRefused refusal old new fault
+  by_refusal : (new : ReplicaState S) (refusal fault : Fault) → (let r : Result Turn Fault = Err refusal in NoDevice r) → IsRefused refusal old new fault
       → IsCounted old.disk.failures new.disk.failures (let r : Result Sent Fault = Err fault in r)
   by_refusal new refusal fault none refused =
       let is = refused_counted new refusal fault none refused in
       subst (λ (k : ℕ). IsCounted k new.disk.failures (let r : Result Sent Fault = Err fault in r)) is.1
       (subst (λ (k : ℕ). IsCounted is.0 k (let r : Result Sent Fault = Err fault in r)) is.2 (not_device is.0 fault is.3))
 
-  by_effect : (new : Held S) (effect : Result Turn Fault) → NoDevice effect → (fault : Fault) → StopsIf effect old new fault → IsCounted old.disk.failures new.disk.failures (let r : Result Sent Fault = Err fault in r)
+  by_effect : (new : ReplicaState S) (effect : Result Turn Fault) → NoDevice effect → (fault : Fault) → StopsIf effect old new fault → IsCounted old.disk.failures new.disk.failures (let r : Result Sent Fault = Err fault in r)
   by_effect new (Ok turn) none fault stops = stops_counted new turn.written fault stops
   by_effect new (Err refusal) none fault stops = by_refusal new refusal fault none stops
 
-  goes_counted : (new : Held S) (effect : Result Turn Fault) (sent : Sent) → TurnsIf effect old new sent → new.disk.failures ≡ old.disk.failures
-  goes_counted new (Ok turn) sent turns = ap (λ (h : Held S). h.disk.failures) turns.0.goes ∙ written_counted old.disk turn.written
+  goes_counted : (new : ReplicaState S) (effect : Result Turn Fault) (sent : Sent) → TurnsIf effect old new sent → new.disk.failures ≡ old.disk.failures
+  goes_counted new (Ok turn) sent turns = ap (λ (h : ReplicaState S). h.disk.failures) turns.0.goes ∙ written_counted old.disk turn.written
   goes_counted new (Err refusal) sent turns = absurd turns
 
   -- a turn
-  pub turn_counted : (input : Input) (new : Held S) (answer : Result Sent Fault) → Answers (input_effect next answers old input) old new answer → IsCounted old.disk.failures new.disk.failures answer
+  pub turn_counted : (input : Input) (new : ReplicaState S) (answer : Result Sent Fault) → Answers (input_effect next answers old input) old new answer → IsCounted old.disk.failures new.disk.failures answer
   turn_counted input new (Ok sent) turns = goes_counted new (input_effect next answers old input) sent turns
   turn_counted input new (Err fault) stops = by_effect new (input_effect next answers old input) (input_so input) fault stops
 
@@ -128,13 +128,13 @@ module _ {S : Type 0} (next : S → Action → S) (answers : S → Action → Li
     pub cut_failed : (input : Input) (device : D) → IsNotCutIf disk (input_effect next answers old input) old (let r : NotCut S D P = DeviceFailed device in r) → old.disk.failures < (disk device).failures
     cut_failed input device fails = fails_by (input_effect next answers old input) device fails
 
-    refused_by : (effect : Result Turn Fault) → NoDevice effect → (fault : Fault) (new : Held S) → IsNotCutIf disk effect old (let r : NotCut S D P = Refused fault new in r)
+    refused_by : (effect : Result Turn Fault) → NoDevice effect → (fault : Fault) (new : ReplicaState S) → IsNotCutIf disk effect old (let r : NotCut S D P = Refused fault new in r)
         → IsCounted old.disk.failures new.disk.failures (let r : Result Sent Fault = Err fault in r)
     refused_by (Ok turn) none fault new stops = stops_counted new turn.written fault stops.0
     refused_by (Err refusal) none fault new stops = by_refusal new refusal fault none stops
 
     -- where it is refused
-    pub cut_refused : (input : Input) (fault : Fault) (new : Held S) → IsNotCutIf disk (input_effect next answers old input) old (let r : NotCut S D P = Refused fault new in r)
+    pub cut_refused : (input : Input) (fault : Fault) (new : ReplicaState S) → IsNotCutIf disk (input_effect next answers old input) old (let r : NotCut S D P = Refused fault new in r)
         → IsCounted old.disk.failures new.disk.failures (let r : Result Sent Fault = Err fault in r)
     cut_refused input fault new stops = refused_by (input_effect next answers old input) (input_so input) fault new stops
 
@@ -176,11 +176,11 @@ module _ {S D P : Type 0} (disk : D → Disk) (nodes : List (Node S D P)) (i me 
   counts why Device so counted = (so refl, rises_at counted)
   counts why _ so counted = same_counts counted
 
-  module _ (member : Member S) (part : NodePart) (stands : StandsFor disk member n part) (next : S → Action → S) (answers : S → Action → List Answer) (input : NodeInput) where
+  module _ (member : Member S) (part : NodePart) (represents : Represents disk member n part) (next : S → Action → S) (answers : S → Action → List Answer) (input : NodeInput) where
     -- the device failed where a record was written
     pub writes : (fault : Fault) → NotTaken disk member n new (node_step next answers member input) fault → fault ≡ Device → IsSome (written_by (node_effect (setting_at next answers member) member.me part input))
     writes fault not_taken device =
-        elim (not_taken part stands) [
+        elim (not_taken part represents) [
           | inl refused ↦ absurd (subst NoDevice (refused.0 ∙ ap Err device) (input_is (setting_at next answers member) member.me part input))
           | inr other ↦
               elim other [

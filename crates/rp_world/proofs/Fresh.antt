@@ -9,12 +9,12 @@ use Rattle.rp_model.specs.Parts.{NodePart, TaskPart, fresh_node, fresh_task}
 use Rattle.rp_model.specs.World.{World, opening_world}
 use Rattle.rp_world.specs.Callers.{Caller}
 use Rattle.rp_world.specs.Messages.{Sending}
-use Rattle.rp_world.specs.Nodes.{member_of, StandsFor}
+use Rattle.rp_world.specs.Nodes.{member_of, Represents}
 use Rattle.rp_world.specs.Shape.{part_by, world_of, AreFresh, AreFreshTasks}
 use Rattle.rp_world.specs.declared.node.Node.{Node}
 use Rattle.rp_world.proofs.Resting.{part_is}
 
--- what is so of all that are left is so of the first one, and of those behind it
+-- what is so of all that are left is so of the first one, and of those after it
 module _ {A : Type 0} (Q : A → Type 0) (xs : List A) (x : A) (rest : List A) (is : xs ≡ x ∷ rest) (all : All Q xs) where
   at_all : All Q (x ∷ rest)
   at_all = subst (All Q) is all
@@ -65,8 +65,8 @@ module _ {S D P : Type 0} (disk : D → Disk) (config : Config) (begin : S) (nod
   nodes_are : map (part_by disk most) nodes ≡ replicate config.nodes fresh_node
   nodes_are =
       all_same (part_by disk most) fresh_node nodes
-      (λ k. if_some (λ n. StandsFor disk (member_of (suc k) config begin) n fresh_node) (λ n. part_by disk most n ≡ fresh_node)
-      (λ n stands. sym (part_is disk (member_of (suc k) config begin) n fresh_node stands)) (slice_get nodes k) (fresh.each k))
+      (λ k. if_some (λ n. Represents disk (member_of (suc k) config begin) n fresh_node) (λ n. part_by disk most n ≡ fresh_node)
+      (λ n represents. sym (part_is disk (member_of (suc k) config begin) n fresh_node represents)) (slice_get nodes k) (fresh.each k))
       ∙ ap (λ (n : ℕ). replicate n fresh_node) fresh.size
 
   tasks_are : map (λ (t : Caller). t.part) tasks ≡ replicate 8 fresh_task

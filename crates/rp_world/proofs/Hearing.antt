@@ -1,4 +1,4 @@
--- What the delivery of a message comes to, by whom it is for.
+-- The result of the delivery of a message, by whom it is for.
 use Rattle.std.proofs.Common.{◌≡◌, ℕ, zero, suc, ◌+◌, ◌-◌, ◌^◌, min, true, false, Option, Some, None, Result, Ok, Err, List, [], ◌∷◌, ◌++◌, length, slice_get, option_map, inl, inr, refl, sym, ap, subst, ◌∙◌, Bor, if◌then◌else◌}
 use Rattle.std.specs.Prelude.{IsSome, IfOk, OnErr, option_copied}
 use Rattle.std.specs.List.{AllByRecursion}
@@ -21,11 +21,11 @@ use Rattle.rp_model.specs.Effect as nodes
 use Rattle.rp_model.specs.Effect.{Setting, Done, NodeInput, node_effect, effect_while, cut_if, goes_on_as}
 use Rattle.rp_model.specs.Parts.{NodePart, TaskPart, Running as Known}
 use Rattle.rp_model.specs.Tasks.{takes, takes_reply, task_hears}
-use Rattle.rp_model.specs.World.{World, Happening, part_at, with_part, nothing_happens, node_done_if, task_done, node_hears, node_is_told, task_is_told, arrives, delivers, hearing_is_cut, arrival_is_cut, delivery_is_cut}
+use Rattle.rp_model.specs.World.{World, Transition, part_at, with_part, nothing_happens, node_done_if, task_done, node_hears, node_receives, task_receives, arrives, delivers, hearing_is_cut, arrival_is_cut, delivery_is_cut}
 use Rattle.rp_world.specs.Callers.{Caller}
-use Rattle.rp_world.specs.Nodes.{Member, IsComing, setting_at, node_step}
-use Rattle.rp_world.specs.Going.{Goes, reply_told}
-use Rattle.rp_world.proofs.Ending.{told_of}
+use Rattle.rp_world.specs.Nodes.{Member, IsNotRefused, setting_at, node_step}
+use Rattle.rp_world.specs.Going.{Goes, reply_in}
+use Rattle.rp_world.proofs.Ending.{stated_of}
 
 -- ---- packets
 
@@ -37,7 +37,7 @@ has_right : (m : Message) (xs ys : List Message) → Has m ys → Has m (xs ++ y
 has_right m [] ys h = h
 has_right m (x ∷ xs) ys h = inr (has_right m xs ys h)
 
--- what is sent behind packets is packets, if all are
+-- what is sent after packets is packets, if all are
 pub sends_are : (sent sends : List Message) → ((m : Message) → Has m (sent ++ sends) → IsPacket m) → AllByRecursion IsPacket sends
 sends_are sent sends all = all_packets sends (λ m h. all m (has_right m sent sends h))
 
@@ -75,12 +75,12 @@ same_input one other same = cc
 
 -- ---- nothing happens
 
-pub nothing_goes : (w : World) (whole : Result Happening Fault) (after : World) (told : Effect) → whole ≡ Ok (nothing_happens w) → after ≡ w → told ≡ told_of (length w.sent + 1) None → Goes w whole after told
-nothing_goes w whole after told came same is = record {
-  happening = nothing_happens w;
-  came = came;
+pub nothing_goes : (w : World) (whole : Result Transition Fault) (after : World) (stated : Effect) → whole ≡ Ok (nothing_happens w) → after ≡ w → stated ≡ stated_of (length w.sent + 1) None → Goes w whole after stated
+nothing_goes w whole after stated resulted same is = record {
+  transition = nothing_happens w;
+  resulted = resulted;
   world = same;
-  tells = record {
+  describes = record {
     first = ap (λ (e : Effect). e.first) is;
     count = ap (λ (e : Effect). e.sent) is;
     dropped = ap (λ (e : Effect). e.dropped) is;
@@ -92,7 +92,7 @@ nothing_goes w whole after told came same is = record {
 -- ---- a message for a node
 
 module _ {S : Type 0} (s : Setting S) (w : World) (me number : ℕ) (m : Message) (sent : part_at w.sent number ≡ Some m) (to : m.to ≡ Node me) where
-  arrives_here : delivers s w (part_at w.sent number) ≡ node_is_told s w me m (part_at w.nodes me)
+  arrives_here : delivers s w (part_at w.sent number) ≡ node_receives s w me m (part_at w.nodes me)
   arrives_here = ap (delivers s w) sent ∙ ap (arrives s w m) to
 
   cut_arrives : (k : ℕ) → delivery_is_cut s w (part_at w.sent number) k ≡ hearing_is_cut s w m me (part_at w.nodes me) k
@@ -100,7 +100,7 @@ module _ {S : Type 0} (s : Setting S) (w : World) (me number : ℕ) (m : Message
 
   -- there is none of this number
   pub heard_by_none : part_at w.nodes me ≡ None → delivers s w (part_at w.sent number) ≡ Ok (nothing_happens w)
-  heard_by_none none = arrives_here ∙ ap (node_is_told s w me m) none
+  heard_by_none none = arrives_here ∙ ap (node_receives s w me m) none
 
   pub cut_at_none : (k : ℕ) → part_at w.nodes me ≡ None → delivery_is_cut s w (part_at w.sent number) k ≡ Err NotRunning
   cut_at_none k none = cut_arrives k ∙ ap (λ o. hearing_is_cut s w m me o k) none
@@ -108,7 +108,7 @@ module _ {S : Type 0} (s : Setting S) (w : World) (me number : ℕ) (m : Message
   module _ (part : NodePart) (here : part_at w.nodes me ≡ Some part) where
     -- it is stopped
     pub heard_resting : part.running ≡ None → delivers s w (part_at w.sent number) ≡ Ok (nothing_happens w)
-    heard_resting rests = arrives_here ∙ ap (node_is_told s w me m) here ∙ ap (node_hears s w me m part) rests
+    heard_resting rests = arrives_here ∙ ap (node_receives s w me m) here ∙ ap (node_hears s w me m part) rests
 
     hears_while : (o : Option Known) → IsSome o → node_hears s w me m part o ≡ node_done_if w me (node_effect s me part (nodes.Receive m))
     hears_while None some = absurd cc
@@ -116,23 +116,23 @@ module _ {S : Type 0} (s : Setting S) (w : World) (me number : ℕ) (m : Message
 
     -- it runs
     pub heard_running : IsSome part.running → delivers s w (part_at w.sent number) ≡ node_done_if w me (node_effect s me part (nodes.Receive m))
-    heard_running runs = arrives_here ∙ ap (node_is_told s w me m) here ∙ hears_while part.running runs
+    heard_running runs = arrives_here ∙ ap (node_receives s w me m) here ∙ hears_while part.running runs
 
     pub cut_heard : (k : ℕ) → delivery_is_cut s w (part_at w.sent number) k ≡ node_done_if w me (cut_if k part (node_effect s me part (nodes.Receive m)))
     cut_heard k = cut_arrives k ∙ ap (λ o. hearing_is_cut s w m me o k) here
 
-comes_while : {S : Type 0} (s : Setting S) (me : ℕ) (part : NodePart) (o : Option Known) (m : Message) → part.running ≡ o → IsSome o → IsComing (node_effect s me part (nodes.Receive m))
-comes_while s me part None m is some = absurd cc
-comes_while s me part (Some running) m is some = subst (λ (o : Option Known). IsComing (effect_while s me part (nodes.Receive m) o)) (sym is) tt
+results_while : {S : Type 0} (s : Setting S) (me : ℕ) (part : NodePart) (o : Option Known) (m : Message) → part.running ≡ o → IsSome o → IsNotRefused (node_effect s me part (nodes.Receive m))
+results_while s me part None m is some = absurd cc
+results_while s me part (Some running) m is some = subst (λ (o : Option Known). IsNotRefused (effect_while s me part (nodes.Receive m) o)) (sym is) tt
 
 -- a node that runs takes any packet
-pub received_comes : {S : Type 0} (next : S → Action → S) (answers : S → Action → List Answer) (member : Member S) (part : NodePart) → IsSome part.running → (m : Message)
-    → IsComing (node_step next answers member (nodes.Receive m) part)
-received_comes next answers member part runs m = comes_while (setting_at next answers member) member.me part part.running m refl runs
+pub received_results : {S : Type 0} (next : S → Action → S) (answers : S → Action → List Answer) (member : Member S) (part : NodePart) → IsSome part.running → (m : Message)
+    → IsNotRefused (node_step next answers member (nodes.Receive m) part)
+received_results next answers member part runs m = results_while (setting_at next answers member) member.me part part.running m refl runs
 
 -- ---- a message for a task
 
-hears_nothing : (task : ℕ) (part : TaskPart) (body : Body) → reply_told body ≡ None → task_hears task part body ≡ goes_on_as part
+hears_nothing : (task : ℕ) (part : TaskPart) (body : Body) → reply_in body ≡ None → task_hears task part body ≡ goes_on_as part
 hears_nothing task part (bodies.Call action) none = refl
 hears_nothing task part (bodies.Prepare position ballot) none = refl
 hears_nothing task part (bodies.Promise position ballot last) none = refl
@@ -146,7 +146,7 @@ hears_nothing task part (bodies.Report first applied actions) none = refl
 hears_nothing task part (bodies.PrepareRange range ballot) none = refl
 hears_nothing task part (bodies.PromiseRange range ballot votes) none = refl
 
-hears_reply : (task : ℕ) (part : TaskPart) (body : Body) (number : ℕ) (reply : Reply) → reply_told body ≡ Some (number, reply) → task_hears task part body ≡ takes_reply task part number reply
+hears_reply : (task : ℕ) (part : TaskPart) (body : Body) (number : ℕ) (reply : Reply) → reply_in body ≡ Some (number, reply) → task_hears task part body ≡ takes_reply task part number reply
 hears_reply task part (bodies.Call action) number reply is = absurd cc
 hears_reply task part (bodies.Prepare position ballot) number reply is = absurd cc
 hears_reply task part (bodies.Promise position ballot last) number reply is = absurd cc
@@ -182,21 +182,21 @@ take_keeps {A = A} {E = E} (Ok a) old new part ok err = ap (λ (c : Caller). c.t
 take_keeps {A = A} {E = E} (Err e) old new part ok err = ap (λ (c : Caller). c.task) err
 
 module _ {S : Type 0} (s : Setting S) (w : World) (task number : ℕ) (m : Message) (sent : part_at w.sent number ≡ Some m) (to : m.to ≡ Task task) (part : TaskPart) (here : part_at w.tasks task ≡ Some part) where
-  told_here : delivers s w (part_at w.sent number) ≡ Ok (task_done w task (task_hears task part m.body))
-  told_here = ap (delivers s w) sent ∙ ap (arrives s w m) to ∙ ap (task_is_told s.config w task m) here
+  received_here : delivers s w (part_at w.sent number) ≡ Ok (task_done w task (task_hears task part m.body))
+  received_here = ap (delivers s w) sent ∙ ap (arrives s w m) to ∙ ap (task_receives s.config w task m) here
 
   -- what it hears is some effect
-  pub told_comes : (h : Happening) × (delivers s w (part_at w.sent number) ≡ Ok h)
-  told_comes = (task_done w task (task_hears task part m.body), told_here)
+  pub reply_results : (h : Transition) × (delivers s w (part_at w.sent number) ≡ Ok h)
+  reply_results = (task_done w task (task_hears task part m.body), received_here)
 
   -- it is no reply
-  pub told_nothing : (told : Effect) → reply_told m.body ≡ None → with_part w.tasks task part ≡ w.tasks → told ≡ told_of (length w.sent + 1) None → Goes w (delivers s w (part_at w.sent number)) w told
-  told_nothing told none stays is = record {
-    happening = task_done w task (goes_on_as part);
-    came = told_here ∙ ap (λ (d : Done TaskPart). let r : Result Happening Fault = Ok (task_done w task d) in r) (hears_nothing task part m.body none);
+  pub no_reply : (stated : Effect) → reply_in m.body ≡ None → with_part w.tasks task part ≡ w.tasks → stated ≡ stated_of (length w.sent + 1) None → Goes w (delivers s w (part_at w.sent number)) w stated
+  no_reply stated none stays is = record {
+    transition = task_done w task (goes_on_as part);
+    resulted = received_here ∙ ap (λ (d : Done TaskPart). let r : Result Transition Fault = Ok (task_done w task d) in r) (hears_nothing task part m.body none);
     world = sym (ap (λ (ts : List TaskPart). let x : World = record { nodes = w.nodes; tasks = ts; sent = w.sent ++ [] } in x) stays
         ∙ ap (λ (ms : List Message). let x : World = record { nodes = w.nodes; tasks = w.tasks; sent = ms } in x) (append-nil w.sent));
-    tells = record {
+    describes = record {
       first = ap (λ (e : Effect). e.first) is;
       count = ap (λ (e : Effect). e.sent) is;
       dropped = ap (λ (e : Effect). e.dropped) is;
@@ -205,24 +205,24 @@ module _ {S : Type 0} (s : Setting S) (w : World) (task number : ℕ) (m : Messa
     };
   }
 
-  module _ (n : ℕ) (reply : Reply) (is_reply : reply_told m.body ≡ Some (n, reply)) where
+  module _ (n : ℕ) (reply : Reply) (is_reply : reply_in m.body ≡ Some (n, reply)) where
     abbrev done : Done TaskPart
     done = takes_reply task part n reply
 
-    told_reply : delivers s w (part_at w.sent number) ≡ Ok (task_done w task done)
-    told_reply = told_here ∙ ap (λ (d : Done TaskPart). let r : Result Happening Fault = Ok (task_done w task d) in r) (hears_reply task part m.body n reply is_reply)
+    received_reply : delivers s w (part_at w.sent number) ≡ Ok (task_done w task done)
+    received_reply = received_here ∙ ap (λ (d : Done TaskPart). let r : Result Transition Fault = Ok (task_done w task d) in r) (hears_reply task part m.body n reply is_reply)
 
     -- it is taken, or ignored
-    pub takes_it : (after : World) (taken : Option Answer) (told : Effect) → after ≡ (let x : World = record { nodes = w.nodes; tasks = with_part w.tasks task done.part; sent = w.sent } in x)
-        → taken ≡ done.taken → told ≡ (let e : Effect = record { first = length w.sent + 1; sent = 0; dropped = No; taken = taken; opened = None } in e) → Goes w (delivers s w (part_at w.sent number)) after told
-    takes_it after taken told same took is =
+    pub takes_it : (after : World) (taken : Option Answer) (stated : Effect) → after ≡ (let x : World = record { nodes = w.nodes; tasks = with_part w.tasks task done.part; sent = w.sent } in x)
+        → taken ≡ done.taken → stated ≡ (let e : Effect = record { first = length w.sent + 1; sent = 0; dropped = No; taken = taken; opened = None } in e) → Goes w (delivers s w (part_at w.sent number)) after stated
+    takes_it after taken stated same took is =
         let quiet = takes_quiet task part n reply in
         record {
-          happening = task_done w task done;
-          came = told_reply;
+          transition = task_done w task done;
+          resulted = received_reply;
           world = same ∙ ap (λ (ms : List Message). let x : World = record { nodes = w.nodes; tasks = with_part w.tasks task done.part; sent = ms } in x)
               (sym (append-nil w.sent) ∙ ap (λ (ms : List Message). w.sent ++ ms) (sym quiet.sends));
-          tells = record {
+          describes = record {
             first = ap (λ (e : Effect). e.first) is;
             count = ap (λ (e : Effect). e.sent) is ∙ ap (λ (ms : List Message). min (length ms) (2 ^ 32 - 1)) (sym quiet.sends);
             dropped = ap (λ (e : Effect). e.dropped) is ∙ sym quiet.dropped;

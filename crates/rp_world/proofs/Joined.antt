@@ -68,7 +68,7 @@ pub length_ends : (from : ℕ) (ms : List Message) → length (ends_of from ms) 
 length_ends from [] = refl
 length_ends from (m ∷ ms) = ap suc (length_ends (from + length (text_of m)) ms)
 
--- So many of the texts in these bytes lie before a place, and their ends are told.
+-- n of the texts in these bytes lie before a place, and their ends are known.
 pub record Walked (bytes : List ℕ) (from : ℕ) (ms : List Message) (before : List ℕ) (place at : ℕ) (ends : List ℕ) : Type 0 where
   pub at_is : at ≡ from + length (texts_of (take place ms))
   pub within : at ≤ length bytes
@@ -161,7 +161,7 @@ begins_at ms place n =
     ap length (ap texts_of n.more ∙ texts_append (take place ms) (n.m ∷ []) ∙ ap (λ (l : List ℕ). texts_of (take place ms) ++ l) (append-nil (text_of n.m)))
     ∙ length-append (texts_of (take place ms)) (text_of n.m)
 
--- what stands from a text's beginning on
+-- what is from a text's beginning on
 pub from_start : (ms : List Message) (place : ℕ) (n : Next ms place) → drop (length (texts_of (take place ms))) (texts_of ms) ≡ text_of n.m ++ texts_of (drop (suc place) ms)
 from_start ms place n =
     let front = texts_of (take place ms) in

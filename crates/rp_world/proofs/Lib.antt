@@ -1,4 +1,4 @@
-pub mod Standing
+pub mod Represented
 pub mod Turning
 pub mod Joined
 pub mod Resting

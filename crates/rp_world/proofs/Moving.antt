@@ -8,15 +8,15 @@ use Rattle.rp_base.specs.declared.fault.Fault.{Fault}
 use Rattle.rp_codec.specs.Message.{Message}
 use Rattle.rp_store.specs.Disk.{Disk}
 use Rattle.rp_model.specs.Parts.{NodePart, TaskPart, fresh_task}
-use Rattle.rp_model.specs.Answers.{Tells}
+use Rattle.rp_model.specs.Answers.{Describes}
 use Rattle.rp_model.specs.declared.effect.Effect.{Effect}
 use Rattle.rp_model.specs.Effect.{Done, cut_if, cut_part, goes_on_as}
-use Rattle.rp_model.specs.World.{World, Happening, part_at, with_part, node_done, node_done_if}
+use Rattle.rp_model.specs.World.{World, Transition, part_at, with_part, node_done, node_done_if}
 use Rattle.rp_world.specs.declared.node.Node.{Node}
 use Rattle.rp_world.specs.Callers.{Caller}
 use Rattle.rp_world.specs.Messages.{Sending}
 use Rattle.rp_world.specs.Going.{Goes, Answers}
-use Rattle.rp_world.specs.Nodes.{Member, member_of, StandsFor, IsComing, NotTaken}
+use Rattle.rp_world.specs.Nodes.{Member, member_of, Represents, IsNotRefused, NotTaken}
 use Rattle.rp_world.specs.Shape.{part_by, world_of, IsWorld}
 use Rattle.rp_world.proofs.Resting.{part_is}
 
@@ -61,7 +61,7 @@ at_if {A = A} P o x is holds = subst (λ (p : Option A). IfSome p P) is holds
 pub part_same : {A : Type 0} (xs : List A) (i : ℕ) (x : A) → slice_get xs i ≡ Some x → with_part xs (suc i) x ≡ xs
 part_same xs i x here = set_same xs i x here
 
--- what stands at a place
+-- what is at a place
 pub here_of : {A : Type 0} (xs : List A) (i : ℕ) (x : A) → i < length xs → x ≡ get_or xs i x → slice_get xs i ≡ Some x
 here_of xs i x within is = slice_get-get_or xs i x within ∙ ap (λ y. Some y) (sym is)
 
@@ -88,40 +88,40 @@ module _ {S D P : Type 0} (disk : D → Disk) (config : Config) (begin : S) (nod
     pub part_here : part_at (map (part_by disk most) nodes) me ≡ Some part
     part_here = subst (λ (k : ℕ). part_at (map (part_by disk most) nodes) k ≡ Some part) placed (get_map (part_by disk most) nodes i ∙ ap (option_map (part_by disk most)) here)
 
-    -- it stands for that
-    pub stands_here : IsWorld disk config begin nodes tasks → StandsFor disk member n part
-    stands_here is =
-        subst (λ (k : ℕ). StandsFor disk (member_of k config begin) n part) placed
-        (at_if (λ node. StandsFor disk (member_of (suc i) config begin) node (part_by disk most node)) (slice_get nodes i) n here (is.members i))
+    -- it represents that
+    pub represents_here : IsWorld disk config begin nodes tasks → Represents disk member n part
+    represents_here is =
+        subst (λ (k : ℕ). Represents disk (member_of k config begin) n part) placed
+        (at_if (λ node. Represents disk (member_of (suc i) config begin) node (part_by disk most node)) (slice_get nodes i) n here (is.members i))
 
-    module _ (new : Node S D P) (after : NodePart) (stands : StandsFor disk member new after) where
-      -- its new part stands in its place
+    module _ (new : Node S D P) (after : NodePart) (represents : Represents disk member new after) where
+      -- its new part is in its place
       pub nodes_moved : map (part_by disk most) (slice_set nodes i new) ≡ with_part (map (part_by disk most) nodes) me after
       nodes_moved =
           set_map (part_by disk most) nodes i new
           ∙ subst (λ (k : ℕ). slice_set (map (part_by disk most) nodes) i (part_by disk most new) ≡ with_part (map (part_by disk most) nodes) k after) placed
-          (ap (slice_set (map (part_by disk most) nodes) i) (sym (part_is disk member new after stands)))
+          (ap (slice_set (map (part_by disk most) nodes) i) (sym (part_is disk member new after represents)))
 
       -- and all nodes are still of this cluster
       pub still_nodes : IsWorld disk config begin nodes tasks → IsWorld disk config begin (slice_set nodes i new) tasks
       still_nodes is = record {
         right = is.right;
         size = length_set nodes i new ∙ is.size;
-        members = set_keeps (λ k node. StandsFor disk (member_of (suc k) config begin) node (part_by disk most node)) nodes i new is.members
-            (subst (λ (k : ℕ). StandsFor disk (member_of k config begin) new (part_by disk most new)) (sym placed)
-            (subst (StandsFor disk member new) (part_is disk member new after stands) stands));
+        members = set_keeps (λ k node. Represents disk (member_of (suc k) config begin) node (part_by disk most node)) nodes i new is.members
+            (subst (λ (k : ℕ). Represents disk (member_of k config begin) new (part_by disk most new)) (sym placed)
+            (subst (Represents disk member new) (part_is disk member new after represents) represents));
         eight = is.eight;
         numbered = is.numbered;
       }
 
-    -- a node that stands for its part leaves the world as it was
-    pub nodes_stay : (new : Node S D P) → StandsFor disk member new part → map (part_by disk most) (slice_set nodes i new) ≡ map (part_by disk most) nodes
-    nodes_stay new stands =
-        nodes_moved new part stands
+    -- a node that represents its part leaves the world as it was
+    pub nodes_stay : (new : Node S D P) → Represents disk member new part → map (part_by disk most) (slice_set nodes i new) ≡ map (part_by disk most) nodes
+    nodes_stay new represents =
+        nodes_moved new part represents
         ∙ subst (λ (k : ℕ). with_part (map (part_by disk most) nodes) k part ≡ map (part_by disk most) nodes) placed
         (part_same (map (part_by disk most) nodes) i part (get_map (part_by disk most) nodes i ∙ ap (option_map (part_by disk most)) here))
 
-    -- ---- what a step of it comes to
+    -- ---- what a step of it results in
 
     module _ (messages : Sending) where
       abbrev w : World
@@ -131,41 +131,41 @@ module _ {S D P : Type 0} (disk : D → Disk) (config : Config) (begin : S) (nod
         abbrev next : World
         next = world_of disk most (slice_set nodes i new) tasks later
 
-        pub moved : (after : NodePart) (sends : List Message) → StandsFor disk member new after → later.sent ≡ messages.sent ++ sends
+        pub moved : (after : NodePart) (sends : List Message) → Represents disk member new after → later.sent ≡ messages.sent ++ sends
             → next ≡ (let x : World = record { nodes = with_part w.nodes me after; tasks = w.tasks; sent = w.sent ++ sends } in x)
-        moved after sends stands sent =
-            ap (λ (ps : List NodePart). let x : World = record { nodes = ps; tasks = w.tasks; sent = later.sent } in x) (nodes_moved new after stands)
+        moved after sends represents sent =
+            ap (λ (ps : List NodePart). let x : World = record { nodes = ps; tasks = w.tasks; sent = later.sent } in x) (nodes_moved new after represents)
             ∙ ap (λ (ms : List Message). let x : World = record { nodes = with_part w.nodes me after; tasks = w.tasks; sent = ms } in x) sent
 
-        pub stayed : StandsFor disk member new part → later.sent ≡ messages.sent → next ≡ w
-        stayed stands sent =
-            ap (λ (ps : List NodePart). let x : World = record { nodes = ps; tasks = w.tasks; sent = later.sent } in x) (nodes_stay new stands)
+        pub stayed : Represents disk member new part → later.sent ≡ messages.sent → next ≡ w
+        stayed represents sent =
+            ap (λ (ps : List NodePart). let x : World = record { nodes = ps; tasks = w.tasks; sent = later.sent } in x) (nodes_stay new represents)
             ∙ ap (λ (ms : List Message). let x : World = record { nodes = w.nodes; tasks = w.tasks; sent = ms } in x) sent
 
         -- it took effect
-        pub goes : (whole : Result Happening Fault) (done : Done NodePart) (told : Effect) → whole ≡ Ok (node_done w me done) → StandsFor disk member new done.part
-            → later.sent ≡ messages.sent ++ done.sends → Tells (length w.sent) (node_done w me done) told → Goes w whole next told
-        goes whole done told came stands sent tells = record { happening = node_done w me done; came = came; world = moved done.part done.sends stands sent; tells = tells }
+        pub goes : (whole : Result Transition Fault) (done : Done NodePart) (stated : Effect) → whole ≡ Ok (node_done w me done) → Represents disk member new done.part
+            → later.sent ≡ messages.sent ++ done.sends → Describes (length w.sent) (node_done w me done) stated → Goes w whole next stated
+        goes whole done stated resulted represents sent describes = record { transition = node_done w me done; resulted = resulted; world = moved done.part done.sends represents sent; describes = describes }
 
         -- or was not taken
-        module _ (effect : NodePart → Result (Done NodePart) Fault) (whole : Result Happening Fault) (cut : ℕ → Result Happening Fault)
-            (comes : Result (Done NodePart) Fault → Result Happening Fault)
-            (whole_is : whole ≡ comes (effect part)) (cut_is : (kept : ℕ) → cut kept ≡ node_done_if w me (cut_if kept part (effect part)))
-            (refuses : (fault : Fault) → comes (Err fault) ≡ Err fault) (happens : (done : Done NodePart) → (h : Happening) × (comes (Ok done) ≡ Ok h))
+        module _ (effect : NodePart → Result (Done NodePart) Fault) (whole : Result Transition Fault) (cut : ℕ → Result Transition Fault)
+            (results : Result (Done NodePart) Fault → Result Transition Fault)
+            (whole_is : whole ≡ results (effect part)) (cut_is : (kept : ℕ) → cut kept ≡ node_done_if w me (cut_if kept part (effect part)))
+            (refuses : (fault : Fault) → results (Err fault) ≡ Err fault) (happens : (done : Done NodePart) → (h : Transition) × (results (Ok done) ≡ Ok h))
             (sent : later.sent ≡ messages.sent) where
-          wanted : (result : Result (Done NodePart) Fault) → effect part ≡ result → IsComing result → (h : Happening) × (whole ≡ Ok h)
-          wanted (Ok done) is coming = let h = happens done in (h.0, whole_is ∙ ap comes is ∙ h.1)
-          wanted (Err fault) is coming = absurd coming
+          intended : (result : Result (Done NodePart) Fault) → effect part ≡ result → IsNotRefused result → (h : Transition) × (whole ≡ Ok h)
+          intended (Ok done) is not_refused = let h = happens done in (h.0, whole_is ∙ ap results is ∙ h.1)
+          intended (Err fault) is not_refused = absurd not_refused
 
-          pub answered : (fault : Fault) → NotTaken disk member n new effect fault → StandsFor disk member n part → Answers w whole cut next (let r : Result Effect Fault = Err fault in r)
-          answered fault not_taken stands =
-              elim (not_taken part stands) [
-                | inl refused ↦ inl (record { came = whole_is ∙ ap comes refused.0 ∙ refuses fault; unchanged = stayed refused.1 sent })
+          pub answered : (fault : Fault) → NotTaken disk member n new effect fault → Represents disk member n part → Answers w whole cut next (let r : Result Effect Fault = Err fault in r)
+          answered fault not_taken represents =
+              elim (not_taken part represents) [
+                | inl refused ↦ inl (record { resulted = whole_is ∙ ap results refused.0 ∙ refuses fault; unchanged = stayed refused.1 sent })
                 | inr other ↦
                     elim other [
                       | inl memory ↦
-                          let h = wanted (effect part) refl memory.1 in
-                          inr (inl (record { memory = memory.0; wanted = h.0; came = h.1; unchanged = stayed memory.2 sent }))
+                          let h = intended (effect part) refl memory.1 in
+                          inr (inl (record { memory = memory.0; intended = h.0; resulted = h.1; unchanged = stayed memory.2 sent }))
                       | inr device ↦
                           let kept = device.1 in
                           let done = device.2 in
@@ -173,18 +173,18 @@ module _ {S D P : Type 0} (disk : D → Disk) (config : Config) (begin : S) (nod
                           inr (inr (record {
                             device = device.0;
                             kept = kept;
-                            happening = node_done w me (goes_on_as after);
-                            came = cut_is kept ∙ ap (λ (r : Result (Done NodePart) Fault). node_done_if w me (cut_if kept part r)) device.3;
+                            transition = node_done w me (goes_on_as after);
+                            resulted = cut_is kept ∙ ap (λ (r : Result (Done NodePart) Fault). node_done_if w me (cut_if kept part r)) device.3;
                             world = moved after [] device.4 (sent ∙ sym (append-nil messages.sent));
                           }))
                     ]
               ]
 
-    -- after a step that was not taken the node stands for some part
-    pub stands_after : (effect : NodePart → Result (Done NodePart) Fault) (new : Node S D P) (fault : Fault) → NotTaken disk member n new effect fault → StandsFor disk member n part
-        → (after : NodePart) × StandsFor disk member new after
-    stands_after effect new fault not_taken stands =
-        elim (not_taken part stands) [
+    -- after a step that was not taken the node represents some part
+    pub represents_after : (effect : NodePart → Result (Done NodePart) Fault) (new : Node S D P) (fault : Fault) → NotTaken disk member n new effect fault → Represents disk member n part
+        → (after : NodePart) × Represents disk member new after
+    represents_after effect new fault not_taken represents =
+        elim (not_taken part represents) [
           | inl refused ↦ (part, refused.1)
           | inr other ↦
               elim other [

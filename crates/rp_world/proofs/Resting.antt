@@ -26,15 +26,15 @@ use Rattle.rp_store.specs.Disk.{Disk}
 use Rattle.rp_store.specs.Records.{records_text, AreTextsOf, AreRecordsOf}
 use Rattle.rp_store.proofs.Whole.{record_long, none_torn, whole_long}
 use Rattle.rp_model.specs.Parts.{NodePart, Running as Known, records_in_log}
-use Rattle.rp_replica.specs.Held.{Held}
+use Rattle.rp_replica.specs.State.{ReplicaState}
 use Rattle.rp_world.specs.declared.node.Node.{Node}
 use Rattle.rp_world.specs.declared.node.Node.TheVariants.{Running, Stopped}
-use Rattle.rp_world.specs.Nodes.{Member, RestsAs, StandsWhile, StandsFor}
+use Rattle.rp_world.specs.Nodes.{Member, RestsAs, RepresentsWhile, Represents}
 use Rattle.rp_world.specs.Shape.{byte_front, with_others, records_read, records_on, resting_part, part_while, part_by}
 
 -- ---- texts of records are bytes
 
--- the front of such bytes, whatever stands behind them, has them all
+-- the front of such bytes, whatever is after them, has them all
 abbrev Passes : List ℕ → Type 0
 Passes xs = (rest : List ℕ) → byte_front (xs ++ rest) ≡ xs ++ byte_front rest
 
@@ -137,7 +137,7 @@ front_bytes (b ∷ rest) =
     ] test in
     by (nat_lt b 256) refl
 
--- what stands behind it
+-- what is after it
 front_of : (xs : List ℕ) → (more : List ℕ) × (xs ≡ byte_front xs ++ more)
 front_of [] = ([], refl)
 front_of (b ∷ rest) =
@@ -190,11 +190,11 @@ resting_is most disk part rests =
     ∙ ap (λ (n : ℕ). let p : NodePart = record { records = records_in_log most (records_on disk); torn = n; running = part.running } in p) torn
     ∙ ap (λ (o : Option Known). let p : NodePart = record { records = records_in_log most (records_on disk); torn = length disk.contents - length (records_text (records_on disk)); running = o } in p) rests.stopped
 
-while_is : {S : Type 0} (member : Member S) (held : Held S) (part : NodePart) (failed : Bool) → StandsWhile member held part failed → part ≡ part_while member.config.max_positions held failed
-while_is member held part false runs = runs.known
-while_is member held part true rests = resting_is member.config.max_positions held.disk part rests
+while_is : {S : Type 0} (member : Member S) (replica : ReplicaState S) (part : NodePart) (failed : Bool) → RepresentsWhile member replica part failed → part ≡ part_while member.config.max_positions replica failed
+while_is member replica part false runs = runs.known
+while_is member replica part true rests = resting_is member.config.max_positions replica.disk part rests
 
 -- and so is a node
-pub part_is : {S D P : Type 0} (disk : D → Disk) (member : Member S) (node : Node S D P) (part : NodePart) → StandsFor disk member node part → part ≡ part_by disk member.config.max_positions node
-part_is disk member (Running held) part is = while_is member held part held.failed is
+pub part_is : {S D P : Type 0} (disk : D → Disk) (member : Member S) (node : Node S D P) (part : NodePart) → Represents disk member node part → part ≡ part_by disk member.config.max_positions node
+part_is disk member (Running replica) part is = while_is member replica part replica.failed is
 part_is disk member (Stopped device) part is = resting_is member.config.max_positions (disk device) part is

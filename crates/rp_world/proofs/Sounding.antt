@@ -1,4 +1,4 @@
--- The world of a cluster meets the invariant after each step, and what follows.
+-- The world of a cluster satisfies the invariant after each step, and what follows.
 use Rattle.std.proofs.Common.{◌≡◌, ◌≤◌, ◌<◌, ℕ, zero, suc, Bool, true, false, arith, Option, Some, None, Result, Ok, Err, List, [], ◌∷◌, ◌++◌, length, inl, inr, refl, sym, ap, subst, ◌∙◌}
 use Rattle.std.specs.Prelude.{slice_get, unwrap_or, nat_lt}
 use Rattle.std.proofs.lemmas.Bool.{ltb-true}
@@ -20,7 +20,7 @@ use Rattle.rp_agreement.proofs.Offering.{promise_kept}
 use Rattle.rp_model.specs.Facts.{HasPromised, IsOrder}
 use Rattle.rp_model.specs.Growing.{Grows}
 use Rattle.rp_model.specs.Parts.{NodePart, TaskPart, fresh_node, fresh_task}
-use Rattle.rp_model.specs.World.{World, Happening, part_at, event_effect}
+use Rattle.rp_model.specs.World.{World, Transition, part_at, event_effect}
 use Rattle.rp_agreement.specs.Sound.{IsMember, IsSound}
 use Rattle.rp_agreement.specs.Order.{AllSent, Begins, AreAlike}
 use Rattle.rp_agreement.specs.Computed.{order_of}
@@ -29,14 +29,14 @@ use Rattle.rp_agreement.specs.Worlds.{node_in}
 use Rattle.rp_world.specs.Agreeing.{EachTwo, AreLevel, Agree, TakesEffectOnce, IsOrdered}
 
 -- what was sent stays
-module _ {S : Type 0} (s : Setting S) (grows : (before : World) (event : Event) (happening : Happening) → event_effect s before event ≡ Ok happening → Grows before happening) where
+module _ {S : Type 0} (s : Setting S) (grows : (before : World) (event : Event) (transition : Transition) → event_effect s before event ≡ Ok transition → Grows before transition) where
   has_left : (m : Message) (xs ys : List Message) → Has m xs → Has m (xs ++ ys)
   has_left m [] ys h = absurd h
   has_left m (x ∷ xs) ys h = elim h [ inl same ↦ inl same | inr rest ↦ inr (has_left m xs ys rest) ]
 
-  came_sent : (w new : World) (event : Event) (happening : Happening) → event_effect s w event ≡ Ok happening → new ≡ happening.world → AllSent w.sent new.sent
-  came_sent w new event happening came is m h =
-      subst (λ (sent : List Message). Has m sent) (sym (ap (λ (x : World). x.sent) is ∙ (grows w event happening came).sent)) (has_left m w.sent happening.sends h)
+  event_sent : (w new : World) (event : Event) (transition : Transition) → event_effect s w event ≡ Ok transition → new ≡ transition.world → AllSent w.sent new.sent
+  event_sent w new event transition resulted is m h =
+      subst (λ (sent : List Message). Has m sent) (sym (ap (λ (x : World). x.sent) is ∙ (grows w event transition resulted).sent)) (has_left m w.sent transition.sends h)
 
   same_sent : (w new : World) → new ≡ w → AllSent w.sent new.sent
   same_sent w new same m h = subst (λ (x : World). Has m x.sent) (sym same) h
@@ -60,13 +60,13 @@ module _ {S : Type 0} (s : Setting S) (grows : (before : World) (event : Event) 
   fails_sent : (w new : World) (event : Event) → FailsBy s w event new → AllSent w.sent new.sent
   fails_sent w new (Submit task node object operation arg) fails = absurd fails
   fails_sent w new (Again task node) fails = absurd fails
-  fails_sent w new (Makes step) fails = came_sent w new (Cut step fails.0) fails.1.happening fails.1.effect fails.1.world
-  fails_sent w new (Cut step kept) fails = came_sent w new (Cut step fails.0) fails.1.happening fails.1.effect fails.1.world
+  fails_sent w new (Makes step) fails = event_sent w new (Cut step fails.0) fails.1.transition fails.1.effect fails.1.world
+  fails_sent w new (Cut step kept) fails = event_sent w new (Cut step fails.0) fails.1.transition fails.1.effect fails.1.world
   fails_sent w new (Stop me) fails = absurd fails
   fails_sent w new (Restart me) fails = torn_sent w new me fails
 
   pub sent_stays : (w new : World) (event : Event) (answer : Result Effect Fault) → Steps s w event new answer → AllSent w.sent new.sent
-  sent_stays w new event (Ok effect) step = came_sent w new event step.happening step.came step.world
+  sent_stays w new event (Ok effect) step = event_sent w new event step.transition step.resulted step.world
   sent_stays w new event (Err fault) step =
       elim step [
         | inl refused ↦ same_sent w new refused.unchanged
@@ -88,7 +88,7 @@ agreed next answers image begin now later alike states = record {
   images = λ x y one other p q level. ap (λ r. image r.state) (states x y one other p q level);
 }
 
--- nodes of worlds that meet the invariant agree
+-- nodes of worlds that satisfy the invariant agree
 module _ {S : Type 0} (next : S → Action → S) (answers : S → Action → List Answer) (image : S → List ℕ) (begin : S) (nodes : ℕ)
     (alike : (n : ℕ) (node after : ℕ → NodePart) (sent later : List Message) → IsSound n node sent → IsSound n after later → AllSent sent later
     → (x y : ℕ) → AreAlike (applied_of (node x).records) (applied_of (after y).records))
@@ -111,7 +111,7 @@ module _ {S : Type 0} (next : S → Action → S) (answers : S → Action → Li
       (subst (λ (a : NodePart). P a (node_in later.nodes y)) (here now x one p)
       (states nodes (node_in now.nodes) (node_in later.nodes) now.sent later.sent sound after sent x y)))
 
--- what stands at a place of a list
+-- what is at a place of a list
 get_short : {A : Type 0} (xs : List A) (k : ℕ) → k < length xs → (x : A) × (slice_get xs k ≡ Some x)
 get_short {A = A} [] k short = absurd (omega (arith, short))
 get_short {A = A} (x ∷ xs) zero short = (x, refl)
@@ -126,13 +126,13 @@ part_is_there w nodes (suc i) size is =
 
 -- who promised is a node of the world
 pub promiser_there : (nodes : ℕ) (node : ℕ → NodePart) (sent : List Message) → IsSound nodes node sent → (x i b : ℕ) (last : Option Vote) → HasPromised sent x i b last → IsMember nodes x
-promiser_there nodes node sent sound x i b last told = (promise_kept nodes node sent sound x i b last told).0
+promiser_there nodes node sent sound x i b last stated = (promise_kept nodes node sent sound x i b last stated).0
 
 -- and there is one order, by which each reply is an answer
 module _ {S : Type 0} (s : Setting S)
     (exists : (n : ℕ) (sent : List Message) → IsOrder n sent (order_of n sent))
     (begins : (n : ℕ) (node : ℕ → NodePart) (sent : List Message) → IsSound n node sent → (order : List Action) → IsOrder n sent order → (x : ℕ) → Begins (applied_of (node x).records) order)
-    (tells : (node : ℕ → NodePart) (task : ℕ → TaskPart) (sent : List Message) → IsKept s node task sent → (t k : ℕ) (answer : Answer) → slice_get (task t).replies k ≡ Some answer
+    (describes : (node : ℕ → NodePart) (task : ℕ → TaskPart) (sent : List Message) → IsKept s node task sent → (t k : ℕ) (answer : Answer) → slice_get (task t).replies k ≡ Some answer
     → HasReply s.next s.answers s.begin (order_of s.config.nodes sent) (named t (suc k)) answer)
     (counted : (node : ℕ → NodePart) (task : ℕ → TaskPart) (sent : List Message) → IsKept s node task sent → (t : ℕ) → AreItsCalls sent t (task t) (kept_of s.next s.answers s.begin (order_of s.config.nodes sent)))
     (only : (node : ℕ → NodePart) (task : ℕ → TaskPart) (sent : List Message) → IsKept s node task sent → (t n place : ℕ) → IsPlace s.next s.answers s.begin (order_of s.config.nodes sent) (named t n) place
@@ -156,7 +156,7 @@ module _ {S : Type 0} (s : Setting S)
       let nodes = s.config.nodes in
       let order = order_of nodes w.sent in
       let replied : (t k : ℕ) (part : TaskPart) (answer : Answer) → part_at w.tasks t ≡ Some part → slice_get part.replies k ≡ Some answer → HasReply s.next s.answers s.begin order (named t (suc k)) answer =
-      λ t k part answer p is. tells (node_in w.nodes) (task_in w.tasks) w.sent kept.kept t k answer (ap (λ (a : TaskPart). slice_get a.replies k) (seated w t part p) ∙ is) in
+      λ t k part answer p is. describes (node_in w.nodes) (task_in w.tasks) w.sent kept.kept t k answer (ap (λ (a : TaskPart). slice_get a.replies k) (seated w t part p) ∙ is) in
       record {
         order = order;
         decided = exists nodes w.sent;

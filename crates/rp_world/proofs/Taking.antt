@@ -1,4 +1,4 @@
--- What a step of a node, or of a task, comes to in the world.
+-- The result of a step of a node, or of a task, in the world.
 use Rattle.std.proofs.Common.{◌≡◌, ℕ, suc, ◌+◌, ◌-◌, ◌^◌, min, Some, None, Result, Ok, Err, List, ◌++◌, length, slice_get, slice_set, refl, sym, ap, ◌∙◌}
 use Rattle.std.specs.Prelude.{OnOk, is_err, false}
 use Rattle.std.specs.List.{AllByRecursion}
@@ -11,16 +11,16 @@ use Rattle.rp_store.specs.Disk.{Disk}
 use Rattle.rp_model.specs.declared.effect.Effect.{Effect}
 use Rattle.rp_model.specs.Effect.{Setting, Done, NodeInput, node_effect, cut_if}
 use Rattle.rp_model.specs.Parts.{NodePart}
-use Rattle.rp_model.specs.World.{World, Happening, node_done, node_done_if}
+use Rattle.rp_model.specs.World.{World, Transition, node_done, node_done_if}
 use Rattle.rp_replica.specs.declared.sent.Sent.{Sent}
 use Rattle.rp_world.specs.declared.node.Node.{Node}
 use Rattle.rp_world.specs.Callers.{Caller}
 use Rattle.rp_world.specs.Going.{Goes, Answers}
 use Rattle.rp_world.specs.Messages.{Sending, AreTexts, packets_in}
-use Rattle.rp_world.specs.Nodes.{Member, member_of, StandsFor, GoesBy, NotTaken, TellsSent, setting_at, node_step}
+use Rattle.rp_world.specs.Nodes.{Member, member_of, Represents, GoesBy, NotTaken, DescribesSent, setting_at, node_step}
 use Rattle.rp_world.specs.Shape.{part_by, world_of, IsWorld}
 use Rattle.rp_world.proofs.Joined.{read_texts}
-use Rattle.rp_world.proofs.Moving.{stands_here, still_nodes, goes, answered, stands_after}
+use Rattle.rp_world.proofs.Moving.{represents_here, still_nodes, goes, answered, represents_after}
 use Rattle.rp_world.proofs.Ending.{Left}
 
 -- what an answer has where it is no refusal
@@ -28,9 +28,9 @@ pub on_ok : {A E : Type 0} (P : Type 0) (r : Result A E) → OnOk r P → false 
 on_ok {A = A} {E = E} P (Ok x) is same = is
 on_ok {A = A} {E = E} P (Err e) is same = absurd cc
 
--- an effect that tells what a node's step sent
-abbrev pub told_sent : ℕ → Sent → Effect
-told_sent first sent = record { first = first; sent = min sent.packets (2 ^ 32 - 1); dropped = sent.dropped; taken = None; opened = None }
+-- an effect that reports what a node's step sent
+abbrev pub stated_sent : ℕ → Sent → Effect
+stated_sent first sent = record { first = first; sent = min sent.packets (2 ^ 32 - 1); dropped = sent.dropped; taken = None; opened = None }
 
 module _ {S D P : Type 0} (disk : D → Disk) (config : Config) (begin : S) (nodes : List (Node S D P)) (tasks : List Caller) (messages : Sending) (is : IsWorld disk config begin nodes tasks)
     (i me : ℕ) (placed : suc i ≡ me) (n : Node S D P) (here : slice_get nodes i ≡ Some n) (new : Node S D P)
@@ -50,47 +50,47 @@ module _ {S D P : Type 0} (disk : D → Disk) (config : Config) (begin : S) (nod
   abbrev s : Setting S
   s = setting_at next answers member
 
-  stands : StandsFor disk member n part
-  stands = stands_here disk config begin nodes tasks i me placed n here is
+  represents : Represents disk member n part
+  represents = represents_here disk config begin nodes tasks i me placed n here is
 
   -- all nodes are still of this cluster
   pub still : Left disk member new → IsWorld disk config begin (slice_set nodes i new) tasks
   still left = still_nodes disk config begin nodes tasks i me placed n here new left.0 left.1 is
 
-  module _ (sent : Sent) (by : GoesBy disk member n new (node_step next answers member input) TellsSent sent)
+  module _ (sent : Sent) (by : GoesBy disk member n new (node_step next answers member input) DescribesSent sent)
       (each : (done : Done NodePart) → node_effect s me part input ≡ Ok done → AllByRecursion IsPacket done.sends) where
     -- its packets are what the bytes are texts of
     pub texts : AreTexts sent.bytes.items sent.packets
-    texts = let d = by part stands in record { packets = d.0.sends; each = each d.0 d.1; texts = d.3.bytes; counted = d.3.packets }
+    texts = let d = by part represents in record { packets = d.0.sends; each = each d.0 d.1; texts = d.3.bytes; counted = d.3.packets }
 
     pub turned_left : Left disk member new
-    turned_left = let d = by part stands in (d.0.part, d.2)
+    turned_left = let d = by part represents in (d.0.part, d.2)
 
     pub turned : (settled later : Sending) → settled.sent ≡ messages.sent → later ≡ (let x : Sending = record { sent = settled.sent ++ packets_in sent.packets sent.bytes.items; apart = sent.packets } in x)
-        → (whole : Result Happening Fault) → whole ≡ node_done_if w me (node_effect s me part input)
-        → (told : Effect) → told ≡ told_sent (length w.sent + 1) sent → Goes w whole (world_of disk most (slice_set nodes i new) tasks later) told
-    turned settled later same put whole whole_is told is_told =
-        let d = by part stands in
+        → (whole : Result Transition Fault) → whole ≡ node_done_if w me (node_effect s me part input)
+        → (stated : Effect) → stated ≡ stated_sent (length w.sent + 1) sent → Goes w whole (world_of disk most (slice_set nodes i new) tasks later) stated
+    turned settled later same put whole whole_is stated is_stated =
+        let d = by part represents in
         let same_texts : AreTexts sent.bytes.items sent.packets = record { packets = d.0.sends; each = each d.0 d.1; texts = d.3.bytes; counted = d.3.packets } in
         let read = read_texts sent.bytes.items sent.packets same_texts in
-        goes disk config begin nodes tasks i me placed n here messages new later whole d.0 told (whole_is ∙ ap (node_done_if w me) d.1) d.2
+        goes disk config begin nodes tasks i me placed n here messages new later whole d.0 stated (whole_is ∙ ap (node_done_if w me) d.1) d.2
         (ap (λ (x : Sending). x.sent) put ∙ ap (λ (ms : List Message). ms ++ packets_in sent.packets sent.bytes.items) same ∙ ap (λ (ms : List Message). messages.sent ++ ms) read)
         (record {
-          first = ap (λ (e : Effect). e.first) is_told;
-          count = ap (λ (e : Effect). e.sent) is_told ∙ ap (λ (k : ℕ). min k (2 ^ 32 - 1)) d.3.packets;
-          dropped = ap (λ (e : Effect). e.dropped) is_told ∙ d.3.dropped;
-          taken = ap (λ (e : Effect). e.taken) is_told ∙ sym d.3.nothing.0;
-          opened = ap (λ (e : Effect). e.opened) is_told ∙ sym d.3.nothing.1;
+          first = ap (λ (e : Effect). e.first) is_stated;
+          count = ap (λ (e : Effect). e.sent) is_stated ∙ ap (λ (k : ℕ). min k (2 ^ 32 - 1)) d.3.packets;
+          dropped = ap (λ (e : Effect). e.dropped) is_stated ∙ d.3.dropped;
+          taken = ap (λ (e : Effect). e.taken) is_stated ∙ sym d.3.nothing.0;
+          opened = ap (λ (e : Effect). e.opened) is_stated ∙ sym d.3.nothing.1;
         })
 
   -- a step that was not taken
   pub not_turned : (later : Sending) → later.sent ≡ messages.sent → (fault : Fault) → NotTaken disk member n new (node_step next answers member input) fault
-      → (whole : Result Happening Fault) (cut : ℕ → Result Happening Fault) → whole ≡ node_done_if w me (node_effect s me part input)
+      → (whole : Result Transition Fault) (cut : ℕ → Result Transition Fault) → whole ≡ node_done_if w me (node_effect s me part input)
       → ((k : ℕ) → cut k ≡ node_done_if w me (cut_if k part (node_effect s me part input)))
       → Answers w whole cut (world_of disk most (slice_set nodes i new) tasks later) (let r : Result Effect Fault = Err fault in r)
   not_turned later same fault by whole cut whole_is cut_is =
       answered disk config begin nodes tasks i me placed n here messages new later (node_step next answers member input) whole cut
-      (node_done_if w me) whole_is cut_is (λ f. refl) (λ done. (node_done w me done, refl)) same fault by stands
+      (node_done_if w me) whole_is cut_is (λ f. refl) (λ done. (node_done w me done, refl)) same fault by represents
 
   pub not_turned_left : (fault : Fault) → NotTaken disk member n new (node_step next answers member input) fault → Left disk member new
-  not_turned_left fault by = stands_after disk config begin nodes tasks i me placed n here (node_step next answers member input) new fault by stands
+  not_turned_left fault by = represents_after disk config begin nodes tasks i me placed n here (node_step next answers member input) new fault by represents

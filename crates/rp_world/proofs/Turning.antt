@@ -15,9 +15,9 @@ use Rattle.rp_codec.proofs.RecordLaws.{has_latest}
 use Rattle.rp_store.proofs.Whole.{texts_end}
 use Rattle.rp_model.specs.Parts.{NodePart}
 use Rattle.rp_model.specs.Parts.{Turn, with_record}
-use Rattle.rp_model.specs.Effect.{Setting, Done, NodeInput, running_effect, turned, turned_if, node_effect, cut_part, stop_part}
+use Rattle.rp_model.specs.Effect.{Setting, Done, NodeInput, running_effect, turn_done, turn_done_if, node_effect, cut_part, stop_part}
 use Rattle.rp_replica.specs.declared.sent.Sent.{Sent}
-use Rattle.rp_replica.specs.Held.{Held, part_of, setting_of, with_text}
+use Rattle.rp_replica.specs.State.{ReplicaState, part_of, setting_of, with_text}
 use Rattle.rp_replica.specs.Kept.{HoldsPart, HoldsOnly, HoldsItsRecords, HoldsCut}
 use Rattle.rp_replica.specs.declared.input.Input.{Input}
 use Rattle.rp_replica.specs.Inputs.{given_by, effect_if_given, input_effect}
@@ -27,8 +27,8 @@ use Rattle.rp_replica.specs.declared.cut.NotCut.{NotCut}
 use Rattle.rp_replica.specs.declared.cut.NotCut.TheVariants.{Failed as DeviceFailed, Refused}
 use Rattle.rp_world.specs.declared.node.Node.{Node}
 use Rattle.rp_world.specs.declared.node.Node.TheVariants.{Running, Stopped}
-use Rattle.rp_world.specs.Nodes.{Member, RunsAs, RestsAs, setting_at, node_step, IsComing, StandsWhile, StandsFor, GoesBy, IsCutBy, NotTaken, TellsSent}
-use Rattle.rp_world.proofs.Standing.{stands, stands_failed, as_running}
+use Rattle.rp_world.specs.Nodes.{Member, RunsAs, RestsAs, setting_at, node_step, IsNotRefused, RepresentsWhile, Represents, GoesBy, IsCutBy, NotTaken, DescribesSent}
+use Rattle.rp_world.proofs.Represented.{represents, represents_failed, as_running}
 
 some_of : {A : Type 0} (o : Option A) (x : A) → o ≡ Some x → IsSome o
 some_of {A = A} o x is = subst IsSome (sym is) refl
@@ -42,39 +42,39 @@ cut_stopped kept part (Some rec) =
       | false ↦ refl
     ]
 
--- texts of the records with one more behind them
+-- texts of the records with one more after them
 holds_more : (disk : Disk) (records : List Rec) (written : Option Rec) → AreTextsOf records disk.contents → AreTextsOf (with_record records written) (with_text disk written).contents
 holds_more disk records None only = only
 holds_more disk records (Some rec) only = texts_end records rec V2 disk.contents (has_latest rec) only
 
-module _ {S : Type 0} (next : S → Action → S) (answers : S → Action → List Answer) (member : Member S) (old : Held S) (part : NodePart) (runs : RunsAs member old part) where
-  -- an input comes to the same for the part and for the replica
-  pub same_effect : (input : NodeInput) → node_effect (setting_at next answers member) member.me part input ≡ turned_if part (effect_of next answers old input)
+module _ {S : Type 0} (next : S → Action → S) (answers : S → Action → List Answer) (member : Member S) (old : ReplicaState S) (part : NodePart) (runs : RunsAs member old part) where
+  -- an input has the same result for the part and for the replica
+  pub same_effect : (input : NodeInput) → node_effect (setting_at next answers member) member.me part input ≡ turn_done_if part (effect_of next answers old input)
   same_effect input =
       let setting : setting_of next answers old ≡ setting_at next answers member =
       ap (λ (c : Config). let s : Setting S = record { config = c; next = next; answers = answers; begin = old.begin } in s) runs.config
       ∙ ap (λ (b : S). let s : Setting S = record { config = member.config; next = next; answers = answers; begin = b } in s) runs.begin in
-      subst (λ (p : NodePart). node_effect (setting_at next answers member) member.me p input ≡ turned_if p (effect_of next answers old input)) (sym runs.known)
-      (ap (λ (s : Setting S). turned_if (part_of old) (running_effect s member.me old.records old.running input)) (sym setting)
-      ∙ ap (λ (k : ℕ). turned_if (part_of old) (running_effect (setting_of next answers old) k old.records old.running input)) (sym runs.node))
+      subst (λ (p : NodePart). node_effect (setting_at next answers member) member.me p input ≡ turn_done_if p (effect_of next answers old input)) (sym runs.known)
+      (ap (λ (s : Setting S). turn_done_if (part_of old) (running_effect s member.me old.records old.running input)) (sym setting)
+      ∙ ap (λ (k : ℕ). turn_done_if (part_of old) (running_effect (setting_of next answers old) k old.records old.running input)) (sym runs.node))
 
   -- a turn that took effect
-  pub goes : (new : Held S) (turn : Turn) (sent : Sent) → Turns turn old new sent → RunsAs member new (turned part turn).part × TellsSent sent (turned part turn)
+  pub goes : (new : ReplicaState S) (turn : Turn) (sent : Sent) → Turns turn old new sent → RunsAs member new (turn_done part turn).part × DescribesSent sent (turn_done part turn)
   goes new turn sent turns = (
     record {
-      node = ap (λ (h : Held S). h.me) turns.goes ∙ runs.node;
-      config = ap (λ (h : Held S). h.config) turns.goes ∙ runs.config;
-      begin = ap (λ (h : Held S). h.begin) turns.goes ∙ runs.begin;
-      working = ap (λ (h : Held S). h.failed) turns.goes ∙ runs.working;
-      known = ap (λ (p : NodePart). (turned p turn).part) runs.known ∙ sym (ap part_of turns.goes);
+      node = ap (λ (h : ReplicaState S). h.me) turns.goes ∙ runs.node;
+      config = ap (λ (h : ReplicaState S). h.config) turns.goes ∙ runs.config;
+      begin = ap (λ (h : ReplicaState S). h.begin) turns.goes ∙ runs.begin;
+      working = ap (λ (h : ReplicaState S). h.failed) turns.goes ∙ runs.working;
+      known = ap (λ (p : NodePart). (turn_done p turn).part) runs.known ∙ sym (ap part_of turns.goes);
       only = subst HoldsItsRecords (sym turns.goes) (holds_more old.disk old.records turn.written runs.only);
     },
     record { bytes = turns.bytes; packets = turns.packets; dropped = turns.dropped; nothing = (refl, refl) },
   )
 
   -- a replica that stays as it was
-  pub stays : (new : Held S) → new ≡ old → RunsAs member new part
-  stays new same = subst (λ (h : Held S). RunsAs member h part) (sym same) runs
+  pub stays : (new : ReplicaState S) → new ≡ old → RunsAs member new part
+  stays new same = subst (λ (h : ReplicaState S). RunsAs member h part) (sym same) runs
 
   -- what its device holds where the node stopped within a turn
   pub is_cut : (kept : ℕ) (written : Option Rec) (disk : Disk) → HoldsCut kept old disk written
@@ -87,118 +87,118 @@ module _ {S : Type 0} (next : S → Action → S) (answers : S → Action → Li
   }
 
   -- what was answered, if it was taken
-  pub taken : (input : NodeInput) (new : Held S) (sent : Sent) (turn : Result Turn Fault) → effect_of next answers old input ≡ turn → TurnsIf turn old new sent
-      → (done : Done NodePart) × (node_effect (setting_at next answers member) member.me part input ≡ Ok done) × RunsAs member new done.part × TellsSent sent done
+  pub taken : (input : NodeInput) (new : ReplicaState S) (sent : Sent) (turn : Result Turn Fault) → effect_of next answers old input ≡ turn → TurnsIf turn old new sent
+      → (done : Done NodePart) × (node_effect (setting_at next answers member) member.me part input ≡ Ok done) × RunsAs member new done.part × DescribesSent sent done
   taken input new sent (Ok turn) is turns =
       let g = goes new turn sent turns.0 in
-      (turned part turn, same_effect input ∙ ap (turned_if part) is, g.0, g.1)
+      (turn_done part turn, same_effect input ∙ ap (turn_done_if part) is, g.0, g.1)
   taken input new sent (Err refusal) is turns = absurd turns
 
 pub false_true : {b : Bool} → b ≡ false → b ≡ true → ⊥
 false_true one other = absurd cc
 
-module _ {S : Type 0} (D P : Type 0) (next : S → Action → S) (answers : S → Action → List Answer) (disk : D → Disk) (input : NodeInput) (old : Held S) (working : old.failed ≡ false) where
+module _ {S : Type 0} (D P : Type 0) (next : S → Action → S) (answers : S → Action → List Answer) (disk : D → Disk) (input : NodeInput) (old : ReplicaState S) (working : old.failed ≡ false) where
   -- the node before
   abbrev before : Node S D P
   before = Running old
 
-  taken_by : (new : Held S) (sent : Sent) → TurnsIf (effect_of next answers old input) old new sent → (member : Member S)
-      → GoesBy disk member before (Running new) (node_step next answers member input) TellsSent sent
+  taken_by : (new : ReplicaState S) (sent : Sent) → TurnsIf (effect_of next answers old input) old new sent → (member : Member S)
+      → GoesBy disk member before (Running new) (node_step next answers member input) DescribesSent sent
   taken_by new sent turns member part is =
       let t = taken next answers member old part (as_running member old part working is) input new sent (effect_of next answers old input) refl turns in
-      (t.0, t.1, stands member new t.0.part t.2, t.3)
+      (t.0, t.1, represents member new t.0.part t.2, t.3)
 
-  module _ (member : Member S) (part : NodePart) (is : StandsWhile member old part old.failed) where
+  module _ (member : Member S) (part : NodePart) (is : RepresentsWhile member old part old.failed) where
     runs : RunsAs member old part
     runs = as_running member old part working is
 
     -- how the step was not taken, and left the node so
     abbrev NotTakenHere : Node S D P → Fault → Type 0
     NotTakenHere n fault =
-        ((node_step next answers member input part ≡ Err fault) × StandsFor disk member n part)
-        ⊎ (((fault ≡ OutOfMemory) × IsComing (node_step next answers member input part) × StandsFor disk member n part)
-        ⊎ ((fault ≡ Device) × (kept : ℕ) × (done : Done NodePart) × (node_step next answers member input part ≡ Ok done) × StandsFor disk member n (cut_part kept part done.written) × IsSome done.written))
+        ((node_step next answers member input part ≡ Err fault) × Represents disk member n part)
+        ⊎ (((fault ≡ OutOfMemory) × IsNotRefused (node_step next answers member input part) × Represents disk member n part)
+        ⊎ ((fault ≡ Device) × (kept : ℕ) × (done : Done NodePart) × (node_step next answers member input part ≡ Ok done) × Represents disk member n (cut_part kept part done.written) × IsSome done.written))
 
-    pub coming : (turn : Turn) → effect_of next answers old input ≡ Ok turn → node_step next answers member input part ≡ Ok (turned part turn)
-    coming turn came = same_effect next answers member old part runs input ∙ ap (turned_if part) came
+    pub not_refused : (turn : Turn) → effect_of next answers old input ≡ Ok turn → node_step next answers member input part ≡ Ok (turn_done part turn)
+    not_refused turn resulted = same_effect next answers member old part runs input ∙ ap (turn_done_if part) resulted
 
     -- what some cut of the turn leaves on the device
     pub rests_cut : (turn : Turn) (kept : ℕ) (d : Disk) → HoldsCut kept old d turn.written
-        → RestsAs member.config.max_positions d (cut_part kept part (turned part turn).written)
+        → RestsAs member.config.max_positions d (cut_part kept part (turn_done part turn).written)
     rests_cut turn kept d holds = is_cut next answers member old part runs kept turn.written d holds
 
-    module _ (new : Held S) where
-      stays_so : new ≡ old → StandsWhile member new part new.failed
-      stays_so same = subst (λ (h : Held S). StandsWhile member h part h.failed) (sym same) is
+    module _ (new : ReplicaState S) where
+      stays_so : new ≡ old → RepresentsWhile member new part new.failed
+      stays_so same = subst (λ (h : ReplicaState S). RepresentsWhile member h part h.failed) (sym same) is
 
       fails_so : (turn : Turn) → effect_of next answers old input ≡ Ok turn → FailsAt turn.written old new → NotTakenHere (Running new) Device
-      fails_so turn came fails =
+      fails_so turn resulted fails =
           let kept = fails.holds.0 in
           inr (inr (
             refl,
             kept,
-            turned part turn,
-            coming turn came,
-            stands_failed member new (cut_part kept part turn.written) (ap (λ (h : Held S). h.failed) fails.goes) (rests_cut turn kept new.disk fails.holds.1),
+            turn_done part turn,
+            not_refused turn resulted,
+            represents_failed member new (cut_part kept part turn.written) (ap (λ (h : ReplicaState S). h.failed) fails.goes) (rests_cut turn kept new.disk fails.holds.1),
             some_of turn.written fails.rec fails.is,
           ))
 
       stops_so : (turn : Turn) → effect_of next answers old input ≡ Ok turn → (fault : Fault) → Stops turn.written old new fault → NotTakenHere (Running new) fault
-      stops_so turn came OutOfMemory stops = inr (inl (refl, subst IsComing (sym (coming turn came)) tt, stays_so stops.0))
-      stops_so turn came Device stops = fails_so turn came stops.0
-      stops_so turn came Failed stops = absurd (false_true working stops.1)
-      stops_so turn came _ stops = absurd stops
+      stops_so turn resulted OutOfMemory stops = inr (inl (refl, subst IsNotRefused (sym (not_refused turn resulted)) tt, stays_so stops.0))
+      stops_so turn resulted Device stops = fails_so turn resulted stops.0
+      stops_so turn resulted Failed stops = absurd (false_true working stops.1)
+      stops_so turn resulted _ stops = absurd stops
 
       refused_so : (refusal fault : Fault) → effect_of next answers old input ≡ Err refusal → IsRefused refusal old new fault → NotTakenHere (Running new) fault
-      refused_so refusal fault came stops =
+      refused_so refusal fault resulted stops =
           elim stops.1 [
-            | inl told ↦
-                let refuses : node_step next answers member input part ≡ Err fault = same_effect next answers member old part runs input ∙ ap (turned_if part) came ∙ ap Err (sym told.0) in
+            | inl stated ↦
+                let refuses : node_step next answers member input part ≡ Err fault = same_effect next answers member old part runs input ∙ ap (turn_done_if part) resulted ∙ ap Err (sym stated.0) in
                 inl (refuses, stays_so stops.0)
             | inr gone ↦ absurd (false_true working gone.1)
           ]
 
       by_effect : (effect : Result Turn Fault) → effect_of next answers old input ≡ effect → (fault : Fault) → StopsIf effect old new fault → NotTakenHere (Running new) fault
-      by_effect (Ok turn) came fault stops = stops_so turn came fault stops
-      by_effect (Err refusal) came fault stops = refused_so refusal fault came stops
+      by_effect (Ok turn) resulted fault stops = stops_so turn resulted fault stops
+      by_effect (Err refusal) resulted fault stops = refused_so refusal fault resulted stops
 
     -- a step that was cut
     pub cut_by : (effect : Result Turn Fault) → effect_of next answers old input ≡ effect → (kept : ℕ) (device : D) → CutsIf effect kept old (disk device)
         → (done : Done NodePart) × (node_step next answers member input part ≡ Ok done) × RestsAs member.config.max_positions (disk device) (cut_part kept part done.written)
-    cut_by (Ok turn) came kept device cuts = (turned part turn, coming turn came, rests_cut turn kept (disk device) cuts.holds)
-    cut_by (Err refusal) came kept device cuts = absurd cuts
+    cut_by (Ok turn) resulted kept device cuts = (turn_done part turn, not_refused turn resulted, rests_cut turn kept (disk device) cuts.holds)
+    cut_by (Err refusal) resulted kept device cuts = absurd cuts
 
     -- or was not
     pub fails_in_cut : (effect : Result Turn Fault) → effect_of next answers old input ≡ effect → (device : D) → IsNotCutIf disk effect old (let r : NotCut S D P = DeviceFailed device in r) → NotTakenHere (Stopped device) Device
-    fails_in_cut (Ok turn) came device fails =
+    fails_in_cut (Ok turn) resulted device fails =
         let kept = fails.holds.0 in
-        inr (inr (refl, kept, turned part turn, coming turn came, rests_cut turn kept (disk device) fails.holds.1, some_of turn.written fails.rec fails.is))
-    fails_in_cut (Err refusal) came device fails = absurd fails
+        inr (inr (refl, kept, turn_done part turn, not_refused turn resulted, rests_cut turn kept (disk device) fails.holds.1, some_of turn.written fails.rec fails.is))
+    fails_in_cut (Err refusal) resulted device fails = absurd fails
 
-    pub refused_cut : (effect : Result Turn Fault) → effect_of next answers old input ≡ effect → (fault : Fault) (new : Held S) → IsNotCutIf disk effect old (let r : NotCut S D P = Refused fault new in r) → NotTakenHere (Running new) fault
-    refused_cut (Ok turn) came fault new stops = by_effect new (Ok turn) came fault stops.0
-    refused_cut (Err refusal) came fault new stops = refused_so new refusal fault came stops
+    pub refused_cut : (effect : Result Turn Fault) → effect_of next answers old input ≡ effect → (fault : Fault) (new : ReplicaState S) → IsNotCutIf disk effect old (let r : NotCut S D P = Refused fault new in r) → NotTakenHere (Running new) fault
+    refused_cut (Ok turn) resulted fault new stops = by_effect new (Ok turn) resulted fault stops.0
+    refused_cut (Err refusal) resulted fault new stops = refused_so new refusal fault resulted stops
 
   -- a step that was not taken
-  not_answered : (new : Held S) (fault : Fault) → StopsIf (effect_of next answers old input) old new fault
+  not_answered : (new : ReplicaState S) (fault : Fault) → StopsIf (effect_of next answers old input) old new fault
       → (member : Member S) → NotTaken disk member before (Running new) (node_step next answers member input) fault
   not_answered new fault stops = λ member part is. by_effect member part is new (effect_of next answers old input) refl fault stops
 
 -- the same of an input that gives this to the node
-module _ {S : Type 0} (D P : Type 0) (next : S → Action → S) (answers : S → Action → List Answer) (disk : D → Disk) (old : Held S) (working : old.failed ≡ false) (input : Input) where
+module _ {S : Type 0} (D P : Type 0) (next : S → Action → S) (answers : S → Action → List Answer) (disk : D → Disk) (old : ReplicaState S) (working : old.failed ≡ false) (input : Input) where
   abbrev was : Node S D P
   was = Running old
 
   same_input : (given : NodeInput) → given_by input ≡ Ok given → input_effect next answers old input ≡ effect_of next answers old given
   same_input given is = ap (effect_if_given next answers old) is
 
-  pub turned_ok : (new : Held S) (answer : Result Sent Fault) → Answers (input_effect next answers old input) old new answer
-      → IfOk answer (λ sent. (member : Member S) (given : NodeInput) → given_by input ≡ Ok given → GoesBy disk member was (Running new) (node_step next answers member given) TellsSent sent)
+  pub turned_ok : (new : ReplicaState S) (answer : Result Sent Fault) → Answers (input_effect next answers old input) old new answer
+      → IfOk answer (λ sent. (member : Member S) (given : NodeInput) → given_by input ≡ Ok given → GoesBy disk member was (Running new) (node_step next answers member given) DescribesSent sent)
   turned_ok new (Ok sent) turns = λ member given is.
       taken_by D P next answers disk given old working new sent (subst (λ (r : Result Turn Fault). TurnsIf r old new sent) (same_input given is) turns) member
   turned_ok new (Err fault) turns = tt
 
-  pub turned_err : (new : Held S) (answer : Result Sent Fault) → Answers (input_effect next answers old input) old new answer
+  pub turned_err : (new : ReplicaState S) (answer : Result Sent Fault) → Answers (input_effect next answers old input) old new answer
       → IfErr answer (λ fault. (member : Member S) (given : NodeInput) → given_by input ≡ Ok given → NotTaken disk member was (Running new) (node_step next answers member given) fault)
   turned_err new (Ok sent) stops = tt
   turned_err new (Err fault) stops = λ member given is.
@@ -213,17 +213,17 @@ module _ {S : Type 0} (D P : Type 0) (next : S → Action → S) (answers : S �
   -- a step that was cut, or was not
   pub is_cut_so : (kept : ℕ) (device : D) → CutsIf (input_effect next answers old input) kept old (disk device)
       → (member : Member S) (given : NodeInput) → given_by input ≡ Ok given → IsCutBy disk member was (Stopped device) kept (node_step next answers member given)
-  is_cut_so kept device cuts member given gives part stands_now =
-      cut_by D P next answers disk given old working member part stands_now (effect_of next answers old given) refl kept device (subst (λ (r : Result Turn Fault). CutsIf r kept old (disk device)) (same_input given gives) cuts)
+  is_cut_so kept device cuts member given gives part represents_now =
+      cut_by D P next answers disk given old working member part represents_now (effect_of next answers old given) refl kept device (subst (λ (r : Result Turn Fault). CutsIf r kept old (disk device)) (same_input given gives) cuts)
 
   pub failed_in_cut : (device : D) → IsNotCutIf disk (input_effect next answers old input) old (let r : NotCut S D P = DeviceFailed device in r)
       → (member : Member S) (given : NodeInput) → given_by input ≡ Ok given → NotTaken disk member was (Stopped device) (node_step next answers member given) Device
-  failed_in_cut device fails member given gives part stands_now =
-      fails_in_cut D P next answers disk given old working member part stands_now (effect_of next answers old given) refl device
+  failed_in_cut device fails member given gives part represents_now =
+      fails_in_cut D P next answers disk given old working member part represents_now (effect_of next answers old given) refl device
       (subst (λ (r : Result Turn Fault). IsNotCutIf disk r old (let n : NotCut S D P = DeviceFailed device in n)) (same_input given gives) fails)
 
-  pub refused_in_cut : (fault : Fault) (new : Held S) → IsNotCutIf disk (input_effect next answers old input) old (let r : NotCut S D P = Refused fault new in r)
+  pub refused_in_cut : (fault : Fault) (new : ReplicaState S) → IsNotCutIf disk (input_effect next answers old input) old (let r : NotCut S D P = Refused fault new in r)
       → (member : Member S) (given : NodeInput) → given_by input ≡ Ok given → NotTaken disk member was (Running new) (node_step next answers member given) fault
-  refused_in_cut fault new stops member given gives part stands_now =
-      refused_cut D P next answers disk given old working member part stands_now (effect_of next answers old given) refl fault new
+  refused_in_cut fault new stops member given gives part represents_now =
+      refused_cut D P next answers disk given old working member part represents_now (effect_of next answers old given) refl fault new
       (subst (λ (r : Result Turn Fault). IsNotCutIf disk r old (let n : NotCut S D P = Refused fault new in n)) (same_input given gives) stops)

@@ -1,4 +1,4 @@
--- What nodes have in common (this project's own).
+-- What nodes have in common.
 use Rattle.std.specs.Prelude.{◌≡◌, ◌≤◌, ℕ, suc, Bool, true, false, nat_lt, Some, List, length, slice_get}
 use Rattle.rp_base.specs.Records.{applied_of}
 use Rattle.rp_base.specs.Sets.{Has}
@@ -13,7 +13,7 @@ use Rattle.rp_model.specs.World.{World, part_at}
 use Rattle.rp_model.specs.Parts.{NodePart}
 use Rattle.rp_model.specs.Parts.{TaskPart}
 use Rattle.rp_agreement.specs.Answered.{named, calls_so_far, AreItsCalls}
-use Rattle.rp_agreement.specs.Founded as founded
+use Rattle.rp_agreement.specs.Justified as justified
 use Rattle.rp_agreement.specs.Order.{Begins, AreAlike}
 
 -- a node now and one later
@@ -31,10 +31,10 @@ HasWritten w x rec = (part : NodePart) × (part_at w.nodes x ≡ Some part) × H
 
 -- the node of this number has written a promise of the ballot for the position, alone or for a range
 abbrev pub HasWrittenPromise : World → ℕ → ℕ → ℕ → Type 0
-HasWrittenPromise w x i b = (part : NodePart) × (part_at w.nodes x ≡ Some part) × founded.HasWritten part.records i b
+HasWrittenPromise w x i b = (part : NodePart) × (part_at w.nodes x ≡ Some part) × justified.HasWritten part.records i b
 
--- Of what two nodes have applied, the one now and the other later, one begins the other; and where they
--- have applied equally many actions they are in one state, with the same answers given, and show the same.
+-- Of what two nodes have applied, the one now and the other later, one is a prefix of the other; and where they have
+-- applied equally many actions they are in one state, with the same answers given, and show the same.
 pub record Agree {S : Type 0} (next : S → Action → S) (answers : S → Action → List Answer) (image : S → List ℕ)
     (begin : S) (now later : World) : Type 0 where
   pub applied : EachTwo now later (λ one other. AreAlike (applied_of one.records) (applied_of other.records))

@@ -1,4 +1,4 @@
--- A task of a cluster (this project's own).
+-- A task of a cluster.
 use Rattle.std.specs.Prelude.{◌≡◌, ℕ, List}
 use Rattle.rp_base.specs.declared.reply.Answer.{Answer}
 use Rattle.rp_tasks.specs.Calls.{Calls}

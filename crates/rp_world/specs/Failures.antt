@@ -1,4 +1,4 @@
--- How often the devices of a cluster have failed (this project's own).
+-- How often the devices of a cluster have failed.
 use Rattle.std.specs.Prelude.{◌≡◌, ℕ, ◌<◌, Option, Some, None, Result, Ok, Err, List}
 use Rattle.rp_base.specs.declared.fault.Fault.{Fault}
 use Rattle.rp_base.specs.declared.fault.Fault.TheVariants.{Device}
@@ -24,6 +24,6 @@ RisesOnly (Some me) old new = RisesAt me old new
 
 -- After an answer the counts are as before; where it is a fault of a device, that of this node alone rose.
 abbrev pub AreCounted : {A : Type 0} → Option ℕ → List ℕ → List ℕ → Result A Fault → Type 0
-AreCounted me old new (Ok told) = new ≡ old
+AreCounted me old new (Ok stated) = new ≡ old
 AreCounted me old new (Err Device) = RisesOnly me old new
 AreCounted me old new (Err _) = new ≡ old

@@ -1,4 +1,4 @@
--- Messages as they lie in memory: texts of packets, one behind another (this project's own).
+-- Messages as they lie in memory: texts of packets, one after another.
 use Rattle.std.specs.Prelude.{◌≡◌, ℕ, zero, suc, ◌+◌, Ok, Err, List, [], ◌∷◌, ◌++◌, length}
 use Rattle.std.specs.List.{AllByRecursion}
 use Rattle.rp_codec.specs.Message.{Message, IsPacket}
@@ -6,17 +6,17 @@ use Rattle.rp_codec.specs.Reading.{Read, packet_at}
 use Rattle.rp_codec.specs.Text.{text_of}
 use Rattle.rp_replica.specs.Packets.{texts_of}
 
--- a packet that was read, and those read behind it
+-- a packet that was read, and those read after it
 abbrev pub with_rest : Read Message → (List ℕ → List Message) → List Message
 with_rest (Ok read) others = read.0 ∷ others read.1
 with_rest (Err reason) others = []
 
--- so many packets, read from the front of the bytes
+-- n packets, read from the front of the bytes
 abbrev pub packets_in : ℕ → List ℕ → List Message
 packets_in zero bytes = []
 packets_in (suc count) bytes = with_rest (packet_at bytes) (λ rest. packets_in count rest)
 
--- the bytes are the texts of so many packets, joined
+-- the bytes are the texts of n packets, joined
 pub record AreTexts (bytes : List ℕ) (count : ℕ) : Type 0 where
   pub packets : List Message
   pub each : AllByRecursion IsPacket packets
@@ -33,7 +33,7 @@ pub record Sending : Type 0 where
   pub sent : List Message
   pub apart : ℕ
 
--- what was sent: texts whose ends are known, and behind them those of the last step
+-- what was sent: texts whose ends are known, and after them those of the last step
 abbrev pub sending_of : List ℕ → List ℕ → List ℕ → ℕ → Sending
 sending_of bytes ends last count =
     record { sent = packets_in (length ends) bytes ++ packets_in count last; apart = count }

@@ -1,5 +1,4 @@
--- A node of a cluster: a replica that runs, or a device that rests. A replica whose device failed rests too
--- (this project's own).
+-- A node of a cluster: a replica that runs, or a device that rests. A replica whose device failed rests too.
 use Rattle.std.specs.Prelude.{◌≡◌, ◌⊎◌, ℕ, ◌+◌, ◌<◌, min, Bool, true, false, Option, None, IsSome, Result, Ok, Err}
 use Rattle.std.specs.Prelude.{List, length}
 use Rattle.rp_base.specs.declared.action.Action.{Action}
@@ -13,7 +12,7 @@ use Rattle.rp_store.specs.Disk.{Disk}
 use Rattle.rp_store.specs.Records.{records_text}
 use Rattle.rp_model.specs.Parts.{NodePart}
 use Rattle.rp_model.specs.Effect.{Setting, Done, NodeInput, node_effect, cut_part}
-use Rattle.rp_replica.specs.Held.{Held, part_of}
+use Rattle.rp_replica.specs.State.{ReplicaState, part_of}
 use Rattle.rp_replica.specs.Kept.{HoldsPart, HoldsOnly, HoldsItsRecords}
 use Rattle.rp_world.specs.declared.node.Node.{Node}
 use Rattle.rp_world.specs.declared.node.Node.TheVariants.{Running, Stopped}
@@ -29,13 +28,13 @@ abbrev pub member_of : {S : Type 0} → ℕ → Config → S → Member S
 member_of me config begin = record { me = me; config = config; begin = begin }
 
 -- a replica that runs is the part of the member, and its device holds nothing but its records
-pub record RunsAs {S : Type 0} (member : Member S) (held : Held S) (part : NodePart) : Type 0 where
-  pub node : held.me ≡ member.me
-  pub config : held.config ≡ member.config
-  pub begin : held.begin ≡ member.begin
-  pub working : held.failed ≡ false
-  pub known : part ≡ part_of held
-  pub only : HoldsItsRecords held
+pub record RunsAs {S : Type 0} (member : Member S) (replica : ReplicaState S) (part : NodePart) : Type 0 where
+  pub node : replica.me ≡ member.me
+  pub config : replica.config ≡ member.config
+  pub begin : replica.begin ≡ member.begin
+  pub working : replica.failed ≡ false
+  pub known : part ≡ part_of replica
+  pub only : HoldsItsRecords replica
 
 -- a device that rests is the part of a node that is stopped, and holds no other records
 pub record RestsAs (most : ℕ) (disk : Disk) (part : NodePart) : Type 0 where
@@ -47,61 +46,60 @@ pub record RestsAs (most : ℕ) (disk : Disk) (part : NodePart) : Type 0 where
 abbrev pub setting_at : {S : Type 0} → (S → Action → S) → (S → Action → List Answer) → Member S → Setting S
 setting_at next answers member = record { config = member.config; next = next; answers = answers; begin = member.begin }
 
--- what an input comes to for its part
+-- the result of an input for its part
 abbrev pub node_step : {S : Type 0} → (S → Action → S) → (S → Action → List Answer) → Member S → NodeInput → NodePart
     → Result (Done NodePart) Fault
 node_step next answers member input part = node_effect (setting_at next answers member) member.me part input
 
--- what a step comes to is no refusal
-abbrev pub IsComing : Result (Done NodePart) Fault → Type 0
-IsComing (Ok done) = Unit {0}
-IsComing (Err refusal) = ⊥
+-- the result of a step is no refusal
+abbrev pub IsNotRefused : Result (Done NodePart) Fault → Type 0
+IsNotRefused (Ok done) = Unit {0}
+IsNotRefused (Err refusal) = ⊥
 
 -- a replica is the part of the member: it runs as it, or has failed, and its device rests
-abbrev pub StandsWhile : {S : Type 0} → Member S → Held S → NodePart → Bool → Type 0
-StandsWhile member held part false = RunsAs member held part
-StandsWhile member held part true = RestsAs member.config.max_positions held.disk part
+abbrev pub RepresentsWhile : {S : Type 0} → Member S → ReplicaState S → NodePart → Bool → Type 0
+RepresentsWhile member replica part false = RunsAs member replica part
+RepresentsWhile member replica part true = RestsAs member.config.max_positions replica.disk part
 
 -- the node is the part of the member
-abbrev pub StandsFor : {S D P : Type 0} → (D → Disk) → Member S → Node S D P → NodePart → Type 0
-StandsFor disk member (Running held) part = StandsWhile member held part held.failed
-StandsFor disk member (Stopped device) part = RestsAs member.config.max_positions (disk device) part
+abbrev pub Represents : {S D P : Type 0} → (D → Disk) → Member S → Node S D P → NodePart → Type 0
+Represents disk member (Running replica) part = RepresentsWhile member replica part replica.failed
+Represents disk member (Stopped device) part = RestsAs member.config.max_positions (disk device) part
 
 module _ {S D P : Type 0} (disk : D → Disk) (member : Member S) (old new : Node S D P) where
-  -- a step of the node is this effect on its part, and is told so
+  -- a step of the node is this effect on its part, and is reported
   abbrev pub GoesBy : {A : Type 0} → (NodePart → Result (Done NodePart) Fault) → (A → Done NodePart → Type 0) → A
       → Type 0
-  GoesBy effect tells answer =
-      (part : NodePart) → StandsFor disk member old part
-      → (done : Done NodePart) × (effect part ≡ Ok done) × StandsFor disk member new done.part × tells answer done
+  GoesBy effect describes answer =
+      (part : NodePart) → Represents disk member old part
+      → (done : Done NodePart) × (effect part ≡ Ok done) × Represents disk member new done.part × describes answer done
 
-  -- a step of the node is a cut of this effect, where so many bytes of its record are kept
+  -- a step of the node is a cut of this effect, where n bytes of its record are kept
   abbrev pub IsCutBy : ℕ → (NodePart → Result (Done NodePart) Fault) → Type 0
   IsCutBy kept effect =
-      (part : NodePart) → StandsFor disk member old part
-      → (done : Done NodePart) × (effect part ≡ Ok done) × StandsFor disk member new (cut_part kept part done.written)
+      (part : NodePart) → Represents disk member old part
+      → (done : Done NodePart) × (effect part ≡ Ok done) × Represents disk member new (cut_part kept part done.written)
 
   -- or the effect refuses it, and nothing changes
   abbrev pub RefusedBy : (NodePart → Result (Done NodePart) Fault) → Fault → Type 0
   RefusedBy effect fault =
-      (part : NodePart) → StandsFor disk member old part → (effect part ≡ Err fault) × StandsFor disk member new part
+      (part : NodePart) → Represents disk member old part → (effect part ≡ Err fault) × Represents disk member new part
 
   -- or some of the torn bytes are gone, from the end
   abbrev pub IsLeftTorn : Type 0
   IsLeftTorn =
-      (part : NodePart) → StandsFor disk member old part
-      → (kept : ℕ) × StandsFor disk member new (record part { torn = min kept part.torn })
+      (part : NodePart) → Represents disk member old part
+      → (kept : ℕ) × Represents disk member new (record part { torn = min kept part.torn })
 
-  -- Or the step was not taken: it is refused, and nothing changes; or memory was wanting for what it comes
-  -- to, and nothing changes; or the device failed, and the step, which writes a record, is cut with some of the
-  -- record's bytes kept.
+  -- Or the step was not taken: it is refused, and nothing changes; or memory ran out for it, and nothing changes; or
+  -- the device failed, and the step, which writes a record, is cut with some of the record's bytes kept.
   abbrev pub NotTaken : (NodePart → Result (Done NodePart) Fault) → Fault → Type 0
   NotTaken effect fault =
-      (part : NodePart) → StandsFor disk member old part
-      → ((effect part ≡ Err fault) × StandsFor disk member new part)
-      ⊎ (((fault ≡ OutOfMemory) × IsComing (effect part) × StandsFor disk member new part)
+      (part : NodePart) → Represents disk member old part
+      → ((effect part ≡ Err fault) × Represents disk member new part)
+      ⊎ (((fault ≡ OutOfMemory) × IsNotRefused (effect part) × Represents disk member new part)
       ⊎ ((fault ≡ Device) × (kept : ℕ) × (done : Done NodePart) × (effect part ≡ Ok done)
-      × StandsFor disk member new (cut_part kept part done.written) × IsSome done.written))
+      × Represents disk member new (cut_part kept part done.written) × IsSome done.written))
 
 -- how many bytes a device holds that keeps the part: the texts of its records, and the torn bytes
 abbrev pub stored_length : NodePart → ℕ
@@ -109,29 +107,29 @@ stored_length part = length (records_text part.records) + part.torn
 
 -- how often the device of a node has failed
 abbrev pub failures_in : {S D P : Type 0} → (D → Disk) → Node S D P → ℕ
-failures_in disk (Running held) = held.disk.failures
+failures_in disk (Running replica) = replica.disk.failures
 failures_in disk (Stopped device) = (disk device).failures
 
 -- after an answer the count is as before, and higher where it is a fault of the device
 abbrev pub IsCounted : {A : Type 0} → ℕ → ℕ → Result A Fault → Type 0
-IsCounted old new (Ok told) = new ≡ old
+IsCounted old new (Ok stated) = new ≡ old
 IsCounted old new (Err Device) = old < new
 IsCounted old new (Err _) = new ≡ old
 
 -- the node is stopped
 abbrev pub IsResting : {S D P : Type 0} → (D → Disk) → Member S → Node S D P → Type 0
-IsResting disk member node = (part : NodePart) → StandsFor disk member node part → part.running ≡ None
+IsResting disk member node = (part : NodePart) → Represents disk member node part → part.running ≡ None
 
--- nothing else is told
-abbrev pub TellsNothing : Unit {0} → Done NodePart → Type 0
-TellsNothing answer done = Unit {0}
+-- nothing else is reported
+abbrev pub DescribesNothing : Unit {0} → Done NodePart → Type 0
+DescribesNothing answer done = Unit {0}
 
--- what a restart tells
-abbrev pub TellsOpened : Option (ℕ × ℕ) → Done NodePart → Type 0
-TellsOpened opened done = opened ≡ done.opened
+-- what a restart returns
+abbrev pub DescribesOpened : Option (ℕ × ℕ) → Done NodePart → Type 0
+DescribesOpened opened done = opened ≡ done.opened
 
 -- the bytes are the texts of the packets that were sent
-pub record TellsSent (sent : Sent) (done : Done NodePart) : Type 0 where
+pub record DescribesSent (sent : Sent) (done : Done NodePart) : Type 0 where
   pub bytes : sent.bytes.items ≡ texts_of done.sends
   pub packets : sent.packets ≡ length done.sends
   pub dropped : sent.dropped ≡ done.dropped

@@ -1,4 +1,4 @@
--- Events of a cluster one after another (this project's own).
+-- Events of a cluster one after another.
 use Rattle.std.specs.Prelude.{◌≡◌, ℕ, Result, Ok, Err, Some, List, map, take, slice_get}
 use Rattle.rp_base.specs.declared.action.Action.{Action}
 use Rattle.rp_base.specs.declared.fault.Fault.{Fault}
@@ -24,23 +24,23 @@ module _ {S P : Type 0} (next : S → Action → S) (answers : S → Action → 
     pub here : slice_get events place ≡ Some event
     pub faulted : IsFaulted (setting_of next answers start old) stopped (event_of event) left fault
 
-  -- where a run comes to, by what it answers
-  abbrev pub ComesTo : Setup P → List Event → World → Result Unit Refused → Type 0
-  ComesTo old events new (Ok all) = LeadsTo old events new
-  ComesTo old events new (Err refused) = StopsAt old events new refused.place refused.fault
+  -- where a run ends, by what it answers
+  abbrev pub ResultsIn : Setup P → List Event → World → Result Unit Refused → Type 0
+  ResultsIn old events new (Ok all) = LeadsTo old events new
+  ResultsIn old events new (Err refused) = StopsAt old events new refused.place refused.fault
 
   -- The counts of failures after a run: as before, but that of one node where its device failed, at the event
   -- where the run stopped.
   abbrev pub AreCountedBy : (old : Setup P) (events : List Event) (new : Setup P) (answer : Result Unit Refused)
-      → ComesTo old events new.world answer → Type 0
-  AreCountedBy old events new (Ok all) came = new.failures ≡ old.failures
-  AreCountedBy old events new (Err refused) came =
+      → ResultsIn old events new.world answer → Type 0
+  AreCountedBy old events new (Ok all) resulted = new.failures ≡ old.failures
+  AreCountedBy old events new (Err refused) resulted =
       let fault : Result Unit Fault = Err refused.fault in
-      AreCounted (node_of came.stopped (event_of came.event)) old.failures new.failures fault
+      AreCounted (node_of resulted.stopped (event_of resulted.event)) old.failures new.failures fault
 
   -- A run of a cluster: its world goes by the events; the counts of failures stay, but where a device failed;
   -- and all else stays.
   pub record IsRun (old : Setup P) (events : List Event) (new : Setup P) (answer : Result Unit Refused) : Type 0 where
-    pub world : ComesTo old events new.world answer
+    pub world : ResultsIn old events new.world answer
     pub setup : IsSameSetup old new
     pub failures : AreCountedBy old events new answer world

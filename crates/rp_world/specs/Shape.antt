@@ -1,4 +1,4 @@
--- How a cluster lies in memory, and what is true of its fields (this project's own).
+-- How a cluster lies in memory, and what is true of its fields.
 use Rattle.std.specs.Prelude.{◌≡◌, ℕ, zero, suc, ◌-◌, Bool, true, false, nat_lt, if◌then◌else◌, IfSome, None, Ok, Err}
 use Rattle.std.specs.Prelude.{List, [], ◌∷◌, length, map, slice_get}
 use Rattle.rp_base.specs.Config.{IsRightConfig}
@@ -13,10 +13,10 @@ use Rattle.rp_model.specs.Parts.{NodePart, fresh_node, fresh_task, records_in_lo
 use Rattle.rp_model.specs.World.{World}
 use Rattle.rp_agreement.specs.Answered.{IsKeptWorld}
 use Rattle.rp_agreement.specs.Ranges.{IsRangedWorld}
-use Rattle.rp_replica.specs.Held.{Held, part_of}
+use Rattle.rp_replica.specs.State.{ReplicaState, part_of}
 use Rattle.rp_world.specs.Callers.{Caller}
 use Rattle.rp_world.specs.Messages.{Sending}
-use Rattle.rp_world.specs.Nodes.{member_of, StandsFor}
+use Rattle.rp_world.specs.Nodes.{member_of, Represents}
 use Rattle.rp_world.specs.declared.node.Node.{Node}
 use Rattle.rp_world.specs.declared.node.Node.TheVariants.{Running, Stopped}
 
@@ -27,12 +27,12 @@ abbrev pub byte_front : List ℕ → List ℕ
 byte_front [] = []
 byte_front (b ∷ rest) = if nat_lt b 256 then b ∷ byte_front rest else []
 
--- a record that was read, and those read behind it
+-- a record that was read, and those read after it
 abbrev pub with_others : Read Rec → (List ℕ → List Rec) → List Rec
 with_others (Ok read) others = read.0 ∷ others read.1
 with_others (Err reason) others = []
 
--- the records read from the front of the bytes, at most so many
+-- the records read from the front of the bytes, at most n
 abbrev pub records_read : ℕ → List ℕ → List Rec
 records_read zero bytes = []
 records_read (suc most) bytes = with_others (record_at bytes) (λ rest. records_read most rest)
@@ -41,7 +41,7 @@ records_read (suc most) bytes = with_others (record_at bytes) (λ rest. records_
 abbrev pub records_on : Disk → List Rec
 records_on disk = records_read (length disk.contents) (byte_front disk.contents)
 
--- the part of a node that rests on it: the records that count, and the torn bytes behind them
+-- the part of a node that rests on it: the records that count, and the torn bytes after them
 abbrev pub resting_part : ℕ → Disk → NodePart
 resting_part most disk = record {
   records = records_in_log most (records_on disk);
@@ -51,14 +51,14 @@ resting_part most disk = record {
 
 -- ---- the world
 
-abbrev pub part_while : {S : Type 0} → ℕ → Held S → Bool → NodePart
-part_while most held false = part_of held
-part_while most held true = resting_part most held.disk
+abbrev pub part_while : {S : Type 0} → ℕ → ReplicaState S → Bool → NodePart
+part_while most replica false = part_of replica
+part_while most replica true = resting_part most replica.disk
 
 module _ {S D P : Type 0} (disk : D → Disk) (most : ℕ) where
   -- the part of a node: what its replica knows while it runs, else what its device holds
   abbrev pub part_by : Node S D P → NodePart
-  part_by (Running held) = part_while most held held.failed
+  part_by (Running replica) = part_while most replica replica.failed
   part_by (Stopped device) = resting_part most (disk device)
 
   -- the parts of the nodes and of the tasks, and what was sent
@@ -73,16 +73,16 @@ pub record IsWorld {S D P : Type 0} (disk : D → Disk) (config : Config) (begin
   pub size : length nodes ≡ config.nodes
   pub members : (place : ℕ)
       → IfSome (slice_get nodes place)
-      (λ node. StandsFor disk (member_of (suc place) config begin) node (part_by disk config.max_positions node))
+      (λ node. Represents disk (member_of (suc place) config begin) node (part_by disk config.max_positions node))
   pub eight : length tasks ≡ 8
   pub numbered : (place : ℕ) → IfSome (slice_get tasks place) (λ t. t.task ≡ suc place)
 
--- each node is a fresh one of this cluster, and there are so many
+-- each node is a fresh one of this cluster, and there are as many as nodes
 pub record AreFresh {S D P : Type 0} (disk : D → Disk) (config : Config) (begin : S) (nodes : List (Node S D P))
     : Type 0 where
   pub size : length nodes ≡ config.nodes
   pub each : (place : ℕ)
-      → IfSome (slice_get nodes place) (λ node. StandsFor disk (member_of (suc place) config begin) node fresh_node)
+      → IfSome (slice_get nodes place) (λ node. Represents disk (member_of (suc place) config begin) node fresh_node)
 
 -- the eight tasks, which called nothing
 pub record AreFreshTasks (tasks : List Caller) : Type 0 where
@@ -91,8 +91,8 @@ pub record AreFreshTasks (tasks : List Caller) : Type 0 where
       → IfSome (slice_get tasks place)
       (λ t. let fresh : Caller = record { task = suc place; part = fresh_task } in t ≡ fresh)
 
--- Its world meets the invariant by which nodes agree and replies are the order's, and its numbers are
--- within their ranges.
+-- Its world satisfies the invariant by which nodes agree and replies are the order's, and its numbers are within
+-- their ranges.
 pub record IsCluster {S : Type 0} (s : Setting S) (world : World) : Type 0 where
   pub right : IsRightConfig s.config
   pub kept : IsKeptWorld s world

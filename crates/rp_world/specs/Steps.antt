@@ -15,7 +15,7 @@ use Rattle.rp_model.specs.Effect.{Setting}
 use Rattle.rp_model.specs.Events.{event_of}
 use Rattle.rp_model.specs.World.{World, node_of}
 use Rattle.rp_model.specs.Answers.{Steps}
-use Rattle.rp_replica.specs.Held.{Held}
+use Rattle.rp_replica.specs.State.{ReplicaState}
 use Rattle.rp_world.specs.Failures.{AreCounted}
 use Rattle.rp_world.specs.Nodes.{stored_length}
 
@@ -45,16 +45,16 @@ module _ {S P : Type 0} (next : S → Action → S) (answers : S → Action → 
     pub failures : AreCounted (node_of old.world (event_of event)) old.failures new.failures answer
 
 -- the same of a part that runs or is stopped
-abbrev pub IsToldOfRunning : {A : Type 0} → Result A Fault → (A → List Rec → Type 0) → List Rec → Option Running
+abbrev pub IsRunningQueryAnswer : {A : Type 0} → Result A Fault → (A → List Rec → Type 0) → List Rec → Option Running
     → Type 0
-IsToldOfRunning answer tells records None = answer ≡ Err NotRunning
-IsToldOfRunning answer tells records (Some running) = IsOkAnd answer (λ a. tells a records)
+IsRunningQueryAnswer answer describes records None = answer ≡ Err NotRunning
+IsRunningQueryAnswer answer describes records (Some running) = IsOkAnd answer (λ a. describes a records)
 
--- A question about a node's records: told of a running node, refused by NotRunning at a stopped one and
--- by BadConfig where there is no such node.
-abbrev pub IsToldOf : {A : Type 0} → Result A Fault → (A → List Rec → Type 0) → Option NodePart → Type 0
-IsToldOf answer tells None = answer ≡ Err BadConfig
-IsToldOf answer tells (Some part) = IsToldOfRunning answer tells part.records part.running
+-- A question about a node's records: answered for a running node, refused by NotRunning at a stopped one and by
+-- BadConfig where there is no such node.
+abbrev pub IsQueryAnswer : {A : Type 0} → Result A Fault → (A → List Rec → Type 0) → Option NodePart → Type 0
+IsQueryAnswer answer describes None = answer ≡ Err BadConfig
+IsQueryAnswer answer describes (Some part) = IsRunningQueryAnswer answer describes part.records part.running
 
 -- there is such a node, and it runs
 abbrev pub Runs : Option NodePart → Type 0
@@ -62,8 +62,10 @@ Runs None = ⊥
 Runs (Some part) = IsSome part.running
 
 -- the same, but for a node that runs memory may run out
-abbrev pub IsToldUnlessMemory : {A : Type 0} → Result A Fault → (A → List Rec → Type 0) → Option NodePart → Type 0
-IsToldUnlessMemory answer tells part = ((answer ≡ Err OutOfMemory) × Runs part) ⊎ IsToldOf answer tells part
+abbrev pub IsQueryAnswerUnlessMemory : {A : Type 0} → Result A Fault → (A → List Rec → Type 0) → Option NodePart
+    → Type 0
+IsQueryAnswerUnlessMemory answer describes part =
+    ((answer ≡ Err OutOfMemory) × Runs part) ⊎ IsQueryAnswer answer describes part
 
 -- how many bytes a node's device holds: BadConfig where there is no such node
 abbrev pub IsStored : Result ℕ Fault → Option NodePart → Type 0
@@ -71,6 +73,6 @@ IsStored answer None = answer ≡ Err BadConfig
 IsStored answer (Some part) = answer ≡ Ok (stored_length part)
 
 -- the replica of a node that runs: refused by NotRunning at a stopped one, and by BadConfig where there is none
-abbrev pub IsReplicaOf : {S : Type 0} → Config → S → Result (Bor (Held S)) Fault → Option NodePart → Type 0
+abbrev pub IsReplicaOf : {S : Type 0} → Config → S → Result (Bor (ReplicaState S)) Fault → Option NodePart → Type 0
 IsReplicaOf config begin answer part =
-    IsToldOf answer (λ held records. (held.now.begin ≡ begin) × (held.now.records ≡ records)) part
+    IsQueryAnswer answer (λ replica records. (replica.now.begin ≡ begin) × (replica.now.records ≡ records)) part

@@ -1,4 +1,4 @@
-//! What tasks ask for, and what they are told.
+//! What tasks ask for, and the replies to them.
 
 ghost use Rattle.std.specs.Prelude.{◌≡◌, ◌∷◌, ◌++◌, [], OnOk, OnErr};
 ghost use Rattle.rp_model.specs.Tasks as tasks;

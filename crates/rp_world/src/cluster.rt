@@ -15,21 +15,21 @@ ghost use Rattle.rp_model.specs.Parts.{NodePart};
 ghost use Rattle.rp_model.specs.World.{opening_world, part_at};
 ghost use Rattle.rp_agreement.specs.Decided.{IsCast};
 ghost use Rattle.rp_agreement.specs.Order.{AllSent, Begins};
-ghost use Rattle.rp_agreement.specs.Told.{Says};
+ghost use Rattle.rp_agreement.specs.Asked.{Says};
 ghost use Rattle.rp_agreement.specs.Worlds.{node_in};
 ghost use Rattle.rp_world.specs.Agreeing.{Agree, HasWritten, HasWrittenPromise, IsOrdered};
 ghost use Rattle.rp_world.specs.Failures.{SomeHasFailed};
 ghost use Rattle.rp_world.specs.Runs.{IsRun};
 ghost use Rattle.rp_world.specs.Shape.{IsCluster};
-ghost use Rattle.rp_world.specs.Steps.{IsStep, IsStored, IsToldOf, IsToldUnlessMemory, setting_of};
+ghost use Rattle.rp_world.specs.Steps.{IsStep, IsStored, IsQueryAnswer, IsQueryAnswerUnlessMemory, setting_of};
 
 use crate::effect::Refused;
 use crate::world::World;
 use rp_agreement::{
-    applied_lists_are_alike, applied_lists_begin_the_order, calls_count_in_turn, decisions_are_one,
-    decisions_stay, events_keep_ranges, events_keep_replies, offers_are_one, only_made_calls_count,
-    packets_say_so, replies_answer_calls_that_count, replies_tell_the_order, states_are_alike,
-    the_order_exists,
+    applied_lists_are_alike, applied_lists_begin_the_order, calls_count_in_order,
+    decisions_are_one, decisions_stay, events_keep_ranges, events_keep_replies, offers_are_one,
+    only_made_calls_count, packets_say_so, replies_answer_calls_that_count,
+    replies_follow_the_order, states_are_alike, the_order_exists,
 };
 use rp_base::{Answer, Config, Fault, NodeId, TaskId};
 use rp_machine::{Machine, a_call_has_one_place};
@@ -94,20 +94,21 @@ impl<M: Machine, D: CutDevice> Cluster<M, D> {
         {
             return Err(Fault::BadConfig);
         }
-        replies_tell_the_order::<M>();
+        replies_follow_the_order::<M>();
         events_keep_ranges::<M>();
         Ok(Cluster {
             world: World::new(alloc, config, program, devices)?,
         })
     }
 
-    /// One step of one actor, a stop or a restart, told by its effect. Refused, it changes nothing:
-    /// `NotRunning` for a stopped node or a cut that meets none, `NoSuchMessage` for a number above the
-    /// last, `TaskBusy` while the task's last call has no answer, `LogFull` and `BallotsSpent` for a
-    /// leader, `NumbersSpent` for a task's last number, `BadConfig` for a node above the last, a call that
-    /// is not right or a range that is not of 1 to 64 positions, and `OutOfMemory`. `Device` where a node's device fails: the node is stopped
-    /// then within the step; one that was to start again stays stopped, and some of its torn bytes may
-    /// be gone, as they may be after `OutOfMemory`.
+    /// One step of one actor, a stop or a restart, with its effect. Refused, it changes nothing:
+    /// `NotRunning` for a stopped node or a cut of none, `NoSuchMessage` for a number above the
+    /// last, `TaskBusy` while the task's last call has no answer, `LogFull` and `BallotsSpent` for
+    /// a leader, `NumbersSpent` for a task's last number, `BadConfig` for a node above the last, a
+    /// call that is not right or a range that is not of 1 to 64 positions, and `OutOfMemory`.
+    /// `Device` where a node's device fails: the node is stopped then within the step; one that was
+    /// to start again stays stopped, and some of its torn bytes may be gone, as they may be after
+    /// `OutOfMemory`.
     #[inline(never)]
     pub fn step(&mut self, alloc: Global, event: &Event) -> Result<Effect, Fault>
         ensures step { IsStep M.next M.answers M.begin self.old event.now self.new result }
@@ -125,17 +126,18 @@ impl<M: Machine, D: CutDevice> Cluster<M, D> {
     }
 
     /// The steps of these events one after another, up to the first that is refused. Whatever they
-    /// are, nodes agree, before the run and behind it, and what they have applied begins one order: the
-    /// calls of a task that count in it are those that the task made, in order, each reply that a task
-    /// got is the answer to its call, and each such call takes effect at one place, no other at two.
-    /// What was decided before the run is decided after it.
+    /// are, nodes agree, before the run and after it, and what they have applied begins one order:
+    /// the calls of a task that count in it are those that the task made, in order, each reply that
+    /// a task got is the answer to its call, and each such call takes effect at one place, no other
+    /// at two. What was decided before the run is decided after it.
     pub fn run(&mut self, alloc: Global, events: &[Event]) -> Result<(), Refused>
         ensures run { IsRun M.next M.answers M.begin self.old events.now self.new result }
         ensures agree { Agree M.next M.answers M.image (M.begin self.old.program)
             self.old.world self.new.world }
         ensures ordered { IsOrdered M.next M.answers (M.begin self.old.program)
             self.old.config.nodes self.new.world }
-        ensures decided { (i : ℕ) (v : Action) → IsDecided self.old.config.nodes self.old.world.sent i v
+        ensures decided { (i : ℕ) (v : Action)
+            → IsDecided self.old.config.nodes self.old.world.sent i v
             → IsDecided self.old.config.nodes self.new.world.sent i v }
     {
         self.is_kept();
@@ -145,7 +147,7 @@ impl<M: Machine, D: CutDevice> Cluster<M, D> {
         states_are_alike::<M>();
         the_order_exists();
         applied_lists_begin_the_order();
-        calls_count_in_turn::<M>();
+        calls_count_in_order::<M>();
         replies_answer_calls_that_count::<M>();
         only_made_calls_count::<M>();
         decisions_stay();
@@ -153,7 +155,7 @@ impl<M: Machine, D: CutDevice> Cluster<M, D> {
         ran
     }
 
-    /// The same, by what was sent before the run and behind it.
+    /// The same, by what was sent before the run and after it.
     fn run_all(&mut self, alloc: Global, events: &[Event]) -> Result<(), Refused>
         ensures run { IsRun M.next M.answers M.begin self.old events.now self.new result }
         ensures sent { AllSent self.old.world.sent self.new.world.sent }
@@ -167,8 +169,8 @@ impl<M: Machine, D: CutDevice> Cluster<M, D> {
         Ok(())
     }
 
-    /// The cluster's world meets the invariant by which nodes agree and replies are the order's. It
-    /// does nothing: what it promises is for contracts.
+    /// The cluster's world satisfies the invariant by which nodes agree and replies are the
+    /// order's. It does nothing: what it promises is for contracts.
     fn is_kept(&self)
         ensures { IsCluster (setting_of M.next M.answers M.begin self.now) self.now.world }
     {
@@ -242,7 +244,7 @@ impl<M: Machine, D: CutDevice> Cluster<M, D> {
     /// How many actions a node has applied. `NotRunning` where it is stopped, `BadConfig` above the
     /// last node.
     pub fn applied(&self, node: NodeId) -> Result<u16, Fault>
-        ensures { IsToldOf result (λ count records. count
+        ensures { IsQueryAnswer result (λ count records. count
             ≡ min (length (applied_of records)) (2 ^ 16 - 1)) (part_at self.now.world.nodes node) }
     {
         self.world.applied(node)
@@ -251,7 +253,7 @@ impl<M: Machine, D: CutDevice> Cluster<M, D> {
     /// The lines that show a node's machine, each ended by a line feed. `NotRunning` where the node
     /// is stopped, `BadConfig` above the last node.
     pub fn image(&self, alloc: Global, node: NodeId) -> Result<Vec<u8>, Fault>
-        ensures { IsToldUnlessMemory result (λ text records.
+        ensures { IsQueryAnswerUnlessMemory result (λ text records.
             text.items ≡ M.image (replay_state M.next M.answers (M.begin self.now.program)
             (applied_of records))) (part_at self.now.world.nodes node) }
     {

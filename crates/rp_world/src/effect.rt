@@ -1,4 +1,4 @@
-//! What an event came to, as a step tells it.
+//! The result of an event, as a step returns it.
 
 ghost use Rattle.std.specs.Prelude.{◌≡◌, ◌-◌, ◌^◌, min, None};
 ghost use Rattle.rp_model.specs.declared.effect.Dropped.TheVariants.{No};
@@ -53,7 +53,7 @@ pub(crate) fn taken(first: u64, taken: Option<Answer>) -> Effect
     }
 }
 
-/// A node started again, with so many records and torn bytes, or went on.
+/// A node started again, with the numbers of records and torn bytes, or went on.
 pub(crate) fn opened(first: u64, opened: Option<(u64, u64)>) -> Effect
     ensures { result
         ≡ record { first = first; sent = 0; dropped = No; taken = None; opened = opened } }

@@ -9,8 +9,8 @@ ghost use Rattle.rp_agreement.specs.History.{IsHistory, AreMoments};
 ghost use Rattle.rp_world.specs.Agreeing.{Agree, IsOrdered};
 
 use rp_agreement::{
-    applied_lists_begin_the_order, calls_count_in_turn, histories_agree, only_made_calls_count,
-    replies_answer_calls_that_count, replies_tell_the_order, the_order_exists,
+    applied_lists_begin_the_order, calls_count_in_order, histories_agree, only_made_calls_count,
+    replies_answer_calls_that_count, replies_follow_the_order, the_order_exists,
 };
 use rp_machine::{Machine, a_call_has_one_place};
 
@@ -28,10 +28,10 @@ pub fn histories_are_ordered<M: Machine>()
         → IsOrdered M.next M.answers (M.begin program) config.nodes world }
 {
     histories_agree::<M>();
-    replies_tell_the_order::<M>();
+    replies_follow_the_order::<M>();
     the_order_exists();
     applied_lists_begin_the_order();
-    calls_count_in_turn::<M>();
+    calls_count_in_order::<M>();
     replies_answer_calls_that_count::<M>();
     only_made_calls_count::<M>();
     a_call_has_one_place::<M>();

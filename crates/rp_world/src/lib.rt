@@ -4,10 +4,10 @@
 //! - `cluster`: the cluster: all nodes and tasks, and every message that was sent
 //! - `headline`: the same of every history, with no cluster in it
 //! - `world`: a world as it lies in memory: the nodes, the tasks, and the messages
-//! - `steps`: what an event comes to: steps of nodes, and stops within them
-//! - `calls`: what tasks ask for, and what they are told
+//! - `steps`: the result of an event: steps of nodes, and stops within them
+//! - `calls`: what tasks ask for, and the replies to them
 //! - `stops`: stops and restarts of nodes
-//! - `effect`: what an event came to, as a step tells it
+//! - `effect`: the result of an event, as a step returns it
 //! - `messages`: every message that was sent, as its text
 //! - `node`: a node: a replica that runs, or a device that rests
 //! - `task`: a task: what it keeps of its calls, and the replies that it took

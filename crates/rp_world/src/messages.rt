@@ -44,8 +44,8 @@ impl Messages {
         }
     }
 
-    /// Puts what the last step sent behind the others, so that nothing lies apart. Refused for memory,
-    /// nothing changes.
+    /// Puts what the last step sent after the others, so that nothing lies apart. Refused for
+    /// memory, nothing changes.
     #[inline(always)]
     pub(crate) fn settle(&mut self) -> Result<(), AllocError>
         ensures settled { OnOk result (self.new.apart ≡ 0) }
@@ -84,11 +84,12 @@ impl Messages {
         replace(&mut self.last, Vec::new(alloc))
     }
 
-    /// A step sent these packets, so many texts that are joined.
+    /// A step sent these packets, n texts that are joined.
     pub(crate) fn put(&mut self, texts: Vec<u8>, count: usize)
         requires settled { self.old.apart ≡ 0 }
         requires texts { AreTexts texts.items count }
-        ensures { self.new ≡ record { sent = self.old.sent ++ packets_in count texts.items; apart = count } }
+        ensures { self.new ≡ record
+            { sent = self.old.sent ++ packets_in count texts.items; apart = count } }
     {
         self.last = texts;
         self.apart = count;
@@ -97,7 +98,8 @@ impl Messages {
     /// A packet is sent. Refused for memory, nothing changes.
     pub(crate) fn say(&mut self, packet: &Packet) -> Result<(), AllocError>
         requires settled { self.old.apart ≡ 0 }
-        ensures ok { OnOk result (self.new ≡ record { sent = self.old.sent ++ packet.now ∷ []; apart = 1 }) }
+        ensures ok { OnOk result
+            (self.new ≡ record { sent = self.old.sent ++ packet.now ∷ []; apart = 1 }) }
         ensures err { OnErr result (self.new ≡ self.old) }
     {
         let _body = packet.body();
@@ -131,12 +133,13 @@ impl Messages {
     }
 }
 
-/// Adds the ends of so many texts, which lie in the bytes from a place on.
+/// Adds the ends of n texts, which lie in the bytes from a place on.
 fn add_ends(ends: &mut Vec<usize>, bytes: &[u8], from: usize, count: usize)
     requires within { from ≤ length bytes.now }
     requires texts { AreTexts (drop from bytes.now) count }
     requires room { vec_len ends.old + count ≤ vec_capacity ends.old }
-    ensures { ends.new.items ≡ ends.old.items ++ ends_of from (packets_in count (drop from bytes.now)) }
+    ensures { ends.new.items ≡ ends.old.items
+        ++ ends_of from (packets_in count (drop from bytes.now)) }
 {
     let mut at = from;
     for place in 0..count {
@@ -173,7 +176,7 @@ fn start_between(bytes: &[u8], ends: &[usize], place: usize) -> usize
     if place == 0 { 0 } else { ends[place - 1] }
 }
 
-/// Where the text of a place, from 0, begins among so many texts.
+/// Where the text of a place, from 0, begins among n texts.
 fn start_of(bytes: &[u8], count: usize, place: usize) -> usize
     requires texts { AreTexts bytes.now count }
     requires place { place < count }
@@ -187,11 +190,12 @@ fn start_of(bytes: &[u8], count: usize, place: usize) -> usize
     at
 }
 
-/// The text of a place, from 0, among so many texts, of which it reads those before it.
+/// The text of a place, from 0, among n texts, of which it reads those before it.
 #[inline(never)]
 fn text_apart(bytes: &[u8], count: usize, place: usize) -> Option<&[u8]>
     requires { AreTexts bytes.now count }
-    ensures { option_copied result ≡ option_map text_of (slice_get (packets_in count bytes.now) place) }
+    ensures { option_copied result
+        ≡ option_map text_of (slice_get (packets_in count bytes.now) place) }
 {
     if place >= count {
         return None;

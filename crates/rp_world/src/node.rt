@@ -8,7 +8,7 @@ ghost use Rattle.rp_model.specs.Effect.{NodeInput, stop_effect, restart_part};
 ghost use Rattle.rp_model.specs.Parts.{fresh_node};
 ghost use Rattle.rp_model.specs.Parts.{NodePart};
 ghost use Rattle.rp_world.specs.Failures.{SomeHasFailed};
-ghost use Rattle.rp_world.specs.Nodes.{Member, member_of, RunsAs, RestsAs, StandsFor, GoesBy, IsCutBy, IsCounted, IsResting, RefusedBy, IsLeftTorn, NotTaken, TellsNothing, TellsOpened, TellsSent, failures_in, node_step, stored_length};
+ghost use Rattle.rp_world.specs.Nodes.{Member, member_of, RunsAs, RestsAs, Represents, GoesBy, IsCutBy, IsCounted, IsResting, RefusedBy, IsLeftTorn, NotTaken, DescribesNothing, DescribesOpened, DescribesSent, failures_in, node_step, stored_length};
 
 use rp_base::{Config, Fault, NodeId};
 use rp_machine::Machine;
@@ -35,7 +35,7 @@ impl<M: Machine, D: CutDevice> Node<M, D> {
         requires config { IsRightConfig config }
         requires member { me ≤ config.nodes }
         requires empty { (D.disk device).contents ≡ [] }
-        ensures ok { IfOk result (λ node. StandsFor D.disk
+        ensures ok { IfOk result (λ node. Represents D.disk
             (member_of me config (M.begin program.now)) node fresh_node) }
         ensures failures { IfOk result (λ node. failures_in D.disk node
             ≡ (D.disk device).failures) }
@@ -52,9 +52,9 @@ impl<M: Machine, D: CutDevice> Node<M, D> {
     /// Whether the node runs: one whose device failed does not.
     pub(crate) fn is_running(&self) -> bool
         ensures runs { IsTrue result → (member : Member M) (part : NodePart)
-            → StandsFor D.disk member self.now part → IsSome part.running }
+            → Represents D.disk member self.now part → IsSome part.running }
         ensures rests { result ≡ false → (member : Member M) (part : NodePart)
-            → StandsFor D.disk member self.now part → part.running ≡ None }
+            → Represents D.disk member self.now part → part.running ≡ None }
     {
         match self {
             Node::Running(replica) => !replica.has_failed(),
@@ -65,9 +65,9 @@ impl<M: Machine, D: CutDevice> Node<M, D> {
     /// The replica of a node that runs.
     pub(crate) fn replica(&self) -> Option<&Replica<M, D>>
         ensures runs { IfSome result (λ replica. (member : Member M) (part : NodePart)
-            → StandsFor D.disk member self.now part → RunsAs member replica.now part) }
+            → Represents D.disk member self.now part → RunsAs member replica.now part) }
         ensures rests { IfNone result ((member : Member M) (part : NodePart)
-            → StandsFor D.disk member self.now part → part.running ≡ None) }
+            → Represents D.disk member self.now part → part.running ≡ None) }
     {
         match self {
             Node::Running(replica) => {
@@ -83,7 +83,7 @@ impl<M: Machine, D: CutDevice> Node<M, D> {
 
     /// How many bytes the node's device holds.
     pub(crate) fn stored(&self) -> u64
-        ensures { (member : Member M) (part : NodePart) → StandsFor D.disk member self.now part
+        ensures { (member : Member M) (part : NodePart) → Represents D.disk member self.now part
             → result ≡ stored_length part }
     {
         match self {
@@ -95,7 +95,7 @@ impl<M: Machine, D: CutDevice> Node<M, D> {
     /// The node stops. `NotRunning` where it is stopped already.
     pub(crate) fn stop(self) -> (Self, Result<(), Fault>)
         ensures ok { IfOk result.1 (λ done. (member : Member M) → GoesBy D.disk member
-            self result.0 stop_effect TellsNothing done) }
+            self result.0 stop_effect DescribesNothing done) }
         ensures err { IfErr result.1 (λ fault. (member : Member M) → RefusedBy D.disk member
             self result.0 stop_effect fault) }
         ensures failures { failures_in D.disk result.0 ≡ failures_in D.disk self }
@@ -111,9 +111,9 @@ impl<M: Machine, D: CutDevice> Node<M, D> {
         }
     }
 
-    /// The node starts again, by its records alone; one that runs goes on. It tells how many records
-    /// and how many torn bytes it found. `OutOfMemory`, or `Device` where the device failed: then it
-    /// stays stopped, and some of its torn bytes may be gone.
+    /// The node starts again, by its records alone; one that runs goes on. It returns how many
+    /// records and how many torn bytes it found. `OutOfMemory`, or `Device` where the device
+    /// failed: then it stays stopped, and some of its torn bytes may be gone.
     pub(crate) fn restart(
         self,
         alloc: Global,
@@ -125,12 +125,13 @@ impl<M: Machine, D: CutDevice> Node<M, D> {
         requires member { me ≤ config.nodes }
         ensures ok { IfOk result.1 (λ opened. GoesBy D.disk
             (member_of me config (M.begin program.now))
-            self result.0 (λ part. Ok (restart_part part)) TellsOpened opened) }
+            self result.0 (λ part. Ok (restart_part part)) DescribesOpened opened) }
         ensures err { IfErr result.1 (λ fault. IsLeftTorn D.disk
             (member_of me config (M.begin program.now)) self result.0) }
         ensures rests { IfErr result.1 (λ fault. IsResting D.disk
             (member_of me config (M.begin program.now)) self) }
-        ensures failures { IsCounted (failures_in D.disk self) (failures_in D.disk result.0) result.1 }
+        ensures failures { IsCounted (failures_in D.disk self)
+            (failures_in D.disk result.0) result.1 }
         ensures only { IfErr result.1 (λ fault. (fault ≡ faults.OutOfMemory) ⊎ (fault
             ≡ faults.Device)) }
     {
@@ -158,7 +159,7 @@ impl<M: Machine, D: CutDevice> Node<M, D> {
         requires right { IsRightInput input.now }
         ensures ok { IfOk result (λ sent. (member : Member M) (given : NodeInput)
             → given_by input.now ≡ Ok given → GoesBy D.disk member self.old self.new
-            (node_step M.next M.answers member given) TellsSent sent) }
+            (node_step M.next M.answers member given) DescribesSent sent) }
         ensures err { IfErr result (λ fault. (member : Member M) (given : NodeInput)
             → given_by input.now ≡ Ok given → NotTaken D.disk member self.old self.new
             (node_step M.next M.answers member given) fault) }
@@ -196,9 +197,9 @@ impl<M: Machine, D: CutDevice> Node<M, D> {
         }
     }
 
-    /// The node stops within the step of an input, where so many bytes of the step's record are kept.
-    /// `NotRunning` where it is stopped already, and else as the replica refuses the step; where its
-    /// device failed some bytes of the record are kept.
+    /// The node stops within the step of an input, where n bytes of the step's record are kept.
+    /// `NotRunning` where it is stopped already, and else as the replica refuses the step; where
+    /// its device failed some bytes of the record are kept.
     pub(crate) fn cut(self, alloc: Global, input: &Input, kept: u64) -> (Self, Result<(), Fault>)
         requires right { IsRightInput input.now }
         ensures ok { IfOk result.1 (λ done. (member : Member M) (given : NodeInput)
@@ -207,7 +208,8 @@ impl<M: Machine, D: CutDevice> Node<M, D> {
         ensures err { IfErr result.1 (λ fault. (member : Member M) (given : NodeInput)
             → given_by input.now ≡ Ok given → NotTaken D.disk member self result.0
             (node_step M.next M.answers member given) fault) }
-        ensures failures { IsCounted (failures_in D.disk self) (failures_in D.disk result.0) result.1 }
+        ensures failures { IsCounted (failures_in D.disk self)
+            (failures_in D.disk result.0) result.1 }
     {
         match self {
             Node::Running(replica) => {
@@ -249,11 +251,11 @@ fn starts<M: Machine, D: CutDevice>(
     requires member { me ≤ config.nodes }
     ensures ok { IfOk result.1 (λ opened. (part : NodePart)
         → RestsAs config.max_positions (D.disk device) part
-        → StandsFor D.disk (member_of me config (M.begin program.now)) result.0
-        (restart_part part).part × TellsOpened opened (restart_part part)) }
+        → Represents D.disk (member_of me config (M.begin program.now)) result.0
+        (restart_part part).part × DescribesOpened opened (restart_part part)) }
     ensures err { IfErr result.1 (λ fault. (part : NodePart)
         → RestsAs config.max_positions (D.disk device) part
-        → (kept : ℕ) × StandsFor D.disk (member_of me config (M.begin program.now)) result.0
+        → (kept : ℕ) × Represents D.disk (member_of me config (M.begin program.now)) result.0
         (record part { torn = min kept part.torn })) }
     ensures failures { IsCounted (D.disk device).failures (failures_in D.disk result.0) result.1 }
     ensures only { IfErr result.1 (λ fault. (fault ≡ faults.OutOfMemory) ⊎ (fault

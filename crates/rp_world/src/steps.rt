@@ -1,4 +1,4 @@
-//! What an event comes to: steps of nodes, and stops within them.
+//! The result of an event: steps of nodes, and stops within them.
 
 ghost use Rattle.std.specs.Prelude.{◌≡◌, ℕ, Ok, Some, IfOk, IfErr, IsSome, length, option_map};
 ghost use Rattle.std.specs.List.{AllByRecursion};
@@ -16,7 +16,7 @@ ghost use Rattle.rp_model.specs.World.{part_at, node_takes, node_is_cut, deliver
 ghost use Rattle.rp_agreement.specs.Ranges.{IsRangedWorld};
 ghost use Rattle.rp_replica.specs.Inputs.{IsRightInput, given_by};
 ghost use Rattle.rp_world.specs.Choosing.{AreNodesOf, Chosen, IsRefused};
-ghost use Rattle.rp_world.specs.Going.{Answers, Counts, reply_told, told};
+ghost use Rattle.rp_world.specs.Going.{Answers, Counts, reply_in, stated};
 ghost use Rattle.rp_world.specs.Steps.{IsStep, IsSameSetup, setting_of};
 
 use crate::effect::{nothing, of_step, taken};
@@ -48,7 +48,7 @@ fn receiver(text: &[u8]) -> Party
 }
 
 impl<M: Machine, D: CutDevice> World<M, D> {
-    /// What an event comes to.
+    /// The result of an event.
     #[inline(never)]
     pub(crate) fn step(&mut self, alloc: Global, event: &Event) -> Result<Effect, Fault>
         requires config { IsRightConfig self.old.config }
@@ -115,8 +115,8 @@ impl<M: Machine, D: CutDevice> World<M, D> {
         }
     }
 
-    /// A node stops within a step, where so many bytes of its record are kept. Refused as the step,
-    /// and with `NotRunning` where it is a delivery to no node that runs; `Device` where the device
+    /// A node stops within a step, where n bytes of its record are kept. Refused as the step, and
+    /// with `NotRunning` where it is a delivery to no node that runs; `Device` where the device
     /// fails within it.
     #[inline(never)]
     pub(crate) fn cuts(&mut self, alloc: Global, step: Step, kept: u64) -> Result<Effect, Fault>
@@ -275,7 +275,8 @@ impl<M: Machine, D: CutDevice> World<M, D> {
         ensures answer { let setting = setting_of M.next M.answers M.begin self.old in
             Answers self.old.world
             (delivers setting self.old.world (part_at self.old.world.sent number))
-            (λ kept. delivery_is_cut setting self.old.world (part_at self.old.world.sent number) kept)
+            (λ kept. delivery_is_cut setting self.old.world
+            (part_at self.old.world.sent number) kept)
             self.new.world result }
         ensures setup { IsSameSetup self.old self.new }
         ensures failures { let setting = setting_of M.next M.answers M.begin self.old in
@@ -290,15 +291,16 @@ impl<M: Machine, D: CutDevice> World<M, D> {
         }
     }
 
-    /// The same, told in place: the effect is copied once, where the step ends.
+    /// The same, reported in place: the effect is copied once, where the step ends.
     #[inline(always)]
     fn deliver(&mut self, alloc: Global, number: u64, effect: &mut Effect) -> Result<(), Fault>
         requires ranged { IsRangedWorld self.old.config.nodes self.old.world }
         ensures answer { let setting = setting_of M.next M.answers M.begin self.old in
             Answers self.old.world
             (delivers setting self.old.world (part_at self.old.world.sent number))
-            (λ kept. delivery_is_cut setting self.old.world (part_at self.old.world.sent number) kept)
-            self.new.world (told result effect.new) }
+            (λ kept. delivery_is_cut setting self.old.world
+            (part_at self.old.world.sent number) kept)
+            self.new.world (stated result effect.new) }
         ensures setup { IsSameSetup self.old self.new }
         ensures failures { let setting = setting_of M.next M.answers M.begin self.old in
             let message = part_at self.old.world.sent number in
@@ -310,7 +312,7 @@ impl<M: Machine, D: CutDevice> World<M, D> {
         };
         match receiver {
             Party::Node(node) => self.hears(alloc, number, node, effect),
-            Party::Task(task) => match self.is_told(alloc, number, task) {
+            Party::Task(task) => match self.give_to_task(alloc, number, task) {
                 Ok(taken) => {
                     *effect = taken;
                     Ok(())
@@ -324,7 +326,7 @@ impl<M: Machine, D: CutDevice> World<M, D> {
         }
     }
 
-    /// A message comes to its node.
+    /// A message arrives at its node.
     #[inline(always)]
     fn hears(
         &mut self,
@@ -339,8 +341,9 @@ impl<M: Machine, D: CutDevice> World<M, D> {
         ensures answer { let setting = setting_of M.next M.answers M.begin self.old in
             Answers self.old.world
             (delivers setting self.old.world (part_at self.old.world.sent number))
-            (λ kept. delivery_is_cut setting self.old.world (part_at self.old.world.sent number) kept)
-            self.new.world (told result effect.new) }
+            (λ kept. delivery_is_cut setting self.old.world
+            (part_at self.old.world.sent number) kept)
+            self.new.world (stated result effect.new) }
         ensures setup { IsSameSetup self.old self.new }
         ensures failures { let setting = setting_of M.next M.answers M.begin self.old in
             let message = part_at self.old.world.sent number in
@@ -373,16 +376,17 @@ impl<M: Machine, D: CutDevice> World<M, D> {
         }
     }
 
-    /// A message comes to its task, which takes a reply to the call that it waits for.
+    /// A message arrives at its task, which takes a reply to the call that it waits for.
     #[inline(never)]
-    fn is_told(&mut self, alloc: Global, number: u64, task: TaskId) -> Result<Effect, Fault>
+    fn give_to_task(&mut self, alloc: Global, number: u64, task: TaskId) -> Result<Effect, Fault>
         requires ranged { IsRangedWorld self.old.config.nodes self.old.world }
         requires to { (m : Message) × (part_at self.old.world.sent number ≡ Some m)
             × (m.to ≡ Task task) }
         ensures answer { let setting = setting_of M.next M.answers M.begin self.old in
             Answers self.old.world
             (delivers setting self.old.world (part_at self.old.world.sent number))
-            (λ kept. delivery_is_cut setting self.old.world (part_at self.old.world.sent number) kept)
+            (λ kept. delivery_is_cut setting self.old.world
+            (part_at self.old.world.sent number) kept)
             self.new.world result }
         ensures setup { IsSameSetup self.old self.new }
         ensures failures { self.new.failures ≡ self.old.failures }
@@ -402,11 +406,11 @@ impl<M: Machine, D: CutDevice> World<M, D> {
     }
 }
 
-/// The number and the reply that the text of a packet tells, if it is a reply.
+/// The number and the reply in the text of a packet, if it is a reply.
 fn read_reply(alloc: Global, text: &[u8]) -> Result<Option<(u32, Reply)>, AllocError>
     requires { (m : Message) × IsPacket m × (text.now ≡ text_of m) }
-    ensures { IfOk result (λ told. (m : Message) → IsPacket m → text.now ≡ text_of m
-        → told ≡ reply_told m.body) }
+    ensures { IfOk result (λ stated. (m : Message) → IsPacket m → text.now ≡ text_of m
+        → stated ≡ reply_in m.body) }
 {
     let Ok(packet) = decode(alloc, text)? else {
         return Ok(None);

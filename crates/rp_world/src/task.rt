@@ -2,7 +2,7 @@
 
 ghost use Rattle.std.specs.Prelude.{◌≡◌, Some, None, IfOk, OnErr, false, length};
 ghost use Rattle.rp_base.specs.Action.{IsIndex, IsRightOperation, is_right};
-ghost use Rattle.rp_base.specs.Calls.{are_spent};
+ghost use Rattle.rp_base.specs.Calls.{are_exhausted};
 ghost use Rattle.rp_base.specs.declared.action.Action.TheVariants.{Call};
 ghost use Rattle.rp_model.specs.Parts.{fresh_task};
 ghost use Rattle.rp_model.specs.Tasks.{may_call, next_call, takes_reply};
@@ -76,7 +76,7 @@ impl Task {
     /// Makes the next call, which waits for its reply from now on.
     pub fn call(&mut self, object: u8, operation: Operation, arg: i64)
         requires free { self.old.part.outstanding ≡ None }
-        requires numbers { are_spent (length self.old.part.replies) ≡ false }
+        requires numbers { are_exhausted (length self.old.part.replies) ≡ false }
         requires object { IsIndex object }
         requires operation { IsRightOperation operation }
         ensures { self.new ≡ record self.old {

@@ -8,7 +8,7 @@ ghost use Rattle.rp_model.specs.World.{opening_world, part_at};
 ghost use Rattle.rp_world.specs.Failures.{SomeHasFailed};
 ghost use Rattle.rp_world.specs.Nodes.{failures_in};
 ghost use Rattle.rp_world.specs.Shape.{AreFresh, AreFreshTasks};
-ghost use Rattle.rp_world.specs.Steps.{IsStored, IsToldOf, IsToldUnlessMemory, IsReplicaOf};
+ghost use Rattle.rp_world.specs.Steps.{IsStored, IsQueryAnswer, IsQueryAnswerUnlessMemory, IsReplicaOf};
 ghost use Rattle.rp_base.specs.Records.{applied_of};
 ghost use Rattle.rp_machine.specs.Replay.{replay_state};
 
@@ -47,7 +47,8 @@ impl<M: Machine, D: CutDevice> Model for World<M, D> {
       failures = map (failures_in D.disk) w.nodes.items;
     } };
 
-    ghost invariant = { λ w. IsWorld D.disk w.config (M.begin w.program) w.nodes.items w.tasks.items };
+    ghost invariant = { λ w. IsWorld D.disk w.config
+        (M.begin w.program) w.nodes.items w.tasks.items };
 }
 
 /// A node over each of these devices, which are empty.
@@ -60,7 +61,8 @@ fn opened<M: Machine, D: CutDevice>(
     requires config { IsRightConfig config }
     requires count { length devices.items ≡ config.nodes }
     requires empty { All (λ device. (D.disk device).contents ≡ []) devices.items }
-    ensures nodes { IfOk result (λ nodes. AreFresh D.disk config (M.begin program.now) nodes.items) }
+    ensures nodes { IfOk result
+        (λ nodes. AreFresh D.disk config (M.begin program.now) nodes.items) }
     ensures failures { IfOk result (λ nodes. map (failures_in D.disk) nodes.items
         ≡ map (λ device. (D.disk device).failures) devices.items) }
     ensures only { IfErr result (λ fault. (fault ≡ faults.OutOfMemory) ⊎ (fault
@@ -157,7 +159,7 @@ impl<M: Machine, D: CutDevice> World<M, D> {
     /// How many actions a node has applied. `NotRunning` where it is stopped, `BadConfig` above the
     /// last node.
     pub(crate) fn applied(&self, node: NodeId) -> Result<u16, Fault>
-        ensures { IsToldOf result (λ count records. count
+        ensures { IsQueryAnswer result (λ count records. count
             ≡ min (length (applied_of records)) (2 ^ 16 - 1)) (part_at self.now.world.nodes node) }
     {
         let replica = self.replica(node)?;
@@ -167,7 +169,7 @@ impl<M: Machine, D: CutDevice> World<M, D> {
     /// The lines that show a node's machine, each ended by a line feed. `NotRunning` where the node
     /// is stopped, `BadConfig` above the last node.
     pub(crate) fn image(&self, alloc: Global, node: NodeId) -> Result<Vec<u8>, Fault>
-        ensures { IsToldUnlessMemory result (λ text records.
+        ensures { IsQueryAnswerUnlessMemory result (λ text records.
             text.items ≡ M.image (replay_state M.next M.answers (M.begin self.now.program)
             (applied_of records))) (part_at self.now.world.nodes node) }
     {

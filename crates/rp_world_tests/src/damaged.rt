@@ -22,12 +22,12 @@ fn records_before(place: usize) -> usize {
     ENDS.iter().filter(|end| **end <= place).count()
 }
 
-/// Where the last of so many records ends, 0 where there is none.
+/// Where the last of n records ends, 0 where there is none.
 fn end_of(records: usize) -> usize {
     ENDS.get(records.wrapping_sub(1)).copied().unwrap_or(0)
 }
 
-/// What opening finds on a device that holds these bytes, and how many of them it cuts off.
+/// What opening finds on a device that holds these bytes, and how many of them it truncates.
 fn found(alloc: Global, bytes: &[u8]) -> Result<(Vec<Rec>, u64), Fail> {
     let mut device = MemDevice::new(alloc);
     device.append(bytes)?;

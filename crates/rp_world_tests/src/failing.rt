@@ -6,7 +6,7 @@ use rp_world::*;
 use std::alloc::Global;
 use std::test::Fail;
 
-/// What a call that task 1 makes at node 1 comes to, where a device of the three fails meanwhile.
+/// The result of a call that task 1 makes at node 1, where a device of the three fails meanwhile.
 #[derive(Clone, Copy, Debug, PartialEq, Eq)]
 struct Outcome {
     /// How many steps were answered with `Device`.
@@ -152,7 +152,7 @@ fn devices(alloc: Global, at: usize, first: Failing, second: Failing) -> Result<
     Ok(devices)
 }
 
-/// What the call comes to where these calls of a device fail.
+/// The result of the call where these calls of a device fail.
 fn outcome_of(alloc: Global, at: usize, first: Failing, second: Failing) -> Result<Outcome, Fail> {
     let program = TallyProgram::new(1).ok_or("one object")?;
     let devices = devices(alloc, at, first, second)?;
@@ -170,11 +170,11 @@ fn a_call_is_answered_though_an_append_or_a_sync_fails(rt: HostRuntime) -> Resul
                 (DeviceCall::Append, number, 99),
                 (DeviceCall::Sync, number + 1, 0),
             ] {
-                let came = outcome_of(rt.alloc(), at, fails, NONE)?;
-                assert_eq!(rt; came.failures, 1, "{at} {fails:?}");
-                assert_eq!(rt; came.reply, Some(Reply::Value(5)), "{at} {fails:?}");
-                let [first, ..] = came.applied;
-                assert_eq!(rt; came.applied, [first; 3], "{at} {fails:?}");
+                let resulted = outcome_of(rt.alloc(), at, fails, NONE)?;
+                assert_eq!(rt; resulted.failures, 1, "{at} {fails:?}");
+                assert_eq!(rt; resulted.reply, Some(Reply::Value(5)), "{at} {fails:?}");
+                let [first, ..] = resulted.applied;
+                assert_eq!(rt; resulted.applied, [first; 3], "{at} {fails:?}");
                 assert!(rt; first == 1 || first == 2, "{at} {fails:?}");
             }
         }
@@ -195,13 +195,13 @@ fn a_node_finds_what_a_failing_device_left(rt: HostRuntime) -> Result<(), Fail> 
     ];
     for (first, second, opened) in cases {
         let failures = if second.1 == 0 { 1 } else { 2 };
-        let wanted = Outcome {
+        let expected = Outcome {
             failures,
             opened: Some(opened),
             reply: Some(Reply::Value(5)),
             applied: [1; 3],
         };
-        assert_eq!(rt; outcome_of(rt.alloc(), 0, first, second)?, wanted);
+        assert_eq!(rt; outcome_of(rt.alloc(), 0, first, second)?, expected);
     }
     Ok(())
 }

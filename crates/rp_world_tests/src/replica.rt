@@ -56,7 +56,7 @@ fn opened<M: Machine, D: Device>(
     }
 }
 
-/// Puts the texts of a step's packets behind the others.
+/// Puts the texts of a step's packets after the others.
 fn take_texts(alloc: Global, sent: &Sent, texts: &mut Vec<Vec<u8>>) -> Result<(), Fault> {
     let mut rest = sent.bytes.as_slice();
     for _ in 0..sent.packets {
@@ -106,7 +106,7 @@ impl<M: Machine, D: Device> Nodes<M, D> {
     }
 
     /// Gives each text that was not delivered to the node that it is for, in order, with all that
-    /// comes of it.
+    /// results.
     fn deliver(&mut self, alloc: Global) -> Result<(), Fault> {
         for _ in 0..100 {
             if self.delivered >= self.texts.len() {
@@ -123,7 +123,7 @@ impl<M: Machine, D: Device> Nodes<M, D> {
         Ok(())
     }
 
-    /// A call comes to node 1, which then leads, and all is delivered.
+    /// A call arrives at node 1, which then leads, and all is delivered.
     fn decide(&mut self, alloc: Global, call: &[u8]) -> Result<(), Fault> {
         self.texts.push(call.to_vec(alloc)?)?;
         self.deliver(alloc)?;
@@ -169,7 +169,7 @@ struct Left {
     report: Vec<u8>,
 }
 
-/// The call comes to node 1, which then leads; all is delivered, and node 2 reports.
+/// The call arrives at node 1, which then leads; all is delivered, and node 2 reports.
 fn one_call<M: Machine, D: Device>(
     alloc: Global,
     program: &M::Program,
@@ -253,16 +253,16 @@ fn replicas_go_on_from_records_of_version_1(rt: HostRuntime) -> Result<(), Fail>
         three_devices(alloc)?,
         three_devices(alloc)?,
     )?;
-    for (images, wanted) in [(first, "tally o1=5\n"), (second, "tally o1=12\n")] {
+    for (images, expected) in [(first, "tally o1=5\n"), (second, "tally o1=12\n")] {
         assert_eq!(rt; images.len(), 3);
         for image in &images {
-            assert_eq!(rt; image.as_slice(), wanted.as_bytes());
+            assert_eq!(rt; image.as_slice(), expected.as_bytes());
         }
     }
     Ok(())
 }
 
-/// What a node of three with a log of so many positions makes of a packet: what it drops, how many
+/// What a node of three with a log of n positions makes of a packet: what it drops, how many
 /// packets it sends, and how many bytes its device then holds.
 pub(crate) fn hears<M: Machine, D: Device>(
     alloc: Global,
@@ -382,7 +382,7 @@ fn the_33rd_tick_finds_no_place(rt: HostRuntime) -> Result<(), Fail> {
     Ok(())
 }
 
-/// How many records of these bytes count for node 3, and how many bytes it cuts off.
+/// How many records of these bytes count for node 3, and how many bytes it truncates.
 fn found<M: Machine, D: Device>(
     alloc: Global,
     program: &M::Program,
@@ -432,7 +432,7 @@ fn answer_over<M: Machine, D: Device>(
 }
 
 #[test]
-fn of_two_votes_in_a_ballot_the_first_is_told(rt: HostRuntime) -> Result<(), Fail> {
+fn of_two_votes_in_a_ballot_the_first_is_reported(rt: HostRuntime) -> Result<(), Fail> {
     let alloc = rt.alloc();
     let program = TallyProgram::new(1).ok_or("one object")?;
     let prepare = b"\x02\x02\x02\x03\0\x01\0\0\0\0\0\0\0\x0a";
@@ -460,7 +460,7 @@ fn found_after_a_cut<M: Machine, D: CutDevice>(
 }
 
 #[test]
-fn a_cut_keeps_so_many_bytes_of_the_vote(rt: HostRuntime) -> Result<(), Fail> {
+fn a_cut_keeps_n_bytes_of_the_vote(rt: HostRuntime) -> Result<(), Fail> {
     let alloc = rt.alloc();
     let program = TallyProgram::new(1).ok_or("one object")?;
     for (kept, records, cut_bytes) in [(0, 0, 0), (28, 0, 28), (29, 1, 0), (1000, 1, 0)] {
@@ -471,7 +471,8 @@ fn a_cut_keeps_so_many_bytes_of_the_vote(rt: HostRuntime) -> Result<(), Fail> {
     Ok(())
 }
 
-/// The positions that node 1 leads in turn, over these bytes, until it is refused, and why.
+/// The positions that node 1 leads one after another, over these bytes, until it is refused, and
+/// why.
 fn positions_led<M: Machine, D: Device>(
     alloc: Global,
     program: &M::Program,

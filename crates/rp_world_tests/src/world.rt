@@ -130,7 +130,9 @@ pub(crate) fn devices(alloc: Global) -> Result<Vec<MemDevice>, Fail> {
 }
 
 #[test]
-fn what_comes_three_times_from_the_last_down_changes_no_reply(rt: HostRuntime) -> Result<(), Fail> {
+fn packets_delivered_three_times_from_the_last_down_change_no_reply(
+    rt: HostRuntime,
+) -> Result<(), Fail> {
     let alloc = rt.alloc();
     let program = TallyProgram::new(1).ok_or("one object")?;
     let left = one_call_in_rounds::<Tally, MemDevice>(alloc, program, devices(alloc)?)?;
@@ -169,7 +171,7 @@ fn report_after_one_call<M: Machine, D: CutDevice>(
 }
 
 #[test]
-fn a_report_tells_the_actions_from_a_position_on(rt: HostRuntime) -> Result<(), Fail> {
+fn a_report_has_the_actions_from_a_position_on(rt: HostRuntime) -> Result<(), Fail> {
     let alloc = rt.alloc();
     let cases: [(u16, &[u8]); 2] = [
         (
@@ -237,8 +239,8 @@ fn each_message_has_its_text(rt: HostRuntime) -> Result<(), Fail> {
     let texts = texts_of_one_call::<Tally, MemDevice>(alloc, program, devices(alloc)?)?;
     assert_eq!(rt; texts.len(), 16);
     for (number, text) in TEXTS {
-        let told = texts.get(number.saturating_sub(1)).ok_or("a message")?;
-        assert_eq!(rt; told.as_slice(), text, "message {number}");
+        let stated = texts.get(number.saturating_sub(1)).ok_or("a message")?;
+        assert_eq!(rt; stated.as_slice(), text, "message {number}");
     }
     Ok(())
 }

@@ -16,7 +16,8 @@ set_right f [] ys s = s
 set_right f (x ∷ xs) ys s = set_right f xs ys s.1
 
 -- the task of an action's own call waits for no other
-pub tasks_apart : (waiting : List CallName) (action : Action) → MayApply waiting action → IsSet (map (λ (call : CallName). call.task) waiting)
+pub tasks_apart : (waiting : List CallName) (action : Action) → MayApply waiting action
+    → IsSet (map (λ (call : CallName). call.task) waiting)
     → IsSet (map (λ (call : CallName). call.task) (calls_of action ++ waiting))
 tasks_apart waiting Noop may set = set
 tasks_apart waiting (Call task number object operation arg) may set = (

@@ -1,5 +1,6 @@
 -- The start of a program is one of its states.
-use Rattle.std.proofs.Common.{◌≡◌, ℕ, List, [], ◌∷◌, ◌++◌, map, IfSome, FitsSigned, w64, refl, sym, ◌∙◌, ap, subst, arith}
+use Rattle.std.proofs.Common.{◌≡◌, ℕ, List, [], ◌∷◌, ◌++◌, map, IfSome, FitsSigned, w64, refl, sym, ◌∙◌, ap, subst}
+use Rattle.std.proofs.Common.{arith}
 use Rattle.std.specs.Prelude.{flat_map}
 use Rattle.std.specs.List.{AllZip, AllByRecursion}
 use Rattle.std.proofs.lemmas.List.{length-map}
@@ -22,7 +23,9 @@ use Rattle.rp_object.specs.MachineLaws.Keeping.{as_many, have_queues}
 
 pub nobody : (declared : List ObjectDeclaration) → flat_map waiting_at (map first_object declared) ≡ []
 nobody [] = refl
-nobody (one ∷ rest) = ap (λ (l : List Waiting). map name_of l ++ flat_map waiting_at (map first_object rest)) (no_call (operations_of one).entries.items) ∙ nobody rest
+nobody (one ∷ rest) =
+    ap (λ (l : List Waiting). map name_of l ++ flat_map waiting_at (map first_object rest))
+    (no_call (operations_of one).entries.items) ∙ nobody rest
 
 -- nobody waits at the start
 pub nobody_first : (program : Declarations) → objects_waiting (first_state program) ≡ []
@@ -35,11 +38,14 @@ first_one declared fits = record {
   bools = λ name. refl;
   values = fits.in_range;
   queues = (first_is_object (operations_of declared) declared.components fits.operations).queues.short;
-  calls = λ call has. absurd (subst (λ (l : List Waiting). Has call l) (no_call (operations_of declared).entries.items) has);
+  calls =
+      λ call has. absurd (subst (λ (l : List Waiting). Has call l)
+      (no_call (operations_of declared).entries.items) has);
   serviced = (first_is_object (operations_of declared) declared.components fits.operations).serviced;
 }
 
-first_ones : (declared : List ObjectDeclaration) → AllByRecursion DeclarationFits declared → AllZip IsObjectOf declared (map first_object declared)
+first_ones : (declared : List ObjectDeclaration) → AllByRecursion DeclarationFits declared
+    → AllZip IsObjectOf declared (map first_object declared)
 first_ones [] fits = tt
 first_ones (one ∷ rest) fits = (first_one one fits.0, first_ones rest fits.1)
 
@@ -52,18 +58,26 @@ first_is_state program right = record {
   declared = refl;
   objects = first_ones program.objects.items (recursion_from_All DeclarationFits program.objects.items right.objects);
   all_timers = length-map program.timers.items unset;
-  times = All-from_recursion (λ time. IfSome time (FitsSigned w64)) (map unset program.timers.items) (all_unset program.timers.items);
+  times =
+      All-from_recursion (λ time. IfSome time (FitsSigned w64)) (map unset program.timers.items)
+      (all_unset program.timers.items);
   clock = omega arith;
   tasks = subst (λ (l : List CallName). IsSet (map (λ (call : CallName). call.task) l)) (sym (nobody_first program)) tt;
 }
 
 -- who waited, who is answered and who waits
-pub state_accounts : (program : Declarations) (running : Running) (action : Action) → IsStateOf program running → MayApply (objects_waiting running) action
-    → AccountsFor (objects_waiting running) action (objects_answers running action) (objects_waiting (objects_next running action))
+pub state_accounts : (program : Declarations) (running : Running) (action : Action) → IsStateOf program running
+    → MayApply (objects_waiting running) action
+    → AccountsFor (objects_waiting running) action (objects_answers running action)
+    (objects_waiting (objects_next running action))
 state_accounts program running action is may =
     let own = running.program in
-    let objects = subst (λ (p : Declarations). AllZip IsObjectOf p.objects.items running.state.objects) (sym is.declared) is.objects in
-    let leaves = step_leaves own running.state action (as_many own.objects.items running.state.objects objects) (have_queues own.objects.items running.state.objects objects) in
+    let objects = subst (λ (p : Declarations). AllZip IsObjectOf p.objects.items running.state.objects)
+    (sym is.declared) is.objects in
+    let leaves = step_leaves own running.state action (as_many own.objects.items running.state.objects objects)
+    (have_queues own.objects.items running.state.objects objects) in
     let task_of : CallName → ℕ = λ call. call.task in
-    step_accounts (objects_waiting running) action (objects_answers running action) (objects_waiting (objects_next running action))
-    (set_of_mapped task_of (calls_of action ++ objects_waiting running) (tasks_apart (objects_waiting running) action may is.tasks)) leaves
+    step_accounts (objects_waiting running) action (objects_answers running action)
+    (objects_waiting (objects_next running action))
+    (set_of_mapped task_of (calls_of action ++ objects_waiting running)
+    (tasks_apart (objects_waiting running) action may is.tasks)) leaves

@@ -17,10 +17,10 @@ returns-in_default-clause-right c = λ records are.
 
 pub returns-clause-right : goal.returns-clause-right
 returns-clause-right c = λ records are.
-    let index : ℕ = c.index_of-index.result in
+    let index : ℕ = c.index_of_position-index.result in
     let place = sym c.placed_in.ensures ∙ c.in-Some.is in
     let voted : voted_in c.args.rec.now ≡ (index + 1) ∷ [] =
-    ap (λ (o : Option PlacedVote). option_to_list (option_map (λ p. p.position) o)) place ∙ ap (λ (n : ℕ). n ∷ []) (sym c.index_of-index.ensures) in
+    ap (λ (o : Option PlacedVote). option_to_list (option_map (λ p. p.position) o)) place ∙ ap (λ (n : ℕ). n ∷ []) (sym c.index_of_position-index.ensures) in
     let has : HasSlot c.args.pages.now.items index = c.requires index (subst (λ (l : List ℕ). Has (index + 1) l) (sym voted) (inl refl)) in
     let there : index / 64 < length c.args.pages.now.items = page_there c.args.pages.now.items (index / 64) (omega (arith, has)) in
     let page : c.index_mut.result.now ≡ page_at c.args.pages.now.items (index / 64) =
@@ -29,7 +29,7 @@ returns-clause-right c = λ records are.
     let vote : Option Vote = highest (option_to_list (vote_in_page c.index_mut.result.now (index % 64)) ++ c.in-Some.placed.vote ∷ []) in
     rw c.note_at.ensures
     (votes_noted (vote_of c.args.pages.now.items) (vote_of (set c.args.pages.now.items (index / 64) (set c.index_mut.result.now (index % 64) vote)))
-    records c.args.rec.now c.in-Some.placed index place c.index_of-index.ensures
+    records c.args.rec.now c.in-Some.placed index place c.index_of_position-index.ensures
     (λ j other. other_slot c.args.pages.now.items index c.index_mut.result.now vote j has page other)
     (written_slot c.args.pages.now.items index c.index_mut.result.now vote has page
     ∙ ap (λ (o : Option Vote). highest (option_to_list o ++ c.in-Some.placed.vote ∷ [])) was)

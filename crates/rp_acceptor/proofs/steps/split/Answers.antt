@@ -2,9 +2,9 @@ use Rattle.std.proofs.Common.{◌≡◌, ◌<◌, ◌≤◌, ℕ, List, false, l
 use Rattle.std.specs.Prelude.{slice_get}
 use Rattle.std.specs.List.{AllWithin}
 use Rattle.rp_base.specs.Ballot.{number_of}
-use Rattle.rp_acceptor.specs.Steps.{Level, IsRising, held_at, begins_at, ballot_before, HasStep}
+use Rattle.rp_acceptor.specs.Steps.{Level, IsRising, ballot_at, begins_at, ballot_before, HasStep}
 use Rattle.rp_acceptor.proofs.Pages.{on_err}
-use Rattle.rp_acceptor.proofs.Splitting.{same_held, step_put, steps_stay, begun, begin_later, none_begins, rising_still}
+use Rattle.rp_acceptor.proofs.Splitting.{same_ballot, step_put, steps_stay, begun, begin_later, none_begins, rising_still}
 use Rattle.rp_acceptor.proofs.steps.split.Goals as goal
 
 pub returns-in_err-insert-clause-full : goal.returns-in_err-insert-clause-full
@@ -50,7 +50,7 @@ returns-in_ok-insert-clause-same c =
     let step : Level = record { from = c.args.position; ballot = number_of c.ballot_before-ballot.result } in
     let ballot : step.ballot ≡ ballot_before 0 steps count =
     c.ballot_before-ballot.ensures ∙ ap (λ (l : List Level). ballot_before 0 l count) c.deref-then-not-begins_at.ensures.value in
-    λ i. ap (λ (l : List Level). held_at l i) c.in_ok-insert.ensures.items ∙ same_held 0 steps step count i within ballot below later
+    λ i. ap (λ (l : List Level). ballot_at l i) c.in_ok-insert.ensures.items ∙ same_ballot 0 steps step count i within ballot below later
 
 pub returns-in_ok-insert-clause-keeps : goal.returns-in_ok-insert-clause-keeps
 returns-in_ok-insert-clause-keeps c = λ i has.

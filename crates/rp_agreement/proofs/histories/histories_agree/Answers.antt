@@ -2,7 +2,7 @@ use Rattle.std.proofs.Common.{ap}
 use Rattle.rp_base.specs.Records.{applied_of}
 use Rattle.rp_machine.specs.Replay.{replay_of}
 use Rattle.rp_agreement.proofs.Ordering.{alike_equal}
-use Rattle.rp_agreement.proofs.Happening.{moments, one_action, order_begins, parts_alike}
+use Rattle.rp_agreement.proofs.EventLists.{moments, one_action, order_begins, parts_alike}
 use Rattle.rp_agreement.proofs.histories.histories_agree.Goals as goal
 
 pub returns-clause-decided : goal.returns-clause-decided

@@ -1,5 +1,5 @@
 -- By induction on the events.
-use Rattle.rp_agreement.proofs.Happening.{history_sound}
+use Rattle.rp_agreement.proofs.EventLists.{history_sound}
 use Rattle.rp_agreement.proofs.histories.histories_are_sound.Goals as goal
 
 pub returns : goal.returns

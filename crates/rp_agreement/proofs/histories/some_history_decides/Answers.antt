@@ -1,4 +1,4 @@
--- By computing what each event comes to.
+-- By computing the result of each event.
 use Rattle.rp_agreement.proofs.Playing.{decides}
 use Rattle.rp_agreement.proofs.histories.some_history_decides.Goals as goal
 

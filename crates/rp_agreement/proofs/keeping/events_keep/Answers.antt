@@ -2,15 +2,15 @@
 use Rattle.std.proofs.Common.{refl}
 use Rattle.rp_model.specs.World.{event_effect}
 use Rattle.rp_agreement.specs.Worlds.{IsSoundWorld}
-use Rattle.rp_agreement.proofs.EventWalk.{comes_keeps, event_keeps, answer_keeps}
+use Rattle.rp_agreement.proofs.EventWalk.{result_keeps, event_keeps, answer_keeps}
 use Rattle.rp_agreement.proofs.WorldKeeping.{sound_kept}
 use Rattle.rp_agreement.proofs.keeping.events_keep.Goals as goal
 
 pub returns-clause-effect : goal.returns-clause-effect
-returns-clause-effect g c = λ setting world event happening right sound is came.
+returns-clause-effect g c = λ setting world event transition right sound is resulted.
     let P = IsSoundWorld setting.config.nodes in
     let kept = sound_kept setting right in
-    comes_keeps setting P kept (event_effect setting world event) happening happening.world (event_keeps setting P kept world event sound is) came refl
+    result_keeps setting P kept (event_effect setting world event) transition transition.world (event_keeps setting P kept world event sound is) resulted refl
 
 pub returns-clause-answer : goal.returns-clause-answer
 returns-clause-answer g c = λ setting world after event answer right sound is steps.

@@ -8,4 +8,4 @@ pub returns-clause-written : goal.returns-clause-written
 returns-clause-written c = λ nodes node sent sound a i b last promised. (promise_kept nodes node sent sound a i b last promised).2
 
 pub returns-clause-members : goal.returns-clause-members
-returns-clause-members c = λ nodes node sent sound a body told. (sound.says _ told.1).0
+returns-clause-members c = λ nodes node sent sound a body stated. (sound.says _ stated.1).0

@@ -10,5 +10,5 @@ returns g c =
     let m = g.M.Machine in
     λ config program node task sent kept t n place at.
     let order = order_of config.nodes sent in
-    counted_made sent t (task t) (kept_of m.next m.answers (m.begin program) order) (c.calls_count_in_turn.ensures config program node task sent kept t) n at.action at.is_call
+    counted_made sent t (task t) (kept_of m.next m.answers (m.begin program) order) (c.calls_count_in_order.ensures config program node task sent kept t) n at.action at.is_call
     (place_kept m.next m.answers (m.begin program) order (named t n) place at)

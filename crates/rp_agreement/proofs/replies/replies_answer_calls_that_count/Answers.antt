@@ -14,6 +14,6 @@ returns g c =
     let s = setting_for m.next m.answers m.begin config program in
     let order = order_of config.nodes sent in
     let right = λ (action : Action) (h : Has action order). (asked_in_order s node sent kept.sound action h).right in
-    let told = c.replies_tell_the_order.ensures.replies s node task sent kept t k answer is in
-    let at = c.an_answered_call_has_one_place.ensures program order (named t (suc k)) answer right told in
-    record { place = at.0; takes_effect = at.1; is_answer = told }
+    let stated = c.replies_follow_the_order.ensures.replies s node task sent kept t k answer is in
+    let at = c.an_answered_call_has_one_place.ensures program order (named t (suc k)) answer right stated in
+    record { place = at.0; takes_effect = at.1; is_answer = stated }

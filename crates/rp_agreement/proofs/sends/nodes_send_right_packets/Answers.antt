@@ -16,15 +16,15 @@ one_of_seven config x right member =
     (member.0, omega (arith, most, least))
 
 pub returns-clause-input : goal.returns-clause-input
-returns-clause-input g c = let m = g.M.Machine in λ config program x input done node sent right member sound ranged packets is came.
+returns-clause-input g c = let m = g.M.Machine in λ config program x input done node sent right member sound ranged packets is resulted.
     let s = setting_for m.next m.answers m.begin config program in
-    let within = input_ranged s right (λ actions all. c.replies_fit.ensures program actions all) x (node x) sent input done (one_of_seven config x right member) ranged packets is came in
-    let step = if_done config.nodes x (node x) sent _ done (input_sound s x node sent input (below_eight config x right member) sound is) came in
+    let within = input_ranged s right (λ actions all. c.replies_fit.ensures program actions all) x (node x) sent input done (one_of_seven config x right member) ranged packets is resulted in
+    let step = if_done config.nodes x (node x) sent _ done (input_sound s x node sent input (below_eight config x right member) sound is) resulted in
     record { part = within.0; packets = within.1; own = step.step.from }
 
 pub returns-clause-cut : goal.returns-clause-cut
-returns-clause-cut g c = let m = g.M.Machine in λ config program x kept input done node sent right member sound ranged packets is came.
+returns-clause-cut g c = let m = g.M.Machine in λ config program x kept input done node sent right member sound ranged packets is resulted.
     let s = setting_for m.next m.answers m.begin config program in
-    let within = cut_input_ranged s right (λ actions all. c.replies_fit.ensures program actions all) x kept (node x) sent input done (one_of_seven config x right member) ranged packets is came in
-    let step = if_done config.nodes x (node x) sent _ done (cut_sound s x kept node sent input (below_eight config x right member) sound is) came in
+    let within = cut_input_ranged s right (λ actions all. c.replies_fit.ensures program actions all) x kept (node x) sent input done (one_of_seven config x right member) ranged packets is resulted in
+    let step = if_done config.nodes x (node x) sent _ done (cut_sound s x kept node sent input (below_eight config x right member) sound is) resulted in
     record { part = within.0; packets = within.1; own = step.step.from }

@@ -15,7 +15,7 @@ use Rattle.rp_boxes.proofs.boxes.claim_empty.Goals as goal
 pub compare_exchange-requires : goal.compare_exchange-requires
 compare_exchange-requires g c =
     let m = g.M.Machine in
-    let says = g.J.Saying.says in
+    let says = g.J.Fact.says in
     let key = c.args.slots.now.key in
     let s = setting_for m.next m.answers m.begin key.config key.program.value in
     let table = c.args.slots.now.table_id in

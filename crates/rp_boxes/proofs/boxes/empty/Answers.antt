@@ -27,14 +27,14 @@ store-requires g c =
     let b = box_of c.args.from c.args.to in
     let p = part_in c.args.place.now.me.0 in
     let inside : b < table.words = rw c.requires.sized.0 (omega (arith, c.requires.from, c.requires.to)) in
-    let roomy : 256 ≤ table.slots = rw c.requires.sized.1 (omega arith) in
+    let buffer : 256 ≤ table.slots = rw c.requires.sized.1 (omega arith) in
     let taken = c.claim_full.ensures.hit c.if-not-claim_full.false in
     let here = sees_written c.args.to b (emptying b taken.0 p) (Some taken.1) c.spare-left.result _ _ taken.3 c.exchange-packet.ensures.3 in (
       c.exchange-packet.ensures.0 ∙ (c.claim_full.ensures.table ∙ c.requires.table),
       inside,
       subst (λ (me : Sight). Allows (Ruled s) table.slots c.exchange-packet.new.seat.id me b (λ n. 0) (λ found new. Cleared me new))
           (sym here)
-          (clear_allows s table.slots c.exchange-packet.new.seat.id c.args.from c.args.to (emptying b taken.0 p) c.requires.from c.requires.to roomy refl c.spare-left.result c.spare-left.ensures),
+          (clear_allows s table.slots c.exchange-packet.new.seat.id c.args.from c.args.to (emptying b taken.0 p) c.requires.from c.requires.to buffer refl c.spare-left.result c.spare-left.ensures),
     )
 
 pub look-requires-clause-follows : goal.look-requires-clause-follows

@@ -1,4 +1,4 @@
--- What is said of the box: it is not full; and what the look tells: what the place knows is a piece of a world.
+-- What is said of the box: it is not full; and what the look shows: what the place knows is a piece of a world.
 use Rattle.std.proofs.Common.{◌≢◌, ℕ}
 use Rattle.rp_agreement.specs.Answered.{setting_for}
 use Rattle.rp_boxes.specs.Looks.{IsWorldOf}

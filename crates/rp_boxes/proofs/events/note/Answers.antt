@@ -3,7 +3,7 @@ use Rattle.std.proofs.Common.{◌+◌, ◌%◌, ◌^◌, ◌<◌, sym, subst, ar
 use Rattle.atomic_table.specs.Table.{Allows}
 use Rattle.rp_agreement.specs.Answered.{setting_for}
 use Rattle.rp_boxes.specs.Parts.{part_in, actor_in}
-use Rattle.rp_boxes.specs.Plays.{Sight, Turned}
+use Rattle.rp_boxes.specs.Plays.{Sight, IsNoted}
 use Rattle.rp_boxes.specs.Rule.{Ruled}
 use Rattle.rp_boxes.proofs.Turns.{turn_allows}
 use Rattle.rp_boxes.proofs.events.note.Goals as goal
@@ -19,7 +19,7 @@ fetch_add-requires g c =
     let event = c.requires.event in (
       c.requires.table,
       inside,
-      subst (λ (me : Sight). Allows (Ruled s) table.slots place.id me (256 + c.args.actor) (λ n. (n + 1) % 2 ^ 64) (λ found new. Turned g.J.Saying.says (actor_in me.0) new))
+      subst (λ (me : Sight). Allows (Ruled s) table.slots place.id me (256 + c.args.actor) (λ n. (n + 1) % 2 ^ 64) (λ found new. IsNoted g.J.Fact.says (actor_in me.0) new))
           (sym c.requires.place)
-          (turn_allows s (c.events_keep.ensures key.config key.program.value) table.slots place.id c.args.actor (part_in place.me.0) event.0 event.1 g.J.Saying.says event.2),
+          (turn_allows s (c.events_keep.ensures key.config key.program.value) table.slots place.id c.args.actor (part_in place.me.0) event.0 event.1 g.J.Fact.says event.2),
     )

@@ -13,4 +13,4 @@ load-requires g c =
     let table = c.args.slots.now.table_id in
     let place = c.args.place.now in
     let inside : 0 < table.words = rw c.requires.sized.0 (omega arith) in
-    (c.requires.table, inside, look_allows s table.slots place.id 0 place.me (g.J.Saying.says (part_in place.me.0)) c.requires.follows)
+    (c.requires.table, inside, look_allows s table.slots place.id 0 place.me (g.J.Fact.says (part_in place.me.0)) c.requires.follows)

@@ -1,4 +1,4 @@
--- The look tells that what the place knows is a piece of a world.
+-- The look shows that what the place knows is a piece of a world.
 use Rattle.std.proofs.Common.{ℕ}
 use Rattle.rp_agreement.specs.Answered.{setting_for}
 use Rattle.rp_boxes.specs.Looks.{IsWorldOf}

@@ -7,23 +7,23 @@ use Rattle.rp_codec.proofs.decoding.decode_fields.Goals as goal
 
 pub listed-requires : goal.listed-requires
 listed-requires c =
-    let (body, after, stands, read) = c.in-Ok.ensures in
+    let (body, after, is_content, read) = c.in-Ok.ensures in
     let bytes : IsBytes c.args.bytes.now = λ i. omega (arith, c.type_inv.bytes i) in
-    (body, after, stands, decoded_rules c.args.bytes.now (with_body c.in-Ok.found body) bytes read)
+    (body, after, is_content, decoded_rules c.args.bytes.now (with_body c.in-Ok.found body) bytes read)
 
 pub returns-in_err-packet-in-Ok : goal.returns-in_err-packet-in-Ok
 returns-in_err-packet-in-Ok c =
-    let (body, after, stands, read) = c.in-Ok.ensures in
+    let (body, after, is_content, read) = c.in-Ok.ensures in
     let bytes : IsBytes c.args.bytes.now = λ i. omega (arith, c.type_inv.bytes i) in
-    let text : IsLongText c.args.bytes.now = long_text c.args.bytes.now c.in-Ok.found body after bytes c.in_err-packet-in-Ok.ensures.memory stands read in
+    let text : IsLongText c.args.bytes.now = long_text c.args.bytes.now c.in-Ok.found body after bytes c.in_err-packet-in-Ok.ensures.memory is_content read in
     search rules
 
 pub returns-in_ok-packet-in-Ok : goal.returns-in_ok-packet-in-Ok
 returns-in_ok-packet-in-Ok c =
-    let (body, after, stands, read) = c.in-Ok.ensures in
+    let (body, after, is_content, read) = c.in-Ok.ensures in
     let bytes : IsBytes c.args.bytes.now = λ i. omega (arith, c.type_inv.bytes i) in
     record {
-      answer = decoded_packet c.args.bytes.now c.in_ok-packet-in-Ok.packet (with_body c.in-Ok.found body) bytes (c.in_ok-packet-in-Ok.ensures.packet body after stands) read;
+      answer = decoded_packet c.args.bytes.now c.in_ok-packet-in-Ok.packet (with_body c.in-Ok.found body) bytes (c.in_ok-packet-in-Ok.ensures.packet body after is_content) read;
       memory = tt;
     }
 

@@ -1,4 +1,4 @@
--- A step or an event that names so many nodes names what is declared.
+-- A step or an event that names n nodes names what is declared.
 use Rattle.rp_deck.proofs.script.command_of.Goals as goal
 
 pub returns-in_ok-read_cut-in-Cut-clause-right : goal.returns-in_ok-read_cut-in-Cut-clause-right

@@ -6,7 +6,7 @@ use Rattle.rp_words.specs.LineFaults.{Refuses, fault_at}
 use Rattle.rp_deck_declarations.specs.DeclaredTexts.{known}
 use Rattle.rp_deck_declarations.proofs.declarations.read_declarations.Goals as goal
 
--- nothing but memory was wanting
+-- only memory ran out
 pub returns-in-Err-clause-read : goal.returns-in-Err-clause-read
 returns-in-Err-clause-read c =
     let lines = c.args.lines.now in

@@ -6,6 +6,6 @@ use Rattle.rp_entry.proofs.laws.actions_have_one_end.Goals as goal
 
 pub returns : goal.returns
 returns c = record {
-  an_end = λ operations before request. let did = acted operations before request in (did.caller, (did.told, (did.after, is_acted operations before request)));
-  no_other = λ operations before one other request caller called told heard first second. acts_one_end first second;
+  an_end = λ operations before request. let did = acted operations before request in (did.caller, (did.replied, (did.after, is_acted operations before request)));
+  no_other = λ operations before one other request caller called replied heard first second. acts_one_end first second;
 }

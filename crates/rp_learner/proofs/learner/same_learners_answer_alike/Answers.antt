@@ -1,8 +1,8 @@
-use Rattle.rp_learner.proofs.Alike.{standing_alike, decision_alike, noting_alike, settling_alike, same_back, same_on}
+use Rattle.rp_learner.proofs.Alike.{status_alike, decision_alike, noting_alike, settling_alike, same_back, same_on}
 use Rattle.rp_learner.proofs.learner.same_learners_answer_alike.Goals as goal
 
 pub returns-clause-vote : goal.returns-clause-vote
-returns-clause-vote c = standing_alike
+returns-clause-vote c = status_alike
 
 pub returns-clause-decided : goal.returns-clause-decided
 returns-clause-decided c = decision_alike

@@ -2,7 +2,7 @@
 use Rattle.std.proofs.Common.{◌≡◌, ◌∙◌, ◌-◌, ◌<◌, ℕ, length, refl, set, arith, subst, sym}
 use Rattle.std.proofs.lemmas.List.Elements.{All-set}
 use Rattle.std.proofs.lemmas.Result.{IfOk-weaker}
-use Rattle.rp_boxes.specs.Seats.{Chair}
+use Rattle.rp_boxes.specs.Seats.{SeatState}
 use Rattle.rp_live.specs.Seats.{Runs}
 use Rattle.rp_live.specs.Noted.{IsTakenAt}
 use Rattle.rp_live.proofs.Noting.{found_at}
@@ -11,7 +11,7 @@ use Rattle.rp_live.proofs.notes.note_at.Goals as goal
 pub note_one-requires-clause-runs : goal.note_one-requires-clause-runs
 note_one-requires-clause-runs g c =
     let within : c.from-place.result - 1 < length c.args.seats.now.items = omega (arith, c.requires.within, c.from-place.ensures, c.get.ensures.value, c.get.ensures.in_range.0) in
-    subst (λ (s : Chair g.row.M-Program.Denot). Runs s.part) (sym c.index_mut.ensures.value) (c.requires.run (c.from-place.result - 1) c.index_mut.result.now within)
+    subst (λ (s : SeatState g.row.M-Program.Denot). Runs s.part) (sym c.index_mut.ensures.value) (c.requires.run (c.from-place.result - 1) c.index_mut.result.now within)
 
 pub returns-clause-run : goal.returns-clause-run
 returns-clause-run g c =

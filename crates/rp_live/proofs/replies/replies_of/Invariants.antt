@@ -1,7 +1,7 @@
 -- The seats and replies of the tasks so far.
 use Rattle.std.proofs.Common.{◌≡◌, ◌++◌, map}
 use Rattle.std.specs.Prelude.{flat_map}
-use Rattle.rp_live.specs.Lived.{replies_at}
+use Rattle.rp_live.specs.LiveOutcome.{replies_at}
 use Rattle.rp_live.proofs.replies.replies_of.Given as goal
 
 abbrev pub invariant-loop-end : goal.invariant-loop-end

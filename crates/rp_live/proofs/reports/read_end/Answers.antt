@@ -2,15 +2,15 @@
 use Rattle.std.proofs.Common.{◌≡◌, sym, subst}
 use Rattle.rp_base.specs.declared.fault.Fault.{Fault}
 use Rattle.rp_base.specs.declared.fault.Fault.TheVariants.{OutOfMemory}
-use Rattle.rp_boxes.specs.Seats.{Chair}
+use Rattle.rp_boxes.specs.Seats.{SeatState}
 use Rattle.rp_boxes.proofs.TaskTurns.{at_fault}
 use Rattle.rp_live.specs.Seats.{Runs}
 use Rattle.rp_live.proofs.reports.read_end.Goals as goal
 
 pub read_log-requires : goal.read_log-requires
 read_log-requires g c =
-    let told = c.in_ok-seat.ensures in
-    subst (λ (s : Chair g.row.M-Program.Denot). Runs s.part) (sym told.ok) (c.requires.still told.none)
+    let stated = c.in_ok-seat.ensures in
+    subst (λ (s : SeatState g.row.M-Program.Denot). Runs s.part) (sym stated.ok) (c.requires.still stated.none)
 
 pub returns-in_err-applied-clause-only : goal.returns-in_err-applied-clause-only
 returns-in_err-applied-clause-only g c =

@@ -10,14 +10,14 @@ use Rattle.rp_live.proofs.reports.read_log.Goals as goal
 pub returns-then-now_known-known-clause-read : goal.returns-then-now_known-known-clause-read
 returns-then-now_known-known-clause-read g c =
     let was = c.loop-known.invariant in
-    let told = c.in_ok-report_once.ensures in
+    let stated = c.in_ok-report_once.ensures in
     let first = c.args.seat.now in
     let between = c.loop-known.seat in
     let now = c.report_once.new.seat in
     let start = length (known_of c.args.audit.now.known first.number) in
-    let reports = told.reported in
+    let reports = stated.reported in
     let only = only_reported c.in-Some.first between now reports.0 reports.1 in
-    let some = told.more first.number in
+    let some = stated.more first.number in
     let now_known = length (known_of c.report_once.new.audit.known first.number) in
     let same : length c.known-now_known.result.now ≡ now_known =
     ap length (c.known-now_known.ensures.value ∙ ap (λ (n : ℕ). known_of c.report_once.new.audit.known n) c.number-node.ensures) in
@@ -29,7 +29,7 @@ returns-then-now_known-known-clause-read g c =
 pub loop-known-preserved : goal.loop-known-preserved
 loop-known-preserved g c =
     let was = c.loop-known.invariant in
-    let told = c.in_ok-report_once.ensures in
+    let stated = c.in_ok-report_once.ensures in
     let first = c.args.seat.now in
     let between = c.loop-known.seat in
     let now = c.report_once.new.seat in
@@ -37,16 +37,16 @@ loop-known-preserved g c =
     let audit = c.loop-known.audit in
     let new = c.report_once.new.audit in
     let start = length (known_of old first.number) in
-    let reports = told.reported in
+    let reports = stated.reported in
     let only = only_reported c.in-Some.first between now reports.0 reports.1 in
     record {
-      same = same_on c.args.audit.now.seat audit.seat new.seat was.same told.same;
+      same = same_on c.args.audit.now.seat audit.seat new.seat was.same stated.same;
       reported = reported_on first between now was.reported only;
-      more = more_on old audit.known new.known was.more told.more;
+      more = more_on old audit.known new.known was.more stated.more;
       applied = role_applied between.part now.part c.in_ok-applied.applied only.role was.applied;
       known = ap length (c.known-now_known.ensures.value ∙ ap (λ (n : ℕ). known_of new.known n) c.number-node.ensures);
       others = same_known_on first.number old audit.known new.known was.others
-          (subst (λ (n : ℕ). KnowsSameBut n audit.known new.known) was.reported.same.number told.others);
+          (subst (λ (n : ℕ). KnowsSameBut n audit.known new.known) was.reported.same.number stated.others);
       reports = one_more_report start c.in-Some.first c.loop-known.known (length c.known-now_known.result.now) first between now was.reports c.in-Some.ensures.some reports
           c.if-now_known-known.false;
     }

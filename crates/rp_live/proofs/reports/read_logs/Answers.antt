@@ -38,7 +38,7 @@ loop-end-preserved g c =
     let rest = c.loop-end.end-iterator.rest.items in
     let left = c.next.new.self.rest.items in
     let steps = c.in-Some.ensures.steps.0 in
-    let told = c.in_ok-seat.ensures in
+    let stated = c.in_ok-seat.ensures in
     let old = c.loop-end.audit.known in
     let new = c.read_end.new.audit.known in
     let number = length c.loop-end.seats.items in
@@ -46,19 +46,19 @@ loop-end-preserved g c =
     let longer = one_longer c.loop-end.seats.items c.push.new.self.items c.in_ok-seat.seat c.in_ok-push.ensures.items in
     let at = next_number number rest left c.in-Some.end steps was.numbers in
     record {
-      same = same_on c.args.audit.now.seat c.loop-end.audit.seat c.read_end.new.audit.seat was.same told.same;
+      same = same_on c.args.audit.now.seat c.loop-end.audit.seat c.read_end.new.audit.seat was.same stated.same;
       left = rest_of IsEndOfRun rest c.in-Some.end left steps was.left;
       still = rest_of StillRuns rest c.in-Some.end left steps was.still;
       reported = one_more_zipped (λ end seat. HasOnlyReported end.seat seat) c.args.nodes.items rest left c.loop-end.seats.items c.push.new.self.items c.in-Some.end c.in_ok-seat.seat
-          was.reported steps c.in_ok-push.ensures.items told.reported;
+          was.reported steps c.in_ok-push.ensures.items stated.reported;
       applied = grown_zip (λ seat count. HasApplied seat.part count) c.loop-end.seats.items c.push.new.self.items c.loop-end.applied.items c.push-in-loop-end.new.self.items
-          c.in_ok-seat.seat c.in_ok-seat.count c.in_ok-push.ensures.items c.in_ok-push-2.ensures.items was.applied told.applied;
+          c.in_ok-seat.seat c.in_ok-seat.count c.in_ok-push.ensures.items c.in_ok-push-2.ensures.items was.applied stated.applied;
       numbers = left_numbered number more rest left c.in-Some.end steps longer was.numbers;
-      unread = still_unread number more c.in-Some.end.seat.number old new longer at told.others was.unread;
+      unread = still_unread number more c.in-Some.end.seat.number old new longer at stated.others was.unread;
       read = one_more_zipped (λ end seat. IsReadBelow more new end.seat seat) c.args.nodes.items rest left c.loop-end.seats.items c.push.new.self.items c.in-Some.end c.in_ok-seat.seat
           (so_far_weaker (λ end seat. IsReadBelow number old end.seat seat) (λ end seat. IsReadBelow more new end.seat seat)
-          (λ end seat. read_still number more c.in-Some.end.seat.number old new longer at told.others end.seat seat) c.args.nodes.items rest c.loop-end.seats.items was.read)
-          steps c.in_ok-push.ensures.items (one_read number more old new c.in-Some.end.seat c.in_ok-seat.seat longer at told.reported.same.number was.unread told.read);
+          (λ end seat. read_still number more c.in-Some.end.seat.number old new longer at stated.others end.seat seat) c.args.nodes.items rest c.loop-end.seats.items was.read)
+          steps c.in_ok-push.ensures.items (one_read number more old new c.in-Some.end.seat c.in_ok-seat.seat longer at stated.reported.same.number was.unread stated.read);
     }
 
 pub returns-clause-reported : goal.returns-clause-reported

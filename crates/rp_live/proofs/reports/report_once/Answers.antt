@@ -1,6 +1,6 @@
 -- What the audit fetches is a report, and it stays at its seat.
 use Rattle.std.proofs.Common.{ℕ, List, sym, ap, subst, ◌∙◌}
-use Rattle.rp_boxes.specs.Seats.{Chair}
+use Rattle.rp_boxes.specs.Seats.{SeatState}
 use Rattle.rp_codec.specs.declared.packet.Party.TheVariants.{Node}
 use Rattle.rp_threads.specs.Loops.{IsSameSeat}
 use Rattle.rp_threads.proofs.Steps.{same_part}
@@ -18,7 +18,7 @@ returns-in_ok-add-clause-same g c =
     let old = c.args.audit.now.seat in
     let fetched = same_part old c.fetch.new.self.seat _ c.in-Some.ensures.some.after in
     let added = added_seat c.fetch.new.self c.as_slice.result.now c.add.new.self c.in_ok-add.field-0 c.in_ok-add.ensures.ok in
-    subst (λ (s : Chair g.row.M-Program.Denot). IsSameSeat old s) (sym added) fetched
+    subst (λ (s : SeatState g.row.M-Program.Denot). IsSameSeat old s) (sym added) fetched
 
 pub returns-in_ok-add-clause-more : goal.returns-in_ok-add-clause-more
 returns-in_ok-add-clause-more g c =
@@ -29,7 +29,7 @@ pub returns-in_ok-add-clause-others : goal.returns-in_ok-add-clause-others
 returns-in_ok-add-clause-others g c =
     let fetched = c.in-Some.ensures.some in
     let text = c.as_slice.ensures.value ∙ fetched.text in
-    let number = c.number.ensures ∙ ap (λ (s : Chair g.row.M-Program.Denot). s.number) c.in_ok-send_report.ensures.reported.1.after in
+    let number = c.number.ensures ∙ ap (λ (s : SeatState g.row.M-Program.Denot). s.number) c.in_ok-send_report.ensures.reported.1.after in
     let sender = fetched.sender ∙ ap (λ (n : ℕ). Node n) number in
     subst (λ (known : List (List Action)). KnowsSameBut c.args.seat.now.number known c.add.new.self.known) c.fetch.ensures.known
     (added_others c.one_text.ensures c.args.seat.now.number c.fetch.new.self c.as_slice.result.now c.add.new.self c.in_ok-add.field-0 fetched.packet fetched.right text sender

@@ -1,11 +1,11 @@
--- What was told of nodes and tasks, and the look at the table.
+-- What was reported of nodes and tasks, and the look at the table.
 use Rattle.std.proofs.Common.{◌≡◌, ◌↔◌, ℕ, true, All, List, length, ap, arith, sym, subst, ◌∙◌}
 use Rattle.rp_boxes.specs.Audits.{Audited}
-use Rattle.rp_boxes.specs.Seats.{Chair, HasApplied}
+use Rattle.rp_boxes.specs.Seats.{SeatState, HasApplied}
 use Rattle.rp_boxes.specs.Together.{AreTogether}
 use Rattle.rp_threads.specs.Loops.{IsSameSeat}
 use Rattle.rp_live.specs.Figures.{figures_of}
-use Rattle.rp_live.specs.Lived.{KnowsAll}
+use Rattle.rp_live.specs.LiveOutcome.{KnowsAll}
 use Rattle.rp_live.specs.Seats.{HasOnlyReported}
 use Rattle.rp_live.proofs.Reading.{nothing_known}
 use Rattle.rp_live.proofs.Seating.{zip_length}
@@ -14,9 +14,9 @@ use Rattle.rp_live.proofs.run.audited.Goals as goal
 
 pub knows_all-agree-requires : goal.knows_all-agree-requires
 knows_all-agree-requires g c =
-    let told = c.in_ok-nodes.ensures in
-    let counts = zip_length (λ seat count. HasApplied seat.part count) c.in_ok-nodes.nodes.items c.in_ok-nodes.applied.items told.applied in
-    let seats = zip_length (λ end seat. HasOnlyReported end.seat seat) c.args.nodes.items c.in_ok-nodes.nodes.items told.reported in
+    let stated = c.in_ok-nodes.ensures in
+    let counts = zip_length (λ seat count. HasApplied seat.part count) c.in_ok-nodes.nodes.items c.in_ok-nodes.applied.items stated.applied in
+    let seats = zip_length (λ end seat. HasOnlyReported end.seat seat) c.args.nodes.items c.in_ok-nodes.nodes.items stated.reported in
     let slice = ap length c.as_slice-3.ensures.value in
     let few = c.requires.few in
     omega (arith, counts, seats, slice, few)
@@ -30,21 +30,21 @@ look_together-requires-clause-nodes g c =
 pub look_together-requires-clause-tasks : goal.look_together-requires-clause-tasks
 look_together-requires-clause-tasks g c =
     let table = c.in_ok-nodes.ensures.same.table ∙ ap (λ (a : Audited g.row.M-Program.Denot). a.seat.table) c.new-audit.ensures in
-    subst (All (λ (s : Chair g.row.M-Program.Denot). s.table ≡ c.read_logs.new.audit.seat.table)) (sym c.in_ok-tasks.ensures.seats)
-    (all_unmapped (λ (s : Chair g.row.M-Program.Denot). s.table ≡ c.read_logs.new.audit.seat.table) (λ end. end.seat) c.args.tasks.items (λ k d within. c.requires.tasks k d within ∙ sym table))
+    subst (All (λ (s : SeatState g.row.M-Program.Denot). s.table ≡ c.read_logs.new.audit.seat.table)) (sym c.in_ok-tasks.ensures.seats)
+    (all_unmapped (λ (s : SeatState g.row.M-Program.Denot). s.table ≡ c.read_logs.new.audit.seat.table) (λ end. end.seat) c.args.tasks.items (λ k d within. c.requires.tasks k d within ∙ sym table))
 
-pub returns-clause-told : goal.returns-clause-told
-returns-clause-told g c =
+pub returns-clause-stated : goal.returns-clause-stated
+returns-clause-stated g c =
     let m = g.M.Machine in
     let audit = c.read_logs.new.audit in
-    let told = c.in_ok-nodes.ensures in
+    let stated = c.in_ok-nodes.ensures in
     record {
       last = c.in_ok-nodes.nodes.items;
-      reported = told.reported;
-      applied = told.applied;
-      read = told.read;
+      reported = stated.reported;
+      applied = stated.applied;
+      read = stated.read;
       known = audit;
-      same = subst (λ (s : Chair g.row.M-Program.Denot). IsSameSeat s audit.seat) (ap (λ (a : Audited g.row.M-Program.Denot). a.seat) c.new-audit.ensures) told.same;
+      same = subst (λ (s : SeatState g.row.M-Program.Denot). IsSameSeat s audit.seat) (ap (λ (a : Audited g.row.M-Program.Denot). a.seat) c.new-audit.ensures) stated.same;
       together = subst (AreTogether m.next m.answers m.begin audit c.in_ok-nodes.nodes.items) c.in_ok-tasks.ensures.seats c.look_together.ensures;
       replies = c.in_ok-tasks.ensures.replies;
       figures = c.of-figures.ensures ∙ ap (λ ends. figures_of ends c.as_slice-2.result.now) c.as_slice.ensures.value ∙ ap (figures_of c.args.nodes.items) c.as_slice-2.ensures.value;

@@ -1,13 +1,13 @@
--- All seats are of the one table, and what the run left is told.
+-- All seats are of the one table, and the result of the run is reported.
 use Rattle.std.proofs.Common.{◌≡◌, ℕ, All, length, arith, sym, ap, subst}
 use Rattle.std.proofs.lemmas.Result.{IfOk-weaker}
 use Rattle.rp_model.specs.Parts.{fresh_task}
 use Rattle.rp_boxes.specs.Parts.{OfTask, fresh_part}
-use Rattle.rp_boxes.specs.Seats.{Chair}
+use Rattle.rp_boxes.specs.Seats.{SeatState}
 use Rattle.rp_threads.specs.Threads.{IsLooped}
 use Rattle.rp_live.specs.Events.{IsLive}
 use Rattle.rp_live.specs.Pace.{paced, heard}
-use Rattle.rp_live.proofs.Living.{lived, node_loops_by, nodes_ended, nodes_still, nodes_here, nodes_numbered, task_loops_by, tasks_here}
+use Rattle.rp_live.proofs.WholeRun.{outcome, node_loops_by, nodes_ended, nodes_still, nodes_here, nodes_numbered, task_loops_by, tasks_here}
 use Rattle.rp_live.proofs.Seating.{all_mapped, mapped_length, nodes_run, tasks_fresh, zip_length}
 use Rattle.rp_live.proofs.run.live.Goals as goal
 
@@ -34,8 +34,8 @@ run_threads-requires-clause-task_lines g c κs within k d less = ap (λ l. l.hel
 pub run_threads-requires-clause-fresh : goal.run_threads-requires-clause-fresh
 run_threads-requires-clause-fresh g c κs within =
     let fresh = tasks_fresh c.in_ok-nodes.field-0.audit.table c.args.config c.args.program.now c.in_ok-nodes.field-0.tasks.items c.in_ok-nodes.ensures.seats.1.tasks_are in
-    all_mapped (λ (s : Chair g.row.M-Program.Denot). s.part ≡ fresh_part (OfTask fresh_task)) (λ s. s.seat) c.in_ok-tasks.tasks.items
-    (subst (All (λ (s : Chair g.row.M-Program.Denot). s.part ≡ fresh_part (OfTask fresh_task))) (sym c.in_ok-tasks.ensures.seats) fresh)
+    all_mapped (λ (s : SeatState g.row.M-Program.Denot). s.part ≡ fresh_part (OfTask fresh_task)) (λ s. s.seat) c.in_ok-tasks.tasks.items
+    (subst (All (λ (s : SeatState g.row.M-Program.Denot). s.part ≡ fresh_part (OfTask fresh_task))) (sym c.in_ok-tasks.ensures.seats) fresh)
 
 pub audited-requires-clause-few : goal.audited-requires-clause-few
 audited-requires-clause-few g c =
@@ -145,8 +145,8 @@ audited-requires-clause-tasks g c =
     tasks_here m.next m.answers m.begin a.config a.program.now a.events.now a.seed a.turns all.nodes.items all.tasks.items all.audit seats.0 seats.1 noted c.in_ok-note_all.ensures.ok
     c.in_ok-note_all.ensures.run nodes tasks node_loops task_loops
 
-pub returns-clause-lived : goal.returns-clause-lived
-returns-clause-lived g c =
+pub returns-clause-outcome : goal.returns-clause-outcome
+returns-clause-outcome g c =
     let m = g.M.Machine in
     let a = c.args in
     let all = c.in_ok-nodes.field-0 in
@@ -162,5 +162,5 @@ returns-clause-lived g c =
     let task_loops = task_loops_by m.next m.answers m.begin a.config a.program.now a.events.now a.seed a.turns all.nodes.items all.tasks.items all.audit seats.0 seats.1 noted c.in_ok-note_all.ensures.ok
     c.in_ok-note_all.ensures.run nodes tasks (λ s. s.seat) (λ s. s.calls.items) (λ s. s.line) c.in_ok-tasks.tasks.items (length starts) c.in_ok-tasks.ensures.seats c.in_ok-tasks.ensures.calls
     c.in_ok-tasks.ensures.lines count c.in_ok-nodes-3.ensures.tasks in
-    IfOk-weaker c.audited.result _ _ (lived m.next m.answers m.begin a.config a.program.now a.events.now a.seed a.turns all.nodes.items all.tasks.items all.audit seats.0 seats.1 noted c.in_ok-note_all.ensures.ok
-    c.in_ok-note_all.ensures.run nodes tasks node_loops task_loops) c.audited.ensures.told
+    IfOk-weaker c.audited.result _ _ (outcome m.next m.answers m.begin a.config a.program.now a.events.now a.seed a.turns all.nodes.items all.tasks.items all.audit seats.0 seats.1 noted c.in_ok-note_all.ensures.ok
+    c.in_ok-note_all.ensures.run nodes tasks node_loops task_loops) c.audited.ensures.stated

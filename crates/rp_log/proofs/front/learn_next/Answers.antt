@@ -1,4 +1,4 @@
--- The place behind the front is taken out of those ahead, and what follows moves up.
+-- The place after the front is taken out of those ahead, and what follows moves up.
 use Rattle.std.proofs.Common.{◌≡◌, ◌+◌, ℕ, List, cond, None, [], ◌∷◌, length, ap, sym, ◌∙◌, length-append, false, arith}
 use Rattle.std.specs.Prelude.{is_some, if◌then◌else◌}
 use Rattle.rp_base.specs.declared.action.Action.{Action}

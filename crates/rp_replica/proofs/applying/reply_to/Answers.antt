@@ -5,9 +5,9 @@ use Rattle.rp_codec.specs.declared.packet.Body.TheVariants.{Reply}
 use Rattle.rp_model.specs.Says.{says_to_task}
 use Rattle.rp_model.specs.Pending.{replies_to}
 use Rattle.rp_model.proofs.Replying.{replies_one_more, replies_no_more}
-use Rattle.rp_replica.specs.Packets.{Run, RoomyRun, with_packet, with_packets}
+use Rattle.rp_replica.specs.Packets.{Run, BufferState, with_packet, with_packets}
 use Rattle.rp_replica.proofs.Replying.{first_replies}
-use Rattle.rp_replica.proofs.Saying.{one_packet, packets_then}
+use Rattle.rp_replica.proofs.Queueing.{one_packet, packets_then}
 use Rattle.rp_replica.proofs.applying.reply_to.Goals.{then-awaits, else-awaits}
 use Rattle.rp_replica.proofs.applying.reply_to.Goals as goal
 
@@ -41,8 +41,8 @@ loop-answer-preserved c =
           let long : length (replies_to me pending (take i given)) + 1 ≡ length (replies_to me pending (take (i + 1) given)) =
           sym (length-append (replies_to me pending (take i given)) (reply ∷ [])) ∙ ap length more in
           let out_is : c.if-awaits.out ≡ w.reply.new.self = w.out-is in
-          let room : c.loop-answer.out.room ≤ c.if-awaits.out.room + 40 = subst (λ (out : RoomyRun). c.loop-answer.out.room ≤ out.room + 40) (sym out_is) w.reply.ensures.room in (
-            ap (λ (out : RoomyRun). out.run) out_is
+          let room : c.loop-answer.out.room ≤ c.if-awaits.out.room + 40 = subst (λ (out : BufferState). c.loop-answer.out.room ≤ out.room + 40) (sym out_is) w.reply.ensures.room in (
+            ap (λ (out : BufferState). out.run) out_is
                 ∙ w.reply.ensures.run
                 ∙ ap (λ (run : Run). with_packet run reply) c.loop-answer.invariant.0
                 ∙ one_packet (with_packets start (replies_to me pending (take i given))) reply
@@ -53,7 +53,7 @@ loop-answer-preserved c =
       | else-awaits w ↦
           let same : replies_to me pending (take i given) ≡ replies_to me pending (take (i + 1) given) =
           replies_no_more me pending given i answer c.loop-answer-test.true c.answer-item.is (sym c.awaits.ensures.value ∙ w.if-awaits.false) in
-          let So : List Message → RoomyRun → Type 0 = λ so_far out. (out.run ≡ with_packets start so_far) × (c.args.out.now.room ≤ out.room + 40 * length so_far) in
+          let So : List Message → BufferState → Type 0 = λ so_far out. (out.run ≡ with_packets start so_far) × (c.args.out.now.room ≤ out.room + 40 * length so_far) in
           subst (λ (so_far : List Message). So so_far c.if-awaits.out) same
-          (subst (λ (out : RoomyRun). So (replies_to me pending (take i given)) out) (sym w.out-is) c.loop-answer.invariant)
+          (subst (λ (out : BufferState). So (replies_to me pending (take i given)) out) (sym w.out-is) c.loop-answer.invariant)
     ]

@@ -3,8 +3,8 @@ use Rattle.std.proofs.lemmas.List.{take_more}
 use Rattle.rp_base.specs.declared.record.Rec.{Rec}
 use Rattle.rp_base.specs.declared.record.Rec.TheVariants.{Learned}
 use Rattle.rp_learner.specs.Learning.{Learning}
-use Rattle.rp_replica.specs.Tied.{IsLearner}
-use Rattle.rp_replica.proofs.Settling.{learns_more, learns_none, tells_none}
+use Rattle.rp_replica.specs.Invariant.{IsLearner}
+use Rattle.rp_replica.proofs.Settling.{learns_more, learns_none, learned_none}
 use Rattle.rp_replica.proofs.opening.learner_of.Goals as goal
 use Rattle.rp_replica.proofs.opening.learner_of.Goals.{in-Learned, in_default}
 
@@ -26,5 +26,5 @@ loop-rec-preserved c =
       | in_default w ↦
           subst (λ (l : Learning). IsLearner c.args.config (take (k + 1) records) 0 l []) (sym w.learner-is)
           (subst (λ (rs : List Rec). IsLearner c.args.config rs 0 c.loop-rec.learner []) (sym longer)
-          (learns_none c.args.config (take k records) rec 0 c.loop-rec.learner [] (tells_none rec w.in_default.not-Learned) c.loop-rec.invariant))
+          (learns_none c.args.config (take k records) rec 0 c.loop-rec.learner [] (learned_none rec w.in_default.not-Learned) c.loop-rec.invariant))
     ]

@@ -1,5 +1,5 @@
 use Rattle.std.proofs.Common.{[], take}
-use Rattle.rp_replica.specs.Tied.{IsLearner}
+use Rattle.rp_replica.specs.Invariant.{IsLearner}
 use Rattle.rp_replica.proofs.opening.learner_of.Given as goal
 
 abbrev pub invariant-loop-rec : goal.invariant-loop-rec

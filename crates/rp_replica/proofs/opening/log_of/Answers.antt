@@ -5,7 +5,7 @@ use Rattle.rp_base.specs.declared.record.Rec.TheVariants.{Learned}
 use Rattle.rp_log.specs.Contents.{Contents, action_at, with_room, with_action}
 use Rattle.rp_log.specs.Recorded.{LearnedAlike}
 use Rattle.rp_log.proofs.RecordedRuns.{learned_with, reserved_alike}
-use Rattle.rp_replica.proofs.Settling.{alike_none, tells_none, taken_same, none_learned}
+use Rattle.rp_replica.proofs.Settling.{alike_none, learned_none, taken_same, none_learned}
 use Rattle.rp_replica.proofs.opening.log_of.Goals as goal
 use Rattle.rp_replica.proofs.opening.log_of.Goals.{in-Learned+in_ok-reserve, in_default}
 
@@ -34,7 +34,7 @@ loop-rec-preserved c =
       | in_default w ↦ (
         subst (λ (l : Contents). LearnedAlike (take (k + 1) records) l) (sym w.log-is)
             (subst (λ (rs : List Rec). LearnedAlike rs c.loop-rec.log) (sym longer)
-            (alike_none (take k records) rec c.loop-rec.log (tells_none rec w.in_default.not-Learned) c.loop-rec.invariant.0)),
+            (alike_none (take k records) rec c.loop-rec.log (learned_none rec w.in_default.not-Learned) c.loop-rec.invariant.0)),
         ap (λ (l : Contents). l.taken) w.log-is ∙ c.loop-rec.invariant.1,
       )
     ]

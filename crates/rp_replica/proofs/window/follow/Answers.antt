@@ -1,4 +1,4 @@
--- The window begins behind what was taken, and its marks are what the log learned.
+-- The window begins after what was taken, and its marks are what the log learned.
 use Rattle.std.proofs.Common.{◌≡◌, ◌∙◌, ◌+◌, ◌-◌, ℕ, None, is_some, inl, inr, sym, ap, subst, lt-ltb, arith}
 use Rattle.std.specs.Prelude.{nat_eq, nat_le, nat_lt, filter}
 use Rattle.std.specs.List.{list_any}
@@ -9,7 +9,7 @@ use Rattle.rp_base.specs.Promises.{HeardVote}
 use Rattle.rp_base.specs.Sets.{SameMembers}
 use Rattle.rp_learner.specs.Places.{window}
 use Rattle.rp_log.specs.Contents.{action_at, next_to_take, ready_of}
-use Rattle.rp_replica.specs.Tied.{IsSettledAlike}
+use Rattle.rp_replica.specs.Invariant.{IsSettledAlike}
 use Rattle.rp_replica.proofs.window.follow.Goals as goal
 
 pub returns : goal.returns

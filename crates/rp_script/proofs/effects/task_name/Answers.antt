@@ -2,7 +2,7 @@
 use Rattle.std.proofs.Common.{◌≡◌, ◌≤◌, ◌-◌, Some, None, rules, sym, ap, ◌∙◌}
 use Rattle.std.specs.Prelude.{slice_get, string_bytes}
 use Rattle.rp_script.specs.Trace.{or_nothing}
-use Rattle.rp_script.proofs.Telling.{name_at}
+use Rattle.rp_script.proofs.PrintedNames.{name_at}
 use Rattle.rp_script.proofs.effects.task_name.Goals as goal
 
 pub returns-in-Some : goal.returns-in-Some

@@ -5,7 +5,7 @@ use Rattle.rp_script.specs.Faults.{IsRunFault}
 use Rattle.rp_script.specs.Output.{Play, opening_play, command_said, script_said}
 use Rattle.rp_script.specs.Runs.{opening_setup, run_setting}
 use Rattle.rp_deck.specs.declared.deck.Line.{Line}
-use Rattle.rp_script.proofs.Saying.{sets_out, goes_on, fails, ends, script_ends, script_more}
+use Rattle.rp_script.proofs.RunParts.{sets_out, goes_on, fails, ends, script_ends, script_more}
 use Rattle.rp_script.proofs.Stepping.{faulted, same_setting, same_trans, opening_parts, never_rises}
 use Rattle.rp_script.proofs.Writing.{writes_nothing, writes_failed}
 use Rattle.rp_script.proofs.run.run_lines.Goals as goal
@@ -74,7 +74,7 @@ loop-line-preserved g c =
     let now = so_far.said.play in
     let same = same_setting m.next m.answers m.begin m.image options opening run.cluster c.loop-line.invariant.setup in
     let said = c.in_ok-taken.ensures.said now so_far.follows in
-    let came = rw same at said in
+    let resulted = rw same at said in
     record {
       parts = c.in_ok-taken.ensures.parts;
       setup = same_trans opening run.cluster c.take-taken.new.self.cluster c.loop-line.invariant.setup c.take-taken.ensures.setup;
@@ -83,7 +83,7 @@ loop-line-preserved g c =
           (script_said s most (opening_play s) lines) (λ (p : Play). script_said s most p (drop i lines)) so_far
           (command_said s most line.number now line.command) (λ (p : Play). script_said s most p (drop (i + 1) lines))
           (ap (λ (rest : List Line). script_said s most now rest) here ∙ script_more s most now line (drop (i + 1) lines))
-          came.0 came.1;
+          resulted.0 resulted.1;
     }
 
 pub returns-clause-output : goal.returns-clause-output

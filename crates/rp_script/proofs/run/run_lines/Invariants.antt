@@ -2,7 +2,7 @@ use Rattle.std.proofs.Common.{drop}
 use Rattle.rp_world.specs.Steps.{IsSameSetup}
 use Rattle.rp_script.specs.Output.{opening_play, script_said}
 use Rattle.rp_script.specs.Runs.{HasParts, opening_setup, run_setting}
-use Rattle.rp_script.proofs.Saying.{Underway}
+use Rattle.rp_script.proofs.RunParts.{Underway}
 use Rattle.rp_script.proofs.run.run_lines.Given as goal
 
 -- what was written so far, and then what the lines that are left print, is the output of the script

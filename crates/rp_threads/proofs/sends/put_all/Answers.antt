@@ -1,7 +1,7 @@
 -- Where there is none nothing is put. One packet alone is put as it is, and of several each is copied.
 use Rattle.std.proofs.Common.{◌≡◌, List, ℕ, ◌∙◌, sym, subst}
 use Rattle.std.specs.Prelude.{OnOk}
-use Rattle.rp_boxes.specs.Seats.{Chair}
+use Rattle.rp_boxes.specs.Seats.{SeatState}
 use Rattle.rp_codec.specs.declared.packet.Party.TheVariants.{Node}
 use Rattle.rp_threads.specs.Turns.{AreOffered, IsAllOffered}
 use Rattle.rp_threads.proofs.Offers.{sent_alone, none_is_offered, one_is_offered, all_if_offered}
@@ -28,7 +28,7 @@ returns-clause-offered g c =
     let seat = c.args.seat.now in
     let result = c.put_each-put.result in
     let texts = subst (λ (bytes : List ℕ). OnOk result (AreOffered m.next m.answers m.begin (Node c.put_each-put.new.seat.number) c.put_each-put.new.seat bytes)) c.as_slice.ensures.value c.put_each-put.ensures.offered in
-    let here = subst (λ (chair : Chair g.row.M-Program.Denot). OnOk result (AreOffered m.next m.answers m.begin (Node chair.number) chair c.args.sent.bytes.items)) c.put_each-put.ensures.unchanged texts in
+    let here = subst (λ (seat_state : SeatState g.row.M-Program.Denot). OnOk result (AreOffered m.next m.answers m.begin (Node seat_state.number) seat_state c.args.sent.bytes.items)) c.put_each-put.ensures.unchanged texts in
     let all = all_if_offered m.next m.answers m.begin (Node seat.number) c.one_text.ensures seat c.args.sent c.sends_packets.ensures result here in
     let same : c.lend-2.new.self ≡ seat = c.lend-2.ensures ∙ c.put_each-put.ensures.unchanged in
-    subst (λ (chair : Chair g.row.M-Program.Denot). OnOk result (IsAllOffered m.next m.answers m.begin (Node chair.number) chair c.args.sent)) (sym same) all
+    subst (λ (seat_state : SeatState g.row.M-Program.Denot). OnOk result (IsAllOffered m.next m.answers m.begin (Node seat_state.number) seat_state c.args.sent)) (sym same) all

@@ -1,8 +1,8 @@
--- The text of the first packet is cut off and put, as long as there is one.
+-- The text of the first packet is split off and put, as long as there is one.
 use Rattle.std.proofs.Common.{◌≡◌, ℕ, List, take, refl, ◌∙◌, sym, ap, subst}
 use Rattle.rp_codec.specs.declared.packet.Party.TheVariants.{Node}
 use Rattle.rp_boxes.specs.Parts.{Part}
-use Rattle.rp_boxes.specs.Seats.{Chair, IsSentText}
+use Rattle.rp_boxes.specs.Seats.{SeatState, IsSentText}
 use Rattle.rp_threads.specs.Turns.{AreOffered, AreSentTexts, IsOffered}
 use Rattle.rp_threads.proofs.Cuts.{begins, is_first, none_left, some_left}
 use Rattle.rp_threads.proofs.Offers.{IsPartOffered, none_offered, one_more_offered, all_offered}
@@ -25,7 +25,7 @@ split_at-requires g c =
 pub put_copy-requires : goal.put_copy-requires
 put_copy-requires g c =
     let first = is_first c.args.seat.now.part c.packets.rest.now c.text_len.result c.sends_packets.ensures c.packets.invariant.texts (some_left c.packets.rest.now c.is_empty.result c.is_empty.ensures c.packets-test.true) c.text_len.ensures in
-    subst (λ (part : Part). IsSentText part c.split_at.result.0.now) (sym (ap (λ (chair : Chair g.row.M-Program.Denot). chair.part) c.packets.invariant.same))
+    subst (λ (part : Part). IsSentText part c.split_at.result.0.now) (sym (ap (λ (seat_state : SeatState g.row.M-Program.Denot). seat_state.part) c.packets.invariant.same))
     (subst (IsSentText c.args.seat.now.part) (sym c.split_at.ensures.front) first.text)
 
 pub packets-preserved : goal.packets-preserved
@@ -37,7 +37,7 @@ packets-preserved g c =
     let first = is_first seat.part rest len c.sends_packets.ensures c.packets.invariant.texts (some_left rest c.is_empty.result c.is_empty.ensures c.packets-test.true) c.text_len.ensures in
     let same : c.put_copy.new.seat ≡ seat = c.put_copy.ensures.unchanged ∙ c.packets.invariant.same in
     let offered : IsOffered m.next m.answers m.begin (Node seat.number) seat (take len rest) =
-    subst (λ (chair : Chair g.row.M-Program.Denot). IsOffered m.next m.answers m.begin (Node chair.number) chair (take len rest)) same
+    subst (λ (seat_state : SeatState g.row.M-Program.Denot). IsOffered m.next m.answers m.begin (Node seat_state.number) seat_state (take len rest)) same
     (subst (λ (text : List ℕ). IsOffered m.next m.answers m.begin (Node c.put_copy.new.seat.number) c.put_copy.new.seat text) c.split_at.ensures.front c.in_ok-put_copy.ensures.offered) in
     let more = one_more_offered m.next m.answers m.begin (Node seat.number) seat c.args.texts.now rest len c.packets.invariant.offered first.text offered in
     record {
@@ -53,4 +53,4 @@ returns-clause-offered g c =
     let inv = c.packets.invariant in
     let none = none_left c.packets.rest.now c.is_empty.result c.is_empty.ensures c.packets-test.false in
     let all = all_offered m.next m.answers m.begin (Node seat.number) seat c.args.texts.now c.packets.rest.now inv.offered none in
-    subst (λ (chair : Chair g.row.M-Program.Denot). AreOffered m.next m.answers m.begin (Node chair.number) chair c.args.texts.now) (sym inv.same) all
+    subst (λ (seat_state : SeatState g.row.M-Program.Denot). AreOffered m.next m.answers m.begin (Node seat_state.number) seat_state c.args.texts.now) (sym inv.same) all

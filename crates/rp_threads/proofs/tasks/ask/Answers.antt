@@ -25,8 +25,8 @@ returns-in_err-make-clause-err g c =
     let here = slice_get_read a.calls.now (length a.calls.now) made c.in-Some.call.now refl found.3.0 found.1 in
     let call = c.in-Some.call.now in
     let fits : FitsSigned w64 call.arg = search rules in
-    let told = subst (λ (z : ℤ). IsNoTaskTurn a.seat.now (Submit call.node call.object call.operation z) now fault) (to_z-of_z w64 call.arg fits) c.in_err-make.ensures.err in
-    let refused = subst (λ (o : Option TaskCall). IsRefused (submitted o) a.seat.now now fault) (sym here) told in
+    let stated = subst (λ (z : ℤ). IsNoTaskTurn a.seat.now (Submit call.node call.object call.operation z) now fault) (to_z-of_z w64 call.arg fits) c.in_err-make.ensures.err in
+    let refused = subst (λ (o : Option TaskCall). IsRefused (submitted o) a.seat.now now fault) (sym here) stated in
     let asked = subst (λ (b : Bool). IsRefused (asked_by b a.nodes a.calls.now made a.turn) a.seat.now now fault) (sym c.if-so_far.false) refused in
     at_fault (λ (e : Fault). (a.so_far.now ≡ a.so_far.now) × IsRefused (asked_by a.so_far.now.waits a.nodes a.calls.now made a.turn) a.seat.now now e) fault
     c.from_residual-in_err-make.result c.from_residual-in_err-make.ensures.1 (refl, asked)
@@ -50,8 +50,8 @@ returns-in_ok-make-clause-ok g c =
     let here = slice_get_read a.calls.now (length a.calls.now) made c.in-Some.call.now refl found.3.0 found.1 in
     let call = c.in-Some.call.now in
     let fits : FitsSigned w64 call.arg = search rules in
-    let told = subst (λ (z : ℤ). Asks m.next m.answers m.begin (Some (Submit call.node call.object call.operation z)) a.seat.now now) (to_z-of_z w64 call.arg fits) c.in_ok-make.ensures.ok in
-    let asks = subst (λ (o : Option TaskCall). Asks m.next m.answers m.begin (submitted o) a.seat.now now) (sym here) told in
+    let stated = subst (λ (z : ℤ). Asks m.next m.answers m.begin (Some (Submit call.node call.object call.operation z)) a.seat.now now) (to_z-of_z w64 call.arg fits) c.in_ok-make.ensures.ok in
+    let asks = subst (λ (o : Option TaskCall). Asks m.next m.answers m.begin (submitted o) a.seat.now now) (sym here) stated in
     subst (λ (b : Bool). Asks m.next m.answers m.begin (asked_by b a.nodes a.calls.now made a.turn) a.seat.now now) (sym c.if-so_far.false) asks
 
 pub returns-in_ok-make-clause-made : goal.returns-in_ok-make-clause-made

@@ -1,6 +1,6 @@
 -- The packet of the step is put.
 use Rattle.std.proofs.Common.{sym, subst}
-use Rattle.rp_boxes.specs.Seats.{Chair}
+use Rattle.rp_boxes.specs.Seats.{SeatState}
 use Rattle.rp_boxes.specs.TaskSeats.{IsTaskTurn}
 use Rattle.rp_model.specs.Tasks.{Again}
 use Rattle.rp_threads.proofs.TaskSteps.{sent_once, few_of_again, asked_by_turn}
@@ -17,5 +17,5 @@ returns-clause-ok g c =
     let m = g.M.Machine in
     let old = c.args.seat.now in
     let seat = c.put_sent.new.seat in
-    let turn = subst (λ (now : Chair g.row.M-Program.Denot). IsTaskTurn old (Again c.args.node) now c.in_ok-sent.sent) (sym c.put_sent.ensures.unchanged) c.in_ok-sent.ensures.ok in
+    let turn = subst (λ (now : SeatState g.row.M-Program.Denot). IsTaskTurn old (Again c.args.node) now c.in_ok-sent.sent) (sym c.put_sent.ensures.unchanged) c.in_ok-sent.ensures.ok in
     asked_by_turn old seat c.in_ok-sent.sent m.next m.answers m.begin (Again c.args.node) turn c.put_sent.ensures.offered

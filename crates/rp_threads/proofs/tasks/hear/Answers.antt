@@ -1,6 +1,6 @@
 -- What the line gives on is the text of a packet that the seat got.
 use Rattle.std.proofs.Common.{◌≡◌, Some, Option, Bool, false, List, ℕ, refl, sym, ap, subst}
-use Rattle.rp_boxes.specs.Seats.{Chair}
+use Rattle.rp_boxes.specs.Seats.{SeatState}
 use Rattle.rp_boxes.specs.TaskSeats.{IsReplyTurn}
 use Rattle.rp_threads.specs.Lines.{given_on}
 use Rattle.rp_threads.specs.TaskRounds.{Hears}
@@ -12,14 +12,14 @@ returns-in_err-taken-in-Some-clause-held g c =
     let line = c.args.line.now in
     let is = is_after line c.release.new.self line.held refl c.release.ensures.after c.release.ensures.empty in
     after_holds c.args.seat.now.part.got c.reply.new.self.part.got line c.release.new.self c.gives_what_it_took.ensures.released c.requires.held is
-    (ap (λ (seat : Chair g.row.M-Program.Denot). seat.part.got) c.in_err-taken-in-Some.ensures.err.1)
+    (ap (λ (seat : SeatState g.row.M-Program.Denot). seat.part.got) c.in_err-taken-in-Some.ensures.err.1)
 
 pub returns-in_ok-taken-in-Some-clause-held : goal.returns-in_ok-taken-in-Some-clause-held
 returns-in_ok-taken-in-Some-clause-held g c =
     let line = c.args.line.now in
     let is = is_after line c.release.new.self line.held refl c.release.ensures.after c.release.ensures.empty in
     after_holds c.args.seat.now.part.got c.reply.new.self.part.got line c.release.new.self c.gives_what_it_took.ensures.released c.requires.held is
-    (ap (λ (seat : Chair g.row.M-Program.Denot). seat.part.got) c.in_ok-taken-in-Some.ensures.ok.after)
+    (ap (λ (seat : SeatState g.row.M-Program.Denot). seat.part.got) c.in_ok-taken-in-Some.ensures.ok.after)
 
 pub returns-in_ok-taken-in-Some-clause-ok : goal.returns-in_ok-taken-in-Some-clause-ok
 returns-in_ok-taken-in-Some-clause-ok g c =

@@ -2,7 +2,7 @@
 use Rattle.std.proofs.Common.{sym, subst, ℤ, w64}
 use Rattle.std.proofs.lemmas.Int.{to_z-of_z}
 use Rattle.rp_boxes.specs.TaskSeats.{IsTaskTurn}
-use Rattle.rp_boxes.specs.Seats.{Chair}
+use Rattle.rp_boxes.specs.Seats.{SeatState}
 use Rattle.rp_model.specs.Tasks.{Submit}
 use Rattle.rp_threads.proofs.TaskSteps.{sent_once, few_of_call, asked_by_turn}
 use Rattle.rp_threads.proofs.tasks.make.Goals as goal
@@ -22,7 +22,7 @@ returns-clause-ok g c =
     let m = g.M.Machine in
     let a = c.args in
     let sent = c.in_ok-sent.sent in
-    let told = subst (λ (z : ℤ). IsTaskTurn a.seat.now (Submit a.node a.object a.operation z) c.call.new.self sent) (to_z-of_z w64 a.arg c.ranges.arg) c.in_ok-sent.ensures.ok in
+    let stated = subst (λ (z : ℤ). IsTaskTurn a.seat.now (Submit a.node a.object a.operation z) c.call.new.self sent) (to_z-of_z w64 a.arg c.ranges.arg) c.in_ok-sent.ensures.ok in
     let seat = c.put_sent.new.seat in
-    let turn = subst (λ (now : Chair g.row.M-Program.Denot). IsTaskTurn a.seat.now (Submit a.node a.object a.operation a.arg) now sent) (sym c.put_sent.ensures.unchanged) told in
+    let turn = subst (λ (now : SeatState g.row.M-Program.Denot). IsTaskTurn a.seat.now (Submit a.node a.object a.operation a.arg) now sent) (sym c.put_sent.ensures.unchanged) stated in
     asked_by_turn a.seat.now seat sent m.next m.answers m.begin (Submit a.node a.object a.operation a.arg) turn c.put_sent.ensures.offered

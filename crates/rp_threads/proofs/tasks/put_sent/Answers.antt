@@ -1,6 +1,6 @@
 -- The bytes are the text of the one packet, if there is one.
 use Rattle.std.proofs.Common.{◌≡◌, ◌≢◌, sym, subst, arith}
-use Rattle.rp_boxes.specs.Seats.{Chair}
+use Rattle.rp_boxes.specs.Seats.{SeatState}
 use Rattle.rp_codec.specs.declared.packet.Party.TheVariants.{Task}
 use Rattle.rp_threads.specs.Turns.{IsAllOffered}
 use Rattle.rp_threads.proofs.Offers.{sent_alone, one_is_offered, none_is_offered}

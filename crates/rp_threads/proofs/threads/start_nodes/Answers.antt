@@ -18,11 +18,11 @@ loop-start-preserved g c =
     let was = c.loop-start.invariant in
     let rest = c.loop-start.start-iterator.rest.items in
     let steps = c.in-Some.ensures.steps.0 in
-    let told = c.in_ok-start_node.ensures in
+    let stated = c.in_ok-start_node.ensures in
     record {
       started = one_more_zipped (λ start handle. (handle.promise.seat.value ≡ start.seat) × (handle.promise.line.value ≡ start.line) × (handle.promise.nodes ≡ c.args.nodes) × (handle.promise.turns ≡ c.args.turns)) c.args.starts.items
           rest c.next.new.self.rest.items c.loop-start.handles.items c.push.new.self.items c.in-Some.start c.in_ok-start_node.field-0
-          was.started steps c.in_ok-push.ensures.items (told.seat, told.line, told.nodes, told.turns);
+          was.started steps c.in_ok-push.ensures.items (stated.seat, stated.line, stated.nodes, stated.turns);
       lines = rest_of (λ start. start.line.held ≡ []) rest c.in-Some.start c.next.new.self.rest.items steps was.lines;
     }
 

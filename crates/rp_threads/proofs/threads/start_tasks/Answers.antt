@@ -22,11 +22,11 @@ loop-start-preserved g c =
     let rest = c.loop-start.start-iterator.rest.items in
     let rest' = c.next.new.self.rest.items in
     let steps = c.in-Some.ensures.steps.0 in
-    let told = c.in_ok-start_task.ensures in
+    let stated = c.in_ok-start_task.ensures in
     record {
       started = one_more_zipped (λ start handle. (handle.promise.seat.value ≡ start.seat) × (handle.promise.calls.value ≡ start.calls) × (handle.promise.line.value ≡ start.line) × (handle.promise.nodes ≡ c.args.nodes) × (handle.promise.turns ≡ c.args.turns)) c.args.starts.items
           rest rest' c.loop-start.handles.items c.push.new.self.items c.in-Some.start c.in_ok-start_task.field-0
-          was.started steps c.in_ok-push.ensures.items (told.seat, told.calls, told.line, told.nodes, told.turns);
+          was.started steps c.in_ok-push.ensures.items (stated.seat, stated.calls, stated.line, stated.nodes, stated.turns);
       lines = rest_of (λ start. start.line.held ≡ []) rest c.in-Some.start rest' steps was.lines;
       fresh = rest_of (λ start. start.seat.part ≡ fresh_part (OfTask fresh_task)) rest c.in-Some.start rest' steps was.fresh;
     }

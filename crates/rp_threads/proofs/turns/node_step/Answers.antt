@@ -1,6 +1,6 @@
 -- The step is the seat's turn, and its packets are put.
 use Rattle.std.proofs.Common.{◌≡◌, inl, inr, refl, sym, subst}
-use Rattle.rp_boxes.specs.Seats.{Chair, IsTurn}
+use Rattle.rp_boxes.specs.Seats.{SeatState, IsTurn}
 use Rattle.rp_base.specs.declared.fault.Fault.{Fault}
 use Rattle.rp_base.specs.declared.fault.Fault.TheVariants.{OutOfMemory}
 use Rattle.rp_boxes.proofs.TaskTurns.{at_fault}
@@ -18,7 +18,7 @@ returns-clause-ok g c =
     let m = g.M.Machine in
     let old = c.args.seat.now in
     let seat = c.put_all.new.seat in
-    let turn = subst (λ (now : Chair g.row.M-Program.Denot). IsTurn m.next m.answers m.begin old c.args.input.now now c.in_ok-sent.sent) (sym c.put_all.ensures.unchanged) c.in_ok-sent.ensures.ok in
+    let turn = subst (λ (now : SeatState g.row.M-Program.Denot). IsTurn m.next m.answers m.begin old c.args.input.now now c.in_ok-sent.sent) (sym c.put_all.ensures.unchanged) c.in_ok-sent.ensures.ok in
     event_by m.next m.answers m.begin old seat c.args.input.now c.in_ok-sent.sent turn c.in_ok-put_all.ensures.offered
 
 pub returns-in_err-put_all-clause-err : goal.returns-in_err-put_all-clause-err
@@ -26,7 +26,7 @@ returns-in_err-put_all-clause-err g c =
     let m = g.M.Machine in
     let old = c.args.seat.now in
     let seat = c.put_all.new.seat in
-    let turn = subst (λ (now : Chair g.row.M-Program.Denot). IsTurn m.next m.answers m.begin old c.args.input.now now c.in_ok-sent.sent) (sym c.put_all.ensures.unchanged) c.in_ok-sent.ensures.ok in
+    let turn = subst (λ (now : SeatState g.row.M-Program.Denot). IsTurn m.next m.answers m.begin old c.args.input.now now c.in_ok-sent.sent) (sym c.put_all.ensures.unchanged) c.in_ok-sent.ensures.ok in
     at_fault (λ (e : Fault). IsStopBy m.next m.answers m.begin (λ given. given ≡ c.args.input.now) old seat e) OutOfMemory c.from_residual-in_err-put_all.result
     c.from_residual-in_err-put_all.ensures.1
     (record { input = c.args.input.now; is = refl; why = inr (inr (record { memory = refl; sent = c.in_ok-sent.sent; turn = turn })) })

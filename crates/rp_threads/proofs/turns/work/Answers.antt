@@ -1,6 +1,6 @@
 -- What the line gives on is the text of a packet that the seat got.
 use Rattle.std.proofs.Common.{refl, sym, subst}
-use Rattle.rp_boxes.specs.Seats.{Chair}
+use Rattle.rp_boxes.specs.Seats.{SeatState}
 use Rattle.rp_threads.specs.Lines.{HoldsTextsOf, IsTextAmong, given_on}
 use Rattle.rp_threads.specs.Turns.{Works}
 use Rattle.rp_threads.proofs.Texts.{is_after, after_holds, given_holds}
@@ -29,13 +29,13 @@ pub returns-in_ok-sent-in-Some-clause-held : goal.returns-in_ok-sent-in-Some-cla
 returns-in_ok-sent-in-Some-clause-held g c =
     let line = c.args.line.now in
     let is = is_after line c.release.new.self line.held refl c.release.ensures.after c.release.ensures.empty in
-    subst (λ (chair : Chair g.row.M-Program.Denot). HoldsTextsOf chair.part.got c.release.new.self) (sym c.lend.ensures)
+    subst (λ (seat_state : SeatState g.row.M-Program.Denot). HoldsTextsOf seat_state.part.got c.release.new.self) (sym c.lend.ensures)
     (after_holds c.args.seat.now.part.got c.node_step.new.seat.part.got line c.release.new.self c.gives_what_it_took.ensures.released c.requires.held is c.node_step.ensures.got)
 
 pub returns-in_ok-sent-in-Some-clause-ok : goal.returns-in_ok-sent-in-Some-clause-ok
 returns-in_ok-sent-in-Some-clause-ok g c =
     let m = g.M.Machine in
-    subst (λ (chair : Chair g.row.M-Program.Denot). Works m.next m.answers m.begin (given_on c.args.line.now) c.args.lead c.args.seat.now chair c.in_ok-sent-in-Some.sent) (sym c.lend.ensures)
+    subst (λ (seat_state : SeatState g.row.M-Program.Denot). Works m.next m.answers m.begin (given_on c.args.line.now) c.args.lead c.args.seat.now seat_state c.in_ok-sent-in-Some.sent) (sym c.lend.ensures)
     (received m.next m.answers m.begin (given_on c.args.line.now) c.in-Some.packet.items c.args.lead _ c.args.seat.now c.node_step.new.seat c.in_ok-sent-in-Some.sent
     (sym c.in-Some.ensures.packet) c.as_slice.ensures.value c.in_ok-sent-in-Some.ensures.ok)
 

@@ -1,4 +1,4 @@
--- The task sent what its call told.
+-- The task sent its call.
 use Rattle.rp_threads_tests.proofs.Asking.{sent_if}
 use Rattle.rp_threads_tests.proofs.seats.first_call.Goals as goal
 

@@ -1,4 +1,4 @@
--- Every history leads to a world that meets the invariant.
+-- Every history leads to a world that satisfies the invariant.
 use Rattle.rp_agreement.specs.Answered.{setting_for}
 use Rattle.rp_world.proofs.Sounding.{agreed, ordered}
 use Rattle.rp_world.proofs.headline.histories_are_ordered.Goals as goal
@@ -14,6 +14,6 @@ pub returns-clause-ordered : goal.returns-clause-ordered
 returns-clause-ordered g c = λ config program events world history.
     let m = g.M.Machine in
     let s = setting_for m.next m.answers m.begin config program in
-    let tells = c.replies_tell_the_order.ensures in
+    let describes = c.replies_follow_the_order.ensures in
     ordered s c.the_order_exists.ensures c.applied_lists_begin_the_order.ensures
-    (c.replies_answer_calls_that_count.ensures config program) (c.calls_count_in_turn.ensures config program) (c.only_made_calls_count.ensures config program) (c.a_call_has_one_place.ensures (m.begin program)) world (tells.histories s events world history)
+    (c.replies_answer_calls_that_count.ensures config program) (c.calls_count_in_order.ensures config program) (c.only_made_calls_count.ensures config program) (c.a_call_has_one_place.ensures (m.begin program)) world (describes.histories s events world history)

@@ -4,7 +4,7 @@ use Rattle.rp_world.specs.Messages.{packets_in}
 use Rattle.rp_world.proofs.Joined.{Walked}
 use Rattle.rp_world.proofs.messages.add_ends.Given as goal
 
--- the ends of the texts so far stand behind the others, and there is room for the rest
+-- the ends of the texts so far are after the others, and there is room for the rest
 abbrev pub invariant-loop-place : goal.invariant-loop-place
 invariant-loop-place l = record {
   walked : Walked l.bytes l.from (packets_in l.count (drop l.from l.bytes)) l.initial.ends.items l.place l.at l.ends.items;

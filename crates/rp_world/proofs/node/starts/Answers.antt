@@ -1,6 +1,6 @@
 use Rattle.rp_model.specs.Effect.{restart_part}
 use Rattle.rp_world.specs.Nodes.{member_of}
-use Rattle.rp_world.proofs.Standing.{stands, starts_again, refused}
+use Rattle.rp_world.proofs.Represented.{represents, starts_again, refused}
 use Rattle.rp_world.proofs.Failing.{opening_counted}
 use Rattle.rp_world.proofs.node.starts.Goals as goal
 
@@ -10,7 +10,7 @@ returns-in-Ok-clause-ok g c = λ part rests.
     let disk = g.D.Device.disk in
     let member = member_of c.args.me c.args.config (m.begin c.args.program.now) in
     let again = starts_again member (disk c.args.device) c.in-Ok.opening.replica c.in-Ok.opening.records c.in-Ok.opening.cut_bytes c.in-Ok.ensures.ok part rests in
-    (stands member c.in-Ok.opening.replica (restart_part part).part again.0, again.1)
+    (represents member c.in-Ok.opening.replica (restart_part part).part again.0, again.1)
 
 pub returns-in-Err-clause-err : goal.returns-in-Err-clause-err
 returns-in-Err-clause-err g c = λ part rests.

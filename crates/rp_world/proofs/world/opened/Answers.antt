@@ -2,7 +2,7 @@ use Rattle.std.proofs.Common.{◌≡◌, ◌+◌, ℕ, suc, length, map, slice_g
 use Rattle.std.specs.Prelude.{IfSome}
 use Rattle.std.proofs.lemmas.List.{length-append}
 use Rattle.rp_model.specs.Parts.{fresh_node}
-use Rattle.rp_world.specs.Nodes.{failures_in, member_of, StandsFor}
+use Rattle.rp_world.specs.Nodes.{failures_in, member_of, Represents}
 use Rattle.rp_world.proofs.Moving.{at_if}
 use Rattle.rp_world.proofs.Fresh.{counted_more, first_of, rest_of, one_more}
 use Rattle.rp_world.proofs.world.opened.Goals as goal
@@ -14,7 +14,7 @@ loop-device-init g c =
     let devices = c.into_iter-device-iterator.ensures.into_iter_gives.0 in
     record {
       count = omega (arith, ap length c.new-nodes.ensures.items, ap length devices, c.requires.count);
-      each = subst (λ l. (place : ℕ) → IfSome (slice_get l place) (λ node. StandsFor disk (member_of (suc place) c.args.config begin) node fresh_node)) (sym c.new-nodes.ensures.items) (λ place. tt);
+      each = subst (λ l. (place : ℕ) → IfSome (slice_get l place) (λ node. Represents disk (member_of (suc place) c.args.config begin) node fresh_node)) (sym c.new-nodes.ensures.items) (λ place. tt);
       failures = ap (λ l. map (failures_in disk) l ++ map (λ device. (disk device).failures) c.into_iter-device-iterator.result.rest.items) c.new-nodes.ensures.items ∙ ap (map (λ device. (disk device).failures)) devices;
       empty = subst (All (λ device. (disk device).contents ≡ [])) (sym devices) c.requires.empty;
     }
@@ -35,9 +35,9 @@ loop-device-preserved g c =
     let next : c.unwrap-node.result ≡ suc (length nodes) = omega (arith, number, c.len.ensures, c.loop-device.nodes.ok.0) in
     record {
       count = omega (arith, ap length grown, length-append nodes (node ∷ []), ap length steps, c.loop-device.invariant.count);
-      each = subst (λ l. (place : ℕ) → IfSome (slice_get l place) (λ n. StandsFor disk (member_of (suc place) c.args.config begin) n fresh_node)) (sym grown)
-          (one_more (λ place n. StandsFor disk (member_of (suc place) c.args.config begin) n fresh_node) nodes node c.loop-device.invariant.each
-          (subst (λ (k : ℕ). StandsFor disk (member_of k c.args.config begin) node fresh_node) next c.in_ok-open.ensures.ok));
+      each = subst (λ l. (place : ℕ) → IfSome (slice_get l place) (λ n. Represents disk (member_of (suc place) c.args.config begin) n fresh_node)) (sym grown)
+          (one_more (λ place n. Represents disk (member_of (suc place) c.args.config begin) n fresh_node) nodes node c.loop-device.invariant.each
+          (subst (λ (k : ℕ). Represents disk (member_of k c.args.config begin) node fresh_node) next c.in_ok-open.ensures.ok));
       failures = subst (λ l. map (failures_in disk) l ++ map (λ device. (disk device).failures) c.next.new.self.rest.items ≡ map (λ device. (disk device).failures) c.args.devices.items) (sym grown)
           (counted_more (failures_in disk) (λ device. (disk device).failures) nodes node c.in-Some.device c.next.new.self.rest.items (map (λ device. (disk device).failures) c.args.devices.items) c.in_ok-open.ensures.failures
           (ap (λ l. map (failures_in disk) nodes ++ map (λ device. (disk device).failures) l) (sym steps) ∙ c.loop-device.invariant.failures));

@@ -7,7 +7,7 @@ use Rattle.rp_acceptor.specs.declared.comparison.Comparison.{Comparison}
 use Rattle.rp_acceptor.specs.Comparing.{compared, combined, compared_votes}
 use Rattle.rp_acceptor.specs.Noted.{Noted}
 use Rattle.rp_acceptor.specs.Slots.{ballot_of_vote}
-use Rattle.rp_acceptor.specs.Steps.{held_at}
+use Rattle.rp_acceptor.specs.Steps.{ballot_at}
 use Rattle.rp_acceptor.proofs.Comparing.{compared_same, compared_last, combined_all}
 use Rattle.rp_acceptor.proofs.acceptor.Acceptor.compare.Goals as goal
 
@@ -24,7 +24,7 @@ returns c =
     ∙ sym (compared_last records b (positions_of range) some) in
     c.combined.ensures
     ∙ ap (λ (x : Comparison). combined x c.compare-votes.result) c.compare.ensures
-    ∙ ap (combined (compared (held_at steps) b (positions_of range))) votes
-    ∙ combined_all (held_at steps) (λ i. ballot_of_vote (last_vote_at records i)) b range.first range.count
-    ∙ compared_same (λ i. max (held_at steps i) (ballot_of_vote (last_vote_at records i))) (bound_at records) b range.first range.count (λ i from within. c.self.invariant.bounds i)
+    ∙ ap (combined (compared (ballot_at steps) b (positions_of range))) votes
+    ∙ combined_all (ballot_at steps) (λ i. ballot_of_vote (last_vote_at records i)) b range.first range.count
+    ∙ compared_same (λ i. max (ballot_at steps i) (ballot_of_vote (last_vote_at records i))) (bound_at records) b range.first range.count (λ i from within. c.self.invariant.bounds i)
     ∙ ap (λ (n : Noted). compared (bound_at n.records) b (positions_of range)) c.self.view_is

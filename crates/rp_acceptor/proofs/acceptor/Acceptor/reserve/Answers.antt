@@ -10,7 +10,7 @@ use Rattle.rp_acceptor.proofs.acceptor.Acceptor.reserve.Goals as goal
 pub returns-in_err-make-clause-full : goal.returns-in_err-make-clause-full
 returns-in_err-make-clause-full c =
     on_err c.from_residual.result (λ h.
-    not_reserved c.self.inside.pages.items c.self.inside.votes c.self.inside.records c.index_of.result c.args.position c.index_of.ensures c.self.invariant.kept c.in_err-make.ensures.full
+    not_reserved c.self.inside.pages.items c.self.inside.votes c.self.inside.records c.index_of_position.result c.args.position c.index_of_position.ensures c.self.invariant.kept c.in_err-make.ensures.full
     (c.self.invariant.both c.args.position (subst (λ (n : Noted). Has c.args.position n.reserved) (sym c.self.view_is) h)))
 
 pub invariant_of-self-2 : goal.invariant_of-self-2
@@ -20,6 +20,6 @@ invariant_of-self-2 c =
     let ends = subst (λ (n : ℕ). HasStep c.split_ends.new.steps n × HasStep c.split_ends.new.steps (n + 1)) first c.in_ok-split_ends.ensures.ends in
     subst (λ (l : List ℕ). AreKept c.split_ends.new.steps c.make.new.pages.items (record noted { reserved = l; votes = c.push-2.new.self })) (sym c.push.ensures)
     (subst (λ (l : List ℕ). AreKept c.split_ends.new.steps c.make.new.pages.items (record noted { reserved = noted.reserved ++ c.args.position ∷ []; votes = l })) (sym c.push-2.ensures)
-    (kept_both c.split_ends.new.steps c.self.inside.pages.items c.make.new.pages.items noted c.index_of.result c.args.position c.index_of.ensures
+    (kept_both c.split_ends.new.steps c.self.inside.pages.items c.make.new.pages.items noted c.index_of_position.result c.args.position c.index_of_position.ensures
     c.in_ok-make.ensures.more c.in_ok-make.ensures.made ends
     (kept_split c.self.inside.steps c.split_ends.new.steps c.self.inside.pages.items noted c.in_ok-split_ends.ensures.same c.in_ok-split_ends.ensures.keeps c.self.invariant)))

@@ -13,11 +13,11 @@ pub returns : goal.returns
 returns c = λ records are.
     let first : ℕ = c.args.range.first in
     let count : ℕ = c.args.range.count in
-    let index : ℕ = c.index_of-index.result in
+    let index : ℕ = c.index_of_position-index.result in
     let split : ℕ = c.min-split.result in
     let near : List (Option Vote) = c.places_at.result.now in
     let far : List (Option Vote) = c.places_at-2.result.now in
-    let at : index + 1 ≡ first = c.index_of-index.ensures ∙ c.first.ensures.value in
+    let at : index + 1 ≡ first = c.index_of_position-index.ensures ∙ c.first.ensures.value in
     let many : c.from-count.result ≡ count = c.from-count.ensures ∙ c.count.ensures.value in
     let few = c.min-split.ensures in
     let more : c.from-count.result - split ≡ count - split = ap (λ (n : ℕ). n - split) many in

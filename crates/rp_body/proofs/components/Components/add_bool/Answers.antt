@@ -1,4 +1,4 @@
--- The array has room behind the Booleans that are there.
+-- The array has room after the Booleans that are there.
 use Rattle.std.proofs.Common.{arith, length-set, ◌∙◌}
 use Rattle.rp_body.proofs.Storing.{Holds, bools_counted, bool_added}
 use Rattle.rp_body.proofs.components.Components.add_bool.Goals as goal

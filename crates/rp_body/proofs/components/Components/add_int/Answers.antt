@@ -1,4 +1,4 @@
--- The array has room behind the numbers that are there.
+-- The array has room after the numbers that are there.
 use Rattle.std.proofs.Common.{arith, length-set, ◌∙◌}
 use Rattle.rp_body.proofs.Storing.{Holds, ints_counted, int_added}
 use Rattle.rp_body.proofs.components.Components.add_int.Goals as goal

@@ -9,7 +9,7 @@ use Rattle.rp_codec.specs.declared.packet.Body.TheVariants.{Report}
 use Rattle.rp_codec.specs.declared.packet.Party.TheVariants.{Audit}
 use Rattle.rp_boxes.specs.Audits.{report}
 use Rattle.rp_boxes.specs.Meeting.{AreOfOneOrder}
-use Rattle.rp_boxes.proofs.AuditTells.{of_one_order}
+use Rattle.rp_boxes.proofs.AuditOrder.{of_one_order}
 use Rattle.rp_boxes.proofs.Auditing.{lists}
 use Rattle.rp_boxes.proofs.audit.Audit.add.Goals as goal
 
@@ -30,8 +30,8 @@ join-requires g c =
     let from = c.in-Node.ensures ∙ ap (λ (m : Message). m.from) same in
     let body = ap (λ (actions : List Action). Report c.in-Report.first c.in-Report.applied actions) c.as_slice.ensures
     ∙ (sym c.in-Report.is ∙ (c.body.ensures.value ∙ ap (λ (m : Message). m.body) same)) in
-    let told : report c.in-Node.node c.in-Report.first c.in-Report.applied c.as_slice.result.now ≡ packet = λ i. record { from = from i; to = Audit; body = body i } in
-    record { got = (c.in-Report.applied, subst (λ (m : Message). Has m c.args.self.now.seat.part.got) (sym told) got.4, subst IsPacket (sym told) right) }
+    let stated : report c.in-Node.node c.in-Report.first c.in-Report.applied c.as_slice.result.now ≡ packet = λ i. record { from = from i; to = Audit; body = body i } in
+    record { got = (c.in-Report.applied, subst (λ (m : Message). Has m c.args.self.now.seat.part.got) (sym stated) got.4, subst IsPacket (sym stated) right) }
 
 pub returns-clause-ok : goal.returns-clause-ok
 returns-clause-ok g c =
@@ -43,14 +43,14 @@ returns-clause-ok g c =
     let from = c.in-Node.ensures ∙ ap (λ (m : Message). m.from) same in
     let body = ap (λ (actions : List Action). Report c.in-Report.first c.in-Report.applied actions) c.as_slice.ensures
     ∙ (sym c.in-Report.is ∙ (c.body.ensures.value ∙ ap (λ (m : Message). m.body) same)) in
-    let told : report c.in-Node.node c.in-Report.first c.in-Report.applied c.as_slice.result.now ≡ packet = λ i. record { from = from i; to = Audit; body = body i } in
+    let stated : report c.in-Node.node c.in-Report.first c.in-Report.applied c.as_slice.result.now ≡ packet = λ i. record { from = from i; to = Audit; body = body i } in
     record {
       node = c.in-Node.node;
       first = c.in-Report.first;
       applied = c.in-Report.applied;
       actions = c.as_slice.result.now;
-      right = subst IsPacket (sym told) right;
-      text = got.5 ∙ ap text_of (sym told);
+      right = subst IsPacket (sym stated) right;
+      text = got.5 ∙ ap text_of (sym stated);
       joined = c.in_ok-join.ensures.ok;
     }
 

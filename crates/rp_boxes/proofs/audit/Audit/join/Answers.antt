@@ -3,10 +3,10 @@ use Rattle.std.proofs.Common.{◌≡◌, ◌≤◌, suc, ◌+◌, ◌-◌, List,
 use Rattle.rp_base.specs.Sets.{Has}
 use Rattle.rp_base.specs.declared.action.Action.{Action}
 use Rattle.rp_model.specs.World.{with_part}
-use Rattle.rp_boxes.specs.Audits.{Audited, AreTold, known_of, report, with_reported}
+use Rattle.rp_boxes.specs.Audits.{Audited, AreAllReported, known_of, report, with_reported}
 use Rattle.rp_boxes.specs.Meeting.{AreOfOneOrder}
-use Rattle.rp_boxes.proofs.AuditTells.{of_one_order}
-use Rattle.rp_boxes.proofs.Auditing.{lists, counted, counted_at, known_at, known_here, replaced, still_known, leaves_gap, joins_known, told_after, on_any_error}
+use Rattle.rp_boxes.proofs.AuditOrder.{of_one_order}
+use Rattle.rp_boxes.proofs.Auditing.{lists, counted, counted_at, known_at, known_here, replaced, still_known, leaves_gap, joins_known, stated_after, on_any_error}
 use Rattle.rp_boxes.proofs.audit.Audit.join.Goals as goal
 
 pub returns-then-first-known-clause-ok : goal.returns-then-first-known-clause-ok
@@ -19,13 +19,13 @@ returns-then-first-known-clause-ok g c =
     let list = c.index-self-place.result in
     let here = known_at known c.self.invariant.0.seven node place numbered range.1 list in
     let first : c.from-first.result ≡ c.args.first = c.from-first.ensures ∙ c.get-2.ensures.value in
-    let told = ap (λ audit. known_of audit.known node) c.self.view_is in
-    let count = c.len-known.ensures ∙ (counted (get_or known place list) ∙ (ap length (sym here) ∙ ap length told)) in
+    let stated = ap (λ audit. known_of audit.known node) c.self.view_is in
+    let count = c.len-known.ensures ∙ (counted (get_or known place list) ∙ (ap length (sym here) ∙ ap length stated)) in
     leaves_gap c.args.self.now node c.args.first c.args.actions.now c.len-known.result count (omega (arith, first, c.if-first-known.true))
 
 pub invariant_of-self : goal.invariant_of-self
 invariant_of-self g c = (
-  subst (AreTold c.self.inside.seat.part)
+  subst (AreAllReported c.self.inside.seat.part)
       (sym (still_known c.self.inside.known (c.from-place.result - 1) c.index-self-place-2.result _ c.in_err-put_reported.ensures.err))
       c.self.invariant.0,
   c.self.invariant.1,
@@ -54,8 +54,8 @@ invariant_of-self-2 g c =
     let got = c.requires.got in
     let below : c.args.first ≤ length (known_of (lists known) node) + 1 =
     omega (arith, first, c.if-first-known.false, c.len-known.ensures, counted (get_or known place c.index-self-place.result), ap length (known_at known c.self.invariant.0.seven node place numbered range.1 c.index-self-place.result)) in
-    let told = told_after part (lists known) c.self.invariant.0 node c.args.first got.0 c.args.actions.now (subst (λ audit. Has (report node c.args.first got.0 c.args.actions.now) audit.seat.part.got) (sym c.self.view_is) got.1) got.2 below in
-    (subst (AreTold part) (sym (replaced known c.self.invariant.0.seven node place numbered range.1 _ ∙ ap (with_part (lists known) node) made)) told, c.self.invariant.1)
+    let stated = stated_after part (lists known) c.self.invariant.0 node c.args.first got.0 c.args.actions.now (subst (λ audit. Has (report node c.args.first got.0 c.args.actions.now) audit.seat.part.got) (sym c.self.view_is) got.1) got.2 below in
+    (subst (AreAllReported part) (sym (replaced known c.self.invariant.0.seven node place numbered range.1 _ ∙ ap (with_part (lists known) node) made)) stated, c.self.invariant.1)
 
 pub overflow_cast-result-2 : goal.overflow_cast-result-2
 overflow_cast-result-2 g c =
@@ -82,9 +82,9 @@ returns-clause-ok g c =
     let put = replaced known c.self.invariant.0.seven node place numbered range.1 _ ∙ ap (with_part (lists known) node) made in
     let after = invariant_of-self-2 g c in
     let count = counted_at _ node place numbered range.1 c.index-self-place-3.result c.len-known-2.result c.len-known-2.ensures after.0.seven in
-    let told = ap (λ audit. with_reported (known_of audit.known node) c.args.first c.args.actions.now) c.self.view_is in
+    let stated = ap (λ audit. with_reported (known_of audit.known node) c.args.first c.args.actions.now) c.self.view_is in
     let total = count ∙ (ap (λ (all : List (List Action)). length (known_of all node)) put
-    ∙ (ap length (known_here (lists known) node place (with_reported (known_of (lists known) node) c.args.first c.args.actions.now) c.self.invariant.0.seven numbered range.1) ∙ ap length told)) in
+    ∙ (ap length (known_here (lists known) node place (with_reported (known_of (lists known) node) c.args.first c.args.actions.now) c.self.invariant.0.seven numbered range.1) ∙ ap length stated)) in
     let before = ap (λ audit. length (known_of audit.known node)) c.self.view_is in
     let below : c.args.first ≤ length (known_of c.args.self.now.known node) + 1 =
     omega (arith, first, c.if-first-known.false, counted_at known node place numbered range.1 c.index-self-place.result c.len-known.result c.len-known.ensures c.self.invariant.0.seven, before) in

@@ -3,7 +3,7 @@ use Rattle.std.specs.Arc.{arc_value}
 use Rattle.std.proofs.Common.{◌≡◌, ℕ, ◌≤◌, sym, ap, subst, ◌∙◌, arith}
 use Rattle.rp_world.specs.Nodes.{member_of}
 use Rattle.rp_world.proofs.Moving.{at_if}
-use Rattle.rp_world.proofs.Standing.{runs_fresh}
+use Rattle.rp_world.proofs.Represented.{runs_fresh}
 use Rattle.rp_boxes.specs.Parts.{first_part, part_in}
 use Rattle.rp_boxes.specs.Plays.{alone}
 use Rattle.rp_boxes.specs.Seats.{IsAtTable, IsNodePlace}
@@ -18,7 +18,7 @@ invariant_of-result g c =
     let table = (arc_value inside.board).shared.table_id in
     let rest = c.self.invariant in
     let node = c.unwrap-node.result in
-    let held = c.in-Ok.opening.replica in
+    let replica = c.in-Ok.opening.replica in
     let place = c.place-place.ensures.place in
     let mine = c.place-place.result.table_id in
     let me = c.place-place.result.me in
@@ -31,10 +31,10 @@ invariant_of-result g c =
     let least : 1 ≤ node = omega (arith, is_next, c.requires.node.0) in
     let most : node ≤ inside.config.nodes = omega (arith, is_next, nodes, c.requires.node.1) in
     let seven : inside.config.nodes ≤ 7 = rest.1.nodes.1 in
-    let runs = runs_fresh (member_of node inside.config (m.begin program)) (g.D.Device.disk c.args.device) held c.in-Ok.opening.records c.in-Ok.opening.cut_bytes c.in-Ok.ensures.ok c.requires.empty in
-    let fresh = fresh_place inside.config (m.begin program) node held me least most seven knows runs in
+    let runs = runs_fresh (member_of node inside.config (m.begin program)) (g.D.Device.disk c.args.device) replica c.in-Ok.opening.records c.in-Ok.opening.cut_bytes c.in-Ok.ensures.ok c.requires.empty in
+    let fresh = fresh_place inside.config (m.begin program) node replica me least most seven knows runs in
     let begin : program ≡ key.program.value = c.requires.program ∙ ap (λ unseated. unseated.program) (sym c.self.view_is) in
-    let stays = subst (λ program. IsNodePlace inside.config (m.begin program) node held (part_in me.0)) begin fresh in
-    let sits = subst (λ config. IsNodePlace config (m.begin key.program.value) node held (part_in me.0)) (sym rest.2) stays in
-    subst (λ board. IsAtTable board.shared.table_id mine node me × IsNodePlace board.shared.key.config (m.begin board.shared.key.program.value) node held (part_in me.0)) (sym c.in_ok-board.ensures)
+    let stays = subst (λ program. IsNodePlace inside.config (m.begin program) node replica (part_in me.0)) begin fresh in
+    let sits = subst (λ config. IsNodePlace config (m.begin key.program.value) node replica (part_in me.0)) (sym rest.2) stays in
+    subst (λ board. IsAtTable board.shared.table_id mine node me × IsNodePlace board.shared.key.config (m.begin board.shared.key.program.value) node replica (part_in me.0)) (sym c.in_ok-board.ensures)
     (at_first table mine node me same rest.0.sized (omega (arith, most, seven)) knows, sits)

@@ -18,12 +18,12 @@ loop-number-preserved g c =
     let same = c.loop-number.invariant.same in
     let task = c.unwrap-task.result in
     let number = at_if (λ id. id ≡ c.loop-number.number) c.new.result c.unwrap-task.result c.unwrap-task.ensures c.new.ensures.value in
-    let told = c.in_ok-task.ensures in
+    let stated = c.in_ok-task.ensures in
     let count = c.loop-number.invariant.count in
     record {
-      same = after_one old self seats same c.task.new.self c.push.new.self.items seat told.rest grown;
+      same = after_one old self seats same c.task.new.self c.push.new.self.items seat stated.rest grown;
       count = omega (arith, ap length grown, length-append seats (seat ∷ []), c.loop-number.invariant.count);
       seats = subst (λ l. (place : ℕ) → IfSome (slice_get l place) (λ s. s ≡ first_seat old.table old.config old.program (suc place) (8 + place) (slice_index [] place))) (sym grown)
           (one_more (λ place s. s ≡ first_seat old.table old.config old.program (suc place) (8 + place) (slice_index [] place)) seats seat c.loop-number.invariant.seats
-          (seat_is old self seats same seat task (7 + task) 0 (suc (length seats)) (8 + length seats) 0 told.ok (omega (arith, number, count)) (omega (arith, number, count)) refl));
+          (seat_is old self seats same seat task (7 + task) 0 (suc (length seats)) (8 + length seats) 0 stated.ok (omega (arith, number, count)) (omega (arith, number, count)) refl));
     }

@@ -7,7 +7,7 @@ use Rattle.rp_agreement.specs.Answered.{setting_for}
 use Rattle.rp_boxes.specs.Looks.{IsWorldOf}
 use Rattle.rp_boxes.specs.Moments.{WasWord}
 use Rattle.rp_boxes.specs.Parts.{Part, box_of, part_in}
-use Rattle.rp_boxes.proofs.SeatBoxes.{Finds, at_fetched, same_role, node_stays, sent_chair, missed_chair}
+use Rattle.rp_boxes.proofs.SeatBoxes.{Finds, at_fetched, same_role, node_stays, sent_state, missed_state}
 use Rattle.rp_boxes.proofs.node_seat.NodeSeat.fetch.Goals as goal
 
 pub invariant_of-self : goal.invariant_of-self
@@ -36,7 +36,7 @@ returns-clause-sent g c =
     let finds = subst (λ (z : ℕ × ℕ). IfSome found (Finds z.0 z.1 place.me new.me)) (λ i. (c.actor_of.ensures.actor i, node i)) c.empty.ensures.some in
     let seen = subst (λ b. IfSome found (λ text. (parts : ℕ → Part) × IsWorldOf (setting_for m.next m.answers m.begin b.shared.key.config b.shared.key.program.value) new.me.0 parts))
     c.deref.ensures c.empty.ensures.world in
-    sent_chair key.config key.program.value number c.self.inside.replica.disk.failures number place.table_id new.table_id place.me new.me c.empty.ensures.table
+    sent_state key.config key.program.value number c.self.inside.replica.disk.failures number place.table_id new.table_id place.me new.me c.empty.ensures.table
     m.next m.answers m.begin c.args.from (Node number) refl found finds seen
 
 pub returns-clause-missed : goal.returns-clause-missed
@@ -50,5 +50,5 @@ returns-clause-missed g c =
     let found = c.empty.result in
     let here = subst (λ b. IfNone found (WasWord (setting_for m.next m.answers m.begin b.shared.key.config b.shared.key.program.value) new.me.0 (box_of c.actor_of.result c.from-node.result) (λ word. word ≢ 2))) c.deref.ensures c.empty.ensures.missed in
     let is = subst (λ (z : ℕ × ℕ). IfNone found (WasWord (setting_for m.next m.answers m.begin key.config key.program.value) new.me.0 (box_of z.0 z.1) (λ word. word ≢ 2))) (λ i. (c.actor_of.ensures.actor i, node i)) here in
-    missed_chair key.config key.program.value number c.self.inside.replica.disk.failures number place.table_id new.table_id place.me new.me c.empty.ensures.table
+    missed_state key.config key.program.value number c.self.inside.replica.disk.failures number place.table_id new.table_id place.me new.me c.empty.ensures.table
     m.next m.answers m.begin c.self.invariant.0.place c.args.from (Node number) refl found c.empty.ensures.none is

@@ -4,7 +4,7 @@ use Rattle.std.specs.Prelude.{is_some}
 use Rattle.rp_entry.specs.Operations.{of_index}
 use Rattle.rp_entry.specs.declared.operations.Operations.{Operations}
 use Rattle.rp_deck_objects.specs.declared.names.OperationName.TheVariants.{Function}
-use Rattle.rp_deck_objects.proofs.Naming.{last_numbered, function_more, named_behind}
+use Rattle.rp_deck_objects.proofs.Naming.{last_numbered, function_more, named_after}
 use Rattle.rp_deck_objects.proofs.ObjectLemmas.{function_fits, same_entries}
 use Rattle.rp_deck_objects.proofs.objects.ObjectDraft.add_function.Goals as goal
 
@@ -24,7 +24,7 @@ returns-clause-object c = λ profile may.
       entries = was.entries;
       fit = λ limits counted. function_fits self.operations after limits function c.requires.room c.in_ok-push.ensures.items refl refl (was.fit limits counted) (c.requires.fits limits counted);
       keeps = same_entries profile self.operations after refl was.keeps;
-      named = named_behind self.operations after self.operation_names c.declare.new.table (Function index) c.in_ok-declare.ensures.values
+      named = named_after self.operations after self.operation_names c.declare.new.table (Function index) c.in_ok-declare.ensures.values
           (function_more self.operations after function c.in_ok-push.ensures.items refl refl) has was.named;
       operation = search rules;
     }

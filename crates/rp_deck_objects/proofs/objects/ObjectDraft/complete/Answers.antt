@@ -10,7 +10,7 @@ use Rattle.rp_deck_objects.specs.declared.objects.Head.{Head}
 use Rattle.rp_deck_objects.specs.declared.objects.Head.TheVariants as heads
 use Rattle.rp_deck_objects.specs.declared.names.OperationName.TheVariants.{Procedure, Entry}
 use Rattle.rp_deck_objects.specs.ObjectLimits.{HasRoom, HeadFits, HeadKeeps}
-use Rattle.rp_deck_objects.proofs.Naming.{last_numbered, procedure_more, entry_more, named_behind}
+use Rattle.rp_deck_objects.proofs.Naming.{last_numbered, procedure_more, entry_more, named_after}
 use Rattle.rp_deck_objects.proofs.ObjectLemmas.{procedure_fits, entry_fits, entry_keeps, few_entries, same_entries}
 use Rattle.rp_deck_objects.proofs.objects.ObjectDraft.complete.Goals as goal
 
@@ -39,7 +39,7 @@ returns-in_ok-push-in-Entry-2-clause-object c =
           entry_fits self.operations after limits entry (few_entries c.args.profile self.operations c.in-Entry.barrier c.in-Entry.longest room) c.in_ok-push-in-Entry-2.ensures.items refl refl (was.fit limits counted)
           (record { barrier = fits.0; some_room = fits.1; room = fits.2; body = c.into_statements-body.ensures.limits (values self.component_names) c.requires.operation.body limits counted });
       keeps = entry_keeps c.args.profile self.operations after entry c.in_ok-push-in-Entry-2.ensures.items room (subst (λ h. HeadKeeps c.args.profile h) is begun.keeps) was.keeps;
-      named = named_behind self.operations after self.operation_names c.insert_new-in-Entry.new.table (Entry index) more
+      named = named_after self.operations after self.operation_names c.insert_new-in-Entry.new.table (Entry index) more
           (entry_more self.operations after entry c.in_ok-push-in-Entry-2.ensures.items refl refl) has was.named;
       operation = search rules;
     }) c.insert_new-in-Entry.ensures.values
@@ -62,7 +62,7 @@ returns-in_ok-push-in-Procedure-clause-object c =
       fit = λ limits counted. procedure_fits self.operations after limits body room c.in_ok-push-in-Procedure.ensures.items refl refl (was.fit limits counted)
           (c.into_statements-body.ensures.limits (values self.component_names) c.requires.operation.body limits counted);
       keeps = same_entries c.args.profile self.operations after refl was.keeps;
-      named = named_behind self.operations after self.operation_names c.insert_new.new.table (Procedure index) more
+      named = named_after self.operations after self.operation_names c.insert_new.new.table (Procedure index) more
           (procedure_more self.operations after body c.in_ok-push-in-Procedure.ensures.items refl refl) has was.named;
       operation = search rules;
     }) c.insert_new.ensures.values

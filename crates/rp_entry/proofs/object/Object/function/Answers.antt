@@ -1,7 +1,7 @@
 -- The function of this index is the one that the object has.
 use Rattle.std.proofs.Common.{◌≡◌, ℤ, List, [], Some, None, refl, sym, ◌∙◌, ap, ap₂, subst, w64}
 use Rattle.std.proofs.lemmas.Int.{to_z-of_z}
-use Rattle.rp_base.specs.declared.reply.Reply.{Reply as Told}
+use Rattle.rp_base.specs.declared.reply.Reply.{Reply as CallReply}
 use Rattle.rp_base.specs.declared.reply.Reply.TheVariants.{NoSuchOperation}
 use Rattle.rp_body.specs.Store.{Store}
 use Rattle.rp_entry.specs.declared.operations.Function.{Function}
@@ -24,7 +24,7 @@ returns-in-Some-clause-action c =
     let reply : c.reply.result ≡ function_reply called inside.state.store c.args.arg =
     c.reply.ensures ∙ ap₂ (λ (s : Store) (a : ℤ). function_reply called s a) c.components.ensures (to_z-of_z w64 c.args.arg c.ranges.arg) in
     let acts : Acts operations inside.state (calls_function c.args.index c.args.arg) (Some (Reply c.reply.result)) [] inside.state =
-    acts_same (ap (λ (r : Told). Some (Reply r)) reply) refl refl (function declared) in
+    acts_same (ap (λ (r : CallReply). Some (Reply r)) reply) refl refl (function declared) in
     subst (λ (o : Protected). Acts o.operations o.state (calls_function c.args.index c.args.arg) (Some (Reply c.reply.result)) [] o.state) (shared_is c.deref-operations.ensures ∙ c.self.view_is) acts
 
 pub returns-in-None-clause-action : goal.returns-in-None-clause-action

@@ -1,7 +1,7 @@
 -- The body runs, and servicing goes on from what it leaves.
 use Rattle.std.proofs.Common.{◌≡◌, ℤ, sym, ◌∙◌, ap, subst, w64}
 use Rattle.std.proofs.lemmas.Int.{to_z-of_z}
-use Rattle.rp_base.specs.declared.reply.Reply.{Reply as Told}
+use Rattle.rp_base.specs.declared.reply.Reply.{Reply as CallReply}
 use Rattle.rp_body.specs.Meaning.{body_effect}
 use Rattle.rp_entry.specs.declared.state.CallOutcome.TheVariants.{Reply}
 use Rattle.rp_entry.specs.Queue.{State}
@@ -26,7 +26,7 @@ returns-clause-runs c =
       store = c.run-outcome.new.components;
       ended = c.run-outcome.result;
       run = ap (λ (a : ℤ). body_effect c.args.body.now a inside.components) (sym (to_z-of_z w64 c.args.arg c.ranges.arg)) ∙ sym c.run-outcome.ensures.effect;
-      told = ap (λ (r : Told). Reply r) c.reply_of-reply.ensures;
+      replied = ap (λ (r : CallReply). Reply r) c.reply_of-reply.ensures;
       serviced = c.service-served.ensures.chain;
     } in
     subst (λ (s : State). Runs c.args.operations.now c.args.body.now c.args.arg s (Reply c.reply_of-reply.result) c.service-served.result c.service-served.new.self) same runs

@@ -40,6 +40,6 @@ returns-clause-served c =
       ended = c.run-outcome.result;
       run = ap₂ (λ (b : List Stmt) (a : ℤ). body_effect b a inside.components) (sym c.deref.ensures.value) (sym (to_z-of_z w64 call.arg fits)) ∙ sym c.run-outcome.ensures.effect;
       left = refl;
-      told = ap (λ (r : Reply). record { task = call.task; number = call.number; reply = r }) c.reply_of.ensures;
+      replied = ap (λ (r : Reply). record { task = call.task; number = call.number; reply = r }) c.reply_of.ensures;
     } in
     subst (λ (s : State). Serves c.args.operations.now s answer after) same step

@@ -46,7 +46,7 @@ loop-answer-preserved c =
 pub returns-clause-chain : goal.returns-clause-chain
 returns-clause-chain c =
     let i = c.loop-answer.invariant in
-    let told = c.loop-answer.served in
-    let chain : Services c.args.operations.now c.args.self.now (told ++ []) c.loop-answer.self = i.reached c.loop-answer.self [] (ends c.in_default.ensures.serviced) in
-    subst (λ (s : State). Services c.args.operations.now c.args.self.now told s) (sym c.in_default.ensures.unchanged)
-    (subst (λ (l : List Answer). Services c.args.operations.now c.args.self.now l c.loop-answer.self) (append-nil told) chain)
+    let replied = c.loop-answer.served in
+    let chain : Services c.args.operations.now c.args.self.now (replied ++ []) c.loop-answer.self = i.reached c.loop-answer.self [] (ends c.in_default.ensures.serviced) in
+    subst (λ (s : State). Services c.args.operations.now c.args.self.now replied s) (sym c.in_default.ensures.unchanged)
+    (subst (λ (l : List Answer). Services c.args.operations.now c.args.self.now l c.loop-answer.self) (append-nil replied) chain)

@@ -1,7 +1,7 @@
--- What the window stands for once the vote is noted in its place.
+-- What the window represents once the vote is noted in its place.
 use Rattle.std.proofs.Common.{◌∙◌, sym, ap, set}
 use Rattle.rp_learner.specs.declared.place.Place.{Place}
-use Rattle.rp_learner.specs.Standings.{vote_for}
+use Rattle.rp_learner.specs.Status.{vote_for}
 use Rattle.rp_learner.proofs.Outcomes.{kept, notes_here, one_more_here, offset_at, on_err}
 use Rattle.rp_learner.proofs.Writing.{learning_of}
 use Rattle.rp_learner.proofs.learner.Learner.note_vote.Goals as goal

@@ -2,9 +2,9 @@
 use Rattle.std.proofs.Common.{◌≡◌, ◌∙◌, Some, refl, sym, ap, arith}
 use Rattle.std.specs.Prelude.{slice_get}
 use Rattle.rp_learner.specs.declared.place.Place.TheVariants.{Unheard, Heard, Settled}
-use Rattle.rp_learner.specs.Standings.{vote_for}
+use Rattle.rp_learner.specs.Status.{vote_for}
 use Rattle.rp_learner.proofs.Outcomes.{known_here, learned_here, counting_here, offset_at}
-use Rattle.rp_learner.proofs.Tallies.{alone}
+use Rattle.rp_learner.proofs.VoteCounts.{alone}
 use Rattle.rp_learner.proofs.learner.Learner.vote.Goals as goal
 
 pub returns-in-Some-Settled : goal.returns-in-Some-Settled
@@ -26,17 +26,17 @@ returns-in-Some-Unheard c =
 pub returns-then-voters-from : goal.returns-then-voters-from
 returns-then-voters-from c =
     let l = c.self.inside in
-    let here : slice_get l.places.items c.in-Some.offset ≡ Some (Heard c.in-Some-Heard.tallies) = sym c.in-Some-Heard.ensures ∙ ap (λ p. Some p) c.in-Some-Heard.field-0-is in
+    let here : slice_get l.places.items c.in-Some.offset ≡ Some (Heard c.in-Some-Heard.vote_counts) = sym c.in-Some-Heard.ensures ∙ ap (λ p. Some p) c.in-Some-Heard.field-0-is in
     rw (← c.self.view_is)
-    (learned_here l.nodes l.max_positions l.first l.places.items c.args.position c.in-Some.offset (Heard c.in-Some-Heard.tallies) (offset_at l.first c.args.position c.in-Some.offset c.in-Some.ensures)
+    (learned_here l.nodes l.max_positions l.first l.places.items c.args.position c.in-Some.offset (Heard c.in-Some-Heard.vote_counts) (offset_at l.first c.args.position c.in-Some.offset c.in-Some.ensures)
     c.self.invariant.2 here c.args.from (vote_for c.args.ballot c.args.action.now) refl
     (omega (arith, c.if-voters-from.true, c.from.ensures, c.majority.ensures, c.count_with-voters.ensures)))
 
 pub returns-else-voters-from : goal.returns-else-voters-from
 returns-else-voters-from c =
     let l = c.self.inside in
-    let here : slice_get l.places.items c.in-Some.offset ≡ Some (Heard c.in-Some-Heard.tallies) = sym c.in-Some-Heard.ensures ∙ ap (λ p. Some p) c.in-Some-Heard.field-0-is in
+    let here : slice_get l.places.items c.in-Some.offset ≡ Some (Heard c.in-Some-Heard.vote_counts) = sym c.in-Some-Heard.ensures ∙ ap (λ p. Some p) c.in-Some-Heard.field-0-is in
     rw (← c.self.view_is)
-    (counting_here l.nodes l.max_positions l.first l.places.items c.args.position c.in-Some.offset (Heard c.in-Some-Heard.tallies) (offset_at l.first c.args.position c.in-Some.offset c.in-Some.ensures)
+    (counting_here l.nodes l.max_positions l.first l.places.items c.args.position c.in-Some.offset (Heard c.in-Some-Heard.vote_counts) (offset_at l.first c.args.position c.in-Some.offset c.in-Some.ensures)
     c.self.invariant.2 here c.args.from (vote_for c.args.ballot c.args.action.now) refl
     (omega (arith, c.if-voters-from.false, c.from.ensures, c.majority.ensures, c.count_with-voters.ensures)))

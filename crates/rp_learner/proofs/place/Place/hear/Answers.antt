@@ -1,7 +1,7 @@
 -- One vote of 3 nodes and more settles nothing, and a vote short of a majority is one more.
 use Rattle.std.proofs.Common.{refl, arith}
 use Rattle.rp_learner.specs.declared.place.Place.TheVariants.{Heard}
-use Rattle.rp_learner.specs.Standings.{vote_for}
+use Rattle.rp_learner.specs.Status.{vote_for}
 use Rattle.rp_learner.proofs.Noting.{counts, first_counts}
 use Rattle.rp_learner.proofs.place.Place.hear.Goals as goal
 
@@ -13,5 +13,5 @@ returns-in-Unheard-clause-ok c =
 pub returns-else-voters-from-clause-ok : goal.returns-else-voters-from-clause-ok
 returns-else-voters-from-clause-ok c =
     rw (c.in-Heard.is)
-    (counts c.args.nodes (Heard c.in-Heard.tallies) (record { from = c.args.from; vote = vote_for c.args.ballot c.args.action.now }) (Heard c.hear.new.self) refl refl
+    (counts c.args.nodes (Heard c.in-Heard.vote_counts) (record { from = c.args.from; vote = vote_for c.args.ballot c.args.action.now }) (Heard c.hear.new.self) refl refl
     (omega (arith, c.if-voters-from.false, c.from.ensures, c.majority.ensures, c.in_ok-voters-in-Heard.ensures.voters)) c.in_ok-voters-in-Heard.ensures.ok)

@@ -3,7 +3,7 @@ use Rattle.std.specs.List.{slice_get}
 use Rattle.std.proofs.lemmas.Grind.{common_steps}
 use Rattle.rp_log.specs.Contents.{action_at}
 use Rattle.rp_log.specs.Holding.{action_ahead}
-use Rattle.rp_log.proofs.Views.{seen, is_missed, found_within, missed_past, action_front, action_behind}
+use Rattle.rp_log.proofs.Views.{seen, is_missed, found_within, missed_past, action_front, action_after}
 use Rattle.rp_log.proofs.log.Log.get.Goals as goal
 
 pub returns-in-Some : goal.returns-in-Some
@@ -30,5 +30,5 @@ returns c =
     let past : length front ≤ k = missed_past front k missed in
     let is : c.from-2.result ≡ c.args.position = omega (arith, c.from-2.ensures, c.get-2.ensures.value) in
     c.learned_at.ensures ∙ ap (action_ahead ahead) is
-    ∙ sym (action_behind front reserved ahead taken c.args.position (omega arith) c.self.invariant.gap)
+    ∙ sym (action_after front reserved ahead taken c.args.position (omega arith) c.self.invariant.gap)
     ∙ ap (λ log. action_at log c.args.position) c.self.view_is

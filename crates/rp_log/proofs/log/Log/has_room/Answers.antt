@@ -3,7 +3,7 @@ use Rattle.std.specs.Prelude.{is_some}
 use Rattle.std.specs.FinMap.{get}
 use Rattle.rp_log.specs.Holding.{places_of, place_ahead}
 use Rattle.rp_log.proofs.Views.{room_front}
-use Rattle.rp_log.proofs.Steps.{has_room, room_behind, next_has_room}
+use Rattle.rp_log.proofs.Steps.{has_room, room_after, next_has_room}
 use Rattle.rp_log.proofs.log.Log.has_room.Goals as goal
 use Rattle.rp_log.proofs.log.Log.has_room.Goals.{else-number-next-2-via-then-number-next-2+else-self, else-number-next-2-via-else-number-next-2}
 
@@ -39,4 +39,4 @@ returns c =
     let past : length front < c.args.position = omega (arith, number, c.len.ensures, c.if-number-next.false) in
     let off : c.args.position ≡ length front + 1 → reserved ≡ false = elim c.else-number-next-2.branch [ else-number-next-2-via-then-number-next-2+else-self w ↦ (λ e. grind arith) | else-number-next-2-via-else-number-next-2 w ↦ (λ e. grind arith) ] in
     c.contains_key.ensures ∙ ap (λ n. is_some (place_ahead ahead n)) number
-    ∙ room_behind front reserved ahead taken c.args.self.now c.args.position c.self.view_is past off
+    ∙ room_after front reserved ahead taken c.args.self.now c.args.position c.self.view_is past off

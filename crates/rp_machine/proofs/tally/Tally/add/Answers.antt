@@ -1,4 +1,4 @@
--- The place that the code reads is the object's, and `checked_add` tells whether the sum fits.
+-- The place that the code reads is the object's, and `checked_add` reports whether the sum fits.
 use Rattle.std.proofs.Common.{rules, arith}
 use Rattle.rp_machine.proofs.Adding.{Reads, reply_fits, sums_fits, reply_unfit, sums_unfit}
 use Rattle.rp_machine.proofs.tally.Tally.add.Goals as goal

@@ -6,8 +6,8 @@ use Rattle.rp_base.specs.Sets.{Has}
 use Rattle.rp_entry.specs.Actions.{calls_entry}
 use Rattle.rp_object.specs.State.{Running}
 use Rattle.rp_object.specs.Step.{tasks_waiting}
-use Rattle.rp_object.specs.Held.{tasks_at}
-use Rattle.rp_object.proofs.Asking.{asks_at, held_after, caller_joins, place_below, task_among}
+use Rattle.rp_object.specs.InMemory.{tasks_at}
+use Rattle.rp_object.proofs.Asking.{asks_at, objects_after, caller_joins, place_below, task_among}
 use Rattle.rp_object.proofs.objects.Objects.entry.Goals as goal
 
 pub entry-requires : goal.entry-requires
@@ -24,7 +24,7 @@ invariant_of-self c =
     let objects = c.self.inside.objects.items in
     let task : IsTask c.args.call.task = search rules in
     let free : ¬ Has c.args.call.task (tasks_at objects) = λ has. c.requires.free (subst (λ (r : Running). Has c.args.call.task (tasks_waiting r)) c.self.view_is has) in
-    held_after objects (c.from.result - 1) c.index_mut-asked.result.now c.entry.new.self _ _ _ c.self.invariant (place_below c.self.view_is c.from.ensures c.requires.there c.requires.declared) c.index_mut-asked.ensures.value c.entry.ensures.action c.entry.ensures.operations
+    objects_after objects (c.from.result - 1) c.index_mut-asked.result.now c.entry.new.self _ _ _ c.self.invariant (place_below c.self.view_is c.from.ensures c.requires.there c.requires.declared) c.index_mut-asked.ensures.value c.entry.ensures.action c.entry.ensures.operations
     (caller_joins objects _ _ _ c.self.invariant task free)
 
 pub returns-clause-action : goal.returns-clause-action

@@ -11,5 +11,5 @@ pub returns : goal.returns
 returns c = record {
   action =
       asks_still c.self.view_is c.from.ensures (ap (calls_function c.args.index) (to_z-of_z w64 c.args.arg c.ranges.arg)) c.index.result.now _ [] c.requires.there c.requires.declared c.index.ensures c.function-reply.ensures.action
-      ∙ ap (λ (told : List Answer). record { caller = Some (Reply c.function-reply.result); told = told; after = c.args.self.now.state }) (sym c.new.ensures);
+      ∙ ap (λ (replied : List Answer). record { caller = Some (Reply c.function-reply.result); replied = replied; after = c.args.self.now.state }) (sym c.new.ensures);
 }

@@ -5,7 +5,7 @@ use Rattle.rp_base.specs.Sets.{Has}
 use Rattle.rp_entry.specs.Protected.{Protected}
 use Rattle.rp_object.specs.State.{Running}
 use Rattle.rp_object.specs.Step.{tasks_waiting}
-use Rattle.rp_object.specs.Held.{tasks_at}
+use Rattle.rp_object.specs.InMemory.{tasks_at}
 use Rattle.rp_object.proofs.Asking.{task_among, none_among}
 use Rattle.rp_object.proofs.objects.Objects.is_waiting.Goals as goal
 

@@ -14,7 +14,7 @@ use Rattle.rp_proposer.proofs.proposer.Proposer.note_promise.Goals as goal
 
 pub index_mut-requires : goal.index_mut-requires
 index_mut-requires c =
-    let found = index_at c.self.inside.proposals.items c.in-Some.index c.args.position (sym c.index_of.ensures ∙ c.in-Some.is) in
+    let found = index_at c.self.inside.proposals.items c.in-Some.index c.args.position (sym c.index_of_proposal.ensures ∙ c.in-Some.is) in
     omega (arith, found.1.within, c.self.inside.proposals.ok.0)
 
 pub invariant_of-self : goal.invariant_of-self
@@ -22,7 +22,7 @@ invariant_of-self c =
     let items : List Proposal = c.self.inside.proposals.items in
     let p : Proposal = c.index_mut.result.now in
     let is = c.self.invariant in
-    let found = read_at items c.in-Some.index c.args.position p (sym c.index_of.ensures ∙ c.in-Some.is) c.index_mut.ensures.value in
+    let found = read_at items c.in-Some.index c.args.position p (sym c.index_of_proposal.ensures ∙ c.in-Some.is) c.index_mut.ensures.value in
     let here : c.note.new.self.position ≡ c.args.position =
     ap (λ (q : Proposal). q.position) c.note.ensures ∙ noted_there c.self.inside.nodes c.args.ballot p (c.args.from, c.args.last) ∙ found.place in
     let long = length-set items c.in-Some.index c.note.new.self in
@@ -37,7 +37,7 @@ returns-in-Some-clause-noted c =
     let items : List Proposal = c.self.inside.proposals.items in
     let p : Proposal = c.index_mut.result.now in
     let q : Proposal = once_noted c.self.inside.nodes c.args.ballot p (c.args.from, c.args.last) in
-    let found = read_at items c.in-Some.index c.args.position p (sym c.index_of.ensures ∙ c.in-Some.is) c.index_mut.ensures.value in
+    let found = read_at items c.in-Some.index c.args.position p (sym c.index_of_proposal.ensures ∙ c.in-Some.is) c.index_mut.ensures.value in
     rw (← c.self.view_is, found.runs)
     (ap (λ (l : List Proposal). record { node = c.self.inside.node; nodes = c.self.inside.nodes; proposals = l; started = number_of c.self.inside.started; refused = c.self.inside.refused })
     (ap (λ (r : Proposal). set items c.in-Some.index r) c.note.ensures
@@ -45,6 +45,6 @@ returns-in-Some-clause-noted c =
 
 pub returns-in_default-clause-noted : goal.returns-in_default-clause-noted
 returns-in_default-clause-noted c =
-    let absent = index_none c.self.inside.proposals.items 0 c.args.position (rw (← c.index_of.ensures) c.in_default.is) in
+    let absent = index_none c.self.inside.proposals.items 0 c.args.position (rw (← c.index_of_proposal.ensures) c.in_default.is) in
     let none : proposal_at c.args.self.now.proposals c.args.position ≡ None = ap (λ (part : ProposerPart). proposal_at part.proposals c.args.position) (sym c.self.view_is) ∙ absent.none in
     rw none

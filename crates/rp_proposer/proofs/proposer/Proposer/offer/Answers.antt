@@ -11,7 +11,7 @@ use Rattle.rp_proposer.proofs.proposer.Proposer.offer.Goals as goal
 
 pub index_mut-requires : goal.index_mut-requires
 index_mut-requires c =
-    let found = index_at c.self.inside.proposals.items c.in-Some.index c.args.position (sym c.index_of.ensures ∙ c.in-Some.is) in
+    let found = index_at c.self.inside.proposals.items c.in-Some.index c.args.position (sym c.index_of_proposal.ensures ∙ c.in-Some.is) in
     omega (arith, found.1.within, c.self.inside.proposals.ok.0)
 
 pub overflow_add-self : goal.overflow_add-self
@@ -22,7 +22,7 @@ overflow_add-self c =
 pub overflow_sub-self : goal.overflow_sub-self
 overflow_sub-self c =
     let items : List Proposal = c.self.inside.proposals.items in
-    let found = read_at items c.in-Some.index c.args.position c.index_mut.result.now (sym c.index_of.ensures ∙ c.in-Some.is) c.index_mut.ensures.value in
+    let found = read_at items c.in-Some.index c.args.position c.index_mut.result.now (sym c.index_of_proposal.ensures ∙ c.in-Some.is) c.index_mut.ensures.value in
     omega (arith, own_set items c.in-Some.index c.index_mut.result.now c.offer-had.new.self found.at, c.offer-had.ensures.had, c.offer-had.ensures.has, c.self.invariant.own)
 
 pub invariant_of-self : goal.invariant_of-self
@@ -30,7 +30,7 @@ invariant_of-self c =
     let items : List Proposal = c.self.inside.proposals.items in
     let p : Proposal = c.index_mut.result.now in
     let is = c.self.invariant in
-    let found = read_at items c.in-Some.index c.args.position p (sym c.index_of.ensures ∙ c.in-Some.is) c.index_mut.ensures.value in
+    let found = read_at items c.in-Some.index c.args.position p (sym c.index_of_proposal.ensures ∙ c.in-Some.is) c.index_mut.ensures.value in
     let here : c.offer-had.new.self.position ≡ c.args.position =
     ap (λ (q : Proposal). q.position) c.offer-had.ensures.offered ∙ offered_there c.self.inside.nodes c.args.own p ∙ found.place in
     let long = length-set items c.in-Some.index c.offer-had.new.self in
@@ -42,7 +42,7 @@ pub returns-in-Some-clause-offered : goal.returns-in-Some-clause-offered
 returns-in-Some-clause-offered c =
     let items : List Proposal = c.self.inside.proposals.items in
     let p : Proposal = c.index_mut.result.now in
-    let found = read_at items c.in-Some.index c.args.position p (sym c.index_of.ensures ∙ c.in-Some.is) c.index_mut.ensures.value in
+    let found = read_at items c.in-Some.index c.args.position p (sym c.index_of_proposal.ensures ∙ c.in-Some.is) c.index_mut.ensures.value in
     rw (← c.self.view_is, found.runs)
     (ap (λ (l : List Proposal). record { node = c.self.inside.node; nodes = c.self.inside.nodes; proposals = l; started = number_of c.self.inside.started; refused = c.self.inside.refused })
     (ap (λ (r : Proposal). set items c.in-Some.index r) c.offer-had.ensures.offered
@@ -50,6 +50,6 @@ returns-in-Some-clause-offered c =
 
 pub returns-in_default-clause-offered : goal.returns-in_default-clause-offered
 returns-in_default-clause-offered c =
-    let absent = index_none c.self.inside.proposals.items 0 c.args.position (rw (← c.index_of.ensures) c.in_default.is) in
+    let absent = index_none c.self.inside.proposals.items 0 c.args.position (rw (← c.index_of_proposal.ensures) c.in_default.is) in
     let none : proposal_at c.args.self.now.proposals c.args.position ≡ None = ap (λ (part : ProposerPart). proposal_at part.proposals c.args.position) (sym c.self.view_is) ∙ absent.none in
     rw none

@@ -4,7 +4,7 @@ use Rattle.rp_machine.specs.Numbered.{outcome}
 use Rattle.rp_model.specs.Pending.{most_pending, stays}
 use Rattle.rp_replica.proofs.pending.Pending.settle.Given as goal
 
--- the items that were not looked at, and behind them those that stay of the others
+-- the items that were not read, and after them those that stay of the others
 abbrev pub invariant-loop : goal.invariant-loop
 invariant-loop g l =
     let r = outcome g.M.Machine.next g.M.Machine.answers l.machine in

@@ -2,7 +2,7 @@ use Rattle.std.proofs.Common.{List, length, ap, ◌∙◌}
 use Rattle.rp_base.specs.declared.action.Action.{Action}
 use Rattle.rp_base.specs.Records.{applied_of}
 use Rattle.rp_log.proofs.RecordedRuns.{all_taken}
-use Rattle.rp_replica.specs.Held.{Held}
+use Rattle.rp_replica.specs.State.{ReplicaState}
 use Rattle.rp_replica.proofs.replica.Replica.applied.Goals as goal
 
 pub returns : goal.returns
@@ -11,4 +11,4 @@ returns g c =
     let a = c.self.invariant.applies in
     c.applied.ensures.count
     ∙ ap (λ (actions : List Action). length actions) (all_taken r.acceptor.records r.log a.learned a.ordered a.none)
-    ∙ ap (λ (h : Held g.row.M.Denot). length (applied_of h.records)) c.self.view_is
+    ∙ ap (λ (h : ReplicaState g.row.M.Denot). length (applied_of h.records)) c.self.view_is

@@ -1,7 +1,7 @@
 use Rattle.std.proofs.Common.{ap, ◌∙◌}
 use Rattle.rp_base.specs.Records.{applied_of}
 use Rattle.rp_machine.specs.Replay.{Replayed, replay_state}
-use Rattle.rp_replica.specs.Held.{Held}
+use Rattle.rp_replica.specs.State.{ReplicaState}
 use Rattle.rp_replica.proofs.Applied.{outcome_is}
 use Rattle.rp_replica.proofs.replica.Replica.image.Goals as goal
 
@@ -14,4 +14,4 @@ returns-clause-image g c =
     ∙ ap g.M.Machine.image
     (c.machine.ensures
     ∙ ap (λ (r : Replayed g.row.M.Denot). r.state) (outcome_is n k s.acceptor.records s.log s.machine c.self.invariant.applies)
-    ∙ ap (λ (h : Held g.row.M.Denot). replay_state n k h.begin (applied_of h.records)) c.self.view_is)
+    ∙ ap (λ (h : ReplicaState g.row.M.Denot). replay_state n k h.begin (applied_of h.records)) c.self.view_is)

@@ -5,7 +5,7 @@ use Rattle.rp_base.specs.declared.action.Action.{Action}
 use Rattle.rp_base.specs.Records.{first_unlearned}
 use Rattle.rp_log.specs.Contents.{next_to_take, ready_of}
 use Rattle.rp_model.specs.Leader.{is_out_of_reach}
-use Rattle.rp_replica.specs.Held.{Held}
+use Rattle.rp_replica.specs.State.{ReplicaState}
 use Rattle.rp_replica.proofs.Beginning.{next_is, far_is}
 use Rattle.rp_replica.proofs.replica.Replica.is_out_of_reach.Goals as goal
 
@@ -20,4 +20,4 @@ returns-else-self-get g c =
     let within : i ≤ r.config.max_positions = subst (λ (n : ℕ). n ≤ r.config.max_positions) c.get-2.ensures.value c.if-self-get.false in
     ap (λ (n : ℕ). nat_le (c.next_unlearned.result + 64) n) number
     ∙ far_is r.config.max_positions c.next_unlearned.result i r.acceptor.records within next
-    ∙ ap (λ (h : Held g.row.M.Denot). is_out_of_reach h.config.max_positions h.records i) c.self.view_is
+    ∙ ap (λ (h : ReplicaState g.row.M.Denot). is_out_of_reach h.config.max_positions h.records i) c.self.view_is

@@ -2,7 +2,7 @@ use Rattle.std.proofs.Common.{ap, ◌∙◌}
 use Rattle.rp_base.specs.Records.{applied_of}
 use Rattle.rp_machine.specs.Asked.{kept_reply}
 use Rattle.rp_machine.specs.Replay.{Replayed, replay_of}
-use Rattle.rp_replica.specs.Held.{Held}
+use Rattle.rp_replica.specs.State.{ReplicaState}
 use Rattle.rp_replica.proofs.Applied.{outcome_is}
 use Rattle.rp_replica.proofs.replica.Replica.kept_reply.Goals as goal
 
@@ -13,4 +13,4 @@ returns g c =
     let s = c.self.inside in
     c.kept.ensures
     ∙ ap (λ (r : Replayed g.row.M.Denot). kept_reply c.args.task c.args.number r.kept r.given) (outcome_is n k s.acceptor.records s.log s.machine c.self.invariant.applies)
-    ∙ ap (λ (h : Held g.row.M.Denot). let r = replay_of n k h.begin (applied_of h.records) in kept_reply c.args.task c.args.number r.kept r.given) c.self.view_is
+    ∙ ap (λ (h : ReplicaState g.row.M.Denot). let r = replay_of n k h.begin (applied_of h.records) in kept_reply c.args.task c.args.number r.kept r.given) c.self.view_is

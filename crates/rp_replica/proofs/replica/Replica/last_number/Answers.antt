@@ -2,7 +2,7 @@ use Rattle.std.proofs.Common.{ap, ◌∙◌}
 use Rattle.rp_base.specs.Records.{applied_of}
 use Rattle.rp_machine.specs.Asked.{last_number}
 use Rattle.rp_machine.specs.Replay.{Replayed, replay_of}
-use Rattle.rp_replica.specs.Held.{Held}
+use Rattle.rp_replica.specs.State.{ReplicaState}
 use Rattle.rp_replica.proofs.Applied.{outcome_is}
 use Rattle.rp_replica.proofs.replica.Replica.last_number.Goals as goal
 
@@ -13,4 +13,4 @@ returns g c =
     let s = c.self.inside in
     c.last.ensures
     ∙ ap (λ (r : Replayed g.row.M.Denot). last_number c.args.task r.kept) (outcome_is n k s.acceptor.records s.log s.machine c.self.invariant.applies)
-    ∙ ap (λ (h : Held g.row.M.Denot). let r = replay_of n k h.begin (applied_of h.records) in last_number c.args.task r.kept) c.self.view_is
+    ∙ ap (λ (h : ReplicaState g.row.M.Denot). let r = replay_of n k h.begin (applied_of h.records) in last_number c.args.task r.kept) c.self.view_is

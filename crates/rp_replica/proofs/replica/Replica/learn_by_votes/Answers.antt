@@ -12,8 +12,8 @@ returns-clause-ok g c =
     let h = c.args.self.now in
     let i = c.args.position in
     let v = c.args.action.now in
-    let told = says_to_others h.config.nodes h.me (bodies.Decided i v) in
-    let said = told ++ (learns_alone m.next m.answers h i v).sent in
-    learned_commits m.next m.answers h c.learn.new.self i v told [] c.args.out.now.run c.learn.new.out.run
+    let stated = says_to_others h.config.nodes h.me (bodies.Decided i v) in
+    let said = stated ++ (learns_alone m.next m.answers h i v).sent in
+    learned_commits m.next m.answers h c.learn.new.self i v stated [] c.args.out.now.run c.learn.new.out.run
     c.in_ok-learn.ensures.learned
     (c.in_ok-learn.ensures.replied ∙ ap (λ (r : Run). with_packets r said) c.reserve_replies.ensures.run ∙ ap (with_packets c.args.out.now.run) (sym (append-nil said)))

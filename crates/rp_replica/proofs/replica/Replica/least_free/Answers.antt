@@ -5,7 +5,7 @@ use Rattle.rp_base.specs.declared.action.Action.{Action}
 use Rattle.rp_base.specs.Records.{first_unlearned}
 use Rattle.rp_log.specs.Contents.{next_to_take, ready_of}
 use Rattle.rp_model.specs.Leader.{is_free_position, is_out_of_reach, least_free}
-use Rattle.rp_replica.specs.Held.{Held}
+use Rattle.rp_replica.specs.State.{ReplicaState}
 use Rattle.rp_replica.proofs.Beginning.{next_is}
 use Rattle.rp_replica.proofs.FreePlaces.{NoneFree, none_below, none_joined, none_more, least_is, least_is_out}
 use Rattle.rp_replica.proofs.replica.Replica.least_free.Goals as goal
@@ -27,7 +27,7 @@ returns-then-is_free_position-clause-some g c =
     let first = c.next_unlearned-first.result in
     let number = c.loop-number.number in
     let below : NoneFree h.config.nodes h.records h.running.proposals 1 first =
-    subst (λ (k : Held g.row.M.Denot). NoneFree k.config.nodes k.records k.running.proposals 1 first) c.self.view_is
+    subst (λ (k : ReplicaState g.row.M.Denot). NoneFree k.config.nodes k.records k.running.proposals 1 first) c.self.view_is
     (none_below r.config.nodes r.acceptor.records r.proposer.proposals r.log first c.self.invariant.applies.learned c.next_unlearned-first.ensures.below) in
     let free : is_free_position h.config.nodes h.records h.running.proposals number ≡ true =
     ap (is_free_position h.config.nodes h.records h.running.proposals) (sym c.position_at-position.ensures) ∙ sym c.is_free_position.ensures ∙ c.if-is_free_position.true in
@@ -46,8 +46,8 @@ returns-clause-none g c =
     let at : first ≡ first_unlearned r.acceptor.records = next_is r.acceptor.records r.log r.machine first a (c.next_unlearned-first.ensures.taken ready) in
     let is : end ≡ min (first + 64) (r.config.max_positions + 1) = c.min-end.ensures ∙ ap (λ (n : ℕ). min (first + 64) (n + 1)) c.from.ensures in
     let here : NoneFree r.config.nodes r.acceptor.records r.proposer.proposals first end =
-    subst (λ (k : Held g.row.M.Denot). NoneFree k.config.nodes k.records k.running.proposals first end) (sym c.self.view_is) (λ j low below. c.loop-number.invariant j low (omega (arith, below, c.loop-number-test.false))) in
+    subst (λ (k : ReplicaState g.row.M.Denot). NoneFree k.config.nodes k.records k.running.proposals first end) (sym c.self.view_is) (λ j low below. c.loop-number.invariant j low (omega (arith, below, c.loop-number-test.false))) in
     let none : NoneFree r.config.nodes r.acceptor.records r.proposer.proposals 1 end =
     none_joined r.config.nodes r.acceptor.records r.proposer.proposals first end (none_below r.config.nodes r.acceptor.records r.proposer.proposals r.log first a.learned c.next_unlearned-first.ensures.below) here in
-    subst (λ (k : Held g.row.M.Denot). is_out_of_reach k.config.max_positions k.records (least_free k.config.nodes k.records k.running.proposals) ≡ true) c.self.view_is
+    subst (λ (k : ReplicaState g.row.M.Denot). is_out_of_reach k.config.max_positions k.records (least_free k.config.nodes k.records k.running.proposals) ≡ true) c.self.view_is
     (least_is_out r.config.nodes r.acceptor.records r.proposer.proposals r.config.max_positions first end at is none)

@@ -2,10 +2,10 @@ use Rattle.std.proofs.Common.{◌≡◌, [], ◌∷◌, sym, ap, ◌∙◌}
 use Rattle.rp_base.specs.declared.record.Rec.{Rec}
 use Rattle.rp_base.specs.declared.record.Rec.TheVariants.{Voted}
 use Rattle.rp_codec.specs.declared.packet.Body.TheVariants as bodies
-use Rattle.rp_model.specs.Acceptor.{tells_vote}
+use Rattle.rp_model.specs.Acceptor.{answers_accept}
 use Rattle.rp_model.specs.Says.{says, writes}
 use Rattle.rp_base.specs.Voting.{accept_answer}
-use Rattle.rp_replica.specs.Held.{Held}
+use Rattle.rp_replica.specs.State.{ReplicaState}
 use Rattle.rp_replica.proofs.Answering.{voted}
 use Rattle.rp_replica.proofs.replica.Replica.on_accept.Goals as goal
 
@@ -17,5 +17,5 @@ returns-in-Vote-clause-turn g c =
     let v = c.args.action.now in
     let is : c.in-Vote._vote ≡ Voted i b v = voted c.self.inside.acceptor.records i b v c.in-Vote._vote c.in-Vote.ensures.answer in
     ap (λ (rec : Rec). writes rec h.running (says h.me (bodies.Accepted i b v) c.args.from ∷ [])) (sym is)
-    ∙ ap (tells_vote h.me h.running c.args.from i b v) c.in-Vote.ensures.answer
-    ∙ ap (λ (k : Held g.row.M.Denot). tells_vote h.me h.running c.args.from i b v (accept_answer k.records i b v)) c.self.view_is
+    ∙ ap (answers_accept h.me h.running c.args.from i b v) c.in-Vote.ensures.answer
+    ∙ ap (λ (k : ReplicaState g.row.M.Denot). answers_accept h.me h.running c.args.from i b v (accept_answer k.records i b v)) c.self.view_is

@@ -1,7 +1,7 @@
 use Rattle.std.proofs.Common.{◌≡◌, sym, ◌∙◌}
-use Rattle.rp_learner.specs.declared.learner.Standing.TheVariants.{Learned}
-use Rattle.rp_learner.specs.Standings.{vote_for}
-use Rattle.rp_replica.specs.Standing.{standing_of}
+use Rattle.rp_learner.specs.declared.learner.VoteStatus.TheVariants.{Learned}
+use Rattle.rp_learner.specs.Status.{vote_for}
+use Rattle.rp_replica.specs.Status.{status_of}
 use Rattle.rp_replica.proofs.Accepted.{on_learned}
 use Rattle.rp_replica.proofs.replica.Replica.on_accepted.Goals as goal
 
@@ -10,5 +10,5 @@ returns-in-Learned-clause-turn g c =
     let m = g.M.Machine in
     let h = c.args.self.now in
     let vote = vote_for c.args.ballot c.args.action.now in
-    let standing : standing_of h.config.nodes h.records h.running.heard c.args.from c.args.position vote ≡ Learned = sym c.standing.ensures ∙ c.in-Learned.is in
-    sym (on_learned m.next m.answers h.begin h.config.nodes h.me h.records h.running c.args.from c.args.position vote standing)
+    let status : status_of h.config.nodes h.records h.running.heard c.args.from c.args.position vote ≡ Learned = sym c.status.ensures ∙ c.in-Learned.is in
+    sym (on_learned m.next m.answers h.begin h.config.nodes h.me h.records h.running c.args.from c.args.position vote status)

@@ -12,8 +12,8 @@ returns-in-Some-clause-turn g c =
     let kept = kept_of g.M.Machine.next g.M.Machine.answers h.begin (applied_of h.records) in
     let given = replay_answers g.M.Machine.next g.M.Machine.answers h.begin (applied_of h.records) in
     let call = Call c.in-Call.task c.in-Call.number c.in-Call.object c.in-Call.operation c.in-Call.arg in
-    let told : kept_reply c.in-Call.task c.in-Call.number kept given ≡ Some c.in-Some.reply = sym c.kept_reply.ensures ∙ c.in-Some.is in
-    sym (ap (on_call h.me kept given h.running) c.in-Call.is ∙ ap (on_numbered h.me kept h.running c.in-Call.task c.in-Call.number call) told)
+    let stated : kept_reply c.in-Call.task c.in-Call.number kept given ≡ Some c.in-Some.reply = sym c.kept_reply.ensures ∙ c.in-Some.is in
+    sym (ap (on_call h.me kept given h.running) c.in-Call.is ∙ ap (on_numbered h.me kept h.running c.in-Call.task c.in-Call.number call) stated)
 
 pub returns-in-None-clause-turn : goal.returns-in-None-clause-turn
 returns-in-None-clause-turn g c =
@@ -21,5 +21,5 @@ returns-in-None-clause-turn g c =
     let kept = kept_of g.M.Machine.next g.M.Machine.answers h.begin (applied_of h.records) in
     let given = replay_answers g.M.Machine.next g.M.Machine.answers h.begin (applied_of h.records) in
     let call = Call c.in-Call.task c.in-Call.number c.in-Call.object c.in-Call.operation c.in-Call.arg in
-    let told : kept_reply c.in-Call.task c.in-Call.number kept given ≡ None = sym c.kept_reply.ensures ∙ c.in-None.is in
-    c.on_unanswered.ensures.turn ∙ sym (ap (on_call h.me kept given h.running) c.in-Call.is ∙ ap (on_numbered h.me kept h.running c.in-Call.task c.in-Call.number call) told)
+    let stated : kept_reply c.in-Call.task c.in-Call.number kept given ≡ None = sym c.kept_reply.ensures ∙ c.in-None.is in
+    c.on_unanswered.ensures.turn ∙ sym (ap (on_call h.me kept given h.running) c.in-Call.is ∙ ap (on_numbered h.me kept h.running c.in-Call.task c.in-Call.number call) stated)

@@ -1,7 +1,7 @@
 use Rattle.std.proofs.Common.{ℕ, refl, sym, ap, ◌∙◌}
 use Rattle.rp_base.specs.Proposals.{proposal_at}
 use Rattle.rp_proposer.specs.Proposing.{prepared_by}
-use Rattle.rp_replica.specs.Held.{Held}
+use Rattle.rp_replica.specs.State.{ReplicaState}
 use Rattle.rp_replica.proofs.Leading.{lead_within}
 use Rattle.rp_replica.proofs.Prepared.{leads_by, prepared_right}
 use Rattle.rp_replica.proofs.replica.Replica.on_lead_at.Goals as goal
@@ -13,7 +13,7 @@ returns-in-Some-clause-ok g c =
     let r = c.self.inside in
     let i = c.args.position in
     leads_by m.next m.answers h.begin h.config.nodes h.me h.records h.running i _ _ _ (proposal_at h.running.proposals i) refl
-    (sym (ap (λ (k : Held g.row.M.Denot). prepared_by k.config.nodes (proposal_at k.running.proposals i)) c.self.view_is)
+    (sym (ap (λ (k : ReplicaState g.row.M.Denot). prepared_by k.config.nodes (proposal_at k.running.proposals i)) c.self.view_is)
     ∙ ap (λ (n : ℕ). prepared_by n (proposal_at r.proposer.proposals i)) (sym c.self.invariant.leads.nodes) ∙ sym c.in-Some.ensures)
     c.prepared_action-action.ensures.action
     ∙ lead_within m.next m.answers h.begin h.config h.me h.records h.running i (sym c.is_learned.ensures ∙ c.if-is_learned.false) (sym c.is_out_of_reach.ensures ∙ c.if-is_out_of_reach.false)

@@ -31,4 +31,4 @@ pub returns-in-None-clause-err : goal.returns-in-None-clause-err
 returns-in-None-clause-err g c =
     let h = c.args.self.now in
     sym (range_exhausted h.config h.me h.records h.running c.args.range c.is_range_out_of_reach.ensures.range (sym c.is_range_out_of_reach.ensures.out ∙ c.if-is_range_out_of_reach.false)
-    (sym c.is_all_learned.ensures ∙ c.if-is_all_learned.false) c.in-None.ensures.spent)
+    (sym c.is_all_learned.ensures ∙ c.if-is_all_learned.false) c.in-None.ensures.exhausted)

@@ -6,8 +6,8 @@ use Rattle.rp_base.specs.Proposals.{without_proposal}
 use Rattle.rp_base.specs.Records.{applied_of}
 use Rattle.rp_machine.specs.Replay.{kept_of}
 use Rattle.rp_model.specs.Pending.{is_free_item}
-use Rattle.rp_replica.specs.Held.{Held}
-use Rattle.rp_replica.proofs.Choosing.{find_before, find_behind}
+use Rattle.rp_replica.specs.State.{ReplicaState}
+use Rattle.rp_replica.proofs.Choosing.{find_before, find_after}
 use Rattle.rp_replica.proofs.replica.Replica.own_action.Goals as goal
 
 pub returns-in-Some : goal.returns-in-Some
@@ -17,7 +17,7 @@ returns-in-Some g c =
     let test : Action → Bool = is_free_item kept (without_proposal h.running.proposals c.args.position) in
     let front : List Action = c.as_slices.result.0.now in
     let back : List Action = c.as_slices.result.1.now in
-    let all : front ++ back ≡ h.running.pending = c.as_slices.ensures ∙ ap (λ (k : Held g.row.M.Denot). k.running.pending) c.self.view_is in
+    let all : front ++ back ≡ h.running.pending = c.as_slices.ensures ∙ ap (λ (k : ReplicaState g.row.M.Denot). k.running.pending) c.self.view_is in
     let first : find test front ≡ Some c.in-Some.item.now = sym c.first_free.ensures ∙ ap option_copied c.in-Some.is in
     let found : find test h.running.pending ≡ Some c.in-Some.item.now = ap (find test) (sym all) ∙ find_before test front back c.in-Some.item.now first in
     sym (ap (λ (o : Option Action). unwrap_or o Noop) found)
@@ -29,10 +29,10 @@ returns-in-Some-first_free g c =
     let test : Action → Bool = is_free_item kept (without_proposal h.running.proposals c.args.position) in
     let front : List Action = c.as_slices.result.0.now in
     let back : List Action = c.as_slices.result.1.now in
-    let all : front ++ back ≡ h.running.pending = c.as_slices.ensures ∙ ap (λ (k : Held g.row.M.Denot). k.running.pending) c.self.view_is in
+    let all : front ++ back ≡ h.running.pending = c.as_slices.ensures ∙ ap (λ (k : ReplicaState g.row.M.Denot). k.running.pending) c.self.view_is in
     let first : find test front ≡ None = sym c.first_free.ensures ∙ ap option_copied c.in-None.is in
     let second : find test back ≡ Some c.in-Some-first_free.item.now = sym c.first_free-in-None.ensures ∙ ap option_copied c.in-Some-first_free.is in
-    let found : find test h.running.pending ≡ Some c.in-Some-first_free.item.now = ap (find test) (sym all) ∙ find_behind test front back first ∙ second in
+    let found : find test h.running.pending ≡ Some c.in-Some-first_free.item.now = ap (find test) (sym all) ∙ find_after test front back first ∙ second in
     sym (ap (λ (o : Option Action). unwrap_or o Noop) found)
 
 pub returns-in-None-first_free : goal.returns-in-None-first_free
@@ -42,8 +42,8 @@ returns-in-None-first_free g c =
     let test : Action → Bool = is_free_item kept (without_proposal h.running.proposals c.args.position) in
     let front : List Action = c.as_slices.result.0.now in
     let back : List Action = c.as_slices.result.1.now in
-    let all : front ++ back ≡ h.running.pending = c.as_slices.ensures ∙ ap (λ (k : Held g.row.M.Denot). k.running.pending) c.self.view_is in
+    let all : front ++ back ≡ h.running.pending = c.as_slices.ensures ∙ ap (λ (k : ReplicaState g.row.M.Denot). k.running.pending) c.self.view_is in
     let first : find test front ≡ None = sym c.first_free.ensures ∙ ap option_copied c.in-None.is in
     let second : find test back ≡ None = sym c.first_free-in-None.ensures ∙ ap option_copied c.in-None-first_free.is in
-    let found : find test h.running.pending ≡ None = ap (find test) (sym all) ∙ find_behind test front back first ∙ second in
+    let found : find test h.running.pending ≡ None = ap (find test) (sym all) ∙ find_after test front back first ∙ second in
     c.new.ensures ∙ sym (ap (λ (o : Option Action). unwrap_or o Noop) found)

@@ -6,10 +6,10 @@ use Rattle.rp_base.specs.declared.record.Rec.{Rec}
 use Rattle.rp_base.specs.declared.record.Rec.TheVariants.{Started}
 use Rattle.rp_model.specs.Parts.{Running}
 use Rattle.rp_replica.specs.Cutting.{MayWrite}
-use Rattle.rp_replica.specs.Held.{Held}
+use Rattle.rp_replica.specs.State.{ReplicaState}
 use Rattle.rp_replica.specs.Turning.{Stops}
-use Rattle.rp_replica.proofs.Cuts.{held_with, stops_by, given_on}
-use Rattle.rp_replica.proofs.Beginning.{in_reach, leads_started, tied_started}
+use Rattle.rp_replica.proofs.Cuts.{replica_with, stops_by, given_on}
+use Rattle.rp_replica.proofs.Beginning.{in_reach, leads_started, replica_started}
 use Rattle.rp_replica.proofs.replica.Replica.start.Goals as goal
 
 pub begin-requires-clause-room : goal.begin-requires-clause-room
@@ -17,8 +17,8 @@ begin-requires-clause-room g c =
     let r = c.self.inside in
     let back = sym c.self.view_is in
     let i = c.args.position in
-    let unlearned : learned_at r.acceptor.records i ≡ None = subst (λ (h : Held g.row.M.Denot). learned_at h.records i ≡ None) back c.requires.may.unlearned in
-    let below : i < first_unlearned r.acceptor.records + 64 = subst (λ (h : Held g.row.M.Denot). i < first_unlearned h.records + 64) back c.requires.may.reach in
+    let unlearned : learned_at r.acceptor.records i ≡ None = subst (λ (h : ReplicaState g.row.M.Denot). learned_at h.records i ≡ None) back c.requires.may.unlearned in
+    let below : i < first_unlearned r.acceptor.records + 64 = subst (λ (h : ReplicaState g.row.M.Denot). i < first_unlearned h.records + 64) back c.requires.may.reach in
     let least : 1 ≤ i = c.get-number.ensures.in_range.0 in
     window_has_room r.proposer.proposals (suc (length r.log.taken)) i c.self.invariant.leads.window (in_reach r.acceptor.records r.log r.machine i c.self.invariant.applies least unlearned below)
 
@@ -27,12 +27,12 @@ invariant_of-self-2 g c =
     let r = c.self.inside in
     let back = sym c.self.view_is in
     let i = c.args.position in
-    let unlearned : learned_at r.acceptor.records i ≡ None = subst (λ (h : Held g.row.M.Denot). learned_at h.records i ≡ None) back c.requires.may.unlearned in
-    let below : i < first_unlearned r.acceptor.records + 64 = subst (λ (h : Held g.row.M.Denot). i < first_unlearned h.records + 64) back c.requires.may.reach in
+    let unlearned : learned_at r.acceptor.records i ≡ None = subst (λ (h : ReplicaState g.row.M.Denot). learned_at h.records i ≡ None) back c.requires.may.unlearned in
+    let below : i < first_unlearned r.acceptor.records + 64 = subst (λ (h : ReplicaState g.row.M.Denot). i < first_unlearned h.records + 64) back c.requires.may.reach in
     let least : 1 ≤ i = c.get-number.ensures.in_range.0 in
     let inside = in_reach r.acceptor.records r.log r.machine i c.self.invariant.applies least unlearned below in
     let own = c.args.own.now in
-    tied_started g.D.Device.disk r.me r.config r.learner r.heard r.log r.machine r.store c.write.new.store r.acceptor.records c.write.new.acceptor.records r.proposer c.begin.new.self
+    replica_started g.D.Device.disk r.me r.config r.learner r.heard r.log r.machine r.store c.write.new.store r.acceptor.records c.write.new.acceptor.records r.proposer c.begin.new.self
     (begins r.proposer i c.args.ballot (Some own)) c.args.ballot c.in_ok-write.ensures.put c.in_ok-write.ensures.noted c.begin.ensures c.self.invariant c.requires.may.ballot.ballot
     (leads_started r.me r.config r.acceptor.records (length r.log.taken) r.proposer i c.args.ballot own c.self.invariant.leads c.requires.may.right unlearned inside)
 
@@ -43,8 +43,8 @@ returns-in_err-write-clause-err g c =
     let rec : Rec = Started c.args.ballot in
     let fault = c.in_err-write.field-0.0 in
     let known : Running = record { proposals = r.proposer.proposals; heard = r.heard; pending = r.pending; refused = r.proposer.refused } in
-    let after : Held g.row.M.Denot = held_with disk r.me r.config r.machine.begin known c.write.new.store c.write.new.acceptor.records in
+    let after : ReplicaState g.row.M.Denot = replica_with disk r.me r.config r.machine.begin known c.write.new.store c.write.new.acceptor.records in
     let may : MayWrite r.config.max_positions (Some rec) = (record { ranges = c.requires.may.ballot.ballot; right = tt }, refl) in
     given_on c.from_residual.result fault (Some rec) c.args.self.now after c.from_residual.ensures.1
-    (subst (λ (k : Held g.row.M.Denot). Stops (Some rec) k after fault) c.self.view_is
-    (stops_by disk r.me r.config r.machine.begin known fault rec r.store c.write.new.store r.acceptor.records c.write.new.acceptor.records c.self.invariant.stands may c.in_err-write.ensures.unchanged c.in_err-write.ensures.err))
+    (subst (λ (k : ReplicaState g.row.M.Denot). Stops (Some rec) k after fault) c.self.view_is
+    (stops_by disk r.me r.config r.machine.begin known fault rec r.store c.write.new.store r.acceptor.records c.write.new.acceptor.records c.self.invariant.on_device may c.in_err-write.ensures.unchanged c.in_err-write.ensures.err))

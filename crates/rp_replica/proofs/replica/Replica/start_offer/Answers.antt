@@ -1,13 +1,13 @@
 use Rattle.std.proofs.Common.{length, sym, subst}
 use Rattle.rp_proposer.specs.Proposing.{ProposerPart}
-use Rattle.rp_replica.specs.Tied.{IsProposer}
-use Rattle.rp_replica.proofs.Promising.{leads_offered, tied_leading}
+use Rattle.rp_replica.specs.Invariant.{IsProposer}
+use Rattle.rp_replica.proofs.Promising.{leads_offered, replica_leading}
 use Rattle.rp_replica.proofs.replica.Replica.start_offer.Goals as goal
 
 pub invariant_of-self : goal.invariant_of-self
 invariant_of-self g c =
     let r = c.self.inside in
     let taken = length r.log.taken in
-    tied_leading r.me r.config (g.D.Device.disk r.store.device) r.store.failed r.acceptor.records r.proposer c.offer.new.self r.learner r.heard r.log r.machine c.self.invariant
+    replica_leading r.me r.config (g.D.Device.disk r.store.device) r.store.failed r.acceptor.records r.proposer c.offer.new.self r.learner r.heard r.log r.machine c.self.invariant
     (subst (λ (p : ProposerPart). IsProposer r.me r.config r.acceptor.records taken p) (sym c.offer.ensures.offered)
     (leads_offered r.me r.config r.acceptor.records taken r.proposer c.self.invariant.leads c.args.position c.args.action.now c.requires.right))

@@ -8,10 +8,10 @@ use Rattle.rp_model.specs.Leader.{unlearned_in}
 use Rattle.rp_model.specs.Parts.{Running}
 use Rattle.rp_proposer.specs.Proposing.{unskipped, begins_range}
 use Rattle.rp_replica.specs.Cutting.{MayWrite}
-use Rattle.rp_replica.specs.Held.{Held}
+use Rattle.rp_replica.specs.State.{ReplicaState}
 use Rattle.rp_replica.specs.Turning.{Stops}
-use Rattle.rp_replica.proofs.Cuts.{held_with, stops_by, given_on}
-use Rattle.rp_replica.proofs.Beginning.{tied_started}
+use Rattle.rp_replica.proofs.Cuts.{replica_with, stops_by, given_on}
+use Rattle.rp_replica.proofs.Beginning.{replica_started}
 use Rattle.rp_replica.proofs.Covered.{open_in, leads_ranged, range_fits}
 use Rattle.rp_replica.proofs.replica.Replica.start_range.Goals as goal
 
@@ -20,8 +20,8 @@ begin_range-requires-clause-room g c =
     let r = c.self.inside in
     let back = sym c.self.view_is in
     let is : unskipped c.args.range c.learned_mask-learned.result ≡ unlearned_in r.acceptor.records c.args.range =
-    c.learned_mask-learned.ensures.mask ∙ ap (λ (h : Held g.row.M.Denot). unlearned_in h.records c.args.range) back in
-    let reach : end_of c.args.range ≤ first_unlearned r.acceptor.records + 64 = subst (λ (h : Held g.row.M.Denot). end_of c.args.range ≤ first_unlearned h.records + 64) back c.requires.may.reach in
+    c.learned_mask-learned.ensures.mask ∙ ap (λ (h : ReplicaState g.row.M.Denot). unlearned_in h.records c.args.range) back in
+    let reach : end_of c.args.range ≤ first_unlearned r.acceptor.records + 64 = subst (λ (h : ReplicaState g.row.M.Denot). end_of c.args.range ≤ first_unlearned h.records + 64) back c.requires.may.reach in
     let inside = open_in r.acceptor.records r.log r.machine c.args.range.first c.args.range.count c.self.invariant.applies c.learned_mask-learned.ensures.range.first.0 reach in
     subst (λ (is : List ℕ). length (with_range r.proposer.proposals c.args.ballot is) ≤ 64) (sym is)
     (range_fits (suc (length r.log.taken)) c.args.ballot r.acceptor.records (unlearned_in r.acceptor.records c.args.range) r.proposer.proposals c.self.invariant.leads.window inside)
@@ -31,11 +31,11 @@ invariant_of-self-2 g c =
     let r = c.self.inside in
     let back = sym c.self.view_is in
     let is : unskipped c.args.range c.learned_mask-learned.result ≡ unlearned_in r.acceptor.records c.args.range =
-    c.learned_mask-learned.ensures.mask ∙ ap (λ (h : Held g.row.M.Denot). unlearned_in h.records c.args.range) back in
-    let reach : end_of c.args.range ≤ first_unlearned r.acceptor.records + 64 = subst (λ (h : Held g.row.M.Denot). end_of c.args.range ≤ first_unlearned h.records + 64) back c.requires.may.reach in
+    c.learned_mask-learned.ensures.mask ∙ ap (λ (h : ReplicaState g.row.M.Denot). unlearned_in h.records c.args.range) back in
+    let reach : end_of c.args.range ≤ first_unlearned r.acceptor.records + 64 = subst (λ (h : ReplicaState g.row.M.Denot). end_of c.args.range ≤ first_unlearned h.records + 64) back c.requires.may.reach in
     let inside = open_in r.acceptor.records r.log r.machine c.args.range.first c.args.range.count c.self.invariant.applies c.learned_mask-learned.ensures.range.first.0 reach in
     let positions = unlearned_in r.acceptor.records c.args.range in
-    tied_started g.D.Device.disk r.me r.config r.learner r.heard r.log r.machine r.store c.write.new.store r.acceptor.records c.write.new.acceptor.records r.proposer c.begin_range.new.self
+    replica_started g.D.Device.disk r.me r.config r.learner r.heard r.log r.machine r.store c.write.new.store r.acceptor.records c.write.new.acceptor.records r.proposer c.begin_range.new.self
     (begins_range r.proposer positions c.args.ballot) c.args.ballot c.in_ok-write.ensures.put c.in_ok-write.ensures.noted
     (c.begin_range.ensures ∙ ap (λ (js : List ℕ). begins_range r.proposer js c.args.ballot) is) c.self.invariant c.requires.may.ballot.ballot
     (leads_ranged r.me r.config r.acceptor.records (length r.log.taken) r.proposer positions c.args.ballot c.self.invariant.leads inside)
@@ -47,8 +47,8 @@ returns-in_err-write-clause-err g c =
     let rec : Rec = Started c.args.ballot in
     let fault = c.in_err-write.field-0.0 in
     let known : Running = record { proposals = r.proposer.proposals; heard = r.heard; pending = r.pending; refused = r.proposer.refused } in
-    let after : Held g.row.M.Denot = held_with disk r.me r.config r.machine.begin known c.write.new.store c.write.new.acceptor.records in
+    let after : ReplicaState g.row.M.Denot = replica_with disk r.me r.config r.machine.begin known c.write.new.store c.write.new.acceptor.records in
     let may : MayWrite r.config.max_positions (Some rec) = (record { ranges = c.requires.may.ballot.ballot; right = tt }, refl) in
     given_on c.from_residual.result fault (Some rec) c.args.self.now after c.from_residual.ensures.1
-    (subst (λ (k : Held g.row.M.Denot). Stops (Some rec) k after fault) c.self.view_is
-    (stops_by disk r.me r.config r.machine.begin known fault rec r.store c.write.new.store r.acceptor.records c.write.new.acceptor.records c.self.invariant.stands may c.in_err-write.ensures.unchanged c.in_err-write.ensures.err))
+    (subst (λ (k : ReplicaState g.row.M.Denot). Stops (Some rec) k after fault) c.self.view_is
+    (stops_by disk r.me r.config r.machine.begin known fault rec r.store c.write.new.store r.acceptor.records c.write.new.acceptor.records c.self.invariant.on_device may c.in_err-write.ensures.unchanged c.in_err-write.ensures.err))

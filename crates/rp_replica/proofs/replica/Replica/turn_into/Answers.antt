@@ -2,7 +2,7 @@ use Rattle.std.proofs.Common.{◌≡◌, Result, Err, sym, subst, ◌∙◌}
 use Rattle.std.specs.Prelude.{IfErr}
 use Rattle.rp_base.specs.declared.fault.Fault.{Fault}
 use Rattle.rp_model.specs.declared.effect.Dropped.{Dropped}
-use Rattle.rp_replica.specs.Held.{Held}
+use Rattle.rp_replica.specs.State.{ReplicaState}
 use Rattle.rp_replica.specs.Inputs.{input_effect}
 use Rattle.rp_replica.specs.Plans.{written_by}
 use Rattle.rp_replica.specs.Turning.{Stops, StopsIf}
@@ -26,10 +26,10 @@ returns-in-Err-committed g c =
       | in-Ok w ↦
           let stops : Stops (written_by w.in-Ok.plan) h w.commit-committed.new.self fault =
           subst (λ (r : Result Dropped Fault). IfErr r (λ f. Stops (written_by w.in-Ok.plan) h w.commit-committed.new.self f)) (sym w.committed-is ∙ c.in-Err-committed.is) w.commit-committed.ensures.err in
-          subst (λ (k : Held g.row.M.Denot). StopsIf effect h k fault) (sym w.self-is)
+          subst (λ (k : ReplicaState g.row.M.Denot). StopsIf effect h k fault) (sym w.self-is)
           (stops_plan m.next m.answers h effect c.decide-decided.result w.in-Ok.plan w.commit-committed.new.self fault w.in-Ok.is c.decide-decided.ensures.ok stops)
       | in-Err w ↦
-          subst (λ (k : Held g.row.M.Denot). StopsIf effect h k fault) (sym w.self-is)
+          subst (λ (k : ReplicaState g.row.M.Denot). StopsIf effect h k fault) (sym w.self-is)
           (subst (λ (f : Fault). StopsIf effect h h f) (same_fault w.in-Err.fault fault (sym w.committed-is ∙ c.in-Err-committed.is))
           (stops_undecided m.next m.answers h effect c.decide-decided.result w.in-Err.fault w.in-Err.is c.decide-decided.ensures.err))
     ]

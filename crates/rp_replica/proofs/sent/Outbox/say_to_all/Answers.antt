@@ -1,7 +1,7 @@
 use Rattle.std.proofs.Common.{◌≡◌, ap, ◌∙◌, arith}
 use Rattle.rp_codec.specs.Text.{text_of}
 use Rattle.rp_model.specs.Says.{says}
-use Rattle.rp_replica.proofs.Saying.{to_another, one_node_more}
+use Rattle.rp_replica.proofs.Queueing.{to_another, one_node_more}
 use Rattle.rp_replica.proofs.sent.Outbox.say_to_all.Goals as goal
 
 pub loop-place-preserved : goal.loop-place-preserved

@@ -1,8 +1,8 @@
 use Rattle.std.proofs.Common.{◌≡◌, ◌+◌, ◌*◌, ◌≤◌, Bool, true, false, not, nat_eq, refl, ℕ, sym, ap, subst, ◌∙◌, arith}
 use Rattle.rp_codec.specs.Text.{text_of}
 use Rattle.rp_model.specs.Says.{says}
-use Rattle.rp_replica.proofs.Saying.{to_another, other_node_more, own_node_left}
-use Rattle.rp_replica.specs.Packets.{RoomyRun, with_packets}
+use Rattle.rp_replica.proofs.Queueing.{to_another, other_node_more, own_node_left}
+use Rattle.rp_replica.specs.Packets.{BufferState, with_packets}
 use Rattle.rp_model.specs.Says.{says_to_others}
 use Rattle.rp_replica.proofs.sent.Outbox.say_to_others.Goals.{then-ne, else-ne}
 use Rattle.rp_replica.proofs.sent.Outbox.say_to_others.Goals as goal
@@ -24,7 +24,7 @@ loop-place-preserved c =
     let start = c.args.self.now in
     let to = c.node_after-to.result in
     let same : nat_eq to me ≡ nat_eq (place + 1) me = ap (λ (k : ℕ). nat_eq k me) c.node_after-to.ensures in
-    let So : RoomyRun → Type 0 = λ out. (out.run ≡ with_packets start.run (says_to_others (place + 1) me body)) × (start.room ≤ out.room + 40 * (place + 1)) in
+    let So : BufferState → Type 0 = λ out. (out.run ≡ with_packets start.run (says_to_others (place + 1) me body)) × (start.room ≤ out.room + 40 * (place + 1)) in
     elim c.if-ne.branch [
       | then-ne w ↦
           let text : w.as_slice.result.now ≡ text_of (says me body me) = w.as_slice.ensures.bytes ∙ c.text_of_packet-text.ensures ∙ ap text_of c.new.ensures in

@@ -6,7 +6,7 @@ use Rattle.rp_script.specs.Output.{Play, note_said, event_said, drained}
 use Rattle.rp_script.specs.Items.{DrainLimit}
 use Rattle.rp_script.specs.Runs.{run_setting}
 use Rattle.rp_script.proofs.LeastUnsettled.{none_is_left, least_is_left}
-use Rattle.rp_script.proofs.Saying.{Underway, sets_out, goes_on, fails, ends_by, ends, says_by, note_written, says_failed, drained_none, drained_full, drained_more}
+use Rattle.rp_script.proofs.RunParts.{Underway, sets_out, goes_on, fails, ends_by, ends, says_by, note_written, says_failed, drained_none, drained_full, drained_more}
 use Rattle.rp_script.proofs.Stepping.{same_setting, same_trans}
 use Rattle.rp_script.proofs.run.Run.drain.Goals as goal
 

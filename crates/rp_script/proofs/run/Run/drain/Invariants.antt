@@ -2,7 +2,7 @@ use Rattle.std.proofs.Common.{◌≡◌, ◌-◌}
 use Rattle.rp_world.specs.Steps.{IsSameSetup}
 use Rattle.rp_script.specs.Output.{Play, drained}
 use Rattle.rp_script.specs.Runs.{HasParts, Follows, run_setting}
-use Rattle.rp_script.proofs.Saying.{Underway}
+use Rattle.rp_script.proofs.RunParts.{Underway}
 use Rattle.rp_script.proofs.run.Run.drain.Given as goal
 
 -- what was written so far, and then a drain of what may still be delivered, is the whole drain

@@ -1,6 +1,6 @@
 use Rattle.std.proofs.Common.{◌<◌, length, inl, inr, arith}
 use Rattle.std.specs.Prelude.{◌⊎◌}
-use Rattle.rp_script.proofs.Saying.{was_not_lost}
+use Rattle.rp_script.proofs.RunParts.{was_not_lost}
 use Rattle.rp_script.proofs.run.Run.lose.Goals as goal
 use Rattle.rp_script.proofs.run.Run.lose.Goals.{then-first-sent-via-then-first-sent, then-first-sent-via-else-first-sent+then-last-sent}
 

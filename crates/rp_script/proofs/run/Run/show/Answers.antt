@@ -6,8 +6,8 @@ use Rattle.rp_model.specs.World.{part_at}
 use Rattle.rp_script.specs.Output.{part_text, nodes_text}
 use Rattle.rp_script.specs.Runs.{run_setting}
 use Rattle.rp_script.specs.Stream.{Begins}
-use Rattle.rp_script.proofs.Telling.{no_nodes, nodes_more, nodes_front}
-use Rattle.rp_script.proofs.Writing.{writes_failed, begins_longer, begins_behind}
+use Rattle.rp_script.proofs.PrintedNames.{no_nodes, nodes_more, nodes_front}
+use Rattle.rp_script.proofs.Writing.{writes_failed, begins_longer, begins_after}
 use Rattle.rp_script.proofs.run.Run.show.Goals as goal
 
 pub loop-place-init : goal.loop-place-init
@@ -37,7 +37,7 @@ returns-in_err-show_node-clause-shown g c =
     ap (nodes_text s world) (sym all) ∙ front.1 ∙ ap (λ (l : List ℕ). l ++ front.0) (nodes_more s world place) in
     writes_failed _ _ _ c.from_residual.result c.from_residual.ensures.0
     (subst (λ (l : List ℕ). Begins old after l) (sym whole)
-    (begins_longer old after (nodes_text s world place ++ here) front.0 (begins_behind old before after (nodes_text s world place) here c.loop-place.invariant begun)))
+    (begins_longer old after (nodes_text s world place ++ here) front.0 (begins_after old before after (nodes_text s world place) here c.loop-place.invariant begun)))
 
 pub loop-place-preserved : goal.loop-place-preserved
 loop-place-preserved g c =

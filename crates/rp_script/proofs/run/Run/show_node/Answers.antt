@@ -1,13 +1,13 @@
--- The line of the number, and the image behind it.
+-- The line of the number, and the image after it.
 use Rattle.std.proofs.Common.{◌≤◌, ◌++◌, List, ℕ, rules, arith, sym, ap, subst, ◌∙◌}
 use Rattle.rp_model.specs.World.{part_at}
 use Rattle.rp_script.specs.Printed.{applied_line_of}
 use Rattle.rp_script.specs.Runs.{run_setting}
-use Rattle.rp_script.specs.FaultLine.{with_line_feed}
+use Rattle.rp_script.specs.FaultMessage.{with_line_feed}
 use Rattle.rp_script.specs.Stream.{Begins}
 use Rattle.rp_script.proofs.Refusing.{part_there}
-use Rattle.rp_script.proofs.Telling.{begins_by_count, whole_text, stopped_text}
-use Rattle.rp_script.proofs.Writing.{writes_failed, writes_same, writes_behind, begins_longer, begins_whole}
+use Rattle.rp_script.proofs.PrintedNames.{begins_by_count, whole_text, stopped_text}
+use Rattle.rp_script.proofs.Writing.{writes_failed, writes_same, writes_after, begins_longer, begins_whole}
 use Rattle.rp_script.proofs.run.Run.show_node.Goals as goal
 
 pub returns-in_err-print-in-Ok-clause-shown : goal.returns-in_err-print-in-Ok-clause-shown
@@ -36,7 +36,7 @@ returns-in_ok-image-in-Ok-clause-shown g c =
     let whole = whole_text (run_setting m.next m.answers m.begin m.image cluster c.args.options.now) c.args.node c.in-Ok.applied c.in_ok-image-in-Ok.image (part_at cluster.world.nodes c.args.node)
     c.in-Ok.ensures c.in_ok-image-in-Ok.ensures in
     writes_same _ _ _ _ c.write_whole.result (ap (λ (l : List ℕ). line ++ l) c.deref.ensures.value ∙ sym whole)
-    (writes_behind _ _ _ line _ c.write_whole.result (rw c.from.ensures at c.in_ok-print-in-Ok.ensures.printed) c.write_whole.ensures.written)
+    (writes_after _ _ _ line _ c.write_whole.result (rw c.from.ensures at c.in_ok-print-in-Ok.ensures.printed) c.write_whole.ensures.written)
 
 pub returns-in-Err-clause-shown : goal.returns-in-Err-clause-shown
 returns-in-Err-clause-shown g c =

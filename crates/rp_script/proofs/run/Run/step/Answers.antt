@@ -4,18 +4,18 @@ use Rattle.rp_base.specs.Fault.{code_of}
 use Rattle.rp_model.specs.Events.{event_of}
 use Rattle.rp_script.specs.Output.{event_said}
 use Rattle.rp_script.specs.Runs.{run_setting}
-use Rattle.rp_script.proofs.Saying.{happened, was_refused, says_failed}
+use Rattle.rp_script.proofs.RunParts.{happened, was_refused, says_failed}
 use Rattle.rp_script.proofs.Stepping.{always_ok, parts_stay, parts_left, ends_with, ends_over, refused_counts, refused_of}
 use Rattle.rp_script.proofs.Writing.{begins_nothing}
 use Rattle.rp_script.proofs.run.Run.step.Goals as goal
 
-pub tell_effect-requires : goal.tell_effect-requires
-tell_effect-requires g c = omega (arith, c.in-Ok.ensures.step.world.tells.first)
+pub print_effect-requires : goal.print_effect-requires
+print_effect-requires g c = omega (arith, c.in-Ok.ensures.step.world.describes.first)
 
 pub returns-in_ok-settle_by-in-Ok-clause-parts : goal.returns-in_ok-settle_by-in-Ok-clause-parts
 returns-in_ok-settle_by-in-Ok-clause-parts g c =
     let m = g.M.Machine in
-    always_ok c.tell_effect.result (parts_stay m.next m.answers m.begin c.args.options.now.config.nodes c.args.self.now.cluster c.step.new.self c.args.event.now
+    always_ok c.print_effect.result (parts_stay m.next m.answers m.begin c.args.options.now.config.nodes c.args.self.now.cluster c.step.new.self c.args.event.now
     c.requires.parts c.requires.event c.in-Ok.effect c.in-Ok.ensures.step.setup c.in-Ok.ensures.step.world)
 
 pub returns-in_ok-settle_by-in-Ok-clause-said : goal.returns-in_ok-settle_by-in-Ok-clause-said
@@ -25,8 +25,8 @@ returns-in_ok-settle_by-in-Ok-clause-said g c =
     let s = run_setting m.next m.answers m.begin m.image old c.args.options.now in
     let done = c.in-Ok.ensures.step.world in
     λ play follows.
-    happened s c.args.line play c.args.event.now old.world c.args.self.now.settled follows c.step.new.self.world c.settle_by.new.self c.in-Ok.effect _ _ c.tell_effect.result
-    done (c.worlds_grow.ensures s.setting old.world (event_of c.args.event.now) done.happening done.came) c.in_ok-settle_by-in-Ok.ensures c.tell_effect.ensures.told
+    happened s c.args.line play c.args.event.now old.world c.args.self.now.settled follows c.step.new.self.world c.settle_by.new.self c.in-Ok.effect _ _ c.print_effect.result
+    done (c.worlds_grow.ensures s.setting old.world (event_of c.args.event.now) done.transition done.resulted) c.in_ok-settle_by-in-Ok.ensures c.print_effect.ensures.printed
 
 pub returns-in_err-settle_by-in-Ok-clause-said : goal.returns-in_err-settle_by-in-Ok-clause-said
 returns-in_err-settle_by-in-Ok-clause-said g c =
@@ -63,10 +63,10 @@ returns-in-Err-2-clause-fault g c =
     c.in-Err.ensures.step.failures
 
 pub returns-in_ok-settle_by-in-Ok-clause-counts : goal.returns-in_ok-settle_by-in-Ok-clause-counts
-returns-in_ok-settle_by-in-Ok-clause-counts g c = always_ok c.tell_effect.result c.in-Ok.ensures.step.failures
+returns-in_ok-settle_by-in-Ok-clause-counts g c = always_ok c.print_effect.result c.in-Ok.ensures.step.failures
 
 pub returns-in_ok-settle_by-in-Ok-clause-fault : goal.returns-in_ok-settle_by-in-Ok-clause-fault
-returns-in_ok-settle_by-in-Ok-clause-fault g c = ends_over _ _ c.tell_effect.result c.tell_effect.ensures.fault
+returns-in_ok-settle_by-in-Ok-clause-fault g c = ends_over _ _ c.print_effect.result c.print_effect.ensures.fault
 
 pub returns-in-Err-clause-counts : goal.returns-in-Err-clause-counts
 returns-in-Err-clause-counts g c =

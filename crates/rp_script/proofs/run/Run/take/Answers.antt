@@ -1,6 +1,6 @@
 -- The command is the one that was matched.
 use Rattle.rp_script.specs.Runs.{run_setting}
-use Rattle.rp_script.proofs.Saying.{says_shown}
+use Rattle.rp_script.proofs.RunParts.{says_shown}
 use Rattle.rp_script.proofs.run.Run.take.Goals as goal
 
 pub returns-in-Take-clause-said : goal.returns-in-Take-clause-said

@@ -32,22 +32,22 @@ returns-clause-applied g c = λ order is x part here.
     (c.applied_lists_begin_the_order.ensures now.config.nodes (node_in now.world.nodes) now.world.sent c.is_kept.ensures.kept.kept.sound order is x)
 
 pub returns-clause-promised : goal.returns-clause-promised
-returns-clause-promised g c = λ x i b last told.
+returns-clause-promised g c = λ x i b last stated.
     let now = c.args.self.now in
     let kept = c.is_kept.ensures.kept in
-    let member = promiser_there now.config.nodes (node_in now.world.nodes) now.world.sent kept.kept.sound x i b last told in
-    (node_in now.world.nodes x, part_is_there now.world now.config.nodes x kept.size member, c.packets_say_so.ensures.written now.config.nodes (node_in now.world.nodes) now.world.sent kept.kept.sound x i b last told)
+    let member = promiser_there now.config.nodes (node_in now.world.nodes) now.world.sent kept.kept.sound x i b last stated in
+    (node_in now.world.nodes x, part_is_there now.world now.config.nodes x kept.size member, c.packets_say_so.ensures.written now.config.nodes (node_in now.world.nodes) now.world.sent kept.kept.sound x i b last stated)
 
 pub returns-clause-voted : goal.returns-clause-voted
-returns-clause-voted g c = λ x i b v told.
+returns-clause-voted g c = λ x i b v stated.
     let now = c.args.self.now in
     let kept = c.is_kept.ensures.kept in
-    let member = c.packets_say_so.ensures.members now.config.nodes (node_in now.world.nodes) now.world.sent kept.kept.sound x (Accepted i b v) (Node told.0, told.1) in
-    (node_in now.world.nodes x, part_is_there now.world now.config.nodes x kept.size member, c.packets_say_so.ensures.said now.config.nodes (node_in now.world.nodes) now.world.sent kept.kept.sound x (Accepted i b v) (Node told.0, told.1))
+    let member = c.packets_say_so.ensures.members now.config.nodes (node_in now.world.nodes) now.world.sent kept.kept.sound x (Accepted i b v) (Node stated.0, stated.1) in
+    (node_in now.world.nodes x, part_is_there now.world now.config.nodes x kept.size member, c.packets_say_so.ensures.said now.config.nodes (node_in now.world.nodes) now.world.sent kept.kept.sound x (Accepted i b v) (Node stated.0, stated.1))
 
 pub returns-clause-learned : goal.returns-clause-learned
-returns-clause-learned g c = λ x i v told.
+returns-clause-learned g c = λ x i v stated.
     let now = c.args.self.now in
     let kept = c.is_kept.ensures.kept in
-    let member = c.packets_say_so.ensures.members now.config.nodes (node_in now.world.nodes) now.world.sent kept.kept.sound x (Decided i v) told in
-    (node_in now.world.nodes x, part_is_there now.world now.config.nodes x kept.size member, c.packets_say_so.ensures.said now.config.nodes (node_in now.world.nodes) now.world.sent kept.kept.sound x (Decided i v) told)
+    let member = c.packets_say_so.ensures.members now.config.nodes (node_in now.world.nodes) now.world.sent kept.kept.sound x (Decided i v) stated in
+    (node_in now.world.nodes x, part_is_there now.world now.config.nodes x kept.size member, c.packets_say_so.ensures.said now.config.nodes (node_in now.world.nodes) now.world.sent kept.kept.sound x (Decided i v) stated)

@@ -14,7 +14,7 @@ invariant_of-result g c =
     subst (λ v. IsCluster (setting_of m.next m.answers m.begin v) v.world) (sym c.in_ok-new.ensures.opened)
     (record {
       right = right;
-      kept = c.replies_tell_the_order.ensures.histories (setting_of m.next m.answers m.begin (record { config = c.args.config; program = c.args.program; world = opening; failures = [] })) [] opening (record { config = right; right = λ event h. absurd h; happened = refl });
+      kept = c.replies_follow_the_order.ensures.histories (setting_of m.next m.answers m.begin (record { config = c.args.config; program = c.args.program; world = opening; failures = [] })) [] opening (record { config = right; right = λ event h. absurd h; happened = refl });
       ranged = c.events_keep_ranges.ensures.opening c.args.config.nodes;
     })
 
@@ -23,4 +23,4 @@ returns-clause-refused g c =
     let right : IsRightConfig c.args.config = c.is_right.ensures.0 c.if-not-is_right.false in
     let count : length c.args.devices.items ≡ c.args.config.nodes = omega (arith, c.if-len-from.false, c.len.ensures, c.from.ensures, c.args.devices.ok.0) in
     let empty = subst (λ devices. All (λ device. (g.D.Device.disk device).contents ≡ []) devices) c.deref.ensures.value (c.are_empty.ensures.0 c.if-not-are_empty.false) in
-    (λ told. absurd cc, λ none. absurd (none (right, count, empty)))
+    (λ stated. absurd cc, λ none. absurd (none (right, count, empty)))

@@ -1,4 +1,4 @@
--- Both worlds meet the invariant.
+-- Both worlds satisfy the invariant.
 use Rattle.std.proofs.Common.{subst}
 use Rattle.rp_model.specs.Effect.{Setting}
 use Rattle.rp_agreement.specs.Answered.{IsKeptWorld}
@@ -24,7 +24,7 @@ returns-clause-ordered g c =
     let new = c.run_all-ran.new.self in
     let s = setting_of m.next m.answers m.begin old in
     let same = same_setting m.next m.answers m.begin old new c.run_all-ran.ensures.run.setup in
-    ordered s c.the_order_exists.ensures c.applied_lists_begin_the_order.ensures (c.replies_answer_calls_that_count.ensures old.config old.program) (c.calls_count_in_turn.ensures old.config old.program)
+    ordered s c.the_order_exists.ensures c.applied_lists_begin_the_order.ensures (c.replies_answer_calls_that_count.ensures old.config old.program) (c.calls_count_in_order.ensures old.config old.program)
     (c.only_made_calls_count.ensures old.config old.program)
     (c.a_call_has_one_place.ensures (m.begin old.program)) new.world
     (subst (λ (t : Setting g.row.M.Denot). IsKeptWorld t new.world) same c.is_kept-2.ensures.kept)

@@ -1,4 +1,4 @@
--- A delivery is a step, and what it leads to meets the invariant.
+-- A delivery is a step, and what it leads to satisfies the invariant.
 use Rattle.std.proofs.Common.{sym, subst}
 use Rattle.std.specs.Prelude.{IsSome}
 use Rattle.rp_model.specs.declared.event.Event.TheVariants.{Node}

@@ -1,4 +1,4 @@
--- What lay apart stands behind the others.
+-- What lay apart is after the others.
 use Rattle.std.proofs.Common.{◌≡◌, ◌+◌, ◌++◌, List, ℕ, [], length, drop, sym, ap, subst, ◌∙◌, arith}
 use Rattle.std.proofs.lemmas.List.{append-nil, length-append}
 use Rattle.std.proofs.Math.Seq.{drop-append_seam}

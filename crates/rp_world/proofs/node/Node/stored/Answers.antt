@@ -1,14 +1,14 @@
 use Rattle.std.proofs.Common.{subst, ◌∙◌}
-use Rattle.rp_world.specs.Nodes.{StandsFor}
-use Rattle.rp_world.proofs.Standing.{length_of, resting_length}
+use Rattle.rp_world.specs.Nodes.{Represents}
+use Rattle.rp_world.proofs.Represented.{length_of, resting_length}
 use Rattle.rp_world.proofs.node.Node.stored.Goals as goal
 
 pub returns-in-Running : goal.returns-in-Running
 returns-in-Running g c = λ member part is.
     let disk = g.D.Device.disk in
-    c.stored.ensures ∙ length_of member c.in-Running.replica part (subst (λ n. StandsFor disk member n part) c.in-Running.is is)
+    c.stored.ensures ∙ length_of member c.in-Running.replica part (subst (λ n. Represents disk member n part) c.in-Running.is is)
 
 pub returns-in-Stopped : goal.returns-in-Stopped
 returns-in-Stopped g c = λ member part is.
     let disk = g.D.Device.disk in
-    c.len.ensures ∙ resting_length _ _ part (subst (λ n. StandsFor disk member n part) c.in-Stopped.is is)
+    c.len.ensures ∙ resting_length _ _ part (subst (λ n. Represents disk member n part) c.in-Stopped.is is)

@@ -3,7 +3,7 @@ use Rattle.std.specs.Prelude.{IfOk, IfErr}
 use Rattle.rp_model.specs.Effect.{NodeInput}
 use Rattle.rp_replica.specs.Inputs.{given_by}
 use Rattle.rp_world.specs.declared.node.Node.TheVariants.{Running}
-use Rattle.rp_world.specs.Nodes.{Member, GoesBy, NotTaken, TellsSent, IsCounted, failures_in, node_step}
+use Rattle.rp_world.specs.Nodes.{Member, GoesBy, NotTaken, DescribesSent, IsCounted, failures_in, node_step}
 use Rattle.rp_world.proofs.Turning.{turned_ok, turned_err}
 use Rattle.rp_world.proofs.Failing.{turn_counted}
 use Rattle.rp_world.proofs.node.Node.turn.Goals as goal
@@ -13,7 +13,7 @@ returns-else-has_failed-clause-ok g c =
     let m = g.M.Machine in
     let disk = g.D.Device.disk in
     let new = c.turn_into.new.self in
-    subst (λ n. IfOk c.turn_into.result (λ sent. (member : Member g.row.M.Denot) (given : NodeInput) → given_by c.args.input.now ≡ Ok given → GoesBy disk member n (Running new) (node_step m.next m.answers member given) TellsSent sent))
+    subst (λ n. IfOk c.turn_into.result (λ sent. (member : Member g.row.M.Denot) (given : NodeInput) → given_by c.args.input.now ≡ Ok given → GoesBy disk member n (Running new) (node_step m.next m.answers member given) DescribesSent sent))
     (sym c.in-Running.is)
     (turned_ok g.row.D.Denot g.row.M-Program.Denot m.next m.answers disk c.in-Running.replica (sym c.has_failed.ensures ∙ c.if-has_failed.false) c.args.input.now new c.turn_into.result c.turn_into.ensures)
 

@@ -4,14 +4,14 @@ use Rattle.rp_model.specs.World.{part_at, task_takes}
 use Rattle.rp_world.specs.Going.{Answers, Goes, no_cut}
 use Rattle.rp_world.specs.Shape.{world_of}
 use Rattle.rp_world.proofs.Moving.{here_of, task_here}
-use Rattle.rp_world.proofs.Calling.{told_of, above, asks_nothing, again_wants, asks_more}
+use Rattle.rp_world.proofs.Calling.{stated_of, above, asks_nothing, again_runs_out, asks_more}
 use Rattle.rp_world.proofs.world.World.again.Goals as goal
 
 pub returns-then-get-self-clause-answer : goal.returns-then-get-self-clause-answer
 returns-then-get-self-clause-answer g c =
     let now = c.args.self.now in
     let over : now.config.nodes < c.args.node = omega (arith, c.if-get-self.true, c.get.ensures.value, ap (λ v. v.config.nodes) c.self.view_is) in
-    inl (record { came = above now.config now.world c.args.task c.args.node (part_at now.world.tasks c.args.task) over; unchanged = refl })
+    inl (record { resulted = above now.config now.world c.args.task c.args.node (part_at now.world.tasks c.args.task) over; unchanged = refl })
 
 pub returns-in_default-clause-answer : goal.returns-in_default-clause-answer
 returns-in_default-clause-answer g c =
@@ -31,7 +31,7 @@ returns-in_default-clause-answer g c =
     let first : c.messages-first.result + 1 ≡ length inside.messages.sent + 1 = ap (λ k. k + 1) (c.messages-first.ensures.value ∙ ap (λ v. length v.world.sent) (sym c.self.view_is)) in
     let none = sym c.outstanding.ensures ∙ c.in_default.is in
     subst (λ v. Goes v.world (task_takes v.config v.world me (Again c.args.node) (part_at v.world.tasks me)) v.world c.nothing.result) c.self.view_is
-    (asks_nothing disk inside.config begin nodes tasks inside.messages i me placed t here c.args.node low none c.nothing.result (c.nothing.ensures ∙ ap (λ (k : ℕ). told_of k 0) first))
+    (asks_nothing disk inside.config begin nodes tasks inside.messages i me placed t here c.args.node low none c.nothing.result (c.nothing.ensures ∙ ap (λ (k : ℕ). stated_of k 0) first))
 
 pub send-requires-clause-own : goal.send-requires-clause-own
 send-requires-clause-own g c =
@@ -86,7 +86,7 @@ returns-in_err-send-clause-answer g c =
     let low : c.args.node ≤ inside.config.nodes = omega (arith, c.if-get-self.false, c.get.ensures.value) in
     let after = world_of disk inside.config.max_positions nodes tasks c.send.new.messages in
     subst (λ v. Answers v.world (task_takes v.config v.world me (Again c.args.node) (part_at v.world.tasks me)) no_cut after c.from_residual.result) c.self.view_is
-    (again_wants disk inside.config begin nodes tasks inside.messages i me placed t here c.args.node low c.in-Some.call (sym c.outstanding.ensures ∙ c.in-Some.is) c.send.new.messages c.from_residual.result c.in_err-send.ensures.err c.from_residual.ensures.1)
+    (again_runs_out disk inside.config begin nodes tasks inside.messages i me placed t here c.args.node low c.in-Some.call (sym c.outstanding.ensures ∙ c.in-Some.is) c.send.new.messages c.from_residual.result c.in_err-send.ensures.err c.from_residual.ensures.1)
 
 pub returns-clause-answer : goal.returns-clause-answer
 returns-clause-answer g c =
@@ -106,4 +106,4 @@ returns-clause-answer g c =
     let first : c.messages-first.result + 1 ≡ length inside.messages.sent + 1 = ap (λ k. k + 1) (c.messages-first.ensures.value ∙ ap (λ v. length v.world.sent) (sym c.self.view_is)) in
     let after = world_of disk inside.config.max_positions nodes tasks c.send.new.messages in
     subst (λ v. Goes v.world (task_takes v.config v.world me (Again c.args.node) (part_at v.world.tasks me)) after c.one_message.result) c.self.view_is
-    (asks_more disk inside.config begin nodes tasks inside.messages i me placed t here c.args.node low c.in-Some.call (sym c.outstanding.ensures ∙ c.in-Some.is) c.send.new.messages c.one_message.result c.in_ok-send.ensures.ok (c.one_message.ensures ∙ ap (λ (k : ℕ). told_of k 1) first))
+    (asks_more disk inside.config begin nodes tasks inside.messages i me placed t here c.args.node low c.in-Some.call (sym c.outstanding.ensures ∙ c.in-Some.is) c.send.new.messages c.one_message.result c.in_ok-send.ensures.ok (c.one_message.ensures ∙ ap (λ (k : ℕ). stated_of k 1) first))

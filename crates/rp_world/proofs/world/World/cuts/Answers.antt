@@ -15,7 +15,7 @@ use Rattle.rp_world.specs.Nodes.{Member, IsCounted, IsCutBy, NotTaken, failures_
 use Rattle.rp_world.specs.Shape.{part_by, world_of}
 use Rattle.rp_world.specs.Steps.{setting_of}
 use Rattle.rp_world.proofs.Choosing.{nodes_of}
-use Rattle.rp_world.proofs.Moving.{here_of, put_back, part_here, stands_here}
+use Rattle.rp_world.proofs.Moving.{here_of, put_back, part_here, represents_here}
 use Rattle.rp_world.proofs.Failing.{counts, none_counted, same_counts, writes}
 use Rattle.rp_world.proofs.Ending.{still, cut_so, not_cut, left_by_cut}
 use Rattle.rp_world.proofs.world.World.cuts.Goals.{in-Ok-answer, in-Err-answer}
@@ -35,7 +35,7 @@ returns-in-Err-clause-answer g c =
     let are = nodes_of disk inside.config (m.begin inside.program) nodes inside.tasks.items inside.messages c.deref.result.now c.deref.ensures.value c.self.invariant in
     let none = c.in-Err.ensures.chosen (setting_of m.next m.answers m.begin c.args.self.now) c.args.self.now.world (ap (λ v. v.world.sent) (sym c.self.view_is))
     (subst (λ v. AreNodesOf disk (m.begin v.program) c.deref.result.now v.world) c.self.view_is are) in
-    inl (record { came = none.cut c.args.kept; unchanged = refl })
+    inl (record { resulted = none.cut c.args.kept; unchanged = refl })
 
 pub returns-in-Err-clause-failures : goal.returns-in-Err-clause-failures
 returns-in-Err-clause-failures g c =
@@ -117,10 +117,10 @@ returns-clause-answer g c =
     subst (λ v. Answers v.world (cut_step (setting_of m.next m.answers m.begin v) v.world step c.args.kept) (λ less. cut_step (setting_of m.next m.answers m.begin v) v.world step less) after c.match-answer.result) c.self.view_is
     (elim c.match-answer.branch [
       | in-Ok-answer b ↦
-          let told = b.nothing.ensures ∙ ap (λ (k : ℕ). let e : Effect = record { first = k; sent = 0; dropped = No; taken = None; opened = None } in e) first in
+          let stated = b.nothing.ensures ∙ ap (λ (k : ℕ). let e : Effect = record { first = k; sent = 0; dropped = No; taken = None; opened = None } in e) first in
           let ok = subst (λ r. IfOk r (λ done. (p : Member g.row.M.Denot) (v : NodeInput) → given_by c.in-Ok.chosen.1 ≡ Ok v → IsCutBy disk p n new c.args.kept (node_step m.next m.answers p v))) b.in-Ok-answer.is c.cut-node.ensures.ok in
           subst (Answers _ _ _ after) (sym b.result-is)
-          (cut_so disk inside.config begin nodes inside.tasks.items inside.messages c.self.invariant i me placed n here new c.put_back.new.nodes.items put m.next m.answers given c.args.kept (ok member given gives) _ (cut_is c.args.kept) b.nothing.result told)
+          (cut_so disk inside.config begin nodes inside.tasks.items inside.messages c.self.invariant i me placed n here new c.put_back.new.nodes.items put m.next m.answers given c.args.kept (ok member given gives) _ (cut_is c.args.kept) b.nothing.result stated)
       | in-Err-answer b ↦
           let err = subst (λ r. IfErr r (λ fault. (p : Member g.row.M.Denot) (v : NodeInput) → given_by c.in-Ok.chosen.1 ≡ Ok v → NotTaken disk p n new (node_step m.next m.answers p v) fault)) b.in-Err-answer.is c.cut-node.ensures.err in
           subst (Answers _ _ _ after) (sym b.result-is)
@@ -151,7 +151,7 @@ returns-clause-failures g c =
     let put : c.put_back.new.nodes.items ≡ slice_set nodes i new = c.put_back.ensures ∙ ap (λ l. insert l i new) c.remove.ensures.items ∙ put_back nodes i new within in
     let part = part_by disk inside.config.max_positions n in
     let part_is = part_here disk inside.config begin nodes tasks i me placed n here in
-    let so = stands_here disk inside.config begin nodes tasks i me placed n here c.self.invariant in
+    let so = represents_here disk inside.config begin nodes tasks i me placed n here c.self.invariant in
     let was = map (failures_in disk) nodes in
     let after = map (failures_in disk) c.put_back.new.nodes.items in
     let is_after : after ≡ map (failures_in disk) (slice_set nodes i new) = ap (map (failures_in disk)) put in

@@ -12,10 +12,10 @@ use Rattle.rp_world.specs.Going.{Answers, Counts}
 use Rattle.rp_world.specs.Nodes.{member_of, failures_in, setting_at}
 use Rattle.rp_world.specs.Shape.{part_by, world_of}
 use Rattle.rp_world.specs.Steps.{setting_of}
-use Rattle.rp_world.proofs.Moving.{here_of, part_here, stands_here}
+use Rattle.rp_world.proofs.Moving.{here_of, part_here, represents_here}
 use Rattle.rp_world.proofs.Failing.{counts, not_device, same_counts, writes}
 use Rattle.rp_world.proofs.Ending.{none_here}
-use Rattle.rp_world.proofs.Taking.{on_ok, told_sent, still, texts, turned_left, turned, not_turned, not_turned_left}
+use Rattle.rp_world.proofs.Taking.{on_ok, stated_sent, still, texts, turned_left, turned, not_turned, not_turned_left}
 use Rattle.rp_world.proofs.world.World.gives.Goals as goal
 
 pub returns-in_default-clause-answer : goal.returns-in_default-clause-answer
@@ -31,7 +31,7 @@ returns-in_default-clause-answer g c = λ given gives.
     let off : i < length nodes → ⊥ = λ h. let yes = c.in_default.ensures.variant.1 (omega (arith, h, inside.nodes.ok.0)) in absurd cc in
     let none = none_here disk inside.config begin nodes inside.tasks.items inside.messages i me placed (omega (arith, off)) in
     let here : part_at c.args.self.now.world.nodes me ≡ None = ap (λ v. part_at v.world.nodes me) (sym c.self.view_is) ∙ none in
-    inl (record { came = ap (node_takes (setting_of m.next m.answers m.begin c.args.self.now) c.args.self.now.world me given) here; unchanged = ap (λ v. v.world) c.self.view_is })
+    inl (record { resulted = ap (node_takes (setting_of m.next m.answers m.begin c.args.self.now) c.args.self.now.world me given) here; unchanged = ap (λ v. v.world) c.self.view_is })
 
 pub returns-then-is_err-clause-answer : goal.returns-then-is_err-clause-answer
 returns-then-is_err-clause-answer g c = λ given gives.
@@ -75,7 +75,7 @@ put-requires-clause-texts g c =
     let sends = subst (λ v. (given : NodeInput) (part : NodePart) (done : Done NodePart) → given_by c.args.input.now ≡ Ok given → part_at v.world.nodes me ≡ Some part
     → node_effect (setting_of m.next m.answers m.begin v) me part given ≡ Ok done → AllByRecursion IsPacket done.sends) (sym c.self.view_is) c.requires.sends in
     let given = c.requires.given in
-    texts disk inside.config begin nodes inside.tasks.items inside.messages c.self.invariant i me placed n here new m.next m.answers given.0 c.in-Ok.sent (c.in-Ok.ensures.ok member given.0 given.1) (λ done came. sends given.0 _ done given.1 (part_here disk inside.config begin nodes inside.tasks.items i me placed n here) came)
+    texts disk inside.config begin nodes inside.tasks.items inside.messages c.self.invariant i me placed n here new m.next m.answers given.0 c.in-Ok.sent (c.in-Ok.ensures.ok member given.0 given.1) (λ done resulted. sends given.0 _ done given.1 (part_here disk inside.config begin nodes inside.tasks.items i me placed n here) resulted)
 
 pub invariant_of-self-in-Ok : goal.invariant_of-self-in-Ok
 invariant_of-self-in-Ok g c =
@@ -96,7 +96,7 @@ invariant_of-self-in-Ok g c =
     → node_effect (setting_of m.next m.answers m.begin v) me part given ≡ Ok done → AllByRecursion IsPacket done.sends) (sym c.self.view_is) c.requires.sends in
     let given = c.requires.given in
     still disk inside.config begin nodes inside.tasks.items inside.messages c.self.invariant i me placed n here new m.next m.answers given.0
-    (turned_left disk inside.config begin nodes inside.tasks.items inside.messages c.self.invariant i me placed n here new m.next m.answers given.0 c.in-Ok.sent (c.in-Ok.ensures.ok member given.0 given.1) (λ done came. sends given.0 _ done given.1 (part_here disk inside.config begin nodes inside.tasks.items i me placed n here) came))
+    (turned_left disk inside.config begin nodes inside.tasks.items inside.messages c.self.invariant i me placed n here new m.next m.answers given.0 c.in-Ok.sent (c.in-Ok.ensures.ok member given.0 given.1) (λ done resulted. sends given.0 _ done given.1 (part_here disk inside.config begin nodes inside.tasks.items i me placed n here) resulted))
 
 pub invariant_of-self-in-Err : goal.invariant_of-self-in-Err
 invariant_of-self-in-Err g c =
@@ -138,11 +138,11 @@ returns-in-Ok-clause-answer g c = λ given gives.
     (part_here disk inside.config begin nodes inside.tasks.items i me placed n here) in
     let cut_is : (k : ℕ) → _ = λ k. ap (node_is_cut (setting_of m.next m.answers m.begin (record { config = inside.config; program = inside.program; world = world_of disk inside.config.max_positions nodes inside.tasks.items inside.messages; failures = [] })) (world_of disk inside.config.max_positions nodes inside.tasks.items inside.messages) me given k)
     (part_here disk inside.config begin nodes inside.tasks.items i me placed n here) in
-    let told = c.of_step-effect.ensures ∙ ap (λ (k : ℕ). told_sent k c.in-Ok.sent) (ap (λ k. k + 1) (c.messages-first.ensures.value ∙ ap (λ v. length v.world.sent) (sym c.self.view_is))) in
+    let stated = c.of_step-effect.ensures ∙ ap (λ (k : ℕ). stated_sent k c.in-Ok.sent) (ap (λ k. k + 1) (c.messages-first.ensures.value ∙ ap (λ v. length v.world.sent) (sym c.self.view_is))) in
     subst (λ v. Answers v.world (node_takes (setting_of m.next m.answers m.begin v) v.world me given (part_at v.world.nodes me)) (λ kept. node_is_cut (setting_of m.next m.answers m.begin v) v.world me given kept (part_at v.world.nodes me))
     (world_of disk inside.config.max_positions (slice_set nodes i new) inside.tasks.items c.put.new.self) (let r : Result Effect Fault = Ok c.of_step-effect.result in r)) c.self.view_is
-    (turned disk inside.config begin nodes inside.tasks.items inside.messages c.self.invariant i me placed n here new m.next m.answers given c.in-Ok.sent (c.in-Ok.ensures.ok member given gives) (λ done came. sends given _ done gives (part_here disk inside.config begin nodes inside.tasks.items i me placed n here) came)
-    c.lend-buffer.new.self c.put.new.self (c.lend-buffer.ensures.sent ∙ c.settle.ensures.sent) c.put.ensures _ whole_is c.of_step-effect.result told)
+    (turned disk inside.config begin nodes inside.tasks.items inside.messages c.self.invariant i me placed n here new m.next m.answers given c.in-Ok.sent (c.in-Ok.ensures.ok member given gives) (λ done resulted. sends given _ done gives (part_here disk inside.config begin nodes inside.tasks.items i me placed n here) resulted)
+    c.lend-buffer.new.self c.put.new.self (c.lend-buffer.ensures.sent ∙ c.settle.ensures.sent) c.put.ensures _ whole_is c.of_step-effect.result stated)
 
 pub returns-in-Err-clause-answer : goal.returns-in-Err-clause-answer
 returns-in-Err-clause-answer g c = λ given gives.
@@ -190,7 +190,7 @@ returns-then-is_err-clause-failures g c = λ given gives.
     let s = setting_at m.next m.answers member in
     let part = part_by disk inside.config.max_positions n in
     let part_is = part_here disk inside.config begin nodes inside.tasks.items i me placed n here in
-    let so = stands_here disk inside.config begin nodes inside.tasks.items i me placed n here c.self.invariant in
+    let so = represents_here disk inside.config begin nodes inside.tasks.items i me placed n here c.self.invariant in
     let new = n in
     subst (λ v. Counts (IsSome (node_writes (setting_of m.next m.answers m.begin v) me given (part_at v.world.nodes me))) (Some me) v.failures (map (failures_in disk) (slice_set nodes i new)) (let r : Result Effect Fault = Err c.refusal.result in r)) c.self.view_is
     (counts disk nodes i me placed n here new (IsSome (node_writes s me given (part_at (map (part_by disk inside.config.max_positions) nodes) me))) c.refusal.result (λ device. absurd (c.refusal.ensures.working device)) (not_device (failures_in disk n) c.refusal.result c.refusal.ensures.working))
@@ -212,7 +212,7 @@ returns-in-Ok-clause-failures g c = λ given gives.
     let s = setting_at m.next m.answers member in
     let part = part_by disk inside.config.max_positions n in
     let part_is = part_here disk inside.config begin nodes inside.tasks.items i me placed n here in
-    let so = stands_here disk inside.config begin nodes inside.tasks.items i me placed n here c.self.invariant in
+    let so = represents_here disk inside.config begin nodes inside.tasks.items i me placed n here c.self.invariant in
     let new = c.turn.new.self in
     subst (λ v. Counts (IsSome (node_writes (setting_of m.next m.answers m.begin v) me given (part_at v.world.nodes me))) (Some me) v.failures (map (failures_in disk) (slice_set nodes i new)) (let r : Result Effect Fault = Ok c.of_step-effect.result in r)) c.self.view_is
     (same_counts disk nodes i me placed n here new c.in-Ok.ensures.failures)
@@ -234,7 +234,7 @@ returns-in-Err-clause-failures g c = λ given gives.
     let s = setting_at m.next m.answers member in
     let part = part_by disk inside.config.max_positions n in
     let part_is = part_here disk inside.config begin nodes inside.tasks.items i me placed n here in
-    let so = stands_here disk inside.config begin nodes inside.tasks.items i me placed n here c.self.invariant in
+    let so = represents_here disk inside.config begin nodes inside.tasks.items i me placed n here c.self.invariant in
     let new = c.turn.new.self in
     subst (λ v. Counts (IsSome (node_writes (setting_of m.next m.answers m.begin v) me given (part_at v.world.nodes me))) (Some me) v.failures (map (failures_in disk) (slice_set nodes i new)) (let r : Result Effect Fault = Err c.in-Err.fault in r)) c.self.view_is
     (counts disk nodes i me placed n here new (IsSome (node_writes s me given (part_at (map (part_by disk inside.config.max_positions) nodes) me))) c.in-Err.fault

@@ -19,11 +19,11 @@ use Rattle.rp_world.specs.Nodes.{failures_in, member_of, setting_at}
 use Rattle.rp_world.specs.Shape.{world_of, part_by}
 use Rattle.rp_world.specs.Steps.{setting_of}
 use Rattle.rp_agreement.specs.Ranges.{IsRangedWorld}
-use Rattle.rp_world.proofs.Moving.{here_of, part_here, stands_here, nodes_stay}
+use Rattle.rp_world.proofs.Moving.{here_of, part_here, represents_here, nodes_stay}
 use Rattle.rp_world.proofs.Ending.{none_here}
 use Rattle.rp_world.proofs.Failing.{counts, heard_counts, same_counts, writes}
-use Rattle.rp_world.proofs.Taking.{on_ok, told_sent, still, texts, turned_left, turned, not_turned, not_turned_left}
-use Rattle.rp_world.proofs.Hearing.{sends_are, has_at, text_found, text_is, nothing_goes, heard_by_none, heard_resting, heard_running, cut_heard, received_comes}
+use Rattle.rp_world.proofs.Taking.{on_ok, stated_sent, still, texts, turned_left, turned, not_turned, not_turned_left}
+use Rattle.rp_world.proofs.Hearing.{sends_are, has_at, text_found, text_is, nothing_goes, heard_by_none, heard_resting, heard_running, cut_heard, received_results}
 use Rattle.rp_world.proofs.world.World.hears.Goals as goal
 
 pub returns-in_default-clause-answer : goal.returns-in_default-clause-answer
@@ -45,10 +45,10 @@ returns-in_default-clause-answer g c =
     let first : c.messages-first.result + 1 ≡ length inside.messages.sent + 1 = ap (λ k. k + 1) (c.messages-first.ensures.value ∙ ap (λ v. length v.world.sent) (sym c.self.view_is)) in
     let off : i < length nodes → ⊥ = λ h. let yes = c.in_default.ensures.variant.1 (omega (arith, h, inside.nodes.ok.0)) in absurd cc in
     let none = none_here disk inside.config begin nodes tasks inside.messages i me placed (omega (arith, off)) in
-    let told = c.nothing.ensures ∙ ap (λ (k : ℕ). let e : Effect = record { first = k; sent = 0; dropped = No; taken = None; opened = None } in e) first in
+    let stated = c.nothing.ensures ∙ ap (λ (k : ℕ). let e : Effect = record { first = k; sent = 0; dropped = No; taken = None; opened = None } in e) first in
     subst (λ v. Answers v.world (delivers (setting_of m.next m.answers m.begin v) v.world (part_at v.world.sent c.args.number)) (λ kept. delivery_is_cut (setting_of m.next m.answers m.begin v) v.world (part_at v.world.sent c.args.number) kept)
     w (let r : Result Effect Fault = Ok c.nothing.result in r)) c.self.view_is
-    (nothing_goes w _ w c.nothing.result (heard_by_none s w me c.args.number message sent to none) refl told)
+    (nothing_goes w _ w c.nothing.result (heard_by_none s w me c.args.number message sent to none) refl stated)
 
 pub returns-then-not-is_running-clause-answer : goal.returns-then-not-is_running-clause-answer
 returns-then-not-is_running-clause-answer g c =
@@ -73,13 +73,13 @@ returns-then-not-is_running-clause-answer g c =
     let member = member_of me inside.config begin in
     let part = part_by disk inside.config.max_positions n in
     let part_is = part_here disk inside.config begin nodes tasks i me placed n here in
-    let so = stands_here disk inside.config begin nodes tasks i me placed n here c.self.invariant in
+    let so = represents_here disk inside.config begin nodes tasks i me placed n here c.self.invariant in
     let rests = c.is_running.ensures.rests c.if-not-is_running.true member part so in
-    let told = c.nothing-then-not-is_running.ensures ∙ ap (λ (k : ℕ). let e : Effect = record { first = k; sent = 0; dropped = No; taken = None; opened = None } in e) first in
+    let stated = c.nothing-then-not-is_running.ensures ∙ ap (λ (k : ℕ). let e : Effect = record { first = k; sent = 0; dropped = No; taken = None; opened = None } in e) first in
     let same : (world_of disk inside.config.max_positions (slice_set nodes i n) tasks inside.messages) ≡ w = ap (λ ps. let x : World = record { nodes = ps; tasks = w.tasks; sent = w.sent } in x) (nodes_stay disk inside.config begin nodes tasks i me placed n here n so) in
     subst (λ v. Answers v.world (delivers (setting_of m.next m.answers m.begin v) v.world (part_at v.world.sent c.args.number)) (λ kept. delivery_is_cut (setting_of m.next m.answers m.begin v) v.world (part_at v.world.sent c.args.number) kept)
     (world_of disk inside.config.max_positions (slice_set nodes i n) tasks inside.messages) (let r : Result Effect Fault = Ok c.nothing-then-not-is_running.result in r)) c.self.view_is
-    (nothing_goes w _ _ c.nothing-then-not-is_running.result (heard_resting s w me c.args.number message sent to part part_is rests) same told)
+    (nothing_goes w _ _ c.nothing-then-not-is_running.result (heard_resting s w me c.args.number message sent to part part_is rests) same stated)
 
 pub returns-then-is_err-clause-answer : goal.returns-then-is_err-clause-answer
 returns-then-is_err-clause-answer g c =
@@ -103,7 +103,7 @@ returns-then-is_err-clause-answer g c =
     let member = member_of me inside.config begin in
     let part = part_by disk inside.config.max_positions n in
     let part_is = part_here disk inside.config begin nodes tasks i me placed n here in
-    let so = stands_here disk inside.config begin nodes tasks i me placed n here c.self.invariant in
+    let so = represents_here disk inside.config begin nodes tasks i me placed n here c.self.invariant in
     let ranged = subst (λ v. IsRangedWorld v.config.nodes v.world) (sym c.self.view_is) c.requires.ranged in
     let packet = ranged.packets message (has_at inside.messages.sent c.args.number message sent) in
     let runs : IsSome part.running = (c.is_running.ensures.runs (subst (λ b. IsTrue b) (sym c.if-not-is_running.false) refl) member part so) in
@@ -112,7 +112,7 @@ returns-then-is_err-clause-answer g c =
     subst (λ v. Answers v.world (delivers (setting_of m.next m.answers m.begin v) v.world (part_at v.world.sent c.args.number)) (λ kept. delivery_is_cut (setting_of m.next m.answers m.begin v) v.world (part_at v.world.sent c.args.number) kept)
     (world_of disk inside.config.max_positions (slice_set nodes i n) tasks c.settle.new.self) (let r : Result Effect Fault = Err OutOfMemory in r)) c.self.view_is
     (not_turned disk inside.config begin nodes tasks inside.messages c.self.invariant i me placed n here n m.next m.answers (inputs.Receive message) c.settle.new.self c.settle.ensures.sent OutOfMemory
-    (λ p stands. inr (inl (refl, received_comes m.next m.answers member p (c.is_running.ensures.runs (subst (λ b. IsTrue b) (sym c.if-not-is_running.false) refl) member p stands) message, stands))) _ _ whole_is cut_is)
+    (λ p represents. inr (inl (refl, received_results m.next m.answers member p (c.is_running.ensures.runs (subst (λ b. IsTrue b) (sym c.if-not-is_running.false) refl) member p represents) message, represents))) _ _ whole_is cut_is)
 
 pub unwrap-text-requires : goal.unwrap-text-requires
 unwrap-text-requires g c =
@@ -154,7 +154,7 @@ put-requires-clause-texts g c =
     let member = member_of me inside.config begin in
     let part = part_by disk inside.config.max_positions n in
     let part_is = part_here disk inside.config begin nodes tasks i me placed n here in
-    let so = stands_here disk inside.config begin nodes tasks i me placed n here c.self.invariant in
+    let so = represents_here disk inside.config begin nodes tasks i me placed n here c.self.invariant in
     let ranged = subst (λ v. IsRangedWorld v.config.nodes v.world) (sym c.self.view_is) c.requires.ranged in
     let packet = ranged.packets message (has_at inside.messages.sent c.args.number message sent) in
     let runs : IsSome part.running = (c.is_running.ensures.runs (subst (λ b. IsTrue b) (sym c.if-not-is_running.false) refl) member part so) in
@@ -164,8 +164,8 @@ put-requires-clause-texts g c =
     let given : NodeInput = inputs.Receive message in
     let gives : packet_given (all_of c.unwrap-text.result.now) ≡ Ok given = ap (λ l. packet_given (all_of l)) text ∙ c.texts_are_packets.ensures message packet in
     let new = c.turn.new.self in
-    let each : (done : Done NodePart) → node_effect s me part given ≡ Ok done → AllByRecursion IsPacket done.sends = λ done came.
-    sends_are w.sent done.sends (c.events_keep_ranges.ensures.effect inside.config inside.program w (Makes (Deliver c.args.number)) (node_done w me done) c.self.invariant.right ranged tt (whole_is ∙ ap (node_done_if w me) came)).packets in
+    let each : (done : Done NodePart) → node_effect s me part given ≡ Ok done → AllByRecursion IsPacket done.sends = λ done resulted.
+    sends_are w.sent done.sends (c.events_keep_ranges.ensures.effect inside.config inside.program w (Makes (Deliver c.args.number)) (node_done w me done) c.self.invariant.right ranged tt (whole_is ∙ ap (node_done_if w me) resulted)).packets in
     texts disk inside.config begin nodes tasks inside.messages c.self.invariant i me placed n here new m.next m.answers given c.in-Ok.sent (c.in-Ok.ensures.ok member given gives) each
 
 pub invariant_of-self-in-Ok : goal.invariant_of-self-in-Ok
@@ -190,7 +190,7 @@ invariant_of-self-in-Ok g c =
     let member = member_of me inside.config begin in
     let part = part_by disk inside.config.max_positions n in
     let part_is = part_here disk inside.config begin nodes tasks i me placed n here in
-    let so = stands_here disk inside.config begin nodes tasks i me placed n here c.self.invariant in
+    let so = represents_here disk inside.config begin nodes tasks i me placed n here c.self.invariant in
     let ranged = subst (λ v. IsRangedWorld v.config.nodes v.world) (sym c.self.view_is) c.requires.ranged in
     let packet = ranged.packets message (has_at inside.messages.sent c.args.number message sent) in
     let runs : IsSome part.running = (c.is_running.ensures.runs (subst (λ b. IsTrue b) (sym c.if-not-is_running.false) refl) member part so) in
@@ -200,8 +200,8 @@ invariant_of-self-in-Ok g c =
     let given : NodeInput = inputs.Receive message in
     let gives : packet_given (all_of c.unwrap-text.result.now) ≡ Ok given = ap (λ l. packet_given (all_of l)) text ∙ c.texts_are_packets.ensures message packet in
     let new = c.turn.new.self in
-    let each : (done : Done NodePart) → node_effect s me part given ≡ Ok done → AllByRecursion IsPacket done.sends = λ done came.
-    sends_are w.sent done.sends (c.events_keep_ranges.ensures.effect inside.config inside.program w (Makes (Deliver c.args.number)) (node_done w me done) c.self.invariant.right ranged tt (whole_is ∙ ap (node_done_if w me) came)).packets in
+    let each : (done : Done NodePart) → node_effect s me part given ≡ Ok done → AllByRecursion IsPacket done.sends = λ done resulted.
+    sends_are w.sent done.sends (c.events_keep_ranges.ensures.effect inside.config inside.program w (Makes (Deliver c.args.number)) (node_done w me done) c.self.invariant.right ranged tt (whole_is ∙ ap (node_done_if w me) resulted)).packets in
     still disk inside.config begin nodes tasks inside.messages c.self.invariant i me placed n here new m.next m.answers given (turned_left disk inside.config begin nodes tasks inside.messages c.self.invariant i me placed n here new m.next m.answers given c.in-Ok.sent (c.in-Ok.ensures.ok member given gives) each)
 
 pub invariant_of-self-in-Err : goal.invariant_of-self-in-Err
@@ -226,7 +226,7 @@ invariant_of-self-in-Err g c =
     let member = member_of me inside.config begin in
     let part = part_by disk inside.config.max_positions n in
     let part_is = part_here disk inside.config begin nodes tasks i me placed n here in
-    let so = stands_here disk inside.config begin nodes tasks i me placed n here c.self.invariant in
+    let so = represents_here disk inside.config begin nodes tasks i me placed n here c.self.invariant in
     let ranged = subst (λ v. IsRangedWorld v.config.nodes v.world) (sym c.self.view_is) c.requires.ranged in
     let packet = ranged.packets message (has_at inside.messages.sent c.args.number message sent) in
     let runs : IsSome part.running = (c.is_running.ensures.runs (subst (λ b. IsTrue b) (sym c.if-not-is_running.false) refl) member part so) in
@@ -236,8 +236,8 @@ invariant_of-self-in-Err g c =
     let given : NodeInput = inputs.Receive message in
     let gives : packet_given (all_of c.unwrap-text.result.now) ≡ Ok given = ap (λ l. packet_given (all_of l)) text ∙ c.texts_are_packets.ensures message packet in
     let new = c.turn.new.self in
-    let each : (done : Done NodePart) → node_effect s me part given ≡ Ok done → AllByRecursion IsPacket done.sends = λ done came.
-    sends_are w.sent done.sends (c.events_keep_ranges.ensures.effect inside.config inside.program w (Makes (Deliver c.args.number)) (node_done w me done) c.self.invariant.right ranged tt (whole_is ∙ ap (node_done_if w me) came)).packets in
+    let each : (done : Done NodePart) → node_effect s me part given ≡ Ok done → AllByRecursion IsPacket done.sends = λ done resulted.
+    sends_are w.sent done.sends (c.events_keep_ranges.ensures.effect inside.config inside.program w (Makes (Deliver c.args.number)) (node_done w me done) c.self.invariant.right ranged tt (whole_is ∙ ap (node_done_if w me) resulted)).packets in
     still disk inside.config begin nodes tasks inside.messages c.self.invariant i me placed n here new m.next m.answers given (not_turned_left disk inside.config begin nodes tasks inside.messages c.self.invariant i me placed n here new m.next m.answers given c.in-Err.fault (c.in-Err.ensures.err member given gives))
 
 pub returns-in-Ok-clause-answer : goal.returns-in-Ok-clause-answer
@@ -263,7 +263,7 @@ returns-in-Ok-clause-answer g c =
     let member = member_of me inside.config begin in
     let part = part_by disk inside.config.max_positions n in
     let part_is = part_here disk inside.config begin nodes tasks i me placed n here in
-    let so = stands_here disk inside.config begin nodes tasks i me placed n here c.self.invariant in
+    let so = represents_here disk inside.config begin nodes tasks i me placed n here c.self.invariant in
     let ranged = subst (λ v. IsRangedWorld v.config.nodes v.world) (sym c.self.view_is) c.requires.ranged in
     let packet = ranged.packets message (has_at inside.messages.sent c.args.number message sent) in
     let runs : IsSome part.running = (c.is_running.ensures.runs (subst (λ b. IsTrue b) (sym c.if-not-is_running.false) refl) member part so) in
@@ -273,13 +273,13 @@ returns-in-Ok-clause-answer g c =
     let given : NodeInput = inputs.Receive message in
     let gives : packet_given (all_of c.unwrap-text.result.now) ≡ Ok given = ap (λ l. packet_given (all_of l)) text ∙ c.texts_are_packets.ensures message packet in
     let new = c.turn.new.self in
-    let each : (done : Done NodePart) → node_effect s me part given ≡ Ok done → AllByRecursion IsPacket done.sends = λ done came.
-    sends_are w.sent done.sends (c.events_keep_ranges.ensures.effect inside.config inside.program w (Makes (Deliver c.args.number)) (node_done w me done) c.self.invariant.right ranged tt (whole_is ∙ ap (node_done_if w me) came)).packets in
-    let told = c.of_step.ensures ∙ ap (λ (k : ℕ). told_sent k c.in-Ok.sent) first in
+    let each : (done : Done NodePart) → node_effect s me part given ≡ Ok done → AllByRecursion IsPacket done.sends = λ done resulted.
+    sends_are w.sent done.sends (c.events_keep_ranges.ensures.effect inside.config inside.program w (Makes (Deliver c.args.number)) (node_done w me done) c.self.invariant.right ranged tt (whole_is ∙ ap (node_done_if w me) resulted)).packets in
+    let stated = c.of_step.ensures ∙ ap (λ (k : ℕ). stated_sent k c.in-Ok.sent) first in
     subst (λ v. Answers v.world (delivers (setting_of m.next m.answers m.begin v) v.world (part_at v.world.sent c.args.number)) (λ kept. delivery_is_cut (setting_of m.next m.answers m.begin v) v.world (part_at v.world.sent c.args.number) kept)
     (world_of disk inside.config.max_positions (slice_set nodes i new) tasks c.put.new.self) (let r : Result Effect Fault = Ok c.of_step.result in r)) c.self.view_is
     (turned disk inside.config begin nodes tasks inside.messages c.self.invariant i me placed n here new m.next m.answers given c.in-Ok.sent (c.in-Ok.ensures.ok member given gives) each
-    c.lend-buffer.new.self c.put.new.self (c.lend-buffer.ensures.sent ∙ c.settle.ensures.sent) c.put.ensures _ whole_is c.of_step.result told)
+    c.lend-buffer.new.self c.put.new.self (c.lend-buffer.ensures.sent ∙ c.settle.ensures.sent) c.put.ensures _ whole_is c.of_step.result stated)
 
 pub returns-in-Err-clause-answer : goal.returns-in-Err-clause-answer
 returns-in-Err-clause-answer g c =
@@ -303,7 +303,7 @@ returns-in-Err-clause-answer g c =
     let member = member_of me inside.config begin in
     let part = part_by disk inside.config.max_positions n in
     let part_is = part_here disk inside.config begin nodes tasks i me placed n here in
-    let so = stands_here disk inside.config begin nodes tasks i me placed n here c.self.invariant in
+    let so = represents_here disk inside.config begin nodes tasks i me placed n here c.self.invariant in
     let ranged = subst (λ v. IsRangedWorld v.config.nodes v.world) (sym c.self.view_is) c.requires.ranged in
     let packet = ranged.packets message (has_at inside.messages.sent c.args.number message sent) in
     let runs : IsSome part.running = (c.is_running.ensures.runs (subst (λ b. IsTrue b) (sym c.if-not-is_running.false) refl) member part so) in
@@ -313,8 +313,8 @@ returns-in-Err-clause-answer g c =
     let given : NodeInput = inputs.Receive message in
     let gives : packet_given (all_of c.unwrap-text.result.now) ≡ Ok given = ap (λ l. packet_given (all_of l)) text ∙ c.texts_are_packets.ensures message packet in
     let new = c.turn.new.self in
-    let each : (done : Done NodePart) → node_effect s me part given ≡ Ok done → AllByRecursion IsPacket done.sends = λ done came.
-    sends_are w.sent done.sends (c.events_keep_ranges.ensures.effect inside.config inside.program w (Makes (Deliver c.args.number)) (node_done w me done) c.self.invariant.right ranged tt (whole_is ∙ ap (node_done_if w me) came)).packets in
+    let each : (done : Done NodePart) → node_effect s me part given ≡ Ok done → AllByRecursion IsPacket done.sends = λ done resulted.
+    sends_are w.sent done.sends (c.events_keep_ranges.ensures.effect inside.config inside.program w (Makes (Deliver c.args.number)) (node_done w me done) c.self.invariant.right ranged tt (whole_is ∙ ap (node_done_if w me) resulted)).packets in
     subst (λ v. Answers v.world (delivers (setting_of m.next m.answers m.begin v) v.world (part_at v.world.sent c.args.number)) (λ kept. delivery_is_cut (setting_of m.next m.answers m.begin v) v.world (part_at v.world.sent c.args.number) kept)
     (world_of disk inside.config.max_positions (slice_set nodes i new) tasks c.lend-buffer.new.self) (let r : Result Effect Fault = Err c.in-Err.fault in r)) c.self.view_is
     (not_turned disk inside.config begin nodes tasks inside.messages c.self.invariant i me placed n here new m.next m.answers given c.lend-buffer.new.self (c.lend-buffer.ensures.sent ∙ c.settle.ensures.sent) c.in-Err.fault (c.in-Err.ensures.err member given gives) _ _ whole_is cut_is)
@@ -343,7 +343,7 @@ returns-then-not-is_running-clause-failures g c =
     let s = setting_at m.next m.answers member in
     let part = part_by disk inside.config.max_positions n in
     let part_is = part_here disk inside.config begin nodes tasks i me placed n here in
-    let so = stands_here disk inside.config begin nodes tasks i me placed n here c.self.invariant in
+    let so = represents_here disk inside.config begin nodes tasks i me placed n here c.self.invariant in
     let w = world_of disk inside.config.max_positions nodes tasks inside.messages in
     let message = c.requires.to.0 in
     let sent : part_at inside.messages.sent c.args.number ≡ Some message = ap (λ v. part_at v.world.sent c.args.number) c.self.view_is ∙ c.requires.to.1 in
@@ -369,7 +369,7 @@ returns-then-is_err-clause-failures g c =
     let s = setting_at m.next m.answers member in
     let part = part_by disk inside.config.max_positions n in
     let part_is = part_here disk inside.config begin nodes tasks i me placed n here in
-    let so = stands_here disk inside.config begin nodes tasks i me placed n here c.self.invariant in
+    let so = represents_here disk inside.config begin nodes tasks i me placed n here c.self.invariant in
     let w = world_of disk inside.config.max_positions nodes tasks inside.messages in
     let message = c.requires.to.0 in
     let sent : part_at inside.messages.sent c.args.number ≡ Some message = ap (λ v. part_at v.world.sent c.args.number) c.self.view_is ∙ c.requires.to.1 in
@@ -395,7 +395,7 @@ returns-in-Ok-clause-failures g c =
     let s = setting_at m.next m.answers member in
     let part = part_by disk inside.config.max_positions n in
     let part_is = part_here disk inside.config begin nodes tasks i me placed n here in
-    let so = stands_here disk inside.config begin nodes tasks i me placed n here c.self.invariant in
+    let so = represents_here disk inside.config begin nodes tasks i me placed n here c.self.invariant in
     let w = world_of disk inside.config.max_positions nodes tasks inside.messages in
     let message = c.requires.to.0 in
     let sent : part_at inside.messages.sent c.args.number ≡ Some message = ap (λ v. part_at v.world.sent c.args.number) c.self.view_is ∙ c.requires.to.1 in
@@ -422,7 +422,7 @@ returns-in-Err-clause-failures g c =
     let s = setting_at m.next m.answers member in
     let part = part_by disk inside.config.max_positions n in
     let part_is = part_here disk inside.config begin nodes tasks i me placed n here in
-    let so = stands_here disk inside.config begin nodes tasks i me placed n here c.self.invariant in
+    let so = represents_here disk inside.config begin nodes tasks i me placed n here c.self.invariant in
     let w = world_of disk inside.config.max_positions nodes tasks inside.messages in
     let message = c.requires.to.0 in
     let sent : part_at inside.messages.sent c.args.number ≡ Some message = ap (λ v. part_at v.world.sent c.args.number) c.self.view_is ∙ c.requires.to.1 in

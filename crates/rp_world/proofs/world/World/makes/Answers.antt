@@ -17,21 +17,21 @@ pub gives-requires-clause-given : goal.gives-requires-clause-given
 gives-requires-clause-given g c = ((inputs.Lead c.in-Lead.position), refl)
 
 pub gives-requires-clause-sends : goal.gives-requires-clause-sends
-gives-requires-clause-sends g c = λ given part done is here came.
+gives-requires-clause-sends g c = λ given part done is here resulted.
     let m = g.M.Machine in
     let was = c.args.self.now in
     let s = setting_of m.next m.answers m.begin was in
     let me = c.in-Lead.node in
     let same = same_input (inputs.Lead c.in-Lead.position) given is in
     let range = subst (λ step. events.IsStep (step_of step)) c.in-Lead.is c.requires.step in
-    let effect = ap (node_takes s was.world me (inputs.Lead c.in-Lead.position)) here ∙ ap (λ (input : NodeInput). node_done_if was.world me (node_effect s me part input)) same ∙ ap (node_done_if was.world me) came in
+    let effect = ap (node_takes s was.world me (inputs.Lead c.in-Lead.position)) here ∙ ap (λ (input : NodeInput). node_done_if was.world me (node_effect s me part input)) same ∙ ap (node_done_if was.world me) resulted in
     sends_are was.world.sent done.sends (c.events_keep_ranges.ensures.effect was.config was.program was.world (events.Makes (events.Lead c.in-Lead.node c.in-Lead.position)) (node_done was.world me done) c.requires.config c.requires.ranged range effect).packets
 
 pub gives-requires-in-Ok-clause-given : goal.gives-requires-in-Ok-clause-given
 gives-requires-in-Ok-clause-given g c = (inputs.LeadRange c.in-LeadRange.first c.in-LeadRange.count, c.in-Ok.ensures.ok)
 
 pub gives-requires-in-Ok-clause-sends : goal.gives-requires-in-Ok-clause-sends
-gives-requires-in-Ok-clause-sends g c = λ given part done is here came.
+gives-requires-in-Ok-clause-sends g c = λ given part done is here resulted.
     let m = g.M.Machine in
     let was = c.args.self.now in
     let s = setting_of m.next m.answers m.begin was in
@@ -39,7 +39,7 @@ gives-requires-in-Ok-clause-sends g c = λ given part done is here came.
     let leads = inputs.LeadRange c.in-LeadRange.first c.in-LeadRange.count in
     let same = same_input leads given (sym c.in-Ok.ensures.ok ∙ is) in
     let range = subst (λ step. events.IsStep (step_of step)) c.in-LeadRange.is c.requires.step in
-    let effect = ap (node_takes s was.world me leads) here ∙ ap (λ (input : NodeInput). node_done_if was.world me (node_effect s me part input)) same ∙ ap (node_done_if was.world me) came in
+    let effect = ap (node_takes s was.world me leads) here ∙ ap (λ (input : NodeInput). node_done_if was.world me (node_effect s me part input)) same ∙ ap (node_done_if was.world me) resulted in
     sends_are was.world.sent done.sends (c.events_keep_ranges.ensures.effect was.config was.program was.world (events.Makes (events.LeadRange me c.in-LeadRange.first c.in-LeadRange.count)) (node_done was.world me done) c.requires.config c.requires.ranged range effect).packets
 
 pub gives-requires-in-Tick-clause-given : goal.gives-requires-in-Tick-clause-given
@@ -49,14 +49,14 @@ pub gives-requires-in-Report-clause-given : goal.gives-requires-in-Report-clause
 gives-requires-in-Report-clause-given g c = ((inputs.Report c.in-Report.first), refl)
 
 pub gives-requires-in-Report-clause-sends : goal.gives-requires-in-Report-clause-sends
-gives-requires-in-Report-clause-sends g c = λ given part done is here came.
+gives-requires-in-Report-clause-sends g c = λ given part done is here resulted.
     let m = g.M.Machine in
     let was = c.args.self.now in
     let s = setting_of m.next m.answers m.begin was in
     let me = c.in-Report.node in
     let same = same_input (inputs.Report c.in-Report.first) given is in
     let range = subst (λ step. events.IsStep (step_of step)) c.in-Report.is c.requires.step in
-    let effect = ap (node_takes s was.world me (inputs.Report c.in-Report.first)) here ∙ ap (λ (input : NodeInput). node_done_if was.world me (node_effect s me part input)) same ∙ ap (node_done_if was.world me) came in
+    let effect = ap (node_takes s was.world me (inputs.Report c.in-Report.first)) here ∙ ap (λ (input : NodeInput). node_done_if was.world me (node_effect s me part input)) same ∙ ap (node_done_if was.world me) resulted in
     sends_are was.world.sent done.sends (c.events_keep_ranges.ensures.effect was.config was.program was.world (events.Makes (events.Report c.in-Report.node c.in-Report.first)) (node_done was.world me done) c.requires.config c.requires.ranged range effect).packets
 
 pub returns-in-Deliver-clause-answer : goal.returns-in-Deliver-clause-answer
@@ -120,7 +120,7 @@ returns-in-Err-clause-answer g c =
     let s = setting_of m.next m.answers m.begin was in
     let are = nodes_of disk inside.config (m.begin inside.program) inside.nodes.items inside.tasks.items inside.messages c.deref.result.now c.deref.ensures.value c.self.invariant in
     let refused = c.in-Err.ensures.err s was.world (subst (λ v. AreNodesOf disk (m.begin v.program) c.deref.result.now v.world) c.self.view_is are) in
-    inl (record { came = ap (λ step. step_effect s was.world (step_of step)) c.in-LeadRange.is ∙ refused.whole; unchanged = refl })
+    inl (record { resulted = ap (λ step. step_effect s was.world (step_of step)) c.in-LeadRange.is ∙ refused.whole; unchanged = refl })
 
 pub returns-in-Err-clause-failures : goal.returns-in-Err-clause-failures
 returns-in-Err-clause-failures g c =

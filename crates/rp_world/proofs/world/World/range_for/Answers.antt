@@ -6,7 +6,7 @@ use Rattle.rp_model.specs.Effect as inputs
 use Rattle.rp_replica.specs.Inputs.{given_by}
 use Rattle.rp_replica.specs.declared.input.Input.TheVariants.{LeadRange}
 use Rattle.rp_world.specs.Nodes.{member_of}
-use Rattle.rp_world.proofs.Choosing.{none_among, one_among, stands_among, range_given, fault_of, no_node_leads, stopped_leads, leads_no_range}
+use Rattle.rp_world.proofs.Choosing.{none_among, one_among, represents_among, range_given, fault_of, no_node_leads, stopped_leads, leads_no_range}
 use Rattle.rp_world.proofs.Moving.{here_of}
 use Rattle.rp_world.proofs.world.World.range_for.Goals as goal
 
@@ -23,7 +23,7 @@ returns-then-is_running-clause-err g c = fault_of c.new.result _ (λ fault is s 
     let placed : suc i ≡ me = omega (arith, c.get.ensures.value, c.get.ensures.in_range.0, c.from.ensures) in
     let n = c.in-Some.node.now in
     let here = here_of nodes i n (ltb-true i (length nodes) (sym c.in-Some.ensures.lookup.0)) c.in-Some.ensures.lookup.1 in
-    let runs = c.is_running.ensures.runs c.if-is_running.true (member_of me are.config s.begin) _ (stands_among disk s.begin nodes w are i me placed n here) in
+    let runs = c.is_running.ensures.runs c.if-is_running.true (member_of me are.config s.begin) _ (represents_among disk s.begin nodes w are i me placed n here) in
     let none : range_of c.args.first c.args.count ≡ Err fault = subst (λ found. found ≡ Err fault) c.new.ensures.answer is in
     leads_no_range s w me c.args.first c.args.count _ (one_among disk s.begin nodes w are i me placed n here) fault runs none)
 
@@ -36,7 +36,7 @@ returns-else-is_running-clause-err g c = λ s w are.
     let placed : suc i ≡ me = omega (arith, c.get.ensures.value, c.get.ensures.in_range.0, c.from.ensures) in
     let n = c.in-Some.node.now in
     let here = here_of nodes i n (ltb-true i (length nodes) (sym c.in-Some.ensures.lookup.0)) c.in-Some.ensures.lookup.1 in
-    let rests = c.is_running.ensures.rests c.if-is_running.false (member_of me are.config s.begin) _ (stands_among disk s.begin nodes w are i me placed n here) in
+    let rests = c.is_running.ensures.rests c.if-is_running.false (member_of me are.config s.begin) _ (represents_among disk s.begin nodes w are i me placed n here) in
     stopped_leads s w me c.args.first c.args.count _ (one_among disk s.begin nodes w are i me placed n here) rests
 
 pub returns-in-None-clause-err : goal.returns-in-None-clause-err

@@ -7,7 +7,7 @@ use Rattle.rp_model.specs.Effect.{restart_part}
 use Rattle.rp_model.specs.World.{restarts, part_at}
 use Rattle.rp_model.specs.declared.effect.Effect.{Effect}
 use Rattle.rp_world.specs.Going.{AnswersRestart}
-use Rattle.rp_world.specs.Nodes.{GoesBy, IsCounted, IsLeftTorn, IsResting, TellsOpened, failures_in, member_of}
+use Rattle.rp_world.specs.Nodes.{GoesBy, IsCounted, IsLeftTorn, IsResting, DescribesOpened, failures_in, member_of}
 use Rattle.rp_world.specs.Failures.{AreCounted}
 use Rattle.rp_world.specs.Shape.{world_of}
 use Rattle.rp_world.proofs.Moving.{here_of, put_back}
@@ -24,7 +24,7 @@ returns-then-place-len-clause-answer g c =
     let none = none_here g.D.Device.disk inside.config (g.M.Machine.begin inside.program) inside.nodes.items inside.tasks.items inside.messages (c.from-place.result - 1) c.args.node placed
     (omega (arith, c.if-place-len.true, c.len.ensures, inside.nodes.ok.0)) in
     let here : part_at c.args.self.now.world.nodes c.args.node ≡ None = ap (λ v. part_at v.world.nodes c.args.node) (sym c.self.view_is) ∙ none in
-    inl (record { came = ap (restarts c.args.self.now.world c.args.node) here; unchanged = refl })
+    inl (record { resulted = ap (restarts c.args.self.now.world c.args.node) here; unchanged = refl })
 
 pub invariant_of-self : goal.invariant_of-self
 invariant_of-self g c =
@@ -63,10 +63,10 @@ returns-clause-answer g c =
     (elim c.match-found.branch [
       | in-Ok b ↦
           let opened = b.in-Ok.found in
-          let told = b.opened.ensures ∙ ap (λ (k : ℕ). let e : Effect = record { first = k; sent = 0; dropped = No; taken = None; opened = opened } in e) first in
-          let ok = subst (λ r. IfOk r (λ found. GoesBy disk member n new (λ p. Ok (restart_part p)) TellsOpened found)) b.in-Ok.is c.restart-node.ensures.ok in
+          let stated = b.opened.ensures ∙ ap (λ (k : ℕ). let e : Effect = record { first = k; sent = 0; dropped = No; taken = None; opened = opened } in e) first in
+          let ok = subst (λ r. IfOk r (λ found. GoesBy disk member n new (λ p. Ok (restart_part p)) DescribesOpened found)) b.in-Ok.is c.restart-node.ensures.ok in
           subst (AnswersRestart _ c.args.node _ after) (sym b.result-is)
-          (restarted disk inside.config begin nodes inside.tasks.items inside.messages c.self.invariant i c.args.node placed n here new c.put_back.new.nodes.items put opened ok b.opened.result told)
+          (restarted disk inside.config begin nodes inside.tasks.items inside.messages c.self.invariant i c.args.node placed n here new c.put_back.new.nodes.items put opened ok b.opened.result stated)
       | in-Err b ↦
           let err = subst (λ r. IfErr r (λ fault. IsLeftTorn disk member n new)) b.in-Err.is c.restart-node.ensures.err in
           let rests = subst (λ r. IfErr r (λ fault. IsResting disk member n)) b.in-Err.is c.restart-node.ensures.rests in

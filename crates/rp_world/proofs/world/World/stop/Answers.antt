@@ -5,7 +5,7 @@ use Rattle.rp_model.specs.Effect.{stop_effect}
 use Rattle.rp_model.specs.World.{stops, part_at}
 use Rattle.rp_model.specs.declared.effect.Effect.{Effect}
 use Rattle.rp_world.specs.Going.{AnswersStop}
-use Rattle.rp_world.specs.Nodes.{Member, GoesBy, RefusedBy, TellsNothing, failures_in, member_of}
+use Rattle.rp_world.specs.Nodes.{Member, GoesBy, RefusedBy, DescribesNothing, failures_in, member_of}
 use Rattle.rp_world.specs.Shape.{world_of}
 use Rattle.rp_world.proofs.Moving.{here_of, put_back}
 use Rattle.rp_world.proofs.Failing.{same_counts}
@@ -20,7 +20,7 @@ returns-then-place-len-clause-answer g c =
     let none = none_here g.D.Device.disk inside.config (g.M.Machine.begin inside.program) inside.nodes.items inside.tasks.items inside.messages (c.from-place.result - 1) c.args.node placed
     (omega (arith, c.if-place-len.true, c.len.ensures, inside.nodes.ok.0)) in
     let here : part_at c.args.self.now.world.nodes c.args.node ≡ None = ap (λ v. part_at v.world.nodes c.args.node) (sym c.self.view_is) ∙ none in
-    record { came = ap (stops c.args.self.now.world c.args.node) here; unchanged = refl }
+    record { resulted = ap (stops c.args.self.now.world c.args.node) here; unchanged = refl }
 
 pub invariant_of-self : goal.invariant_of-self
 invariant_of-self g c =
@@ -58,10 +58,10 @@ returns-clause-answer g c =
     subst (λ v. AnswersStop v.world (stops v.world c.args.node (part_at v.world.nodes c.args.node)) after c.match-answer.result) c.self.view_is
     (elim c.match-answer.branch [
       | in-Ok b ↦
-          let told = b.nothing.ensures ∙ ap (λ (k : ℕ). let e : Effect = record { first = k; sent = 0; dropped = No; taken = None; opened = None } in e) first in
-          let ok = subst (λ r. IfOk r (λ done. (m : Member g.row.M.Denot) → GoesBy disk m n new stop_effect TellsNothing done)) b.in-Ok.is c.stop-node.ensures.ok in
+          let stated = b.nothing.ensures ∙ ap (λ (k : ℕ). let e : Effect = record { first = k; sent = 0; dropped = No; taken = None; opened = None } in e) first in
+          let ok = subst (λ r. IfOk r (λ done. (m : Member g.row.M.Denot) → GoesBy disk m n new stop_effect DescribesNothing done)) b.in-Ok.is c.stop-node.ensures.ok in
           subst (AnswersStop _ _ after) (sym b.result-is)
-          (stopped disk inside.config begin nodes inside.tasks.items inside.messages c.self.invariant i c.args.node placed n here new c.put_back.new.nodes.items put (ok member) b.nothing.result told)
+          (stopped disk inside.config begin nodes inside.tasks.items inside.messages c.self.invariant i c.args.node placed n here new c.put_back.new.nodes.items put (ok member) b.nothing.result stated)
       | in-Err b ↦
           let err = subst (λ r. IfErr r (λ fault. (m : Member g.row.M.Denot) → RefusedBy disk m n new stop_effect fault)) b.in-Err.is c.stop-node.ensures.err in
           subst (AnswersStop _ _ after) (sym b.result-is)

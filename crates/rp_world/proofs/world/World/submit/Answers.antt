@@ -9,7 +9,7 @@ use Rattle.rp_world.specs.Callers.{Caller}
 use Rattle.rp_world.specs.Going.{Answers, Goes, no_cut}
 use Rattle.rp_world.specs.Shape.{world_of}
 use Rattle.rp_world.proofs.Moving.{here_of, number_here, still_tasks}
-use Rattle.rp_world.proofs.Calling.{told_of, may_not, call_own, call_is_right, call_wants, called}
+use Rattle.rp_world.proofs.Calling.{stated_of, may_not, call_own, call_is_right, call_runs_out, called}
 use Rattle.rp_world.proofs.world.World.submit.Goals as goal
 
 pub returns-in_err-call-clause-answer : goal.returns-in_err-call-clause-answer
@@ -94,7 +94,7 @@ returns-in_err-send-clause-answer g c =
     let number = number_here disk inside.config begin nodes tasks i me placed t here c.self.invariant in
     let after = world_of disk inside.config.max_positions nodes (slice_set tasks i t) c.send.new.messages in
     subst (λ v. Answers v.world (task_takes v.config v.world me (Submit c.args.node c.args.object c.args.operation c.args.arg) (part_at v.world.tasks me)) no_cut after c.from_residual-in_err-send.result) c.self.view_is
-    (call_wants disk inside.config begin nodes tasks inside.messages i me placed t here number c.args.node c.args.object c.args.operation c.args.arg fits c.in_ok-call.call (may ∙ c.in_ok-call.was) c.send.new.messages c.from_residual-in_err-send.result c.in_err-send.ensures.err c.from_residual-in_err-send.ensures.1)
+    (call_runs_out disk inside.config begin nodes tasks inside.messages i me placed t here number c.args.node c.args.object c.args.operation c.args.arg fits c.in_ok-call.call (may ∙ c.in_ok-call.was) c.send.new.messages c.from_residual-in_err-send.result c.in_err-send.ensures.err c.from_residual-in_err-send.ensures.1)
 
 pub invariant_of-self-2 : goal.invariant_of-self-2
 invariant_of-self-2 g c =
@@ -135,4 +135,4 @@ returns-clause-answer g c =
     let first : c.messages-first.result + 1 ≡ length inside.messages.sent + 1 = ap (λ k. k + 1) (c.messages-first.ensures.value ∙ ap (λ v. length v.world.sent) (sym c.self.view_is)) in
     subst (λ v. Goes v.world (task_takes v.config v.world me (Submit c.args.node c.args.object c.args.operation c.args.arg) (part_at v.world.tasks me)) after c.one_message.result) c.self.view_is
     (called disk inside.config begin nodes tasks inside.messages i me placed t here number c.args.node c.args.object c.args.operation c.args.arg fits c.in_ok-call.call (may ∙ c.in_ok-call.was) new c.send.new.messages c.one_message.result
-    (ap (λ (k : Caller). k.part) c.call.ensures ∙ ap (λ (z : ℤ). let p : TaskPart = record t.part { outstanding = Some (next_call t.task t.part c.args.object c.args.operation z) } in p) arg) c.in_ok-send.ensures.ok (c.one_message.ensures ∙ ap (λ (k : ℕ). told_of k 1) first))
+    (ap (λ (k : Caller). k.part) c.call.ensures ∙ ap (λ (z : ℤ). let p : TaskPart = record t.part { outstanding = Some (next_call t.task t.part c.args.object c.args.operation z) } in p) arg) c.in_ok-send.ensures.ok (c.one_message.ensures ∙ ap (λ (k : ℕ). stated_of k 1) first))

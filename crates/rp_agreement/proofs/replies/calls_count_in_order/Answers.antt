@@ -1,0 +1,14 @@
+-- Only calls that counted are answered, by the laws of the machine.
+use Rattle.rp_machine.proofs.Applying.{accounted}
+use Rattle.rp_agreement.specs.Answered.{setting_for}
+use Rattle.rp_agreement.proofs.ItsCalls.{counts_in_turn}
+use Rattle.rp_agreement.proofs.replies.calls_count_in_order.Goals as goal
+
+pub returns : goal.returns
+returns g c =
+    let m = g.M.Machine in
+    let laws = g.met.M.Machine in
+    λ config program node task sent kept t.
+    counts_in_turn (setting_for m.next m.answers m.begin config program) node task sent kept
+    (λ xs right call stated. (accounted m.next m.answers m.waiting m.begin m.runs laws.none_waits laws.starts laws.keeps laws.accounts program xs right).known call stated)
+    t

@@ -1,0 +1,85 @@
+-- What the audit learns of the order from a world.
+use Rattle.std.proofs.Common.{◌≡◌, ℕ, suc, ◌+◌, ◌-◌, Option, Some, None, Vec, List, [], ◌∷◌, take, drop, slice_get, inl, refl, sym, ap, subst, arith}
+use Rattle.std.specs.Prelude.{IfSome, IfNone}
+use Rattle.std.specs.declared.alloc.Global.{Global}
+use Rattle.rp_base.specs.Sets.{Has}
+use Rattle.rp_base.specs.declared.action.Action.{Action}
+use Rattle.rp_codec.specs.Message.{Message, report_len}
+use Rattle.rp_codec.specs.declared.packet.Body.TheVariants.{Report}
+use Rattle.rp_codec.specs.declared.packet.Party.{Party}
+use Rattle.rp_codec.specs.declared.packet.Party.TheVariants.{Audit}
+use Rattle.rp_model.specs.Effect.{Setting}
+use Rattle.rp_model.specs.Facts.{IsOrder}
+use Rattle.rp_model.specs.Parts.{NodePart, TaskPart}
+use Rattle.rp_base.specs.declared.reply.Answer.{Answer}
+use Rattle.rp_machine.specs.Places.{HasReply}
+use Rattle.rp_agreement.specs.Answered.{named}
+use Rattle.rp_agreement.specs.Computed.{order_of}
+use Rattle.rp_agreement.specs.Order.{Begins}
+use Rattle.rp_agreement.specs.Sound.{IsReported, IsSound}
+use Rattle.rp_agreement.specs.Asked.{Says}
+use Rattle.rp_boxes.specs.Audits.{ReportSays, AreAllReported, known_of, report}
+use Rattle.rp_boxes.specs.Looks.{IsWorldOf, WasSent}
+use Rattle.rp_boxes.specs.Meeting.{ReportOneOrder, AreOfOneOrder}
+use Rattle.rp_boxes.specs.Parts.{Part, View, task_of}
+use Rattle.rp_boxes.specs.Rule.{node_among, task_among, all_sent}
+use Rattle.rp_boxes.specs.Seats.{SeatState, setting_at}
+use Rattle.rp_boxes.proofs.Listed.{at_taken, at_dropped, begins_by}
+use Rattle.rp_boxes.proofs.TaskOrder.{RepliesFollow}
+
+-- the laws of the order and of reports
+abbrev pub OrderExists : Type 0
+OrderExists = (nodes : ℕ) (sent : List Message) → IsOrder nodes sent (order_of nodes sent)
+
+abbrev pub ReportsFollow : Type 0
+ReportsFollow = (nodes : ℕ) (node : ℕ → NodePart) (sent : List Message) → IsSound nodes node sent → (order : List Action) → IsOrder nodes sent order
+    → (x first applied : ℕ) (actions : List Action) → Says sent x (Report first applied actions) → IsReported order first applied actions
+
+-- each known list is a prefix of the list of what was reported
+pub begin_one : (part : Part) (known : List (List Action)) → AreAllReported part known → (one : ReportOneOrder part) → (node : ℕ) → Begins (known_of known node) one.order
+begin_one part known are one node = begins_by (known_of known node) one.order (λ k action is. one.describes node k action (are.stated node k action is))
+
+pub of_one_order : (part : Part) (known : List (List Action)) → AreAllReported part known → ReportOneOrder part → AreOfOneOrder known
+of_one_order part known are one = record { order = one.order; begins = begin_one part known are one }
+
+module _ {S : Type 0} (s : Setting S) (view : View) (parts : ℕ → Part) (world : IsWorldOf s view parts) where
+  abbrev pub order : List Action
+  order = order_of s.config.nodes (all_sent parts 16)
+
+  -- what was reported to the audit is in the order
+  stated_at : OrderExists → ReportsFollow → (part : Part) → Has (0, part) view → (node k : ℕ) (action : Action) → ReportSays part node k action → slice_get order k ≡ Some action
+  stated_at exists follow part here node k action stated =
+      let packet = report node stated.first stated.applied stated.actions in
+      let got : Has packet (parts 0).got = subst (λ (p : Part). Has packet p.got) (sym (world.knows 0 part here).0) stated.got in
+      let sent = (world.gets 0 (omega arith) packet got).1 in
+      let reported = follow s.config.nodes (node_among parts) (all_sent parts 16) world.good.kept.sound order (exists s.config.nodes (all_sent parts 16))
+      node stated.first stated.applied stated.actions (Audit, sent) in
+      let cut = drop (stated.first - 1) (take stated.applied order) in
+      let among : slice_get (take (report_len stated.first stated.applied) cut) stated.at ≡ Some action =
+      subst (λ (list : List Action). slice_get list stated.at ≡ Some action) reported.1 stated.describes in
+      let following : slice_get cut stated.at ≡ Some action = at_taken (report_len stated.first stated.applied) cut stated.at action among in
+      let within : slice_get (take stated.applied order) (stated.first - 1 + stated.at) ≡ Some action = at_dropped (stated.first - 1) (take stated.applied order) stated.at action following in
+      subst (λ (place : ℕ). slice_get order place ≡ Some action) (sym stated.place) (at_taken stated.applied order (stated.first - 1 + stated.at) action within)
+
+  pub one_order : OrderExists → ReportsFollow → (part : Part) → Has (0, part) view → ReportOneOrder part
+  one_order exists follow part here = record { order = order; describes = stated_at exists follow part here }
+
+  -- each known list begins the order
+  pub known_begins : OrderExists → ReportsFollow → (part : Part) → Has (0, part) view → (known : List (List Action)) → AreAllReported part known
+      → (node : ℕ) → Begins (known_of known node) order
+  known_begins exists follow part here known are = begin_one part known are (record { order = order; describes = stated_at exists follow part here })
+
+  -- each reply of a task is the order's answer to its call
+  pub replies_answer : RepliesFollow s → (number : ℕ) (part : Part) → Has (7 + number, part) view → (k : ℕ) (answer : Answer) → slice_get (task_of part.role).replies k ≡ Some answer
+      → HasReply s.next s.answers s.begin order (named number (suc k)) answer
+  replies_answer follow number part here =
+      let task : task_among parts number ≡ task_of part.role = ap (λ (p : Part). task_of p.role) (world.knows (7 + number) part here).0 in
+      subst (λ (t : TaskPart). (k : ℕ) (answer : Answer) → slice_get t.replies k ≡ Some answer → HasReply s.next s.answers s.begin order (named number (suc k)) answer) task
+      (follow (node_among parts) (task_among parts) (all_sent parts 16) world.good.kept number)
+
+-- once the audit got a packet, or none
+module _ {S P : Type 0} (next : S → Action → S) (answers : S → Action → List Answer) (begin : P → S) (exists : OrderExists) (follow : ReportsFollow) (from : Party) (old new : SeatState P) where
+  pub order_still : (found : Option (Vec ℕ Global)) → IfSome found (λ text. WasSent next answers begin from Audit text.items new) → IfNone found (new ≡ old)
+      → ReportOneOrder old.part → ReportOneOrder new.part
+  order_still None some none one = subst (λ (seat_state : SeatState P). ReportOneOrder seat_state.part) (sym none) one
+  order_still (Some text) some none one = one_order (setting_at next answers begin new) ((0, new.part) ∷ []) some.parts some.world exists follow new.part (inl refl)

@@ -1,17 +1,17 @@
 mod StreamLemmas
-mod Writing
+pub mod Writing
 mod PrintedNames
-mod Among
+pub mod Among
 mod Tracing
-mod Refusing
-mod LeastUnsettled
+pub mod Refusing
+pub mod LeastUnsettled
 mod Histories
 mod ItemTexts
 mod Acting
 mod Recounting
 mod Printing
-mod RunParts
-mod Stepping
+pub mod RunParts
+pub mod Stepping
 mod Crossings
 mod LiveEvents
 mod LivePrinting

@@ -22,7 +22,7 @@ use std::alloc::{AllocError, Global};
 use std::io::{Read, Write};
 
 /// The most messages that one `drain` delivers.
-const DRAIN_LIMIT: u32 = 100_000;
+pub const DRAIN_LIMIT: u32 = 100_000;
 
 /// Reads a deck and runs its script, and prints the packets where this is asked for. What it prints
 /// is the output of the deck that the reader's bytes mean. Where they mean none, nothing is printed,
@@ -92,7 +92,7 @@ pub fn run_deck<W: Write>(
 }
 
 /// Empty devices, n of them.
-fn devices(alloc: Global, count: u8) -> Result<Vec<MemDevice>, AllocError>
+pub fn devices(alloc: Global, count: u8) -> Result<Vec<MemDevice>, AllocError>
     ensures count { IfOk result (λ devices. length devices.items ≡ count) }
     ensures empty { IfOk result (λ devices. All (λ d. d.contents ≡ []) devices.items) }
 {

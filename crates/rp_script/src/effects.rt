@@ -110,8 +110,8 @@ fn print_message<M: Machine, D: CutDevice, W: Write>(
     }
 }
 
-/// The message of this number.
-fn sent_packet<M: Machine, D: CutDevice>(
+/// The message of this number, if so many were sent.
+pub fn sent_packet<M: Machine, D: CutDevice>(
     alloc: Global,
     cluster: &Cluster<M, D>,
     number: u64,
@@ -149,8 +149,8 @@ fn print_packet<W: Write>(
     print(alloc, writer, line)
 }
 
-/// How a party is printed.
-fn party_text(tasks: &IndexMap<String, Task>, party: Party) -> PartyText<'_>
+/// How a party is printed: a task by its name.
+pub fn party_text(tasks: &IndexMap<String, Task>, party: Party) -> PartyText<'_>
     ensures { shown_party result ≡ party_text_of (names_of tasks.now) party }
 {
     match party {
@@ -236,8 +236,8 @@ fn print_full<M: Machine, D: CutDevice, W: Write>(
     }
 }
 
-/// The node that takes an event.
-fn node_of_event<M: Machine, D: CutDevice>(
+/// The node that takes an event: none where a task does.
+pub fn node_of_event<M: Machine, D: CutDevice>(
     alloc: Global,
     cluster: &Cluster<M, D>,
     event: &Event,

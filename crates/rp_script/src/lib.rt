@@ -32,10 +32,14 @@ mod settled;
 mod stream;
 mod trace;
 
-pub use deck_run::{run_deck, run_script};
+pub use deck_run::{DRAIN_LIMIT, devices, run_deck, run_script};
+pub use effects::{node_of_event, party_text, sent_packet};
 pub use fault_message::{FaultMessage, is_refusal, reason_text, tell};
 pub use figures::FiguresLine;
 pub use live_run::run_live;
 pub use options::RunOptions;
+pub use printed::{FullLine, OpenedLine, RefusedLine, ReplyLine, ReplyText, RunningLine};
 pub use run::run_lines;
-pub use stream::{MOST_BYTES, read_whole, write_out, write_whole};
+pub use settled::Settled;
+pub use stream::{MOST_BYTES, print, read_whole, write_out, write_whole};
+pub use trace::{BodyText, PartyText, TraceLine};

@@ -75,6 +75,7 @@ impl Acceptor {
     /// them counts. `OutOfMemory` comes only where one of them is a promise or a vote, and then
     /// there is no acceptor.
     pub fn restore(alloc: Global, records: &[Rec]) -> Result<Self, Fault>
+        // claim (restored): An acceptor that is restored is the one that noted the records in order
         ensures restored { IfOk result (λ acceptor. acceptor ≡ restored records.now) }
         ensures full { OnErr result (¬ (flat_map places_in records.now ≡ [])) }
         ensures only { IsOkUnless result Fault.OutOfMemory }
@@ -115,6 +116,8 @@ impl Acceptor {
     /// only where there was no room yet, and then nothing has changed.
     #[inline(always)]
     pub fn reserve(&mut self, position: Position) -> Result<(), Fault>
+        // claim: Room is made only at the position or the range asked for, and a refusal changes
+        //   nothing
         ensures ok { OnOk result (self.new ≡ reserves self.old position) }
         ensures err { OnErr result (self.new ≡ self.old) }
         ensures full { OnErr result (¬ Has position self.old.reserved) }
@@ -133,6 +136,7 @@ impl Acceptor {
     /// changed.
     #[inline(always)]
     pub fn reserve_vote(&mut self, position: Position) -> Result<(), Fault>
+        // claim as Acceptor::reserve
         ensures ok { OnOk result (self.new ≡ reserves_vote self.old position) }
         ensures err { OnErr result (self.new ≡ self.old) }
         ensures full { OnErr result (¬ Has position self.old.votes) }
@@ -146,6 +150,7 @@ impl Acceptor {
     /// Makes room, so that promises for this range can be noted, however many: two steps at most.
     /// `OutOfMemory` comes only where there was no room yet, and then nothing has changed.
     pub fn reserve_range(&mut self, range: PositionRange) -> Result<(), Fault>
+        // claim as Acceptor::reserve
         ensures ok { OnOk result (self.new ≡ reserves_range self.old range) }
         ensures err { OnErr result (self.new ≡ self.old) }
         ensures full { OnErr result (¬ Has range self.old.ranges) }
@@ -189,6 +194,8 @@ impl Acceptor {
     /// What is answered to a `Prepare` of the ballot at the position (section 2.2, phase 1b). The
     /// promise counts once the record that it comes with is written and noted.
     pub fn prepare(&self, position: Position, ballot: Ballot) -> PrepareAnswer
+        // claim: A Prepare and an Accept are answered by the bound and the last vote of all records
+        //   noted
         ensures answer { result ≡ prepare_answer self.now.records position ballot }
     {
         let slot = self.slot(position);
@@ -206,6 +213,7 @@ impl Acceptor {
     /// phase 2b). The vote counts once the record that it comes with is written and noted.
     #[inline(always)]
     pub fn accept(&self, position: Position, ballot: Ballot, action: &Action) -> AcceptAnswer
+        // claim as Acceptor::prepare
         ensures answer { result ≡ accept_answer self.now.records position ballot action.now }
     {
         let slot = self.slot(position);

@@ -34,6 +34,7 @@ impl Acceptor {
     /// How the ballot compares with the bounds at the positions of the range. Each step and each
     /// page of votes is read once.
     pub fn compare(&self, range: PositionRange, ballot: Ballot) -> Comparison
+        // claim: A ballot is compared with the bounds of a range exactly
         ensures { result ≡ compared (bound_at self.now.records) ballot (positions_of range) }
     {
         let votes = self.places(range).compare(ballot);
@@ -47,6 +48,7 @@ impl Acceptor {
         alloc: Global,
         range: PositionRange,
     ) -> Result<Vec<PlacedVote>, AllocError>
+        // claim: The last votes of a range are returned; memory may run out only if there is one
         ensures votes { IfOk result (λ votes. votes.items ≡ last_votes self.now.records range) }
         ensures full { OnErr result (¬ (last_votes self.now.records range ≡ [])) }
     {

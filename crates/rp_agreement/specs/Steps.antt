@@ -1,4 +1,4 @@
--- The result of a step of a node for all who look, and its obligations for the invariant.
+-- What a step of a node is to the invariant: what others see of it, and its obligations.
 use Rattle.std.specs.Prelude.{◌≡◌, ◌≢◌, ◌↔◌, ◌⊎◌, ℕ, ◌<◌, ◌≤◌, Option, Some, None, List}
 use Rattle.rp_base.specs.Ballot.{owner_of}
 use Rattle.rp_base.specs.Sets.{Has}

@@ -18,6 +18,8 @@ ghost use Rattle.rp_agreement.specs.Asked.{IsAsked, Says};
 /// At a position one action at most is decided, whether votes are counted in the packets or in what
 /// the nodes wrote; and what is decided by packets the nodes wrote.
 pub fn decisions_are_one()
+    // claim: At a position one action at most is decided, counted in packets or in records, and it
+    //   stays decided
     ensures decided { (nodes : ℕ) (node : ℕ → NodePart) (sent : List Message)
         → IsSound nodes node sent
         → (i : ℕ) (v w : Action) → IsDecided nodes sent i v → IsDecided nodes sent i w → v ≡ w }
@@ -38,6 +40,7 @@ pub fn only_asked_actions_are_decided()
 /// What a node learns, or says that it has learned, is decided; so what nodes learn at a position
 /// is one action.
 pub fn only_decided_actions_are_learned()
+    // claim: What is learned is decided, and what is decided was asked for
     ensures learned { (nodes : ℕ) (node : ℕ → NodePart) (sent : List Message)
         → IsSound nodes node sent
         → (x i : ℕ) (v : Action)

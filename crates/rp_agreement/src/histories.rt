@@ -32,6 +32,7 @@ pub fn histories_are_sound<M: Machine>()
 /// the other later, one is a prefix of the other; and where they have applied equally many actions
 /// they are in one state, with the same answers given.
 pub fn histories_agree<M: Machine>()
+    // claim: Nodes agree in every history of right events
     ensures decided { (setting : Setting M) (now later : World) → AreMoments setting now later
         → let nodes = setting.config.nodes in
         (i : ℕ) (v w : Action)
@@ -56,6 +57,7 @@ pub fn histories_agree<M: Machine>()
 /// The laws do not speak of nothing: with three nodes, whatever the machine, some history leads to
 /// a world in which a task's call is decided.
 pub fn some_history_decides<M: Machine>()
+    // claim: Some history decides a call: with three nodes nine right events do
     ensures { (begin : M) → (events : List Event) × (world : World)
         × IsHistory (three_nodes M.next M.answers begin) events world
         × IsDecided 3 world.sent 1 (Call 1 1 1 (Procedure 1) (pos 5)) }

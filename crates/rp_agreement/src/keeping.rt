@@ -26,6 +26,8 @@ use rp_machine::Machine;
 /// many bytes of its record are kept, a stop, a restart, and torn bytes that are truncated where a
 /// restart fails.
 pub fn node_events_keep<M: Machine>()
+    // claim: Every input of a node, and a stop within it, a stop and a restart keep the invariant
+    //   of agreement
     ensures input { (setting : Setting M) (x : ℕ) (input : NodeInput) (done : Done NodePart)
         (node after : ℕ → NodePart) (sent later : List Message)
         → IsRightConfig setting.config → IsMember setting.config.nodes x
@@ -75,6 +77,7 @@ pub fn task_events_keep()
 /// What an event of a world leads to satisfies the invariant, and so does the world that a step
 /// leaves whatever it answers: also if memory runs out, or a device fails within the step.
 pub fn events_keep<M: Machine>()
+    // claim: Every event keeps the invariant of agreement, whatever a step returns
     ensures effect { (setting : Setting M) (world : World) (event : Event) (transition : Transition)
         → IsRightConfig setting.config → IsSoundWorld setting.config.nodes world
         → IsEvent event

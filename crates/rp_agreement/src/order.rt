@@ -17,11 +17,13 @@ use rp_machine::Machine;
 
 /// There is an order: it can be read off the packets.
 pub fn the_order_exists()
+    // claim: There is one order, which only grows
     ensures { (nodes : ℕ) (sent : List Message) → IsOrder nodes sent (order_of nodes sent) }
 {}
 
 /// There is one order at most.
 pub fn the_order_is_one()
+    // claim as the_order_exists
     ensures { (nodes : ℕ) (node : ℕ → NodePart) (sent : List Message) → IsSound nodes node sent
         → (order other : List Action)
         → IsOrder nodes sent order → IsOrder nodes sent other → order ≡ other }
@@ -29,6 +31,7 @@ pub fn the_order_is_one()
 
 /// The order only grows, at its end.
 pub fn the_order_grows()
+    // claim as the_order_exists
     ensures { (nodes : ℕ) (sent later : List Message) (after : ℕ → NodePart)
         → IsSound nodes after later → AllSent sent later
         → (order longer : List Action)
@@ -37,6 +40,8 @@ pub fn the_order_grows()
 
 /// What a node has applied begins the order, with none left out.
 pub fn applied_lists_begin_the_order()
+    // claim: What a node has applied is a prefix of the order, none left out; of two nodes' applied
+    //   lists one is a prefix of the other
     ensures { (nodes : ℕ) (node : ℕ → NodePart) (sent : List Message) → IsSound nodes node sent
         → (order : List Action) → IsOrder nodes sent order
         → (x : ℕ) → Begins (applied_of (node x).records) order }
@@ -45,6 +50,7 @@ pub fn applied_lists_begin_the_order()
 /// What one node has applied begins what another has applied, or the other way about; so too where
 /// the one is seen at a later moment than the other.
 pub fn applied_lists_are_alike()
+    // claim as applied_lists_begin_the_order
     ensures { (nodes : ℕ) (node after : ℕ → NodePart) (sent later : List Message)
         → IsSound nodes node sent → IsSound nodes after later → AllSent sent later
         → (x y : ℕ) → AreAlike (applied_of (node x).records) (applied_of (after y).records) }
@@ -53,6 +59,8 @@ pub fn applied_lists_are_alike()
 /// Nodes that have applied equally many actions are in one state, with the same answers given; so
 /// too where the one is seen at a later moment than the other.
 pub fn states_are_alike<M: Machine>()
+    // claim: Nodes that have applied equally many actions are in one state, with the same answers
+    //   given
     ensures { (begin : M) (nodes : ℕ) (node after : ℕ → NodePart) (sent later : List Message)
         → IsSound nodes node sent → IsSound nodes after later → AllSent sent later
         → (x y : ℕ) → length (applied_of (node x).records) ≡ length (applied_of (after y).records)
@@ -62,6 +70,7 @@ pub fn states_are_alike<M: Machine>()
 
 /// What a node reports is what the order holds at those positions.
 pub fn reports_follow_the_order()
+    // claim: A report is a part of the order
     ensures { (nodes : ℕ) (node : ℕ → NodePart) (sent : List Message) → IsSound nodes node sent
         → (order : List Action) → IsOrder nodes sent order
         → (x first applied : ℕ) (actions : List Action)

@@ -15,6 +15,8 @@ ghost use Rattle.rp_agreement.specs.Sound.{IsMember, IsSo, IsSound};
 /// by a majority's promises, and a report says what it has applied. Who says something as a node is
 /// one of the nodes 1 to n.
 pub fn packets_say_so()
+    // claim: What a node sends is in its records: a promise, a vote, a decision; who sends
+    //   something as a node is one of the nodes
     ensures said { (nodes : ℕ) (node : ℕ → NodePart) (sent : List Message)
         → IsSound nodes node sent
         → (a : ℕ) (body : Body) → Says sent a body → IsSo nodes sent (node a).records body }

@@ -25,6 +25,8 @@ use rp_machine::{Machine, answers_are_few, replies_fit};
 /// In every history each record of a node is at a position of the log, or at none; so no node has
 /// applied more actions than the log has positions.
 pub fn records_stay_in_the_log<M: Machine>()
+    // claim: In every history a node's records are at positions of the log, and it has applied no
+    //   more actions than the log has
     ensures records { (setting : Setting M) (events : List Event) (world : World)
         → IsHistory setting events world
         → (x : ℕ) (part : NodePart) → part_at world.nodes x ≡ Some part
@@ -39,6 +41,8 @@ pub fn records_stay_in_the_log<M: Machine>()
 /// In every history a vote is sent only for a position less than 64 above the first unlearned one of
 /// the node that it is sent to; so none arrives where a node notes none.
 pub fn votes_are_in_the_window<M: Machine>()
+    // claim: In every history a vote is sent only for a position less than 64 above the first
+    //   unlearned one of the node that it is sent to, so that no node leaves one out
     ensures { (setting : Setting M) (events : List Event) (world : World)
         → IsHistory setting events world → AreVotesNear world }
 {}
@@ -47,6 +51,7 @@ pub fn votes_are_in_the_window<M: Machine>()
 /// task sends one at most, a node at most one to each node, one question, and as many answers as it
 /// has applied actions.
 pub fn few_packets_are_sent<M: Machine>()
+    // claim: After any history an event sends fewer than 2^32 - 1 packets
     ensures { (config : Config) (program : M.Program) (events : List Event) (world : World)
         (event : Event) (transition : Transition)
         → let setting = setting_for M.next M.answers M.begin config program in
@@ -61,6 +66,8 @@ pub fn few_packets_are_sent<M: Machine>()
 /// Every packet that is sent in a history is a right one: its numbers are within their ranges, and
 /// its sender may say it to its receiver.
 pub fn packets_are_right<M: Machine>()
+    // claim: Every packet that is sent in a history is a right one: its numbers are within their
+    //   ranges, and its sender may send it to its receiver
     ensures { (config : Config) (program : M.Program) (events : List Event) (world : World)
         → let setting = setting_for M.next M.answers M.begin config program in
         IsHistory setting events world
@@ -73,6 +80,8 @@ pub fn packets_are_right<M: Machine>()
 /// What an event of a world leads to keeps every number within its range, and so does the world that
 /// a step leaves whatever it answers. The opening world does.
 pub fn events_keep_ranges<M: Machine>()
+    // claim: Every event keeps each number within its range, whatever a step returns; the opening
+    //   world does
     ensures opening { (nodes : ℕ) → IsRangedWorld nodes (opening_world nodes) }
     ensures effect { (config : Config) (program : M.Program) (world : World) (event : Event)
         (transition : Transition)

@@ -32,6 +32,9 @@ use rp_machine::{Machine, a_call_has_one_answer, an_answered_call_has_one_place}
 /// within that step, however many bytes of its record are kept, a stop, a restart, and torn bytes
 /// that are truncated where a restart fails.
 pub fn node_events_keep_replies<M: Machine>()
+    // claim: Every input of a node, and a stop within it, a stop and a restart keep the invariant
+    //   of replies: what a node replied is an answer of its applied list, and what a task took is
+    //   an answer of the order
     ensures input { (setting : Setting M) (x : ℕ) (input : NodeInput) (done : Done NodePart)
         (node after : ℕ → NodePart) (task : ℕ → TaskPart) (sent later : List Message)
         → IsRightConfig setting.config → IsMember setting.config.nodes x
@@ -77,6 +80,7 @@ pub fn task_events_keep_replies<M: Machine>()
 /// What an event of a world leads to keeps the replies to tasks, and so does the world that a step
 /// leaves whatever it answers.
 pub fn events_keep_replies<M: Machine>()
+    // claim: Every event keeps the invariant of replies, whatever a step returns
     ensures effect { (setting : Setting M) (world : World) (event : Event) (transition : Transition)
         → IsRightConfig setting.config → IsKeptWorld setting world
         → IsEvent event
@@ -94,6 +98,8 @@ pub fn events_keep_replies<M: Machine>()
 /// replies to tasks. There the kth reply that a task took answers its kth call, and is an answer
 /// that the order gives to it.
 pub fn replies_follow_the_order<M: Machine>()
+    // claim: The kth reply that a task took is the answer in the order to its kth call, in every
+    //   history
     ensures histories { (setting : Setting M) (events : List Event) (world : World)
         → IsHistory setting events world → IsKeptWorld setting world }
     ensures replies { (setting : Setting M) (node : ℕ → NodePart) (task : ℕ → TaskPart)
@@ -107,6 +113,7 @@ pub fn replies_follow_the_order<M: Machine>()
 
 /// At a program of a machine the order gives one answer to a call at most.
 pub fn answers_are_one<M: Machine>()
+    // claim as calls_count_where_they_first_occur
     ensures { (config : Config) (program : M.Program) (node : ℕ → NodePart)
         (task : ℕ → TaskPart) (sent : List Message)
         → IsKept (setting_for M.next M.answers M.begin config program) node task sent
@@ -122,6 +129,8 @@ pub fn answers_are_one<M: Machine>()
 /// At a program of a machine each reply that a task took is the answer that the order gives to the
 /// task's call, which takes effect at one place in it, and there alone.
 pub fn replies_answer_calls_that_count<M: Machine>()
+    // claim: A reply that a task took is the answer in the order to its call, which takes effect at
+    //   one place there and no other
     ensures { (config : Config) (program : M.Program) (node : ℕ → NodePart)
         (task : ℕ → TaskPart) (sent : List Message)
         → IsKept (setting_for M.next M.answers M.begin config program) node task sent
@@ -136,6 +145,7 @@ pub fn replies_answer_calls_that_count<M: Machine>()
 /// At a program of a machine the first occurrence of a call in the order is its place, where it
 /// counts. So no call is passed over; and later ones do not count.
 pub fn calls_count_where_they_first_occur<M: Machine>()
+    // claim: A call counts at its first position in the order, and has one answer there
     ensures { (config : Config) (program : M.Program) (node : ℕ → NodePart)
         (task : ℕ → TaskPart) (sent : List Message)
         → IsKept (setting_for M.next M.answers M.begin config program) node task sent
@@ -149,6 +159,8 @@ pub fn calls_count_where_they_first_occur<M: Machine>()
 /// At a program of a machine the calls of a task that count in the order are those that the task
 /// made, in order: all of them, or all but the one that it waits for.
 pub fn calls_count_in_order<M: Machine>()
+    // claim: The calls of a task that count in the order are those that it made, in order: all of
+    //   them, or all but the one that it waits for
     ensures { (config : Config) (program : M.Program) (node : ℕ → NodePart)
         (task : ℕ → TaskPart) (sent : List Message)
         → IsKept (setting_for M.next M.answers M.begin config program) node task sent
@@ -158,6 +170,7 @@ pub fn calls_count_in_order<M: Machine>()
 
 /// At a program of a machine no call takes effect in the order but those that its task made.
 pub fn only_made_calls_count<M: Machine>()
+    // claim: No call takes effect in the order that its task did not make
     ensures { (config : Config) (program : M.Program) (node : ℕ → NodePart)
         (task : ℕ → TaskPart) (sent : List Message)
         → IsKept (setting_for M.next M.answers M.begin config program) node task sent

@@ -20,6 +20,8 @@ use rp_machine::{Machine, replies_fit};
 /// The result of an input at a node keeps the node's numbers within their ranges, and each packet
 /// that it sends is a right one of its own; so does a stop within that step.
 pub fn nodes_send_right_packets<M: Machine>()
+    // claim: What a node sends in an event, whole or cut, is right packets from it, and its numbers
+    //   stay within their ranges
     ensures input { (config : Config) (program : M.Program) (x : ℕ) (input : NodeInput)
         (done : Done NodePart) (node : ℕ → NodePart) (sent : List Message)
         → let setting = setting_for M.next M.answers M.begin config program in
@@ -42,6 +44,7 @@ pub fn nodes_send_right_packets<M: Machine>()
 
 /// Each packet that an input results in at a task is a right one of its own.
 pub fn tasks_send_right_packets()
+    // claim: What a task sends in an event is right packets from it
     ensures { (config : Config) (t : ℕ) (input : TaskInput) (part : TaskPart)
         (done : Done TaskPart) (sent : List Message)
         → WaitsForOwn t part → IsTaskInput sent t input

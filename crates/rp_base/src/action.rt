@@ -73,6 +73,7 @@ impl Action {
     /// Whether each number is within its range: call numbers and occurrences from 1, objects and
     /// sources 1 to 8, the operation's index as `Operation::is_right` says.
     pub fn is_right(self) -> bool
+        // claim: An action is right exactly if each of its numbers is in its range
         ensures right { IsTrue result ↔ IsRight self }
         ensures value { result ≡ right self }
     {

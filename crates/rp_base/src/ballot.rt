@@ -88,6 +88,8 @@ impl Ballot {
     /// The least ballot of the node above a ballot, or above none. `BallotsSpent` where the node
     /// has no ballot above it.
     pub fn next_for(node: NodeId, above: Option<Ballot>) -> Result<Self, Fault>
+        // claim: A node's next ballot is its least above a given one, or `BallotsSpent` exactly if
+        //   there is none
         ensures next { IfOk result (IsNext node (number_of above)) }
         ensures value { IfOk result (λ b. b ≡ next_ballot node (number_of above)) }
         ensures exhausted { IsErrOf result Fault.BallotsSpent ↔ ((b : ℕ)

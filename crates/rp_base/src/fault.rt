@@ -122,6 +122,7 @@ pub enum Fault {
 impl Fault {
     /// Its number, 1 to 13, as it is printed.
     pub fn code(&self) -> u8
+        // claim: A fault has its number and its name
         ensures { result ≡ code_of self.now }
     {
         match self {
@@ -143,6 +144,7 @@ impl Fault {
 
     /// Its name, as it is printed.
     pub fn name(&self) -> &'static str
+        // claim as Fault::code
         ensures { result.now ≡ name_of self.now }
     {
         match self {

@@ -6,7 +6,7 @@ use std::marker::Model;
 use std::snapshot::Snapshot;
 
 /// A list of what happened, oldest first, of which memory holds the last item alone: the others are
-/// there for contracts.
+/// in snapshots, which take no bytes, for contracts.
 #[cycle(history)]
 #[derive(Drop)]
 pub struct History<T: Drop> {
@@ -48,6 +48,8 @@ impl<T: Drop> History<T> {
 
     /// Adds an item after the others, in constant time and with no memory.
     pub fn push(&mut self, item: T)
+        // claim: A history, of which contracts see each item and memory holds the last, grows at
+        //   its end
         ensures { self.new ≡ self.old ++ item ∷ [] }
     {
         let before = Snapshot::of(self);

@@ -14,6 +14,7 @@ pub fn majority(nodes: u8) -> u8
 
 /// Two majorities of the same nodes have a node in common (Lamport, section 2.2).
 pub fn majorities_intersect()
+    // claim: A majority is n / 2 + 1, and two sets of that many nodes share one
     ensures { (nodes : ℕ) (xs ys : List ℕ) → AreNodes nodes xs → AreNodes nodes ys
         → majority_of nodes ≤ length xs → majority_of nodes ≤ length ys
         → (node : ℕ) × Has node xs × Has node ys }

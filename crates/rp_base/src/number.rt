@@ -37,6 +37,7 @@ impl NodeId {
 
     /// The node of this number, or `None` outside 1 to 7.
     pub fn new(number: u8) -> Option<Self>
+        // claim: Node, task and position numbers exist exactly in their ranges
         ensures valid { IsSome result ↔ IsNode number }
         ensures value { IfSome result (λ node. node ≡ number) }
     {
@@ -82,6 +83,7 @@ impl TaskId {
 
     /// The task of this number, or `None` outside 1 to 8.
     pub fn new(number: u8) -> Option<Self>
+        // claim as NodeId::new
         ensures valid { IsSome result ↔ IsTask number }
         ensures value { IfSome result (λ task. task ≡ number) }
     {
@@ -128,6 +130,7 @@ impl Position {
 
     /// The position of this number, or `None` at 0.
     pub fn new(number: u16) -> Option<Self>
+        // claim as NodeId::new
         ensures valid { IsSome result ↔ IsPosition number }
         ensures value { IfSome result (λ position. position ≡ number) }
     {

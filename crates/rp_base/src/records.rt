@@ -26,6 +26,8 @@ pub fn one_more_record()
 /// The vote that a promise reports lies below the promised ballot, and is right where the records
 /// are (Lamport, "Paxos Made Simple", section 2.2).
 pub fn last_votes_lie_below()
+    // claim: A vote that is the last one below a ballot in some records is below it, and is right
+    //   if they are
     ensures below { (records : List Rec) (i b : ℕ) (vote : Vote)
         → last_vote_at records i ≡ Some vote
         → bound_at records i < b → vote.ballot < b }
@@ -38,6 +40,8 @@ pub fn last_votes_lie_below()
 /// is one, and none elsewhere; by rising position, in ballots below the promised one, and right where
 /// the records are (Lamport, "Paxos Made Simple", sections 2.2 and 3).
 pub fn range_votes_are_reported()
+    // claim: The votes that a promise for a range reports are the last votes of its positions and
+    //   no others, by rising position, in lower ballots, and right if the records are
     ensures covered { (records : List Rec) (range : Range) (i : ℕ) → is_covered range i ≡ true
         → placed_at (last_votes records range) i ≡ last_vote_at records i }
     ensures elsewhere { (records : List Rec) (range : Range) (i : ℕ) → is_covered range i ≡ false

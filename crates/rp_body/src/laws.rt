@@ -11,6 +11,7 @@ ghost use Rattle.rp_body.specs.Check.{body_fits};
 /// No body changes which whole numbers there are or a range, and values that lie in their ranges
 /// still do, also where it raises.
 pub fn bodies_keep_ranges()
+    // claim: No body changes a range, and values in range stay in range
     ensures { (body : List Stmt) (arg : ℤ) (store : Store)
         → KeepsRanges store (body_effect body arg store).0 }
 {}

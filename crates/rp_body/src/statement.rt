@@ -161,6 +161,7 @@ fn all_fit(body: &[Stmt], limits: &Limits) -> bool
 /// most 64 statements, at most 8 deep, each expression and each condition of at most 32 nodes. It
 /// takes no memory, and little stack whatever the body.
 pub fn check(body: &[Stmt], limits: &Limits) -> bool
+    // claim: A body is right exactly if it keeps its limits and names what is declared
     ensures { IsTrue result ↔ KeepsLimits limits.now body.now }
 {
     count_left(body, MOST_STATEMENTS).is_some()
@@ -189,6 +190,8 @@ fn run_from(body: &[Stmt], components: &mut Components, arg: i64, start: i64) ->
 /// raises Constraint_Error the body ends, and the assignments made before stay. It takes no memory.
 pub fn run(body: &[Stmt], components: &mut Components, arg: i64) -> Outcome
     requires { KeepsLimits (limits_of components.old) body.now }
+    // claim (effect): A body runs as its meaning says: statements in order, assignments before an
+    //   exception kept
     ensures effect { (components.new, result) ≡ body_effect body.now arg components.old }
     ensures counts { limits_of components.new ≡ limits_of components.old }
 {

@@ -94,6 +94,7 @@ impl<M: Machine> Audit<M> {
     /// The packet in the box from that party to the audit, as its text, or `None` where the box is
     /// not full. It is a report, which that party has sent.
     pub fn fetch(&mut self, from: Party) -> Option<Vec<u8>>
+        // claim as NodeSeat::fetch
         ensures some { IfSome result (λ text. IsFetched from parties.Audit text.items
             self.old.seat self.new.seat) }
         ensures sent { IfSome result (λ text. WasSent M.next M.answers M.begin from parties.Audit
@@ -101,6 +102,7 @@ impl<M: Machine> Audit<M> {
         ensures none { IfNone result (self.new.seat ≡ self.old.seat) }
         ensures missed { IfNone result (WasNotFull M.next M.answers M.begin from parties.Audit
             self.new.seat) }
+        // claim (report, got): What the audit fetches is a report, and what it got stays got
         ensures report { IfSome result (λ text. IsGotReport self.new.seat.part text.items) }
         ensures got { (text : List ℕ) → IsGotReport self.old.seat.part text
             → IsGotReport self.new.seat.part text }
@@ -117,7 +119,12 @@ impl<M: Machine> Audit<M> {
     /// nodes begins one list of actions then. Refused for memory, nothing changes.
     pub fn add(&mut self, alloc: Global, packet: &[u8]) -> Result<Added, Fault>
         requires { IsGotReport self.old.seat.part packet.now }
+        // claim (ok, err, only): A report that the audit got makes what is known of its node the
+        //   longer of itself and of what the report has, or leaves a gap and changes nothing;
+        //   refused for memory it changes nothing
         ensures ok { IfOk result (λ added. IsAdded self.old packet.now self.new added) }
+        // claim (one): What the audit knows of each of any two nodes is a prefix of one list of
+        //   actions, at every moment
         ensures one { AreOfOneOrder self.new.known }
         ensures err { OnErr result (self.new ≡ self.old) }
         ensures only { IsOkUnless result faults.OutOfMemory }
@@ -170,8 +177,11 @@ impl<M: Machine> Audit<M> {
     /// The actions that are known of a node, in order. Each was in a report that the audit got, and
     /// what is known of any two nodes begins one list of actions.
     pub fn known(&self, node: NodeId) -> &[Action]
+        // claim (value, stated): Each action that is known of a node was in a report that the audit
+        //   got
         ensures value { result.now ≡ known_of self.now.known node }
         ensures stated { AreAllReported self.now.seat.part self.now.known }
+        // claim as Audit::add (one)
         ensures one { AreOfOneOrder self.now.known }
     {
         self.known[usize::from(node.get()) - 1].as_slice()

@@ -55,6 +55,7 @@ impl<M: Machine> AuditSeat<M> {
     /// The packet in the box from that party to the audit, as its text, or `None` where the box is
     /// not full. That party has sent it.
     pub fn fetch(&mut self, from: Party) -> Option<Vec<u8>>
+        // claim as NodeSeat::fetch
         ensures some { IfSome result (λ text. IsFetched from Audit text.items self.old self.new) }
         ensures sent { IfSome result (λ text. WasSent M.next M.answers M.begin from Audit
             text.items self.new) }

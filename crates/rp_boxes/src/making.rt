@@ -297,6 +297,10 @@ pub fn seats<M: Machine, D: Device>(
     program: &M::Program,
     devices: Vec<D>,
 ) -> Result<AllSeats<M, D>, Fault>
+    // claim: The seats of a cluster are those of its nodes and of the eight tasks, in order, and of
+    //   the audit, all at one table and fresh, with the failure counts of the devices that were
+    //   given; they are refused exactly if a cluster is, or out of memory, or by a device that can
+    //   fail
     ensures opened { IfOk result (λ all. AreSeats config program.now
         (failures_of D.disk devices.items) all.nodes.items all.tasks.items all.audit) }
     ensures refused { IsErrOf result Fault.BadConfig

@@ -72,6 +72,11 @@ impl<M: Machine, D: Device> NodeSeat<M, D> {
     pub fn turn(&mut self, alloc: Global, input: &Input) -> Result<Sent, Fault>
         requires right { IsRightInput input.now }
         requires got { IsGot self.old.part input.now }
+        // claim: A turn of a node's seat is exactly one event of its part, and its bytes are the
+        //   event's packets. A fault of the device comes only if a call of the device failed in
+        //   that turn, while the step wrote its record; it is a cut of that event. Otherwise
+        //   nothing changes: `Failed` if the node is stopped; if it runs, the step's refusal, or
+        //   out of memory if the step has none
         ensures ok { IfOk result (λ sent. IsTurn M.next M.answers M.begin
             self.old input.now self.new sent) }
         ensures err { IfErr result (λ fault. IsCutTurn M.next M.answers M.begin
@@ -132,6 +137,9 @@ impl<M: Machine, D: Device> NodeSeat<M, D> {
     /// given back where that box is not empty. The seat keeps the buffer that the receiver left there.
     pub fn put(&mut self, packet: Vec<u8>) -> Result<(), Vec<u8>>
         requires sent { IsSentText self.old.part packet.items }
+        // claim (put, used, back, unchanged): In a state of the table that keeps the rule and has
+        //   this seat's view, the box to the receiver had the packet that was put, or was in use if
+        //   the packet is given back; the seat does not change
         ensures unchanged { self.new ≡ self.old }
         ensures put { OnOk result (WasPut M.next M.answers M.begin (Node self.new.number)
             packet.items self.new) }
@@ -166,6 +174,9 @@ impl<M: Machine, D: Device> NodeSeat<M, D> {
     /// not full. That party has sent it. The seat leaves it a buffer there for its next packet, if it
     /// keeps one.
     pub fn fetch(&mut self, from: Party) -> Option<Vec<u8>>
+        // claim: A packet that a seat fetches is to this party and from the one asked, which has
+        //   sent it in a world that keeps the rule and has this seat's view; the seat has then got
+        //   it. `None` only if the box was not full
         ensures some { IfSome result (λ text. IsFetched from (Node self.old.number) text.items
             self.old self.new) }
         ensures sent { IfSome result (λ text. WasSent M.next M.answers M.begin from
@@ -202,7 +213,10 @@ impl<M: Machine, D: Device> NodeSeat<M, D> {
     /// How many actions the node has applied. `Failed` once its device has failed: then the node is
     /// stopped.
     pub fn applied(&self) -> Result<u32, Fault>
+        // claim as NodeSeat::report
         ensures ok { IfOk result (λ count. HasApplied self.now.part count) }
+        // claim (stopped, only): How many actions a node has applied is refused only if it is
+        //   stopped
         ensures only { IsOkUnless result faults.Failed }
         ensures stopped { IfErr result (λ fault. IsStopped self.now.part) }
     {
@@ -215,6 +229,8 @@ impl<M: Machine, D: Device> NodeSeat<M, D> {
     /// Whether something waits at the node to be proposed or decided: a call, an interrupt or a tick.
     /// Nothing does once its device has failed.
     pub fn has_pending(&self) -> bool
+        // claim: Whether something is pending at a node is returned; if the node is stopped,
+        //   nothing is
         ensures runs { (running : Running) → IsRunning self.now.part running
             → result ≡ nat_lt 0 (length running.pending) }
         ensures stopped { IsStopped self.now.part → result ≡ false }
@@ -225,6 +241,8 @@ impl<M: Machine, D: Device> NodeSeat<M, D> {
     /// A report to the audit of the actions applied at the positions from `first` on, as `turn` makes
     /// it.
     pub fn report(&mut self, alloc: Global, first: Position) -> Result<Sent, Fault>
+        // claim (ok): A report of a seat has exactly the actions that its node had applied, from a
+        //   position on; their number is returned too
         ensures ok { IfOk result (λ sent. IsReport first self.old self.new sent) }
         ensures err { IfErr result (λ fault. IsCutTurn M.next M.answers M.begin
             self.old (Report first) self.new fault
@@ -238,6 +256,7 @@ impl<M: Machine, D: InfallibleDevice> NodeSeat<M, D> {
     /// No call of the device has failed, where such a device never fails. It does nothing: what it
     /// promises is for contracts.
     pub fn never_failed(&self)
+        // claim: A node's seat over a device that never fails has no failure
         ensures { self.now.failures ≡ 0 }
     {
         self.replica.never_failed();

@@ -1,4 +1,5 @@
-//! Buffers that a seat keeps for packets to come, so that they need not take memory.
+//! Buffers that a seat keeps for packets to come, so that they need not take memory. A seat that takes
+//! a packet out of a box leaves an empty buffer there, which the sender takes with its next packet.
 
 ghost use Rattle.std.specs.Prelude.{◌≡◌, []};
 ghost use Rattle.rp_boxes.specs.Rule.{IsVacant};

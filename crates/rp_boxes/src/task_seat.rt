@@ -88,6 +88,9 @@ impl<M: Machine> TaskSeat<M> {
         operation: Operation,
         arg: i64,
     ) -> Result<Sent, Fault>
+        // claim: A call of a task's seat is exactly one event of its part, and its bytes are the
+        //   event's packet; so is a call that is sent again. A refusal is the task's, or is for
+        //   memory, and changes nothing
         ensures ok { IfOk result (λ sent. IsTaskTurn self.old (Submit node object operation arg)
             self.new sent) }
         ensures err { IfErr result (λ fault. IsNoTaskTurn self.old
@@ -114,6 +117,7 @@ impl<M: Machine> TaskSeat<M> {
     /// none waits. It is one event. Refused with `BadConfig` for a node above the last, or with
     /// `OutOfMemory`: then nothing has happened.
     pub fn retry(&mut self, alloc: Global, node: NodeId) -> Result<Sent, Fault>
+        // claim as TaskSeat::call
         ensures ok { IfOk result (λ sent. IsTaskTurn self.old (Again node) self.new sent) }
         ensures err { IfErr result (λ fault. IsNoTaskTurn self.old (Again node) self.new fault) }
     {
@@ -140,7 +144,13 @@ impl<M: Machine> TaskSeat<M> {
     /// nothing has happened.
     pub fn reply(&mut self, alloc: Global, packet: &[u8]) -> Result<Option<Answer>, Fault>
         requires got { (m : Message) × Has m self.old.part.got × (packet.now ≡ text_of m) }
+        // claim (ok, err): A packet that is given to a task's seat is exactly one event of its
+        //   part, and its reply is taken if it is to the call that waits
         ensures ok { IfOk result (λ taken. IsReplyTurn self.old packet.now self.new taken) }
+        // claim (stated): After a packet was given to a task's seat there is one order of actions
+        //   in which each reply of the task answers its call, which takes effect at one place, and
+        //   the calls of the task that count there are those that its seat sent, in order: all of
+        //   them, or all but the one that waits
         ensures stated { IfOk result
             (λ taken. HasOneOrder M.next M.answers (M.begin self.new.program)
             self.new.number self.new.part) }
@@ -174,6 +184,7 @@ impl<M: Machine> TaskSeat<M> {
     /// there.
     pub fn put(&mut self, packet: Vec<u8>) -> Result<(), Vec<u8>>
         requires sent { IsSentText self.old.part packet.items }
+        // claim as NodeSeat::put
         ensures unchanged { self.new ≡ self.old }
         ensures put { OnOk result (WasPut M.next M.answers M.begin (parties.Task self.new.number)
             packet.items self.new) }
@@ -216,6 +227,7 @@ impl<M: Machine> TaskSeat<M> {
     /// not full. That party has sent it. The seat leaves it a buffer there for its next packet, if it
     /// keeps one.
     pub fn fetch(&mut self, from: Party) -> Option<Vec<u8>>
+        // claim as NodeSeat::fetch
         ensures some { IfSome result (λ text. IsFetched from (parties.Task self.old.number)
             text.items self.old self.new) }
         ensures sent { IfSome result (λ text. WasSent M.next M.answers M.begin from

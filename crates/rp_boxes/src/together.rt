@@ -129,6 +129,10 @@ impl<M: Machine> Audit<M> {
     pub fn look_together<D: Device>(self, nodes: Vec<NodeSeat<M, D>>, tasks: Vec<TaskSeat<M>>)
         requires nodes { All (λ seat. seat.table ≡ self.seat.table) nodes.items }
         requires tasks { All (λ seat. seat.table ≡ self.seat.table) tasks.items }
+        // claim: All seats of one table together have one order: what the audit knows of each node
+        //   and what each node has applied is a prefix of it; each action known of a node was
+        //   reported by that node's own seat; each reply of each task is the answer there, at one
+        //   place, and the task's calls that count are its own
         ensures { AreTogether M.next M.answers M.begin self nodes.items tasks.items }
     {
         the_order_exists();

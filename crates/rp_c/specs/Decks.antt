@@ -1,4 +1,4 @@
--- What the run of a deck answers.
+-- What the run of a deck returns.
 use Rattle.std.specs.Prelude.{◌≡◌, ◌⊎◌, ◌<◌, ℕ, Bool, Some, Err, List, [], ◌++◌, length, drop}
 use Rattle.rp_base.specs.declared.fault.Fault.TheVariants as faults
 use Rattle.rp_base.specs.declared.fault.DeckReason.{DeckReason}

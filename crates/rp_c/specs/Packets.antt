@@ -1,4 +1,4 @@
--- What the calls on packets answer.
+-- What the calls on packets return.
 use Rattle.std.specs.Prelude.{◌≡◌, ℕ, List, length, Err}
 use Rattle.rp_base.specs.declared.fault.PacketReason.{PacketReason}
 use Rattle.rp_codec.specs.Decoding.{BeginsWithPacket, IsLongText}

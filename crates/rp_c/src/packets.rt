@@ -12,6 +12,8 @@ use std::alloc::Global;
 /// `BadPacket` where they begin with none: then nothing is written.
 #[unsafe(no_mangle)]
 pub extern "C" fn rp_packet_length(bytes: &[u8], count: &mut usize) -> u8
+    // claim: A C caller gets the length of the packet that its bytes begin with, or that they begin
+    //   with none
     ensures { (status : Status) × (result ≡ status_code status)
         × PutsLength bytes.now count.old count.new status }
 {
@@ -36,6 +38,7 @@ fn put_length(bytes: &[u8], count: &mut usize) -> Status
 /// `OutOfMemory` only for a report. Otherwise nothing is written.
 #[unsafe(no_mangle)]
 pub extern "C" fn rp_packet_check(alloc: Global, bytes: &[u8], reason: &mut u8) -> u8
+    // claim: A C caller learns whether its bytes are one packet, and else the one reason
     ensures { (status : Status) × (result ≡ status_code status)
         × ChecksPacket bytes.now reason.old reason.new status }
 {

@@ -256,6 +256,9 @@ fn decode_others(alloc: Global, bytes: &[u8]) -> Result<Result<Packet, PacketRea
 /// a range take memory.
 #[inline(always)]
 pub fn decode(alloc: Global, bytes: &[u8]) -> Result<Result<Packet, PacketReason>, AllocError>
+    // claim: `decode` gives a packet exactly if the bytes are its text of version 1 or 2, else the
+    //   first reason in reading from left to right, by the version that the first byte says; it is
+    //   out of memory only for a report and for a promise for a range
     ensures answer { IfOk result (λ answer. IsDecoded bytes.now answer) }
     ensures memory { OnErr result (IsLongText bytes.now) }
 {
@@ -280,6 +283,8 @@ fn skip_packet(reader: &mut Reader) -> Result<(), PacketReason>
 /// follow it. `None` where they begin with no packet's text. It takes no memory.
 pub fn packet_len(bytes: &[u8]) -> Option<usize>
     // Where there is one.
+    // claim: The length of the packet text, of version 1 or 2, that is a prefix of the bytes is
+    //   returned exactly if there is one
     ensures valid { IsSome result ↔ BeginsWithPacket bytes.now }
     // How long it is.
     ensures value { (p : Message) (rest : List ℕ) → IsPacket p → IsTextBefore p rest bytes.now

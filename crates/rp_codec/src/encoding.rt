@@ -64,6 +64,8 @@ fn head_of(packet: &Packet) -> [u8; 4]
 #[inline(always)]
 pub fn text_of_packet(packet: &Packet) -> ShortText
     requires { ¬ IsLongBody packet.now.body }
+    // claim: A packet that is neither a report nor a promise for a range is encoded in version 2
+    //   without taking memory
     ensures { result ≡ text_of packet.now }
 {
     let mut text = ShortText::starting_with(&head_of(packet));
@@ -75,6 +77,8 @@ pub fn text_of_packet(packet: &Packet) -> ShortText
 /// stay.
 #[inline(always)]
 pub fn encode_onto(packet: &Packet, out: &mut Vec<u8>) -> Result<(), AllocError>
+    // claim: `encode` gives the packet's one text of version 2, and `encode_onto` appends it to
+    //   other bytes, or leaves them as they were
     ensures ok { OnOk result (out.new.items ≡ out.old.items ++ text_of packet.now) }
     ensures err { OnErr result (out.new.items ≡ out.old.items) }
 {
@@ -107,6 +111,7 @@ pub fn encode(alloc: Global, packet: &Packet) -> Result<Vec<u8>, AllocError>
 
 /// No packet's text of version 2 begins another's, whatever is after the two.
 pub fn one_text()
+    // claim: No packet's text of version 2 is a prefix of another's, and no record's
     ensures { (p q : Message) (x y : List ℕ) → IsPacket p → IsPacket q
         → text_of p ++ x ≡ text_of q ++ y → (p ≡ q) × (x ≡ y) }
 {}
@@ -114,6 +119,8 @@ pub fn one_text()
 /// No packet's text of one version or the other begins another's, so none is of both, and a packet
 /// has at most two. The two have one length.
 pub fn two_texts()
+    // claim: No text of either version is a prefix of another, so none is of both versions and a
+    //   packet or record has two at most; the two have one length
     ensures apart { (v w : Version) (p q : Message) (x y : List ℕ) → IsPacket p → IsPacket q
         → HasText v p → HasText w q → text_at v p ++ x ≡ text_at w q ++ y
         → (v ≡ w) × (p ≡ q) × (x ≡ y) }

@@ -37,6 +37,8 @@ fn reply_len(tag: u8) -> usize
 #[inline(always)]
 pub fn text_len(bytes: &[u8]) -> usize
     requires { BeginsWithPacket bytes.now }
+    // claim: The length of the packet text that bytes are known to begin with is returned without
+    //   decoding them
     ensures { (p : Message) (rest : List ℕ) → IsPacket p → IsTextBefore p rest bytes.now
         → result ≡ length (text_of p) }
 {

@@ -132,6 +132,7 @@ pub fn encode_rec(alloc: Global, rec: &Rec) -> Result<Vec<u8>, AllocError>
 /// Any bytes may follow it. `None` where the bytes begin with no record's text. It takes no memory.
 pub fn decode_front(bytes: &[u8]) -> Option<(Rec, usize)>
     // Where there is one.
+    // claim: A record is returned exactly if the bytes begin with its text of version 1 or 2
     ensures valid { IsSome result ↔ BeginsWithRecord bytes.now }
     // Which it is, and how long its text is.
     ensures value { (r : Rec) (rest : List ℕ) → IsRecord r → IsRecordTextBefore r rest bytes.now
@@ -146,6 +147,7 @@ pub fn decode_front(bytes: &[u8]) -> Option<(Rec, usize)>
 
 /// No record's text of version 2 begins another's, whatever is after the two.
 pub fn one_record_text()
+    // claim as one_text
     ensures { (r s : Rec) (x y : List ℕ) → IsRecord r → IsRecord s
         → record_text r ++ x ≡ record_text s ++ y → (r ≡ s) × (x ≡ y) }
 {}
@@ -153,6 +155,7 @@ pub fn one_record_text()
 /// No record's text of one version or the other begins another's, so none is of both, and a record
 /// has at most two. The two have one length.
 pub fn two_record_texts()
+    // claim as two_texts
     ensures apart { (v w : Version) (r s : Rec) (x y : List ℕ) → IsRecord r → IsRecord s
         → HasRecordText v r → HasRecordText w s → record_text_at v r ++ x ≡ record_text_at w s ++ y
         → (v ≡ w) × (r ≡ s) × (x ≡ y) }

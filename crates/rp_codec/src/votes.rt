@@ -7,7 +7,8 @@ use std::alloc::AllocError;
 use std::fmt;
 use std::marker::Model;
 
-/// Votes with their positions, in order.
+/// Votes with their positions, in order, in a list, so that other packets stay small. An acceptor
+/// answers with them in place (`RangeVotes`), and takes no memory.
 #[derive(Drop)]
 pub struct Votes {
     items: Vec<PlacedVote>,

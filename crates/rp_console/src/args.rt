@@ -85,6 +85,8 @@ fn live_command<'a>(alloc: Global) -> Result<Command<'a>, AllocError>
 
 /// Reads the words, of which the first is the program's name. An error has the text for the user.
 pub fn read_args<S: AsStr>(alloc: Global, words: &[S]) -> Result<Args, Error>
+    // claim: The words of the command line name a subcommand and its options, or are refused as
+    //   clap's rules say
     ensures named { IfOk result (λ args. option_map (λ found. found.0)
         (subcommand_of console (map S.text words.now)) ≡ Some (name_of args)) }
     ensures traced { IfOk result (λ args. trace_of (map S.text words.now) ≡ Some (codes "true")

@@ -47,6 +47,14 @@ pub fn obey<T: Threads + Wait + Clock, S: AsStr, R: Read + Drop, W: Write + Drop
     words: &[S],
     streams: &mut Streams<R, W, E>,
 ) -> Ending
+    // claim: The program runs what its words ask for (a script, traced or not, or a live run), and
+    //   nothing if they are wrong. The status is 0 exactly if the run ended without a fault or the
+    //   words ask for help or the version, 3 at a bad deck, 2 at wrong words, and 4 at every other
+    //   fault. A fault is reported on standard error by its line, that of a bad deck with the first
+    //   bad line that the deck's bytes mean and the first reason on it. A live run without a fault
+    //   leaves there the line of the figures of the run that it printed, with a time or without
+    //   one; a script without a fault leaves standard error as it was; wrong words print nothing,
+    //   and help reports nothing; if help cannot be printed the fault is `Io`
     ensures obeyed { FollowsWords (map S.text words.now) (R.remaining streams.old.reader)
         (W.contents streams.old.writer) (W.contents streams.new.writer)
         (E.contents streams.old.errors) (E.contents streams.new.errors) result }
@@ -95,6 +103,8 @@ pub fn refuse_unread<R: Read + Drop, W: Write + Drop, E: Write + Drop>(
     alloc: Global,
     streams: &mut Streams<R, W, E>,
 ) -> Ending
+    // claim: Words of which one is not UTF-8 are refused as wrong words, or as a fault if there is
+    //   no memory for that
     ensures refused { (why : ErrorKind) × IsUnread why × RefusesAs why
         (W.contents streams.old.writer) (W.contents streams.new.writer)
         (E.contents streams.old.errors) (E.contents streams.new.errors) result }

@@ -1,6 +1,6 @@
-pub mod Deck
-pub mod DeckViews
-pub mod Live
-pub mod Meaning
-pub mod Script
 pub mod ScriptLines
+pub mod Meaning
+pub mod DeckViews
+pub mod Script
+pub mod Deck
+pub mod Live

@@ -32,8 +32,18 @@ fn most_positions(positions: Option<Position>) -> u16
 /// live mode does not take is bad in it, by its first word.
 pub fn read_deck(alloc: Global, text: &[u8], mode: Mode) -> Result<Deck, Fault>
     requires { length text.now + 1 < 2 ^ 32 }
+    // claim (meaning): A deck that is read is what its text means: lines, words, names and numbers,
+    //   what each line declares or asks for, each name the number of the first that was declared by
+    //   it. Otherwise the fault is the first bad line and the first reason on it, from left to
+    //   right, or `OutOfMemory`
     ensures meaning { Reads deck_text result (meaning_of mode text.now) }
+    // claim (deck, fault): A deck that is read keeps its limits: names that are distinct, a program
+    //   that declares what the deck says, and a script that names only what is declared: each call
+    //   an operation that its object has, each `arm` and `disarm` a timing event whose handler the
+    //   object has, each `irq` one of the declared interrupts
     ensures deck { IfOk result IsRightDeck }
+    // claim (taken): A deck that is read for live mode has only calls, interrupts and ticks in its
+    //   script
     ensures taken { IfOk result (IsDeckFor mode) }
     ensures fault { IfErr result IsDeckFault }
 {

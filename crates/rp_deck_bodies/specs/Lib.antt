@@ -1,6 +1,6 @@
+pub mod Expressions
 pub mod Bodies
-pub mod BodyLimits
+pub mod ExpressionViews
 pub mod BodyViews
 pub mod Counted
-pub mod ExpressionViews
-pub mod Expressions
+pub mod BodyLimits

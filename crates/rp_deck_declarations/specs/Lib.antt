@@ -1,8 +1,8 @@
-pub mod Declarations
-pub mod DeclaredTexts
-pub mod DeclaredViews
-pub mod Declaring
 pub mod Drafts
-pub mod DraftViews
-pub mod Programs
+pub mod Declaring
 pub mod ScriptNames
+pub mod DeclaredTexts
+pub mod DraftViews
+pub mod DeclaredViews
+pub mod Declarations
+pub mod Programs

@@ -1,3 +1,3 @@
-pub mod ObjectLimits
-pub mod ObjectViews
 pub mod Objects
+pub mod ObjectViews
+pub mod ObjectLimits

@@ -1,7 +1,7 @@
-pub mod BodyTexts
-pub mod DraftTexts
 pub mod ExpressionTexts
-pub mod ObjectTexts
+pub mod BodyTexts
 pub mod PartTexts
-pub mod ScriptText
+pub mod ObjectTexts
+pub mod DraftTexts
 pub mod TallyTexts
+pub mod ScriptText

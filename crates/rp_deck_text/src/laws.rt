@@ -22,6 +22,8 @@ ghost use Rattle.rp_deck.specs.declared.deck.Mode.TheVariants.{Script};
 /// Each command that a script may hold has a line, and reading it gives the command back. So no two
 /// commands share it.
 pub fn commands_are_read_back()
+    // claim: Each command that a script may hold has a line, and each script a text; the line and
+    //   the text mean that command and that script
     ensures { (d : DeclaredNames) (number : ℕ) (command : CommandText)
         → AreDeclared d → IsCommandOf d command
         → command_line Script d (line_of number (command_words d command)) ≡ Ok command }
@@ -30,6 +32,7 @@ pub fn commands_are_read_back()
 /// Each script has a text, and reading it gives the script back, whatever number its first line
 /// has. So no two scripts share it.
 pub fn scripts_are_read_back()
+    // claim as commands_are_read_back
     ensures { (d : DeclaredNames) (number : ℕ) (commands : List CommandText)
         → AreDeclared d → AllByRecursion (IsCommandOf d) commands
         → script_of Script d (texts_from number (lines_of (script_text d commands)))
@@ -38,6 +41,8 @@ pub fn scripts_are_read_back()
 
 /// Each expression of at most 32 nodes has a text, and reading it gives the expression back.
 pub fn expressions_are_read_back()
+    // claim: Each expression and each condition of at most 32 nodes has a text, and reading it
+    //   gives it back
     ensures { (names : List (List ℕ)) (declared : List Component) (expr : ExprText)
         → AreComponents names declared → IsExprOf names declared expr → expr_nodes expr ≤ 32
         → expr_line names declared (spaced (expr_words names declared expr)) ≡ Ok expr }
@@ -45,6 +50,7 @@ pub fn expressions_are_read_back()
 
 /// Each condition of at most 32 nodes has a text, and reading it gives the condition back.
 pub fn conditions_are_read_back()
+    // claim as expressions_are_read_back
     ensures { (names : List (List ℕ)) (declared : List Component) (cond : CondText)
         → AreComponents names declared → IsCondOf names declared cond → cond_nodes cond ≤ 32
         → cond_line names declared (spaced (cond_words names declared cond)) ≡ Ok cond }
@@ -53,6 +59,8 @@ pub fn conditions_are_read_back()
 /// Each deck whose objects are a tally has a text, and that is what the text means. So no two such
 /// decks share it.
 pub fn tally_decks_are_read_back()
+    // claim: Each deck, of a tally or of protected objects, has a text, and that deck is what the
+    //   text means. So no two decks share it
     ensures { (t : TallyText) (commands : List CommandText) → IsTallyText t
         → AreDeclared (declared_names (tally_draft t))
         → AllByRecursion (IsCommandOf (declared_names (tally_draft t))) commands
@@ -62,6 +70,8 @@ pub fn tally_decks_are_read_back()
 /// What an object declares has lines, the bodies of its operations too, and reading them adds just
 /// that to the last object.
 pub fn objects_are_read_back()
+    // claim: What an object declares has lines, its components, functions, procedures and entries
+    //   with their bodies, and reading them adds exactly that to the last object
     ensures { (d : DraftText) (before : List ObjectText) (o : ObjectText) (parts : List PartText)
         → ArePartsOf (profile_of d) o parts
         → Declares (at_object d before (shut o)) (parts_lines (profile_of d) o parts)
@@ -70,6 +80,8 @@ pub fn objects_are_read_back()
 
 /// Declared objects, interrupts and timing events have lines, and reading them declares just those.
 pub fn declarations_are_read_back()
+    // claim: Declared objects, interrupts and timing events have lines, and reading them declares
+    //   exactly those; so have the declarations of a deck of protected objects
     ensures objects { (d : DraftText) (objects : List DeclaredObject)
         → is_in_body d ≡ false → d.is_tally ≡ false → AreObjectsOf d objects
         → Declares d (objects_lines (profile_of d) objects) (with_objects d objects) }
@@ -88,6 +100,7 @@ pub fn declarations_are_read_back()
 /// Each deck of protected objects has a text, and that is what the text means. So no two such decks
 /// share it.
 pub fn object_decks_are_read_back()
+    // claim as tally_decks_are_read_back
     ensures { (t : ObjectsText) (commands : List CommandText) → IsObjectsText t
         → AreDeclared (declared_names (objects_draft t))
         → AllByRecursion (IsCommandOf (declared_names (objects_draft t))) commands

@@ -15,6 +15,7 @@ ghost use Rattle.rp_entry.specs.Accounting.{KeepsAll};
 
 /// Servicing has an end from every state, and one alone, with the same answers given on the way.
 pub fn servicing_has_one_end()
+    // claim: Servicing and every action have one end, from every state
     ensures an_end { (operations : Operations) (before : State)
         → (replied : List Answer) × ((after : State) × Services operations before replied after) }
     ensures no_other { (operations : Operations) (before one other : State)
@@ -26,6 +27,7 @@ pub fn servicing_has_one_end()
 /// So has a protected action: a request at a state gives every replica the same answers and leaves
 /// the same state.
 pub fn actions_have_one_end()
+    // claim as servicing_has_one_end
     ensures an_end { (operations : Operations) (before : State) (request : Request)
         → (caller : Option CallOutcome) × ((replied : List Answer) × ((after : State)
         × Acts operations before request caller replied after)) }
@@ -39,6 +41,7 @@ pub fn actions_have_one_end()
 /// The result of an action is the stated function of operations, state and request: the rules hold
 /// of exactly its result.
 pub fn actions_are_their_results()
+    // claim: A protected action is one function of operations, state and request
     ensures { (operations : Operations) (before : State) (request : Request) (result : Acted)
         → Acts operations before request result.caller result.replied result.after
         ↔ (acted operations before request ≡ result) }
@@ -47,6 +50,7 @@ pub fn actions_are_their_results()
 /// No action changes which whole numbers there are or a range, and values that lie in their ranges
 /// still do.
 pub fn actions_keep_ranges()
+    // claim: No action changes a range, and values in range stay in range
     ensures { (operations : Operations) (before after : State) (request : Request)
         (caller : Option CallOutcome) (replied : List Answer)
         → Acts operations before request caller replied after
@@ -55,6 +59,7 @@ pub fn actions_keep_ranges()
 
 /// No action of operations that fit their components changes which Booleans there are.
 pub fn actions_keep_booleans()
+    // claim: No action changes which Booleans there are
     ensures { (limits : Limits) (operations : Operations) (before after : State)
         (request : Request) (caller : Option CallOutcome) (replied : List Answer)
         → OperationsFit limits operations → HasBools limits before.store
@@ -66,6 +71,8 @@ pub fn actions_keep_booleans()
 /// that an action answers, and after them those that wait after it, are those that waited before,
 /// and the action's own call where it waits there.
 pub fn actions_account_for_callers()
+    // claim: At each entry those that are answered, followed by those that still wait, are those
+    //   that waited, in their order
     ensures { (operations : Operations) (before after : State) (request : Request)
         (caller : Option CallOutcome) (replied : List Answer)
         → length before.queues ≡ length operations.entries.items

@@ -94,6 +94,7 @@ impl Object {
     /// value leaves 64 signed bits, or whether its condition holds. NoSuchOperation where there is
     /// none.
     pub fn function(&self, index: u8, arg: i64) -> Reply
+        // claim: A function changes nothing
         ensures action { let now = self.now.state in
             Acts self.now.operations now (calls_function index arg)
             (Some (CallOutcome.Reply result)) [] now }
@@ -110,6 +111,8 @@ impl Object {
     /// Constraint_Error where the body raised it. NoSuchOperation where there is none, and nothing
     /// changes.
     pub fn procedure(&mut self, index: u8, arg: i64) -> Done
+        // claim: A protected action is what the Reference Manual relates to the state before it,
+        //   and nobody waits at an open barrier after it
         ensures action { Acts self.old.operations self.old.state (calls_procedure index arg)
             (Some result.outcome) result.served self.new.state }
         ensures serviced { IsServiced self.new.operations self.new.state }
@@ -128,6 +131,7 @@ impl Object {
     /// NoSuchOperation where there is no such entry, and nothing changes.
     pub fn entry(&mut self, index: u8, task: TaskId, number: u32, arg: i64) -> Done
         requires free { ¬ Has task (tasks_waiting self.old.state) }
+        // claim as Object::procedure
         ensures action { Acts self.old.operations self.old.state
             (calls_entry index (record { task = task; number = number; arg = arg }))
             (Some result.outcome) result.served self.new.state }
@@ -153,6 +157,7 @@ impl Object {
     /// effect (sections C.3 and D.15). Nothing happens where there is no such procedure. It gives
     /// the answers of the callers that were served.
     pub fn handler(&mut self, index: u8) -> Answers
+        // claim as Object::procedure
         ensures action { Acts self.old.operations self.old.state (event index)
             None result self.new.state }
         ensures serviced { IsServiced self.new.operations self.new.state }

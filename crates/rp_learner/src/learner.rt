@@ -114,6 +114,9 @@ impl Learner {
         action: &Action,
     ) -> VoteStatus
         requires sender { from ≤ self.now.nodes }
+        // claim: A vote is Learned exactly if those heard to have cast it at its position, this one
+        //   included, are a majority; Beyond exactly above the window of 64 positions; Known below
+        //   it and if the position is settled
         ensures { result ≡ status_with self.now from position (vote_for ballot action.now) }
     {
         let Some(offset) = offset_from(self.first, position) else {
@@ -147,6 +150,8 @@ impl Learner {
         action: &Action,
     ) -> Result<(), Fault>
         requires sender { from ≤ self.old.nodes }
+        // claim (noted, unchanged, full, only): A learner is out of memory only for a vote that is
+        //   counted and was not heard, and then nothing has changed
         ensures noted { OnOk result (NotesVote self.old from position
             (vote_for ballot action.now) self.new) }
         ensures sizes { SameSizes self.new self.old }
@@ -200,6 +205,8 @@ impl Learner {
     /// time in proportion to how far the window moves, at most 64 places.
     pub fn advance(&mut self, first: u32, settled: u64)
         requires on { self.old.first ≤ first }
+        // claim: A window that moves on keeps the votes and the marks of the positions that stay;
+        //   of those that enter, those are settled whose bits say so
         ensures { Advances self.old first settled self.new }
     {
         let moved = (first - self.first).min(WINDOW);
@@ -222,6 +229,8 @@ fn offset_from(first: u32, position: Position) -> Option<usize>
 
 /// Learners that hold the same, as sets, answer alike, and hold the same once the same is noted.
 pub fn same_learners_answer_alike()
+    // claim (vote, decided, note_vote, settled): Learners that hold the same, as sets, answer
+    //   alike, also after the same is noted
     ensures vote { (l m : Learning) (from i : ℕ) (vote : Vote) → SameLearning l m
         → status_with l from i vote ≡ status_with m from i vote }
     ensures decided { (l m : Learning) (i : ℕ) → SameLearning l m

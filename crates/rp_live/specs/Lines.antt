@@ -1,4 +1,4 @@
--- The line of a party in a run.
+-- The link of a party in a run.
 use Rattle.std.specs.Prelude.{ℕ, List, ◌∷◌, ◌++◌, replicate}
 use Rattle.std.specs.Int.{w32, to_be_bytes}
 use Rattle.rp_codec.specs.Text.{party_number}

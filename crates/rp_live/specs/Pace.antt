@@ -1,4 +1,4 @@
--- In which turns a node of a run turns.
+-- Which turns of a run a node takes; it skips the others.
 use Rattle.std.specs.Prelude.{ℕ, Bool, not}
 use Rattle.rp_threads.specs.Rounds.{is_to_lead}
 

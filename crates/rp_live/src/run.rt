@@ -86,6 +86,25 @@ where
     M::Program: Send + Sync,
     requires config { IsRightConfig config }
     requires events { All (IsLive config.nodes) events.now }
+    // claim (outcome): In a run of a whole program in threads all nodes and tasks have their seats
+    //   at one table; the nodes note the interrupts and ticks among the events, in order; each node
+    //   and task makes its turns over the link that the seed gives to it, the tasks with the calls
+    //   among the events
+    // claim (outcome): After the loops each node reports to the audit what it has applied, first
+    //   from position 1 and each time after that from the position after those that the audit knows
+    //   of it by then, until all is known or a report adds nothing; then all look at the table as
+    //   one
+    // claim (outcome): After a run in threads there is one order, of which what is known of each
+    //   node and what it has applied are prefixes; each printed count is what that node has
+    //   applied; each reply is its task's and the answer to its call in that order, which takes
+    //   effect at one place; the calls of a task that count there are the first of its calls among
+    //   the events, all that it made, or all but the last
+    // claim (outcome): The logs are reported to agree exactly if of each node as many actions are
+    //   known as it has applied
+    // claim (outcome): The figures of a run in threads are sums over the ends of the loops: calls
+    //   made, replies, packets counted as lost and turns in which nodes led; and the greatest turn
+    //   of a last reply
+    // claim (only): The only fault that ends a run in threads is `OutOfMemory`
     ensures outcome { IfOk result (IsLiveRun M.next M.answers M.begin
         config program.now events.now seed turns) }
     ensures only { IfErr result IsLiveFault }

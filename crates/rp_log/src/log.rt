@@ -64,6 +64,7 @@ impl Log {
     /// which leaves the log as it was. Where there is room already no memory is asked for.
     #[inline(always)]
     pub fn reserve(&mut self, position: Position) -> Result<(), Fault>
+        // claim (ok, err, refused): Reserving and learning change one position and no other
         ensures ok { OnOk result (self.new ≡ with_room self.old position) }
         ensures room { OnOk result (HasRoom self.new position) }
         ensures err { OnErr result (self.new ≡ self.old) }
@@ -153,6 +154,7 @@ impl Log {
     /// Takes the least position that was not taken yet, with its action, where that position is
     /// learned. So the actions come in order and none is left out.
     pub fn take_ready(&mut self) -> Option<(Position, Action)>
+        // claim (ready): A log returns its learned actions in order, each once and none left out
         ensures ready { result ≡ ready_of self.old }
         ensures taken { IfSome result (λ ready. self.new.taken ≡ self.old.taken ++ ready.1 ∷ []) }
         ensures none { IfNone result (self.new ≡ self.old) }
@@ -174,6 +176,7 @@ impl Log {
 
     /// The actions that were taken, in order: those of positions 1, 2, 3 and so on, at most 65,535.
     pub fn taken(&self) -> &[Action]
+        // claim (value): The actions that a log took are returned in order, and none is copied
         ensures value { result.now ≡ self.now.taken }
         ensures few { length result.now < 2 ^ 16 }
     {

@@ -16,6 +16,7 @@ pub fn taken_as_recorded()
     ensures learns { (records : List Rec) (log : Contents) (i : ℕ) (v : Action)
         → LearnedAlike records log
         → LearnedAlike (records ++ Rec.Learned i v ∷ []) (with_action log i v) }
+    // claim: The actions that were taken are those that the node's records apply
     ensures so_far { (records : List Rec) (log : Contents)
         → LearnedAlike records log → IsTakenInOrder log
         → log.taken ≡ learned_run records (length log.taken) 1 }

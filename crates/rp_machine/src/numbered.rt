@@ -85,6 +85,8 @@ impl<M: Machine> Numbered<M> {
     #[inline(always)]
     pub fn apply(&mut self, action: &Action) -> Answers
         requires { IsRight action.now }
+        // claim: After a log each action changes a machine exactly as the replay of the log does,
+        //   with the same answers; no call is answered twice
         ensures applied { self.new
             ≡ record self.old { actions = self.old.actions ++ action.now ∷ [] } }
         ensures answers { result ≡ answers_after M.next M.answers
@@ -106,6 +108,7 @@ impl<M: Machine> Numbered<M> {
     /// The reply to a call of this task, where the call is the last of the task that counted and has
     /// its answer.
     pub fn kept(&self, task: TaskId, number: u32) -> Option<Reply>
+        // claim: The reply to a task's last call is kept, and no other
         ensures { let r = outcome M.next M.answers self.now in result
             ≡ kept_reply task number r.kept r.given }
     {
@@ -119,6 +122,8 @@ impl<M: Machine> Numbered<M> {
 
     /// The number of the task's last call that counted, 0 where none did.
     pub fn last(&self, task: TaskId) -> u32
+        // claim: A task's last number, whether it waits, and a source's last occurrence are those
+        //   of the replay
         ensures { result ≡ last_number task (outcome M.next M.answers self.now).kept }
     {
         self.caller(task).last
@@ -126,6 +131,7 @@ impl<M: Machine> Numbered<M> {
 
     /// Whether the task's last call that counted has no answer yet.
     pub fn waits(&self, task: TaskId) -> bool
+        // claim as Numbered::last
         ensures { let r = outcome M.next M.answers self.now in result ≡ waits task r.kept r.given }
     {
         self.caller(task).waits()
@@ -134,6 +140,7 @@ impl<M: Machine> Numbered<M> {
     /// Whether a call may still be answered: it is not, and no call of its task above it counted.
     pub fn is_open(&self, task: TaskId, number: u32) -> bool
         requires { 1 ≤ number }
+        // claim: Whether a call may still be answered is what the replay says
         ensures { let r = outcome M.next M.answers self.now in result
             ≡ (is_none (answer_to task number r.given) && nat_le (last_number task r.kept) number) }
     {
@@ -144,6 +151,7 @@ impl<M: Machine> Numbered<M> {
     /// The last occurrence of the source, 1 to 8, that counted, 0 where none did.
     pub fn last_occurrence(&self, source: u8) -> u32
         requires { IsIndex source }
+        // claim as Numbered::last
         ensures { result ≡ last_occurrence source (outcome M.next M.answers self.now).kept }
     {
         self.occurrences[usize::from(source) - 1]
@@ -222,6 +230,7 @@ fn hear(callers: &mut [Caller; 8], answers: &[Answer])
 
 /// A call counts once in any log, and the calls of a task that count are numbered from 1 on.
 pub fn calls_count_once<M: Machine>()
+    // claim: A call counts once in any log
     ensures { (begin : M) (actions : List Action)
         → IsSet (calls_made (kept_of M.next M.answers begin actions)) }
 {}

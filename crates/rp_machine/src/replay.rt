@@ -14,6 +14,7 @@ use crate::machine::Machine;
 /// A longer log goes on from the shorter: the machine goes on from the state that it was in, and
 /// what counted and what was answered is in its place.
 pub fn replay_goes_on<M: Machine>()
+    // claim: The replay of a log continues that of each of its prefixes, for every machine
     ensures from { (begin : M) (actions more : List Action)
         → replay_of M.next M.answers begin (actions ++ more)
         ≡ replay_from M.next M.answers (replay_of M.next M.answers begin actions) more }
@@ -24,6 +25,7 @@ pub fn replay_goes_on<M: Machine>()
 /// Replay of right actions stays in the program's states, and where a further action counts, no call
 /// of its task waits, so that the machine takes it.
 pub fn replay_may_go_on<M: Machine>()
+    // claim: If an action counts, the machine may take it
     ensures runs { (program : M.Program) (actions : List Action)
         → ((action : Action) → Has action actions → IsRight action)
         → M.runs program (replay_state M.next M.answers (M.begin program) actions) }
@@ -36,6 +38,8 @@ pub fn replay_may_go_on<M: Machine>()
 
 /// The value of each reply that right actions lead to has 64 signed bits.
 pub fn replies_fit<M: Machine>()
+    // claim: The value of each reply that right actions lead to has 64 signed bits, for every
+    //   machine
     ensures { (program : M.Program) (actions : List Action)
         → ((action : Action) → Has action actions → IsRight action)
         → (answer : Answer) → Has answer (replay_answers M.next M.answers (M.begin program) actions)

@@ -67,6 +67,7 @@ impl Model for Tally {
 impl Tally {
     /// Adds to an object's sum, and gives the reply to the call.
     fn add(&mut self, object: u8, arg: i64) -> Reply
+        // claim: The tally adds, and keeps the laws of a machine
         ensures reply { result ≡ reply_to_add (sum_of self.old object) arg }
         ensures sums { self.new ≡ with_sum self.old object (new_sum self.old object arg) }
     {

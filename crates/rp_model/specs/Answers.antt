@@ -1,4 +1,4 @@
--- What a step of a world answers, and events one after another.
+-- What a step of a world returns, and events one after another.
 use Rattle.std.specs.Prelude.{◌≡◌, ◌⊎◌, ℕ, ◌+◌, ◌-◌, ◌^◌, min, Option, Some, None, IsSome, Result, Ok, Err, List, []}
 use Rattle.std.specs.Prelude.{◌∷◌, length}
 use Rattle.rp_base.specs.declared.fault.Fault.{Fault}

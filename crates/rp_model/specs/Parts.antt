@@ -9,6 +9,9 @@ use Rattle.rp_base.specs.declared.reply.Answer.{Answer}
 use Rattle.rp_codec.specs.Message.{Message}
 use Rattle.rp_model.specs.declared.effect.Dropped.{Dropped}
 
+-- No value in memory is one of these records: a replica keeps its part in the forms that its crates need, and the
+-- world of a cluster is read off its replicas, its stubs and its devices.
+
 -- What a node knows while it runs, and loses when it stops: its proposals, one at most for each position; the set of
 -- the votes that it heard at positions that are not learned (who cast it, where, which); the calls, interrupts and
 -- ticks to be proposed, in order of arrival; and the greatest ballot in a refusal of a running proposal.

@@ -1,4 +1,4 @@
--- The result of a step of a node, and whom its packets go to.
+-- What a step of a node results in, and to whom its packets go.
 use Rattle.std.specs.Prelude.{ℕ, not, nat_eq, Some, None, List, [], map, filter}
 use Rattle.rp_base.specs.declared.record.Rec.{Rec}
 use Rattle.rp_codec.specs.Message.{Message}

@@ -75,6 +75,7 @@ impl Event {
     /// The numbers of an event are within the ranges of their types. It does nothing: what it promises
     /// is for contracts.
     pub fn keeps_ranges(&self)
+        // claim: The numbers of an event are within the ranges of their types
         ensures { IsEvent (event_of self.now) }
     {
         match *self {

@@ -2,7 +2,8 @@
 
 ghost use Rattle.rp_base.specs.Action.{IsIndex, IsCount};
 
-/// An occurrence of an interrupt.
+/// An occurrence of an interrupt. The type keeps the ranges, so that no event names an interrupt
+/// that is not right.
 #[derive(Clone, Copy, Debug, PartialEq, Eq)]
 pub struct Interrupt {
     /// 1 to 8.

@@ -18,6 +18,7 @@ use rp_machine::Machine;
 
 /// What a node has applied stays, in its place, whatever it writes afterwards.
 pub fn applied_grows()
+    // claim: What a node has applied stays in its place whatever it writes afterwards
     ensures { (records more : List Rec)
         → (further : List Action) × (applied_of (records ++ more) ≡ applied_of records ++ further) }
 {}
@@ -25,6 +26,8 @@ pub fn applied_grows()
 /// An event's effect adds packets at the end of those that were sent, and each node's records and
 /// applied list grow at their ends. No node comes or goes.
 pub fn worlds_grow<M: Machine>()
+    // claim: An event adds packets at the end, and each node's records and applied list grow at
+    //   their ends
     ensures { (setting : Setting M) (before : World) (event : Event) (transition : Transition)
         → event_effect setting before event ≡ Ok transition
         → Grows before transition }
@@ -32,18 +35,21 @@ pub fn worlds_grow<M: Machine>()
 
 /// No event is refused with `Device`: that is answered where a device failed, and nowhere else.
 pub fn no_event_is_refused_by_a_device<M: Machine>()
+    // claim: No event is refused as a fault of a device
     ensures { (setting : Setting M) (before : World) (event : Event)
         → event_effect setting before event ≢ Err Device }
 {}
 
 /// The order of a world in which nothing was sent is empty.
 pub fn nothing_is_decided_at_first()
+    // claim: The order of a world in which nothing was sent is empty
     ensures { (nodes : ℕ) (order : List Action) → IsOrder nodes [] order → order ≡ [] }
 {}
 
 /// Votes that a node heard at positions that it has learned change nothing that an input results
 /// in, and may be forgotten.
 pub fn old_votes_change_nothing<M: Machine>()
+    // claim: Votes heard at learned positions change no effect of an input
     ensures { (setting : Setting M) (me : ℕ) (records : List Rec) (one other : Running)
         (input : NodeInput)
         → KnowsAlike records one other

@@ -6,7 +6,8 @@ ghost use Rattle.rp_base.specs.Action.{IsRight};
 use rp_base::Action;
 use std::marker::Model;
 
-/// An action that is right.
+/// An action that is right. Contracts see a list of them as the list of what they hold, so that the
+/// definitions need not speak of ranges.
 #[derive(Clone, Copy, Debug, PartialEq, Eq)]
 pub struct RightAction {
     action: Action,

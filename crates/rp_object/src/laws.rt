@@ -15,9 +15,10 @@ ghost use Rattle.rp_object.specs.Timers.{due_from, sorted, InOrder};
 ghost use Rattle.rp_object.specs.Step.{objects_next, objects_answers, objects_waiting};
 
 /// Nobody who waits is forgotten or answered twice: where each declared object is there with a queue
-/// for each of its entries, and no call waits twice, the answers to an action are for distinct calls, its own or ones that waited, and exactly
-/// the others of these wait after it.
+/// for each of its entries, and no call waits twice, the answers to an action are for distinct
+/// calls, its own or ones that waited, and exactly the others of these wait after it.
 pub fn actions_account_for_callers()
+    // claim: Nobody who waits is forgotten or answered twice
     ensures { (running : Running) (action : Action)
         → length running.program.objects.items ≡ length running.state.objects
         → HaveQueues running.state.objects
@@ -29,6 +30,7 @@ pub fn actions_account_for_callers()
 /// Each tick's list of timing events is that of the events that are set for a time at or below the
 /// clock, none left out, in order of time and number.
 pub fn due_events_are_due()
+    // claim: A tick fires exactly the events that are due, in order of time and number
     ensures order { (clock : ℕ) (timers : List (Option ℤ))
         → InOrder (sorted (due_from clock 1 timers)) }
     ensures due { (clock : ℕ) (timers : List (Option ℤ)) (time : ℤ) (number : ℕ)
@@ -40,6 +42,8 @@ pub fn due_events_are_due()
 /// components and their ranges as declared, each value lies in its range, nobody waits at an open
 /// barrier, and no task waits twice.
 pub fn logs_lead_to_states_of_the_program()
+    // claim: Every log leads to a state of the program: ranges kept, nobody at an open barrier, no
+    //   task waits twice
     ensures { (program : Declarations) (actions : List Action)
         → IsProgram program
         → ((action : Action) → Has action actions → IsRight action)

@@ -53,6 +53,7 @@ impl Model for Objects {
 impl Objects {
     /// The start of the program: each object as it is declared, no time set, and the clock at 0.
     pub fn start(alloc: Global, program: &Program) -> Result<Self, AllocError>
+        // claim: All objects of a program start as they are declared
         ensures { IfOk result (λ objects. objects
             ≡ first_state (arc_value program.now.declarations)) }
     {
@@ -93,6 +94,8 @@ impl Objects {
     /// callers that were served. It takes no memory. No call of the action's task waits.
     pub fn apply(&mut self, action: &Action) -> Answers
         requires free { MayApply (objects_waiting self.old) action.now }
+        // claim: An action does what the rules of protected objects say: calls, ceilings,
+        //   interrupts, timing events
         ensures next { self.new ≡ objects_next self.old action.now }
         ensures answers { result ≡ objects_answers self.old action.now }
     {
@@ -117,6 +120,7 @@ impl Objects {
     /// A line for each object with its components and its queue, the line of the clock, and a line for
     /// each timing event.
     pub fn image(&self, alloc: Global) -> Result<Vec<u8>, AllocError>
+        // claim: The image of a program is the stated text
         ensures { IfOk result (λ text. text.items ≡ objects_image self.now) }
     {
         let mut text = String::new(alloc);

@@ -82,6 +82,7 @@ impl Program {
     /// their ranges, operations that fit the components and keep the profile, and handlers that are
     /// there. It takes no memory.
     pub fn new(declarations: Arc<Declarations, Global>) -> Option<Self>
+        // claim: A program is accepted exactly if it keeps its limits
         ensures right { IsSome result ↔ IsProgram (arc_value declarations) }
         ensures same { IfSome result (λ program. program.declarations ≡ declarations) }
     {

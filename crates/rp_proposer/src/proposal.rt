@@ -328,6 +328,7 @@ fn equal_items(item: &Action, other: &Action) -> bool
 /// A proposal makes one offer at most, whatever promises come, in whatever order and however often
 /// (Lamport, "Paxos Made Simple", section 2.2: a proposal has one value).
 pub fn one_offer_at_most()
+    // claim: A proposal makes one offer at most, whatever promises come
     ensures { (nodes : ℕ) (proposal : RunningProposal) (promises : List Promise)
         → offers_made nodes proposal promises ≤ 1 }
 {}

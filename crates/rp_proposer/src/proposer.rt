@@ -80,6 +80,8 @@ impl Proposer {
     /// The ballot to lead in next: the node's least above all that it counted. `BallotsSpent` where
     /// it has none.
     pub fn ballot(&self) -> Result<Ballot, Fault>
+        // claim: A next ballot is above all that the proposer counted, or `BallotsSpent` exactly if
+        //   there is none
         ensures next { IfOk result (IsNext self.now.node (counted_by self.now)) }
         ensures value { IfOk result (λ b. b ≡ next_ballot self.now.node (counted_by self.now)) }
         ensures exhausted { IsErrOf result Fault.BallotsSpent ↔ ((b : ℕ)
@@ -126,6 +128,8 @@ impl Proposer {
         requires room { length (with_range self.old.proposals ballot (unskipped range skip))
             ≤ most_running }
         requires ballot { IsAbove self.old.node (counted_by self.old) ballot }
+        // claim: A proposal begins at each position of a range that is not left out, without an
+        //   action of its own
         ensures { self.new ≡ begins_range self.old (unskipped range skip) ballot }
     {
         self.own_actions = put_range(&mut self.proposals, self.own_actions, range, skip, ballot);
@@ -146,6 +150,8 @@ impl Proposer {
     /// The ballot of the prepared proposal at a position, one that a majority promised though it
     /// offers nothing yet, and the action of the highest vote that its promises report.
     pub fn prepared(&self, position: Position) -> Option<(Ballot, Option<Action>)>
+        // claim: A proposal is prepared exactly if a majority promised and it has offered nothing;
+        //   what it may offer is the action of the highest vote reported
         ensures { result ≡ prepared_by self.now.nodes (proposal_at self.now.proposals position) }
     {
         match proposal_at(&self.proposals, position) {
@@ -159,6 +165,7 @@ impl Proposer {
     /// Begins the second phase of a prepared proposal. Its own action is this one where no promise
     /// reports a vote; else it has none.
     pub fn offer(&mut self, position: Position, own: Action)
+        // claim: A prepared proposal takes an action of its own only if no promise reports a vote
         ensures offered { self.new ≡ offers self.old own (proposal_at self.old.proposals position) }
         ensures nodes { self.new.nodes ≡ self.old.nodes }
     {
@@ -177,6 +184,8 @@ impl Proposer {
         ballot: Ballot,
         votes: &[PlacedVote],
     )
+        // claim: A promise for a range counts at each of its positions where a proposal that began
+        //   with a range gathers promises in its ballot, and nowhere else
         ensures noted { self.new ≡ notes_range self.old from range ballot votes.now }
         ensures nodes { self.new.nodes ≡ self.old.nodes }
     {
@@ -211,6 +220,8 @@ impl Proposer {
         last: Option<Vote>,
     ) -> Progress
         requires sender { from ≤ self.now.nodes }
+        // claim: A promise is an offer exactly if its sender makes a majority in the first phase,
+        //   of the highest vote reported or else of the proposal's action
         ensures { result ≡ progress_in self.now.nodes ballot (from, last)
             (proposal_at self.now.proposals position) }
     {
@@ -245,6 +256,8 @@ impl Proposer {
     /// greater one: the proposal is given up, and each other of the ballot that gathers promises.
     /// Any other refusal changes nothing.
     pub fn nack(&mut self, position: Position, ballot: Ballot, promised: Ballot)
+        // claim: A refusal ends the proposal at its position, and the others of its ballot that
+        //   gather promises
         ensures noted { self.new ≡ notes_refusal self.old position ballot promised }
         ensures nodes { self.new.nodes ≡ self.old.nodes }
     {
@@ -540,6 +553,7 @@ fn note_range(proposals: &mut VecDeque<Proposal>, nodes: u8, heard: &HeardRange)
 
 /// Proposals at different positions of a window of 64 leave room to begin one there.
 pub fn a_window_has_room()
+    // claim: Proposals at different positions of a window of 64 leave room to begin one there
     ensures { (proposals : List RunningProposal) (first i : ℕ) → AreInWindow first proposals
         → IsInWindow first i → HasRoom proposals i }
 {}

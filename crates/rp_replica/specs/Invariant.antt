@@ -1,4 +1,4 @@
--- How a replica's parts hang together (no public clause names it).
+-- How the parts of a replica are related (no public clause names it).
 use Rattle.std.specs.Prelude.{◌≡◌, ℕ, suc, ◌+◌, ◌<◌, ◌≤◌, Bool, true, false, is_some, nat_le, None, IfSome, List, []}
 use Rattle.std.specs.Prelude.{◌++◌, length, map, filter}
 use Rattle.std.specs.List.{AllByRecursion}

@@ -30,6 +30,8 @@ impl<M: Machine, D: CutDevice> Replica<M, D> {
     /// sent. A step that writes no record leaves the device as it is.
     pub fn torn(self, alloc: Global, input: &Input, kept: u64) -> Result<D, NotCut<M, D>>
         requires right { IsRightInput input.now }
+        // claim: A stop within a step keeps the given number of bytes of its record, and sends
+        //   nothing
         ensures ok { IfOk result (λ device. CutsIf
             (input_effect M.next M.answers self input.now) kept self (D.disk device)) }
         ensures err { IfErr result (λ refused. IsNotCutIf D.disk

@@ -22,6 +22,7 @@ use rp_machine::Machine;
 /// A call that takes effect is the effect of its input on the node's part of a world; one that is
 /// refused for its input is refused there too.
 pub fn turns_are_effects<M: Machine>()
+    // claim: A replica's call has the node's effect in a world
     ensures effect { (old : ReplicaState M) (input : NodeInput) (turn : Turn)
         → effect_of M.next M.answers old input ≡ Ok turn
         → node_effect (setting_of M.next M.answers old) old.me (part_of old) input
@@ -42,6 +43,8 @@ pub fn texts_are_packets()
 /// What is opened over a device is what a restart makes of the stopped part that the device keeps;
 /// and where it holds no other records, it reports how many the part has.
 pub fn opening_is_a_restart<M: Machine>()
+    // claim: What is opened is what a restart makes of what the device keeps, in whichever versions
+    //   it holds it; the count of records is the part's where the device holds no others
     ensures part { (me : ℕ) (config : Config) (begin : M) (disk : Disk) (replica : ReplicaState M)
         (count cut_bytes : ℕ) (part : NodePart) → HoldsPart config.max_positions disk part
         → part.running ≡ None → Opens me config begin disk replica count cut_bytes

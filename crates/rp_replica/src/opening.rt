@@ -155,6 +155,8 @@ impl<M: Machine, D: Device> Replica<M, D> {
     ) -> Result<Opening<M, D>, (Fault, D)>
         requires config { IsRightConfig config }
         requires node { node ≤ config.nodes }
+        // claim: A replica opens by the records of its device only, and returns how many the device
+        //   holds, those above the log too
         ensures ok { IfOk result (λ opening. Opens node config (M.begin program.now)
             (D.disk device) opening.replica opening.records opening.cut_bytes) }
         ensures err { IfErr result (λ refused.

@@ -150,6 +150,7 @@ impl<M: Machine, D: Device> Replica<M, D> {
 
     /// Lines that show the machine's state, each ended by a line feed.
     pub fn image(&self, alloc: Global) -> Result<Vec<u8>, Fault>
+        // claim (image): A replica shows the replay of its applied list
         ensures image { IfOk result (λ text. text.items ≡ M.image
             (replay_state M.next M.answers self.now.begin (applied_of self.now.records))) }
         ensures only { IsOkUnless result faults.OutOfMemory }
@@ -159,6 +160,7 @@ impl<M: Machine, D: Device> Replica<M, D> {
 
     /// The device, as it is. Unless it has failed it holds the records, and nothing after them.
     pub fn close(self) -> D
+        // claim: The device of a working replica holds its records and nothing else
         ensures disk { D.disk result ≡ self.disk }
         ensures holds { self.failed ≡ false
             → HoldsPart self.config.max_positions (D.disk result) (stop_part (part_of self)) }

@@ -99,6 +99,16 @@ impl<M: Machine, D: Device> Replica<M, D> {
         input: &Input,
     ) -> Result<Sent, Fault>
         requires right { IsRightInput input.now }
+        // claim (result): Each input of a replica has exactly the node's effect that the
+        //   definitions give, or is refused for the one reason that they give and changes nothing;
+        //   a device that fails holds a cut of the step
+        // claim (result): Bytes that encode a packet are handled as that packet, and refused with
+        //   their reason if they encode none
+        // claim (result): If no position is given, the node leads at the least one that is not
+        //   learned and at which no proposal runs but a prepared one
+        // claim (result): Interrupts and ticks become pending as the definition says
+        // claim (result): A report has the applied actions from a position on, as many as a packet
+        //   takes
         ensures { Answers (input_effect M.next M.answers self.old input.now)
             self.old self.new result }
     {
@@ -129,8 +139,9 @@ impl<M: Machine, D: Device> Replica<M, D> {
 
     /// The word to lead at a position, or with none at the least position that is not learned and at
     /// which no proposal of this node runs but a prepared one. A prepared proposal offers its action.
-    /// Where the position is learned nothing happens. It is refused with `LogFull` above the log or 64 positions above the first unlearned one, with
-    /// `BallotsSpent` where the node has no ballot left, and then as `Replica` says.
+    /// Where the position is learned nothing happens. It is refused with `LogFull` above the log or
+    /// 64 positions above the first unlearned one, with `BallotsSpent` where the node has no ballot
+    /// left, and then as `Replica` says.
     pub fn lead(&mut self, alloc: Global, choice: Option<Position>) -> Result<Sent, Fault>
         ensures { Answers (effect_of M.next M.answers self.old (inputs.NodeInput.Lead choice))
             self.old self.new result }

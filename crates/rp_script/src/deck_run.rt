@@ -34,6 +34,11 @@ pub fn run_script<R: Read, W: Write>(
     traced: bool,
     writer: &mut W,
 ) -> Result<(), Fault>
+    // claim: From bytes to bytes: a script that runs without a fault prints into its writer, whose
+    //   buffer is a part of it, the output of the deck that all bytes of the reader mean, of which
+    //   the headline holds. If they mean none, nothing is written, and the fault has the first bad
+    //   line and the first reason on it. After every other fault, `OutOfMemory`, or `Io` if the
+    //   reader or the writer fails, nothing was written, or a prefix of that output
     ensures output { OnOk result (ScriptPrints traced (R.remaining reader.old)
         (W.contents writer.old) (W.contents writer.new)) }
     ensures begun { OnErr result (ScriptBegins traced (R.remaining reader.old)
@@ -58,8 +63,17 @@ pub fn run_deck<W: Write>(
     writer: &mut W,
 ) -> Result<(), Fault>
     requires { IsRightDeck deck }
+    // claim as run_lines
     ensures output { Writes (W.contents writer.old) (W.contents writer.new)
         (output_of traced deck) result }
+    // claim (headline): What a deck's run writes is the texts of its items, each of one of four
+    //   kinds: a call, which prints nothing, a reply, a node that is shown, and notes of seven
+    //   kinds, each with its own line
+    // claim (headline): One order gives the states and the replies that a deck's run prints: each
+    //   state shown with n applied actions is the one to which the first n actions of the order
+    //   lead, so equal counts show equal images; each printed reply is under its task's name and is
+    //   the answer in the order to the call of that number, which takes effect at one place, and
+    //   the action there is what that call of the script asked for; after any two lines nodes agree
     ensures headline { OnOk result (DeckPrints traced deck
         (W.contents writer.old) (W.contents writer.new)) }
     ensures fault { IfErr result IsRunFault }

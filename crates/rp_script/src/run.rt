@@ -38,6 +38,10 @@ pub fn run_lines<M: Machine, D: CutDevice + InfallibleDevice, W: Write>(
     requires devices { length devices.items ≡ options.now.config.nodes }
     requires empty { All (λ d. (D.disk d).contents ≡ []) devices.items }
     requires lines { All (λ line. FitsIn options.now.config.nodes 8 8 line.command) lines.now }
+    // claim: What a run prints is the stated output of its deck, with its packets if this is asked
+    //   for; if a fault ends the run, it is a prefix of that, for every machine and over any
+    //   devices that never fail. Such a run ends by `OutOfMemory`, or by `Io` if the writer fails,
+    //   and by no other fault: a run in memory never returns `Device`
     ensures output { Writes (W.contents writer.old) (W.contents writer.new)
         (text_of (run_said (run_setting M.next M.answers M.begin M.image
         (opening_setup options.now.config program) options.now)

@@ -45,6 +45,9 @@ impl<D: Device> FailDevice<D> {
     /// first `kept` bytes of what it was given, or all if there are no more; the others do nothing.
     /// A call that the device inside refuses or fails is not counted.
     pub fn new(inner: D, kind: DeviceCall, at: u64, kept: usize) -> Self
+        // claim: A device of which one call fails on demand is the device inside, with that failure
+        //   counted too; its calls keep the clauses of `Device` and `CutDevice`, so all that holds
+        //   over any device holds over it
         ensures { result ≡ D.disk inner }
     {
         FailDevice {

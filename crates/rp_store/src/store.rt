@@ -45,7 +45,7 @@ pub struct Opened<D: Device> {
 pub enum NotTorn<D: Device> {
     /// The device failed. Some beginning of the record's text may be at its end.
     Failed(D),
-    /// Nothing has changed: 1 memory ran out, 3 the device had failed before.
+    /// Nothing has changed: `OutOfMemory`, or `Failed` if the device had failed before.
     Refused(Fault, Store<D>),
 }
 
@@ -101,6 +101,8 @@ impl<D: Device> Store<D> {
     /// `OutOfMemory`, and then nothing has changed, or with `Device` where the device failed: it
     /// holds each whole record that it held, and after them some beginning of what was torn.
     pub fn open(alloc: Global, device: D) -> Result<Opened<D>, (Fault, D)>
+        // claim: Opening a store returns the records of the device's contents, of both versions in
+        //   any order, truncates what is after them, and leaves all of it stable
         ensures ok { IfOk result (λ opened. IsOpened (D.disk device)
             opened.records.items opened.cut_bytes (D.disk opened.store.device)) }
         ensures working { IfOk result (λ opened. opened.store.failed ≡ false) }
@@ -130,6 +132,8 @@ impl<D: Device> Store<D> {
     #[inline(always)]
     pub fn put(&mut self, rec: &Rec) -> Result<(), Fault>
         requires { IsRightRecord rec.now }
+        // claim: A record is put whole and stable, in version 2 whatever the device holds, or a
+        //   fault says what is left
         ensures ok { OnOk result (IsPut D.disk (record_text rec.now) self.old self.new) }
         ensures err { IfErr result (λ fault.
             IsNotPut D.disk (record_text rec.now) self.old fault self.new) }
@@ -171,6 +175,7 @@ impl<D: CutDevice> Store<D> {
     /// and the device stops with the first `kept` bytes of it, or all if there are no more.
     pub fn tear(self, rec: &Rec, kept: u64) -> Result<D, NotTorn<D>>
         requires { IsRightRecord rec.now }
+        // claim: A stop within a put leaves the prefix of the record that the device kept
         ensures ok { IfOk result (λ device. IsTorn D.disk (record_text rec.now) kept self device) }
         ensures err { IfErr result (λ fault. IsNotTorn D.disk (record_text rec.now) self fault) }
     {

@@ -1,5 +1,5 @@
--- A line that loses packets, doubles them and changes their order, as its words say. The words are the stream of
--- ChaCha20 (RFC 8439, with a counter and a nonce of 64 bits each).
+-- A faulty link, which loses, repeats and reorders packets as its words say. The words are the stream of ChaCha20 (RFC
+-- 8439, with a counter and a nonce of 64 bits each).
 use Rattle.std.specs.Prelude.{ℕ, ◌%◌, nat_lt, Option, List, [], ◌++◌, length, take, replicate, remove, slice_get}
 use Rattle.std.specs.Prelude.{if◌then◌else◌}
 use Rattle.rand_chacha.specs.ChaCha.{ChaCha, next_word, of_seed}

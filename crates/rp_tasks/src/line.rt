@@ -231,6 +231,7 @@ impl FaultLine {
 /// A line gives on only what it took: what it holds was held before or is the packet accepted, what
 /// a word picks was held, and what is held after a release was held before.
 pub fn gives_what_it_took()
+    // claim: A faulty link passes on only what it took
     ensures accepted { (word : ℕ) (packet text : List ℕ) (line : Line)
         → Has text (accepted word packet line).held → (text ≡ packet) ⊎ Has text line.held }
     ensures picked { (word : ℕ) (text : List ℕ) (line : Line)

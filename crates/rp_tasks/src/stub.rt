@@ -84,6 +84,8 @@ impl Stub {
     pub fn call(&mut self, object: u8, operation: Operation, arg: i64) -> Result<Action, Fault>
         requires object { IsIndex object }
         requires operation { IsRightOperation operation }
+        // claim (value, made, refused, err): A task's calls are numbered one after another, and
+        //   refused exactly while one is outstanding or the numbers are exhausted
         ensures value { IfOk result (λ call. call
             ≡ next_call self.old.task self.old.made object operation arg) }
         ensures right { IfOk result IsRight }
@@ -106,8 +108,10 @@ impl Stub {
     }
 
     /// Why the next call is refused, if it is: `TaskBusy` while a call is outstanding, or else
-    /// `NumbersSpent` after number 2^32 - 1. It makes no call.
+    /// `NumbersSpent` after number 2^32 - 1: a busy task is refused as busy also after its last
+    /// number. It makes no call.
     pub fn refusal(&self) -> Option<Fault>
+        // claim: Why the next call would be refused is returned without making it
         ensures { result ≡ refusal_of self.now }
     {
         if self.outstanding.is_some() {

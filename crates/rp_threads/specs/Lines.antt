@@ -1,4 +1,4 @@
--- What a line does in a turn: it takes what was fetched, and gives on one packet.
+-- What a link does in a turn: it takes what was fetched, and passes on one packet.
 use Rattle.std.specs.Prelude.{◌≡◌, ℕ, Option, Some, None, List, [], ◌∷◌}
 use Rattle.rp_base.specs.Sets.{Has}
 use Rattle.rp_codec.specs.Message.{Message}

@@ -1,4 +1,4 @@
--- The turns of a task's loop: it fetches from one node, takes what its line gives on, and asks.
+-- The turns of a task's loop: it fetches from one node, takes what its link passes on, and asks.
 use Rattle.std.specs.Prelude.{◌≡◌, ◌⊎◌, ℕ, zero, suc, ◌+◌, ◌%◌, ◌/◌, ◌<◌, ◌||◌, not, nat_eq, nat_lt, Bool, true, false}
 use Rattle.std.specs.Prelude.{is_some, Option, Some, None, List, slice_get, if◌then◌else◌}
 use Rattle.rp_base.specs.Action.{is_right}

@@ -18,6 +18,8 @@ fn crossing<T: Send>(value: T) -> T
 pub fn node_seat_crosses<M: Machine + Send, D: Device + Send>(
     seat: NodeSeat<M, D>,
 ) -> NodeSeat<M, D>
+    // claim: The seat of a node, and that of a task, may cross to another thread if machine and
+    //   device may
     ensures { result ≡ seat }
 {
     crossing(seat)
@@ -25,6 +27,7 @@ pub fn node_seat_crosses<M: Machine + Send, D: Device + Send>(
 
 /// The same of the seat of a task.
 pub fn task_seat_crosses<M: Machine + Send>(seat: TaskSeat<M>) -> TaskSeat<M>
+    // claim as node_seat_crosses
     ensures { result ≡ seat }
 {
     crossing(seat)

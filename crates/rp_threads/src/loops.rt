@@ -223,6 +223,18 @@ pub fn node_loop<M: Machine, D: Device, G: Gate>(
 ) -> NodeEnd<M, D>
     requires nodes { nodes ≤ 7 }
     requires line { line.held ≡ [] }
+    // claim (result): A node's loop makes its turns from 1 on, one after the other: each empties
+    //   the box of that turn's sender and is the turn of the node, or one in which it leads anew at
+    //   the first position that it has not applied; a turn is skipped if the gate says so, or if
+    //   the node is refused to lead
+    // claim (result): The gate is called after each turn of a node that it lets pass, with that
+    //   node, that turn and the number of packets sent in it, 0 if the node was refused to lead
+    // claim (result): Without a fault a node's loop counts all turns, its seat had one event for
+    //   each that was received or led, and only turns in which it was not to lead are idle;
+    //   failures of the device are counted only if it ends by `Device`
+    // claim (result): A node's loop ends by the fault of a turn that was not made, after turns that
+    //   were: out of memory, `Device` if a call of the device failed, or `Failed` if the node was
+    //   stopped from the start
     ensures { IsLooped M.next M.answers M.begin G.lets G.heard nodes turns seat line result }
 {
     let mut worker = Worker {

@@ -278,6 +278,16 @@ pub fn task_loop<M: Machine, G: Gate>(
     requires nodes { (1 ≤ nodes) × (nodes ≤ 7) }
     requires line { line.held ≡ [] }
     requires fresh { seat.part ≡ fresh_part (OfTask fresh_task) }
+    // claim (result): A task's loop makes its turns from 1 on, one after the other: each empties
+    //   the box of one node, all in rotation, takes what its link passes on, and makes the next of
+    //   its calls if none waits, or asks the next node again if one has waited long enough. The
+    //   gate is called for each turn from 1 on, with that task and that turn
+    // claim (result): A task's loop makes a prefix of its calls, each asked of its node, and no
+    //   others; at least one if there is a call and a turn. What it asks went into its box or found
+    //   it in use. The turn of the last reply is the one in which the last call got its reply, 0 if
+    //   none did
+    // claim (result): A task's loop ends by the fault of a turn that was not made, after turns
+    //   that were
     ensures { IsTaskLooped M.next M.answers M.begin G.heard_task nodes turns calls.now
         seat line result }
 {

@@ -145,6 +145,8 @@ where
     requires node_lines { All (λ start. start.line.held ≡ []) nodes.items }
     requires task_lines { All (λ start. start.line.held ≡ []) tasks.items }
     requires fresh { All (λ start. start.seat.part ≡ fresh_part (OfTask fresh_task)) tasks.items }
+    // claim: The results of the nodes and tasks that were to run are, in the order given, each what
+    //   its loop ensures
     ensures nodes { IfOk result (λ ends. AllZip (λ start end.
         IsLooped M.next M.answers M.begin G.lets G.heard (length nodes.items) turns
         start.seat start.line end) nodes.items ends.0.items) }

@@ -68,6 +68,9 @@ pub fn node_step<M: Machine, D: Device>(
 ) -> Result<usize, Fault>
     requires right { IsRightInput input.now }
     requires got { IsGot seat.old.part input.now }
+    // claim: A step of a node's seat is one event, and then each packet that it sent went into its
+    //   box or found it in use; or it is the turn's refusal; or there is no memory for the copy of
+    //   a packet, which ends the loop
     ensures got { seat.new.part.got ≡ seat.old.part.got }
     ensures ok { IfOk result (λ count. IsEventBy M.next M.answers M.begin
         (λ given. given ≡ input.now) seat.old seat.new count) }
@@ -133,6 +136,9 @@ pub fn node_turn<M: Machine, D: Device>(
     lead: bool,
 ) -> Result<TurnResult, Fault>
     requires held { HoldsTextsOf seat.old.part.got line.old }
+    // claim (ok, err, held): A turn of a node is one event or none: its link takes what is fetched,
+    //   and the node receives what the link then passes on; if the link is empty the node leads
+    //   when it is its turn, and idles otherwise
     ensures held { HoldsTextsOf seat.new.part.got line.new }
     ensures ok { IfOk result (λ turned. IsNodeTurn M.next M.answers M.begin
         from lead seat.old seat.new line.old line.new turned) }

@@ -1,8 +1,8 @@
+pub mod Lines
+pub mod Words
+pub mod Tables
+pub mod Reading
+pub mod LineFaults
 pub mod Ahead
 pub mod LineEnds
-pub mod LineFaults
-pub mod Lines
 pub mod Numbers
-pub mod Reading
-pub mod Tables
-pub mod Words

@@ -1,5 +1,5 @@
--- How words are read from left to right. Each reader takes the bytes of a line that are still to be read, and
--- answers what it read and the bytes after that, or the reason of the first word that is missing or wrong.
+-- How words are read from left to right. Each reader takes the bytes of a line that are still to be read, and returns
+-- what it read and the bytes after that, or the reason of the first word that is missing or wrong.
 use Rattle.std.specs.Prelude.{◌≡◌, ℕ, ◌==◌, nat_lt, not, ℤ, Bool, List, take, drop, position}
 use Rattle.std.specs.Prelude.{Option, Some, None, Result, Ok, Err, if◌then◌else◌}
 use Rattle.rp_base.specs.declared.fault.DeckReason.{DeckReason}

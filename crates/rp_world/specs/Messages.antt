@@ -1,4 +1,4 @@
--- Messages as they lie in memory: texts of packets, one after another.
+-- Messages as memory holds them: texts of packets, one after another.
 use Rattle.std.specs.Prelude.{◌≡◌, ℕ, zero, suc, ◌+◌, Ok, Err, List, [], ◌∷◌, ◌++◌, length}
 use Rattle.std.specs.List.{AllByRecursion}
 use Rattle.rp_codec.specs.Message.{Message, IsPacket}

@@ -1,4 +1,5 @@
--- A node of a cluster: a replica that runs, or a device that rests. A replica whose device failed rests too.
+-- A node of a cluster: a replica that runs, or the device of a stopped node. A replica whose device failed is stopped
+-- too.
 use Rattle.std.specs.Prelude.{◌≡◌, ◌⊎◌, ℕ, ◌+◌, ◌<◌, min, Bool, true, false, Option, None, IsSome, Result, Ok, Err}
 use Rattle.std.specs.Prelude.{List, length}
 use Rattle.rp_base.specs.declared.action.Action.{Action}

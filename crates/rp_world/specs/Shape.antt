@@ -1,4 +1,4 @@
--- How a cluster lies in memory, and what is true of its fields.
+-- How memory holds a cluster, and what is true of its fields.
 use Rattle.std.specs.Prelude.{◌≡◌, ℕ, zero, suc, ◌-◌, Bool, true, false, nat_lt, if◌then◌else◌, IfSome, None, Ok, Err}
 use Rattle.std.specs.Prelude.{List, [], ◌∷◌, length, map, slice_get}
 use Rattle.rp_base.specs.Config.{IsRightConfig}

@@ -75,6 +75,9 @@ impl<M: Machine, D: CutDevice> Cluster<M, D> {
         program: M::Program,
         devices: Vec<D>,
     ) -> Result<Self, Fault>
+        // claim (opened, refused, only): A cluster opens in the opening world, or is refused
+        //   exactly if a number is outside its limits, there are not as many devices as nodes, or
+        //   one is not empty
         ensures opened { IfOk result (λ c. c ≡ record {
           config = config;
           program = program;
@@ -86,6 +89,8 @@ impl<M: Machine, D: CutDevice> Cluster<M, D> {
             × All (λ device. (D.disk device).contents ≡ []) devices.items)) }
         ensures only { IfErr result (λ fault. (fault ≡ Fault.BadConfig) ⊎ ((fault
             ≡ Fault.OutOfMemory) ⊎ (fault ≡ Fault.Device))) }
+        // claim (cause): A new cluster is refused by `Device` only if some device of its kind has
+        //   counted a failure
         ensures cause { IsErrOf result Fault.Device → SomeHasFailed D.disk }
     {
         if !config.is_right()
@@ -111,6 +116,12 @@ impl<M: Machine, D: CutDevice> Cluster<M, D> {
     /// `OutOfMemory`.
     #[inline(never)]
     pub fn step(&mut self, alloc: Global, event: &Event) -> Result<Effect, Fault>
+        // claim: Each step of a cluster, whatever the event, has exactly the effect that the
+        //   definitions give, or is refused as they say and changes nothing, or is out of memory,
+        //   which a stop never is, and changes nothing; a restart of a stopped node that is refused
+        //   for memory or by its device may lose torn bytes. A fault of a device comes only from a
+        //   step that writes a record, or from such a restart, and only if the failure count of
+        //   that node's device rose, and no other count changes; the step is then cut
         ensures step { IsStep M.next M.answers M.begin self.old event.now self.new result }
     {
         event.keeps_ranges();
@@ -131,11 +142,22 @@ impl<M: Machine, D: CutDevice> Cluster<M, D> {
     /// a task got is the answer to its call, and each such call takes effect at one place, no other
     /// at two. What was decided before the run is decided after it.
     pub fn run(&mut self, alloc: Global, events: &[Event]) -> Result<(), Refused>
+        // claim (run): A run makes its steps one after another, and returns the place of the first
+        //   that was refused; failure counts stay but for a device that failed there
         ensures run { IsRun M.next M.answers M.begin self.old events.now self.new result }
+        // claim (agree): Whatever a run's events are, of the log that one node applied before it
+        //   and the log that another applied after it, one is a prefix of the other; and equally
+        //   many actions lead to one state and one image
         ensures agree { Agree M.next M.answers M.image (M.begin self.old.program)
             self.old.world self.new.world }
+        // claim (ordered): After a run there is one order: each node's applied list is a prefix of
+        //   it; the calls of a task that count in it are those that the task made, in order (all,
+        //   or all but the one that it waits for); each reply that a task got is its answer to the
+        //   call of that number; a call takes effect at exactly one place if its reply was got, at
+        //   one at most otherwise, and no call does that its task did not make
         ensures ordered { IsOrdered M.next M.answers (M.begin self.old.program)
             self.old.config.nodes self.new.world }
+        // claim: What is decided before a run is decided after it
         ensures decided { (i : ℕ) (v : Action)
             → IsDecided self.old.config.nodes self.old.world.sent i v
             → IsDecided self.old.config.nodes self.new.world.sent i v }
@@ -183,6 +205,10 @@ impl<M: Machine, D: CutDevice> Cluster<M, D> {
     /// and a node has written the promise, the vote and the decision that it sent. It does nothing:
     /// what it promises is for contracts.
     pub fn agrees(&self)
+        // claim: Of every cluster, at any moment: at a position one action at most is decided,
+        //   counted in packets or in records, and in one ballot one is offered; each node applied a
+        //   prefix of the order; a node has the record of each promise, vote and decision that it
+        //   sent
         ensures decided { (i : ℕ) (v w : Action)
             → IsDecided self.now.config.nodes self.now.world.sent i v
             → IsDecided self.now.config.nodes self.now.world.sent i w → v ≡ w }
@@ -221,6 +247,7 @@ impl<M: Machine, D: CutDevice> Cluster<M, D> {
 
     /// The text of the message of this number, from 1: `decode` reads the packet back. `NoSuchMessage` where there is none.
     pub fn message(&self, alloc: Global, number: u64) -> Result<Vec<u8>, Fault>
+        // claim: A message is returned as its text
         ensures text { IfOk result (λ text. IfSome (part_at self.now.world.sent number)
             (λ m. (text.items ≡ text_of m) × IsPacket m)) }
         ensures none { IsErrOf result Fault.NoSuchMessage
@@ -271,6 +298,8 @@ impl<M: Machine, D: CutDevice> Cluster<M, D> {
 impl<M: Machine, D: CutDevice + InfallibleDevice> Cluster<M, D> {
     /// No device has failed, where such devices never do. What it promises is for contracts.
     pub fn never_failed(&self)
+        // claim: Over devices that never fail, as memory is, no failure is counted, so no step
+        //   returns `Device`
         ensures { All (λ count. count ≡ 0) self.now.failures }
     {
         self.world.never_failed();

@@ -20,6 +20,8 @@ use rp_machine::{Machine, a_call_has_one_place};
 /// count in it are those that the task made, in order, and each reply that a task got is the answer
 /// that it gives to the task's call, which takes effect at one place of it.
 pub fn histories_are_ordered<M: Machine>()
+    // claim: The agreement and the order of a run hold of any two moments of any history of right
+    //   events, with no cluster in it
     ensures agree { (config : Config) (program : M.Program) (now later : World)
         → AreMoments (setting_for M.next M.answers M.begin config program) now later
         → Agree M.next M.answers M.image (M.begin program) now later }

@@ -50,9 +50,8 @@ impl Pending {
     pub(crate) fn has(&self, item: Action) -> bool
         ensures { result ≡ list_any (is_same_call item) self.now }
     {
-        self.items
-            .iter()
-            .any(|other| is_same_call(item, other.get()))
+        let (front, back) = self.items.as_slices();
+        has_same_call(front, &item) || has_same_call(back, &item)
     }
 
     /// Whether a place is left.
@@ -133,6 +132,13 @@ fn is_same_call(item: Action, other: Action) -> bool
         },
         _ => false,
     }
+}
+
+/// Whether the call, by its task and number, is among the items.
+fn has_same_call(items: &[RightAction], call: &Action) -> bool
+    ensures { result ≡ list_any (is_same_call call.now) items.now }
+{
+    items.iter().any(|other| is_same_call(*call, other.get()))
 }
 
 /// Whether the item is the call that is answered, which then has a right number.

@@ -6,6 +6,7 @@ use Rattle.rp_base.specs.Config.{IsRightConfig}
 use Rattle.rp_deck.specs.declared.deck.Deck.{Deck}
 use Rattle.rp_deck_declarations.specs.Declarations.{IsNameTable, IsNameSet, HasObjects}
 use Rattle.rp_deck_declarations.specs.Programs.{DeclaresAll}
+use Rattle.rp_words.specs.Tables.{key_names}
 use Rattle.rp_deck.specs.Script.{FitsIn, IsCommandDeclared}
 
 -- A right configuration, 1 to 8 tasks and as many objects, at most 8 interrupts and timing events, no name
@@ -20,7 +21,7 @@ pub record IsRightDeck (deck : Deck) : Type 0 where
   pub some_object : 1 ≤ index_set_len deck.objects
   pub program : HasObjects (index_set_len deck.objects) deck.program
   pub kept : DeclaresAll (map (λ task. task.priority) (values deck.tasks)) (values deck.interrupts)
-      (values deck.timers) deck.program
+      (values deck.timers) (key_names deck.timers) deck.program
   pub interrupts : IsNameTable deck.interrupts
   pub timers : IsNameTable deck.timers
   pub script : All (λ line. FitsIn deck.config.nodes (index_map_len deck.tasks)

@@ -23,7 +23,7 @@ pub map_len : {A B : Type 0} (f : A → B) (xs : List A) → length (map f xs) �
 map_len f [] = refl
 map_len f (x ∷ xs) = omega (arith, map_len f xs)
 
-map_map : {A B C : Type 0} (g : B → C) (f : A → B) (xs : List A) → map g (map f xs) ≡ map (λ x. g (f x)) xs
+pub map_map : {A B C : Type 0} (g : B → C) (f : A → B) (xs : List A) → map g (map f xs) ≡ map (λ x. g (f x)) xs
 map_map g f [] = refl
 map_map {A} {B} {C} g f (x ∷ xs) = ap (λ (l : List C). g (f x) ∷ l) (map_map g f xs)
 

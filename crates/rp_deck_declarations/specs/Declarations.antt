@@ -14,6 +14,7 @@ use Rattle.rp_object.specs.declared.program.Profile.TheVariants.{Ravenscar}
 use Rattle.rp_object.specs.declared.program.Handler.{Handler}
 use Rattle.rp_deck_objects.specs.ObjectViews.{object_text}
 use Rattle.rp_deck_objects.specs.ObjectLimits.{IsObject}
+use Rattle.rp_words.specs.Tables.{key_names}
 
 abbrev pub IsNodeCount : ℕ → Type 0
 IsNodeCount n = (3 ≤ n) × (n ≤ 7)
@@ -73,7 +74,7 @@ pub record IsComplete (declared : Declared) : Type 0 where
   pub some_object : 1 ≤ index_set_len declared.objects
   pub program : HasObjects (index_set_len declared.objects) declared.program
   pub kept : DeclaresAll (map (λ task. task.priority) (values declared.tasks)) (values declared.interrupts)
-      (values declared.timers) declared.program
+      (values declared.timers) (key_names declared.timers) declared.program
   pub operations : length declared.operations.items ≡ index_set_len declared.objects
   pub named : AreNamesOf declared.program declared.operations.items
   pub interrupts : IsNameTable declared.interrupts

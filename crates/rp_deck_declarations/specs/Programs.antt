@@ -1,5 +1,5 @@
 -- The program of a deck.
-use Rattle.std.specs.Prelude.{ℕ, ◌≡◌, true, Some, String, List, All, length, map, slice_get}
+use Rattle.std.specs.Prelude.{ℕ, ◌≡◌, true, Some, String, List, All, length, map, slice_get, string_bytes}
 use Rattle.std.specs.Arc.{arc_value}
 use Rattle.indexmap.specs.IndexMap.{IndexMap, values}
 use Rattle.rp_base.specs.declared.action.Operation.{Operation}
@@ -19,18 +19,20 @@ abbrev pub object_count : DeckProgram → ℕ
 object_count (Tally program) = program
 object_count (Objects program) = length (arc_value program.declarations).objects.items
 
--- the tasks have these priorities, and the interrupts and the timing events these handlers, in order
-pub record Declares (priorities : List ℕ) (interrupts timers : List Handler)
+-- the tasks have these priorities, the interrupts and the timing events these handlers, and the timing events
+-- these names, in order
+pub record Declares (priorities : List ℕ) (interrupts timers : List Handler) (names : List (List ℕ))
     (declarations : Declarations) : Type 0 where
   pub has_priorities : declarations.priorities.items ≡ priorities
   pub has_interrupts : declarations.interrupts.items ≡ interrupts
   pub has_timers : map (λ timer. timer.handler) declarations.timers.items ≡ timers
+  pub has_timer_names : map (λ timer. string_bytes timer.name) declarations.timers.items ≡ names
 
 -- and so do those of the deck's program; a tally has none of them
-abbrev pub DeclaresAll : List ℕ → List Handler → List Handler → DeckProgram → Type 0
-DeclaresAll priorities interrupts timers (Tally program) = Unit {0}
-DeclaresAll priorities interrupts timers (Objects program) =
-    Declares priorities interrupts timers (arc_value program.declarations)
+abbrev pub DeclaresAll : List ℕ → List Handler → List Handler → List (List ℕ) → DeckProgram → Type 0
+DeclaresAll priorities interrupts timers names (Tally program) = Unit {0}
+DeclaresAll priorities interrupts timers names (Objects program) =
+    Declares priorities interrupts timers names (arc_value program.declarations)
 
 module _ {Y S : Type 0} where
   -- each of the names of each object denotes one of its operations, in order

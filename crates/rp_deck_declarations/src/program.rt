@@ -1,6 +1,6 @@
 //! Makes the program of what a deck declares.
 
-ghost use Rattle.std.specs.Prelude.{◌≡◌, ◌≤◌, ℕ, List, [], All, length, map, true, false, IfOk, IfErr, IfSome};
+ghost use Rattle.std.specs.Prelude.{◌≡◌, ◌≤◌, ℕ, List, [], All, length, map, string_bytes, true, false, IfOk, IfErr, IfSome};
 ghost use Rattle.indexmap.specs.IndexMap.{values};
 ghost use Rattle.indexmap.specs.IndexSet.{index_set_len};
 ghost use Rattle.rp_object.specs.declared.program.Handler.{Handler};
@@ -8,6 +8,7 @@ ghost use Rattle.rp_base.specs.declared.action.Operation.TheVariants.{Procedure}
 ghost use Rattle.rp_deck_objects.specs.ObjectViews.{operation_of, protected_text, object_text, protected_of, object_operations, own_operations};
 ghost use Rattle.rp_deck_declarations.specs.Programs.{AreAllNamed, DeclaresAll, AreNamesOf};
 ghost use Rattle.rp_object.specs.declared.program.Profile.{Profile};
+ghost use Rattle.rp_words.specs.Tables.{key_names};
 ghost use Rattle.indexmap.specs.IndexMap.{index_map_len};
 ghost use Rattle.rp_object.specs.Program.{operations_of, DeclarationFits, KeepsProfile, IsProgram};
 ghost use Rattle.rp_deck_declarations.specs.Declarations.{IsNameTable, IsHandled, procedure_counts, HasObjects, IsFinishable, IsComplete};
@@ -80,7 +81,7 @@ fn make(alloc: Global, draft: &Draft, drafts: Vec<ObjectDraft>) -> Result<Object
         made.program) }
     ensures declared { IfOk result (λ made. DeclaresAll
         (map (λ task. task.priority) (values draft.now.tasks)) (values draft.now.interrupts)
-        (values draft.now.timers) made.program) }
+        (values draft.now.timers) (key_names draft.now.timers) made.program) }
     ensures operations { IfOk result (λ made. length made.operations.items
         ≡ index_set_len draft.now.objects) }
     ensures named { IfOk result (λ made. AreNamesOf made.program made.operations.items) }
@@ -113,7 +114,7 @@ fn tally(alloc: Global, count: u8) -> Result<Objects, LineError>
     ensures memory { IfErr result (λ error. error ≡ LineError.OutOfMemory) }
     ensures program { IfOk result (λ made. HasObjects count made.program) }
     ensures declared { IfOk result (λ made. (priorities : List ℕ) (interrupts timers : List Handler)
-        → DeclaresAll priorities interrupts timers made.program) }
+        (names : List (List ℕ)) → DeclaresAll priorities interrupts timers names made.program) }
     ensures operations { IfOk result (λ made. length made.operations.items ≡ count) }
     ensures named { IfOk result (λ made. AreNamesOf made.program made.operations.items) }
     ensures tally { IfOk result (λ made. IsTally count made.program made.operations.items) }
@@ -156,7 +157,7 @@ fn protected_objects(
         (λ made. HasObjects (length declarations.objects.items) made.program) }
     ensures declared { IfOk result (λ made. DeclaresAll declarations.priorities.items
         declarations.interrupts.items (map (λ event. event.handler) declarations.timers.items)
-        made.program) }
+        (map (λ event. string_bytes event.name) declarations.timers.items) made.program) }
     ensures operations { IfOk result (λ made. made.operations ≡ operations) }
     ensures text { IfOk result (λ made. program_text made.program
         ≡ ProgramText.Objects declarations.profile
@@ -224,7 +225,10 @@ fn timing_events(
     alloc: Global,
     timers: &IndexMap<String, Handler>,
 ) -> Result<Vec<TimingEvent>, AllocError>
-    ensures { IfOk result (λ made. map (λ event. event.handler) made.items ≡ values timers.now) }
+    ensures handlers { IfOk result
+        (λ made. map (λ event. event.handler) made.items ≡ values timers.now) }
+    ensures names { IfOk result
+        (λ made. map (λ event. string_bytes event.name) made.items ≡ key_names timers.now) }
 {
     let mut events = Vec::new(alloc);
     for (name, handler) in timers.iter() {

@@ -13,7 +13,7 @@ use Rattle.rp_deck_declarations.proofs.RightLemmas.{map_len, all_of_map, values_
 use Rattle.rp_deck_declarations.proofs.program.make.Goals as goal
 
 pub returns-then-draft-clause-declared : goal.returns-then-draft-clause-declared
-returns-then-draft-clause-declared g c = IfOk-weaker c.tally.result _ _ (λ made all. all _ _ _) c.tally.ensures.declared
+returns-then-draft-clause-declared g c = IfOk-weaker c.tally.result _ _ (λ made all. all _ _ _ _) c.tally.ensures.declared
 
 pub protected_objects-requires : goal.protected_objects-requires
 protected_objects-requires g c =
@@ -31,7 +31,7 @@ protected_objects-requires g c =
     let tasks : length declarations.priorities.items ≡ index_map_len draft.tasks = ap length c.in_ok-priorities.ensures ∙ map_len (λ (task : Task). task.priority) (values draft.tasks) ∙ values_len draft.tasks in
     let interrupts : length declarations.interrupts.items ≡ index_map_len draft.interrupts = ap length c.in_ok-interrupts.ensures ∙ values_len draft.interrupts in
     let timers : length declarations.timers.items ≡ index_map_len draft.timers =
-    sym (map_len (λ (event : TimingEvent). event.handler) declarations.timers.items) ∙ ap length c.in_ok-timers.ensures ∙ values_len draft.timers in
+    sym (map_len (λ (event : TimingEvent). event.handler) declarations.timers.items) ∙ ap length c.in_ok-timers.ensures.handlers ∙ values_len draft.timers in
     let right = λ (h : Handler). is_handler declarations h ≡ true in
     record {
       task_count = omega (arith, tasks, c.requires.1.1.1.1.1.0);
@@ -43,5 +43,5 @@ protected_objects-requires g c =
       profile = subst (λ p. All (λ (object : ObjectDeclaration). KeepsProfile p (operations_of object)) declarations.objects.items) profile c.in_ok-objects.ensures.keeps;
       interrupts = subst (λ l. All right l) (sym c.in_ok-interrupts.ensures) (handlers_there declarations drafts (values draft.interrupts) c.in_ok-objects.ensures.text c.requires.1.1.1.1.1.1.1.1.0);
       timers = all_of_map right (λ (event : TimingEvent). event.handler) declarations.timers.items
-          (subst (λ l. All right l) (sym c.in_ok-timers.ensures) (handlers_there declarations drafts (values draft.timers) c.in_ok-objects.ensures.text c.requires.1.1.1.1.1.1.1.1.1));
+          (subst (λ l. All right l) (sym c.in_ok-timers.ensures.handlers) (handlers_there declarations drafts (values draft.timers) c.in_ok-objects.ensures.text c.requires.1.1.1.1.1.1.1.1.1));
     }

@@ -45,13 +45,7 @@ module _ {S : Type 0} (next : S → Action → S) (answers : S → Action → Li
   plan_writes (Report first) = refl
 
   -- a plan that is not committed
-  pub stops_plan : (effect : Result Turn Fault) (decided : Result Plan Fault) (plan : Plan) (new : ReplicaState S) (fault : Fault) → decided ≡ Ok plan
-      → IfOk decided (λ plan. Ok (turn_of next answers replica plan) ≡ effect) → Stops (written_by plan) replica new fault → StopsIf effect replica new fault
-  stops_plan effect decided plan new fault is gives stops =
-      let same : Ok (turn_of next answers replica plan) ≡ effect = subst (λ (r : Result Plan Fault). IfOk r (λ plan. Ok (turn_of next answers replica plan) ≡ effect)) is gives in
+  pub stops_plan : (effect : Result Turn Fault) (plan : Plan) (new : ReplicaState S) (fault : Fault) → Ok (turn_of next answers replica plan) ≡ effect
+      → Stops (written_by plan) replica new fault → StopsIf effect replica new fault
+  stops_plan effect plan new fault same stops =
       subst (λ (e : Result Turn Fault). StopsIf e replica new fault) same (subst (λ (w : Option Rec). Stops w replica new fault) (sym (plan_writes plan)) stops)
-
-  -- nothing was decided
-  pub stops_undecided : (effect : Result Turn Fault) (decided : Result Plan Fault) (fault : Fault) → decided ≡ Err fault → IfErr decided (λ fault. StopsIf effect replica replica fault)
-      → StopsIf effect replica replica fault
-  stops_undecided effect decided fault is why = subst (λ (r : Result Plan Fault). IfErr r (λ fault. StopsIf effect replica replica fault)) is why

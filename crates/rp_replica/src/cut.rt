@@ -12,6 +12,7 @@ use crate::plan::{Plan, record_in_range};
 use crate::replica::Replica;
 use rp_base::{Fault, Rec};
 use rp_machine::Machine;
+use rp_model::Dropped;
 use rp_store::{CutDevice, Device, NotTorn};
 use std::alloc::Global;
 
@@ -37,8 +38,9 @@ impl<M: Machine, D: CutDevice> Replica<M, D> {
         ensures err { IfErr result (λ refused. IsNotCutIf D.disk
             (input_effect M.next M.answers self input.now) self refused) }
     {
-        match self.decide(alloc, input) {
-            Ok(plan) => self.crash(&plan, kept),
+        let mut plan = Plan::Pass(Dropped::No);
+        match self.decide(alloc, input, &mut plan) {
+            Ok(()) => self.crash(&plan, kept),
             Err(fault) => Err(NotCut::Refused(fault, self)),
         }
     }

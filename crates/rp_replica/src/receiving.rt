@@ -1,6 +1,6 @@
 //! What a replica decides that is given a packet.
 
-ghost use Rattle.std.specs.Prelude.{◌≡◌, nat_eq, true, IfOk, IfErr, IsOkUnless};
+ghost use Rattle.std.specs.Prelude.{◌≡◌, nat_eq, true, IfOk, IfErr, OnOk, IsOkUnless};
 ghost use Rattle.rp_base.specs.declared.fault.Fault.TheVariants as faults;
 ghost use Rattle.rp_base.specs.Ballot.{owner_of};
 ghost use Rattle.rp_codec.specs.Message.{IsNodeParty, IsPacket};
@@ -20,33 +20,37 @@ impl<M: Machine, D: Device> Replica<M, D> {
     /// A packet comes. Only a promise for a range takes memory: its votes are kept in the plan.
     // A call of its own, so that the packet is read where it lies.
     #[inline(never)]
-    pub(crate) fn on_packet(&self, packet: &Packet) -> Result<Plan, Fault>
-        ensures turn { IfOk result (λ plan. turn_of M.next M.answers self.now plan
+    pub(crate) fn on_packet(&self, packet: &Packet, plan: &mut Plan) -> Result<(), Fault>
+        ensures turn { OnOk result (turn_of M.next M.answers self.now plan.new
             ≡ receives M.next M.answers self.now.begin self.now.config self.now.me
             self.now.records self.now.running packet.now) }
-        ensures may { IfOk result (λ plan. MayCommit self.now plan) }
+        ensures may { OnOk result (MayCommit self.now plan.new) }
         ensures only { IsOkUnless result faults.OutOfMemory }
     {
         if !is_for_node(self.config, self.me, packet) {
-            return Ok(Plan::Pass(Dropped::Foreign));
+            *plan = Plan::Pass(Dropped::Foreign);
+            return Ok(());
         }
         match packet.from() {
-            Party::Node(from) => self.on_node(from, packet),
-            Party::Task(_) | Party::Audit => Ok(self.on_task(packet)),
+            Party::Node(from) => self.on_node(from, packet, plan),
+            Party::Task(_) | Party::Audit => {
+                self.on_task(packet, plan);
+                Ok(())
+            }
         }
     }
 
     /// A packet comes from a node, for this one.
-    fn on_node(&self, from: NodeId, packet: &Packet) -> Result<Plan, Fault>
+    fn on_node(&self, from: NodeId, packet: &Packet, plan: &mut Plan) -> Result<(), Fault>
         requires sender { packet.now.from ≡ Node from }
         requires right { is_for_node self.now.config self.now.me packet.now ≡ true }
-        ensures turn { IfOk result (λ plan. turn_of M.next M.answers self.now plan
+        ensures turn { OnOk result (turn_of M.next M.answers self.now plan.new
             ≡ on_body M.next M.answers self.now.begin self.now.config.nodes self.now.me
             self.now.records self.now.running from packet.now.body) }
-        ensures may { IfOk result (λ plan. MayCommit self.now plan) }
+        ensures may { OnOk result (MayCommit self.now plan.new) }
         ensures only { IsOkUnless result faults.OutOfMemory }
     {
-        Ok(match packet.body() {
+        *plan = match packet.body() {
             Body::Prepare { position, ballot } => self.on_prepare(from, *position, *ballot),
             Body::PrepareRange { range, ballot } => self.on_prepare_range(from, *range, *ballot),
             Body::Promise {
@@ -89,21 +93,22 @@ impl<M: Machine, D: Device> Replica<M, D> {
             Body::Call { .. } | Body::Reply { .. } | Body::Report { .. } => {
                 Plan::Pass(Dropped::No)
             }
-        })
+        };
+        Ok(())
     }
 
     /// A packet comes from a task, for this node.
-    fn on_task(&self, packet: &Packet) -> Plan
+    fn on_task(&self, packet: &Packet, plan: &mut Plan)
         requires sender { ¬ IsNodeParty packet.now.from }
-        ensures turn { turn_of M.next M.answers self.now result ≡ on_body M.next M.answers
+        ensures turn { turn_of M.next M.answers self.now plan.new ≡ on_body M.next M.answers
             self.now.begin self.now.config.nodes self.now.me self.now.records self.now.running
             (party_number packet.now.from) packet.now.body }
-        ensures may { MayCommit self.now result }
+        ensures may { MayCommit self.now plan.new }
     {
-        match *packet.body() {
+        *plan = match *packet.body() {
             Body::Call { action } => self.on_call(action),
             _ => Plan::Pass(Dropped::No),
-        }
+        };
     }
 }
 

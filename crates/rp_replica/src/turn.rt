@@ -1,6 +1,6 @@
 //! A step of a replica: it decides, and then commits.
 
-ghost use Rattle.std.specs.Prelude.{◌≡◌, Some, Ok, IfOk, IfErr, OnOk, false};
+ghost use Rattle.std.specs.Prelude.{◌≡◌, Some, Ok, IfErr, OnOk, false};
 ghost use Rattle.rp_base.specs.Action.{IsRight};
 ghost use Rattle.rp_base.specs.declared.action.Action.TheVariants as actions;
 ghost use Rattle.rp_codec.specs.Reading.{all_of};
@@ -16,19 +16,21 @@ use crate::sent::{Outbox, Sent};
 use rp_base::{Fault, Position, PositionRange};
 use rp_codec::decode;
 use rp_machine::Machine;
+use rp_model::Dropped;
 use rp_store::Device;
 use std::alloc::Global;
 
 impl<M: Machine, D: Device> Replica<M, D> {
     /// What the step of an input does, or why there is no step: `BadPacket` where the bytes of a
     /// packet are none's text, `BallotsSpent` or `LogFull` where the node cannot lead,
-    /// `OutOfMemory`, or `Failed` after the device failed. It reads alone.
+    /// `OutOfMemory`, or `Failed` after the device failed. It reads the node alone, and writes the
+    /// plan where its caller holds it, so that no plan is copied.
     #[inline(always)]
-    pub(crate) fn decide(&self, alloc: Global, input: &Input) -> Result<Plan, Fault>
+    pub(crate) fn decide(&self, alloc: Global, input: &Input, plan: &mut Plan) -> Result<(), Fault>
         requires right { IsRightInput input.now }
-        ensures ok { IfOk result (λ plan. Ok (turn_of M.next M.answers self.now plan)
+        ensures ok { OnOk result (Ok (turn_of M.next M.answers self.now plan.new)
             ≡ input_effect M.next M.answers self.now input.now) }
-        ensures may { IfOk result (λ plan. MayCommit self.now plan) }
+        ensures may { OnOk result (MayCommit self.now plan.new) }
         ensures working { OnOk result (self.now.failed ≡ false) }
         ensures err { IfErr result (λ fault. StopsIf
             (input_effect M.next M.answers self.now input.now) self.now self.now fault) }
@@ -37,28 +39,31 @@ impl<M: Machine, D: Device> Replica<M, D> {
             return Err(Fault::Failed);
         }
         match *input {
-            Input::Receive(bytes) => self.on_text(alloc, bytes),
-            Input::Lead(choice) => self.on_lead(choice),
-            Input::LeadRange(range) => self.on_lead_range(range),
-            Input::Interrupt { source, occurrence } => Ok(self.on_interrupt(source, occurrence)),
-            Input::Tick { now } => Ok(self.on_tick(now)),
-            Input::Report(first) => Ok(Plan::Report(first)),
+            Input::Receive(bytes) => return self.on_text(alloc, bytes, plan),
+            Input::Lead(choice) => *plan = self.on_lead(choice)?,
+            Input::LeadRange(range) => *plan = self.on_lead_range(range)?,
+            Input::Interrupt { source, occurrence } => {
+                *plan = self.on_interrupt(source, occurrence);
+            }
+            Input::Tick { now } => *plan = self.on_tick(now),
+            Input::Report(first) => *plan = Plan::Report(first),
         }
+        Ok(())
     }
 
     /// A packet comes, as its text.
     #[inline(always)]
-    fn on_text(&self, alloc: Global, bytes: &[u8]) -> Result<Plan, Fault>
+    fn on_text(&self, alloc: Global, bytes: &[u8], plan: &mut Plan) -> Result<(), Fault>
         requires working { self.now.failed ≡ false }
-        ensures ok { IfOk result (λ plan. Ok (turn_of M.next M.answers self.now plan)
+        ensures ok { OnOk result (Ok (turn_of M.next M.answers self.now plan.new)
             ≡ effect_if_given M.next M.answers self.now (packet_given (all_of bytes.now))) }
-        ensures may { IfOk result (λ plan. MayCommit self.now plan) }
+        ensures may { OnOk result (MayCommit self.now plan.new) }
         ensures err { IfErr result (λ fault. StopsIf
             (effect_if_given M.next M.answers self.now (packet_given (all_of bytes.now)))
             self.now self.now fault) }
     {
         match &decode(alloc, bytes) {
-            Ok(Ok(packet)) => self.on_packet(packet),
+            Ok(Ok(packet)) => self.on_packet(packet, plan),
             Ok(Err(reason)) => Err(Fault::BadPacket(*reason)),
             Err(_) => Err(Fault::OutOfMemory),
         }
@@ -71,8 +76,9 @@ impl<M: Machine, D: Device> Replica<M, D> {
         ensures { StopsIf (input_effect M.next M.answers self.now input.now)
             self.now self.now result }
     {
-        match self.decide(alloc, input) {
-            Ok(_) => Fault::OutOfMemory,
+        let mut plan = Plan::Pass(Dropped::No);
+        match self.decide(alloc, input, &mut plan) {
+            Ok(()) => Fault::OutOfMemory,
             Err(fault) => fault,
         }
     }
@@ -113,13 +119,9 @@ impl<M: Machine, D: Device> Replica<M, D> {
             self.old self.new result }
     {
         let mut out = Outbox::new(buffer);
-        // By reference, so that the plan is not copied.
-        let decided = self.decide(alloc, input);
-        let committed = match &decided {
-            Ok(plan) => self.commit(alloc, &mut out, plan),
-            Err(fault) => Err(*fault),
-        };
-        match committed {
+        let mut plan = Plan::Pass(Dropped::No);
+        self.decide(alloc, input, &mut plan)?;
+        match self.commit(alloc, &mut out, &plan) {
             Ok(dropped) => Ok(out.sent(dropped)),
             Err(fault) => Err(fault),
         }

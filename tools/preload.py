@@ -22,7 +22,7 @@ static long number(const char *name) {
 
 
 def built(folder, source):
-    """The library of a source in C, behind HEAD, built in a folder by the kit's compiler."""
+    """The library of a source in C, after HEAD, built in a folder by the kit's compiler."""
     library = f"{folder}/preload.so"
     words = [COMPILER, "-shared", "-fPIC", "-O1", "-x", "c", "-o", library, "-"]
     subprocess.run(words, input=(HEAD + source).encode(), check=True)

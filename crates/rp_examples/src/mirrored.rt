@@ -1,0 +1,170 @@
+//! A device: two copies of the same bytes, on two devices.
+
+ghost use Rattle.std.specs.Prelude.{◌≡◌};
+ghost use Rattle.rp_store.specs.Disk.{empty_disk};
+ghost use Rattle.rp_examples.specs.Mirrored.{AreAlike, copies_left, is_left};
+
+use rp_base::Fault;
+use rp_store::{Count, CutDevice, Device};
+use std::alloc::Global;
+use std::marker::Model;
+
+/// A device that keeps each byte on two devices, and goes on with one of them if a call of the
+/// other fails; a read that fails is made of the other one. So a call fails only if it failed of
+/// each copy that is left. To a contract it is its main copy, with counts of its own.
+#[derive(Drop)]
+pub struct MirroredDevice<D: Device> {
+    /// The copy that is read first.
+    main: D,
+    /// The other one, until a call of it fails.
+    spare: Option<D>,
+    appends: Count,
+    syncs: Count,
+    reads: Count,
+    cuts: Count,
+    failures: Count,
+}
+
+impl<D: Device> Model for MirroredDevice<D> {
+    ghost use Rattle.std.specs.Prelude.{IfSome};
+    ghost use Rattle.rp_store.specs.Disk.{Disk};
+    ghost use Rattle.rp_examples.specs.Mirrored.{AreAlike};
+
+    ghost Value = { Disk };
+
+    ghost view = { λ d. record {
+      contents = (D.disk d.main).contents;
+      stable = (D.disk d.main).stable;
+      failures = d.failures;
+      appends = d.appends;
+      syncs = d.syncs;
+      reads = d.reads;
+      cuts = d.cuts;
+    } };
+
+    ghost invariant = { λ d. IfSome d.spare (λ spare. AreAlike (D.disk d.main) (D.disk spare)) };
+}
+
+impl<D: Device> MirroredDevice<D> {
+    /// A device over two that hold nothing.
+    pub fn new(main: D, spare: D) -> Self
+        requires main { D.disk main ≡ empty_disk }
+        requires spare { D.disk spare ≡ empty_disk }
+        // claim: A device over two copies keeps the clauses of `Device` and `CutDevice`, so all that
+        //   holds over any device holds over it
+        ensures { result ≡ empty_disk }
+    {
+        MirroredDevice {
+            main,
+            spare: Some(spare),
+            appends: Count::new(),
+            syncs: Count::new(),
+            reads: Count::new(),
+            cuts: Count::new(),
+            failures: Count::new(),
+        }
+    }
+}
+
+impl<D: Device> Device for MirroredDevice<D> {
+    ghost disk = { λ d. d };
+
+    fn append(&mut self, bytes: &[u8]) -> Result<(), Fault> {
+        let done = self.main.append(bytes);
+        if matches!(done, Err(Fault::OutOfMemory)) {
+            return done;
+        }
+        let followed = match &mut self.spare {
+            Some(spare) => spare.append(bytes).is_ok(),
+            None => false,
+        };
+        if !settle(&mut self.main, &mut self.spare, done.is_ok(), followed) {
+            self.failures.raise();
+            return done;
+        }
+        self.appends.raise();
+        Ok(())
+    }
+
+    fn sync(&mut self) -> Result<(), Fault> {
+        let done = self.main.sync();
+        let followed = match &mut self.spare {
+            Some(spare) => spare.sync().is_ok(),
+            None => false,
+        };
+        if !settle(&mut self.main, &mut self.spare, done.is_ok(), followed) {
+            self.failures.raise();
+            return done;
+        }
+        self.syncs.raise();
+        Ok(())
+    }
+
+    fn read(&mut self, alloc: Global) -> Result<Vec<u8>, Fault> {
+        let mut read = self.main.read(alloc);
+        if matches!(read, Err(Fault::Device)) {
+            if let Some(spare) = &mut self.spare {
+                read = spare.read(alloc);
+            }
+        }
+        match &read {
+            Ok(_) => self.reads.raise(),
+            Err(Fault::Device) => self.failures.raise(),
+            Err(_) => {}
+        }
+        read
+    }
+
+    fn len(&self) -> u64 {
+        self.main.len()
+    }
+
+    fn cut(&mut self, len: u64) -> Result<(), Fault> {
+        let done = self.main.cut(len);
+        if matches!(done, Err(Fault::OutOfMemory)) {
+            return done;
+        }
+        let followed = match &mut self.spare {
+            Some(spare) => spare.cut(len).is_ok(),
+            None => false,
+        };
+        if !settle(&mut self.main, &mut self.spare, done.is_ok(), followed) {
+            self.failures.raise();
+            return done;
+        }
+        self.cuts.raise();
+        Ok(())
+    }
+}
+
+impl<D: CutDevice> CutDevice for MirroredDevice<D> {
+    fn stop(&mut self, kept: u64) {
+        self.main.stop(kept);
+        if let Some(spare) = &mut self.spare {
+            spare.stop(kept);
+        }
+    }
+}
+
+/// Leaves the copies of which a call succeeded, the spare one as the main one if that failed alone.
+/// It returns whether there is one.
+fn settle<D: Device>(main: &mut D, spare: &mut Option<D>, done: bool, followed: bool) -> bool
+    // claim: After a call of two copies those are left of which it succeeded, and whether there is
+    //   one is returned
+    ensures copies { (main.new, spare.new) ≡ copies_left main.old spare.old done followed }
+    ensures left { result ≡ is_left spare.old done followed }
+{
+    if !followed {
+        *spare = None;
+    }
+    if done {
+        return true;
+    }
+    match spare.take() {
+        Some(copy) => {
+            *main = copy;
+            true
+        }
+        None => false,
+    }
+}

@@ -1,0 +1,13 @@
+-- The numbers of refusals (those from 64 on are ours).
+use Rattle.std.specs.Prelude.{ℕ}
+use Rattle.rp_base.specs.Fault.{code_of}
+use Rattle.rp_border.specs.declared.refusal.Refusal.{Refusal}
+use Rattle.rp_border.specs.declared.refusal.Refusal.TheVariants.{Fault, ShortAnswer, BadRequest, NoObjects, LongAnswer}
+
+-- that of the fault, and from 64 on what is the border's own
+abbrev pub refusal_code : Refusal → ℕ
+refusal_code (Fault fault) = code_of fault
+refusal_code (ShortAnswer length) = 64
+refusal_code BadRequest = 65
+refusal_code NoObjects = 66
+refusal_code (LongAnswer length) = 67

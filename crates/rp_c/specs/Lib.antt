@@ -1,3 +1,5 @@
+pub mod Answered
 pub mod Decks
+pub mod Nodes
 pub mod Packets
 pub mod Status

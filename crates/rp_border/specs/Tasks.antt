@@ -1,5 +1,6 @@
 -- What the answer of a task is (ours).
-use Rattle.std.specs.Prelude.{◌≡◌, ◌<◌, ℕ, nat_eq, Bool, false, Option, Some, None, Result, Ok, Err, List, [], length, ◌&&◌, if◌then◌else◌}
+use Rattle.std.specs.Prelude.{◌≡◌, ◌<◌, ℕ, nat_eq, Bool, false, Option, Some, None, Result, Ok, Err, List, [], length}
+use Rattle.std.specs.Prelude.{if◌then◌else◌}
 use Rattle.rp_base.specs.Calls.{next_call, is_reply_to}
 use Rattle.rp_base.specs.declared.action.Action.{Action}
 use Rattle.rp_base.specs.declared.fault.Fault.TheVariants as faults
@@ -62,7 +63,8 @@ taken_text None = []
 taken_text (Some reply) = reply_text reply
 
 -- The next call was made, and its packet is in the buffer.
-pub record CallPut (call : Action) (node : ℕ) (old new : Calls) (before after : List ℕ) (lengths : Lengths) : Type 0 where
+pub record CallPut (call : Action) (node : ℕ) (old new : Calls) (before after : List ℕ) (lengths : Lengths)
+    : Type 0 where
   pub may : refusal_of old ≡ None
   pub goes : new ≡ with_call old call
   pub put : IsPut [] (text_of (call_packet old.task node call)) before after lengths

@@ -1,6 +1,7 @@
 -- The counter keeps the laws of a machine.
 use Rattle.std.proofs.Common.{◌≡◌, ℕ, ◌+◌, ◌<◌, ◌≤◌, ◌^◌, ◌==◌, nat_le, ℤ, pos, negsuc, Bool, true, false, Some}
-use Rattle.std.proofs.Common.{None, [], ◌++◌, codes, decimal, if◌then◌else◌, refl, sym, ap₂, ◌∙◌, subst, inl, inr, arith}
+use Rattle.std.proofs.Common.{None, [], ◌++◌, codes, decimal, if◌then◌else◌}
+use Rattle.std.proofs.Common.{refl, sym, ap₂, ◌∙◌, subst, inl, inr, arith}
 use Rattle.std.proofs.lemmas.Bool.{leb-true}
 use Rattle.std.proofs.lemmas.List.{append_cancel_left, append_cancel_right}
 use Rattle.std.proofs.lemmas.Fmt.{decimal_injective}
@@ -122,7 +123,8 @@ pub counter_replies : (program : CounterProgram) (counter : BoundedCounter) (act
 counter_replies program counter Noop runs right may answer h = absurd h
 counter_replies program counter (Call task number object operation arg) runs right may answer h =
     elim h [
-      | inl same ↦ subst (λ (a : Answer). IsReply a.reply) (sym same) (call_fits program counter runs operation arg).reply
+      | inl same ↦ subst (λ (a : Answer). IsReply a.reply) (sym same)
+          (call_fits program counter runs operation arg).reply
       | inr none ↦ absurd none
     ]
 counter_replies program counter (Interrupt source occurrence) runs right may answer h = absurd h

@@ -192,9 +192,13 @@ fn listed(alloc: Global, found: Found) -> Result<Packet, AllocError>
     Ok(Packet::new(from, to, body))
 }
 
-/// What the bytes are, read field by field.
+/// The same as `decode`, of bytes that `usual_packet` does not read: it reads them field by field, so that
+/// no byte is read twice.
 #[inline(never)]
-fn decode_fields(alloc: Global, bytes: &[u8]) -> Result<Result<Packet, PacketReason>, AllocError>
+pub fn decode_fields(
+    alloc: Global,
+    bytes: &[u8],
+) -> Result<Result<Packet, PacketReason>, AllocError>
     ensures answer { IfOk result (λ answer. IsDecoded bytes.now answer) }
     ensures memory { OnErr result (IsLongText bytes.now) }
 {
@@ -207,46 +211,37 @@ fn decode_fields(alloc: Global, bytes: &[u8]) -> Result<Result<Packet, PacketRea
     }
 }
 
-/// The packet between nodes that is read in one piece, if one is. Its text is of version 2.
+/// The packet that is read in one piece, if one is. Its text is of version 2.
 #[inline(always)]
-fn between_nodes_of(bytes: &[u8]) -> Option<Packet>
+fn one_piece_of(bytes: &[u8]) -> Option<Packet>
     ensures { IfSome result (λ packet. bytes.now ≡ text_of packet) }
 {
     match bytes {
+        [_, 1, ..] => task_call_of(bytes),
         [_, 2, ..] => prepare_of(bytes),
         [_, 3, ..] => promise_of(bytes),
         [_, 4, ..] => accept_of(bytes),
         [_, 5, ..] => accepted_of(bytes),
         [_, 6, ..] => decided_of(bytes),
-        _ => None,
-    }
-}
-
-/// The packet from or to a task that is read in one piece, if one is. Its text is of version 2.
-#[inline(always)]
-fn with_task_of(bytes: &[u8]) -> Option<Packet>
-    ensures { IfSome result (λ packet. bytes.now ≡ text_of packet) }
-{
-    match bytes {
-        [_, 1, ..] => task_call_of(bytes),
         [_, 9, ..] => reply_of(bytes),
         _ => None,
     }
 }
 
-/// What the bytes are, where they are no packet between nodes that is read in one piece. It is a
-/// function apart from `decode` so that the other, more frequent packets are read faster.
-#[inline(never)]
-fn decode_others(alloc: Global, bytes: &[u8]) -> Result<Result<Packet, PacketReason>, AllocError>
-    ensures answer { IfOk result (λ answer. IsDecoded bytes.now answer) }
-    ensures memory { OnErr result (IsLongText bytes.now) }
+/// The packet of which the bytes are a text, if it is of a usual kind and is read in one piece: a call
+/// of a task, a packet between nodes whose action, if any, is a call, or a reply with a value, in
+/// version 2. `None` where it is not, also where the bytes are another packet's text: `decode` reads
+/// those. It takes no memory.
+#[inline(always)]
+pub fn usual_packet(bytes: &[u8]) -> Option<Packet>
+    ensures { IfSome result (λ packet. IsDecoded bytes.now (Ok packet)) }
 {
-    match with_task_of(bytes) {
+    match one_piece_of(bytes) {
         Some(packet) => {
             let _body = packet.body();
-            Ok(Ok(packet))
+            Some(packet)
         }
-        None => decode_fields(alloc, bytes),
+        None => None,
     }
 }
 
@@ -262,12 +257,9 @@ pub fn decode(alloc: Global, bytes: &[u8]) -> Result<Result<Packet, PacketReason
     ensures answer { IfOk result (λ answer. IsDecoded bytes.now answer) }
     ensures memory { OnErr result (IsLongText bytes.now) }
 {
-    match between_nodes_of(bytes) {
-        Some(packet) => {
-            let _body = packet.body();
-            Ok(Ok(packet))
-        }
-        None => decode_others(alloc, bytes),
+    match usual_packet(bytes) {
+        Some(packet) => Ok(Ok(packet)),
+        None => decode_fields(alloc, bytes),
     }
 }
 

@@ -46,7 +46,7 @@ mod votes;
 mod votes_text;
 
 pub use actions::Actions;
-pub use decoding::{decode, packet_len};
+pub use decoding::{decode, decode_fields, packet_len, usual_packet};
 pub use encoding::{encode, encode_onto, one_text, text_of_packet, two_texts};
 pub use lengths::text_len;
 pub use packet::{Body, Packet, Party};

@@ -153,6 +153,7 @@ fn is_call_by(task: TaskId, action: Action) -> bool
     }
 }
 
+#[inline(always)]
 pub(crate) fn is_call_of(party: &Party, action: &Action) -> bool
     ensures { IsTrue result ↔ IsCallOf party.now action.now }
 {

@@ -20,7 +20,7 @@ use rp_store::Device;
 
 impl<M: Machine, D: Device> Replica<M, D> {
     /// A `Prepare` comes.
-    #[inline(never)]
+    #[inline(always)]
     pub(crate) fn on_prepare(&self, from: NodeId, position: Position, ballot: Ballot) -> Plan
         requires place { position ≤ self.now.config.max_positions }
         ensures turn { turn_of M.next M.answers self.now result
@@ -61,7 +61,7 @@ impl<M: Machine, D: Device> Replica<M, D> {
     }
 
     /// An `Accept` comes, with a right action.
-    #[inline(never)]
+    #[inline(always)]
     pub(crate) fn on_accept(
         &self,
         from: NodeId,

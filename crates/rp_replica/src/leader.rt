@@ -117,7 +117,7 @@ impl<M: Machine, D: Device> Replica<M, D> {
     }
 
     /// A `Promise` comes from one of the nodes, with a right vote.
-    #[inline(never)]
+    #[inline(always)]
     pub(crate) fn on_promise(&self, promise: CountedPromise) -> Plan
         requires may { MayCount self.now promise }
         ensures turn { turn_of M.next M.answers self.now result ≡ on_promise self.now.config.nodes

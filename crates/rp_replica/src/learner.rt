@@ -47,7 +47,7 @@ impl<M: Machine, D: Device> Replica<M, D> {
     }
 
     /// An `Accepted` comes from one of the nodes, with a right action.
-    #[inline(never)]
+    #[inline(always)]
     pub(crate) fn on_accepted(
         &self,
         from: NodeId,
@@ -77,7 +77,7 @@ impl<M: Machine, D: Device> Replica<M, D> {
     }
 
     /// A `Decided` comes, with a right action.
-    #[inline(never)]
+    #[inline(always)]
     pub(crate) fn on_decided(&self, from: NodeId, position: Position, action: &Action) -> Plan
         requires place { position ≤ self.now.config.max_positions }
         requires right { IsRight action.now }

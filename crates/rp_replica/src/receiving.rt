@@ -50,50 +50,68 @@ impl<M: Machine, D: Device> Replica<M, D> {
         ensures may { OnOk result (MayCommit self.now plan.new) }
         ensures only { IsOkUnless result faults.OutOfMemory }
     {
-        *plan = match packet.body() {
-            Body::Prepare { position, ballot } => self.on_prepare(from, *position, *ballot),
-            Body::PrepareRange { range, ballot } => self.on_prepare_range(from, *range, *ballot),
+        match packet.body() {
+            Body::Prepare { position, ballot } => {
+                *plan = self.on_prepare(from, *position, *ballot);
+            }
+            Body::PrepareRange { range, ballot } => {
+                *plan = self.on_prepare_range(from, *range, *ballot);
+            }
             Body::Promise {
                 position,
                 ballot,
                 last,
-            } => self.on_promise(CountedPromise {
-                from,
-                position: *position,
-                ballot: *ballot,
-                last: *last,
-            }),
+            } => {
+                *plan = self.on_promise(CountedPromise {
+                    from,
+                    position: *position,
+                    ballot: *ballot,
+                    last: *last,
+                });
+            }
             Body::PromiseRange {
                 range,
                 ballot,
                 votes,
-            } => Plan::CountRange(CountedRange {
-                from,
-                range: *range,
-                ballot: *ballot,
-                votes: votes.clone()?,
-            }),
+            } => {
+                *plan = Plan::CountRange(CountedRange {
+                    from,
+                    range: *range,
+                    ballot: *ballot,
+                    votes: votes.clone()?,
+                });
+            }
             Body::Accept {
                 position,
                 ballot,
                 action,
-            } => self.on_accept(from, *position, *ballot, action),
+            } => {
+                *plan = self.on_accept(from, *position, *ballot, action);
+            }
             Body::Accepted {
                 position,
                 ballot,
                 action,
-            } => self.on_accepted(from, *position, *ballot, action),
-            Body::Decided { position, action } => self.on_decided(from, *position, action),
-            Body::Ask { position } => self.on_ask(from, *position),
+            } => {
+                *plan = self.on_accepted(from, *position, *ballot, action);
+            }
+            Body::Decided { position, action } => {
+                *plan = self.on_decided(from, *position, action);
+            }
+            Body::Ask { position } => {
+                *plan = self.on_ask(from, *position);
+            }
             Body::Nack {
                 position,
                 ballot,
                 bound,
-            } => Plan::Yield(*position, *ballot, *bound),
-            Body::Call { .. } | Body::Reply { .. } | Body::Report { .. } => {
-                Plan::Pass(Dropped::No)
+            } => {
+                *plan = Plan::Yield(*position, *ballot, *bound);
             }
-        };
+            Body::Call { .. } | Body::Reply { .. } | Body::Report { .. } => {
+                *plan = Plan::Pass(Dropped::No);
+            }
+        }
         Ok(())
     }
 
@@ -176,6 +194,7 @@ fn owns(party: Party, ballot: Ballot) -> bool
 }
 
 /// Whether the packet is for this node, and keeps to the configuration.
+#[inline(always)]
 fn is_for_node(config: Config, me: NodeId, packet: &Packet) -> bool
     ensures stated { result ≡ is_for_node config me packet.now }
     ensures packet { result ≡ true → IsPacket packet.now }

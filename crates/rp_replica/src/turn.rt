@@ -14,7 +14,7 @@ use crate::plan::Plan;
 use crate::replica::Replica;
 use crate::sent::{Outbox, Sent};
 use rp_base::{Fault, Position, PositionRange};
-use rp_codec::decode;
+use rp_codec::{decode_fields, usual_packet};
 use rp_machine::Machine;
 use rp_model::Dropped;
 use rp_store::Device;
@@ -62,7 +62,24 @@ impl<M: Machine, D: Device> Replica<M, D> {
             (effect_if_given M.next M.answers self.now (packet_given (all_of bytes.now)))
             self.now self.now fault) }
     {
-        match &decode(alloc, bytes) {
+        match &usual_packet(bytes) {
+            Some(packet) => self.on_packet(packet, plan),
+            None => self.on_other_text(alloc, bytes, plan),
+        }
+    }
+
+    /// The same, where the packet is not read in one piece.
+    #[inline(never)]
+    fn on_other_text(&self, alloc: Global, bytes: &[u8], plan: &mut Plan) -> Result<(), Fault>
+        requires working { self.now.failed ≡ false }
+        ensures ok { OnOk result (Ok (turn_of M.next M.answers self.now plan.new)
+            ≡ effect_if_given M.next M.answers self.now (packet_given (all_of bytes.now))) }
+        ensures may { OnOk result (MayCommit self.now plan.new) }
+        ensures err { IfErr result (λ fault. StopsIf
+            (effect_if_given M.next M.answers self.now (packet_given (all_of bytes.now)))
+            self.now self.now fault) }
+    {
+        match &decode_fields(alloc, bytes) {
             Ok(Ok(packet)) => self.on_packet(packet, plan),
             Ok(Err(reason)) => Err(Fault::BadPacket(*reason)),
             Err(_) => Err(Fault::OutOfMemory),

@@ -134,6 +134,13 @@ impl<M: Machine, D: Device> Replica<M, D> {
         self.store.stored()
     }
 
+    /// The device, where it is.
+    pub fn device(&self) -> &D
+        ensures { D.disk result.now ≡ self.now.disk }
+    {
+        self.store.device()
+    }
+
     /// How many actions are applied: those learned at the positions up to that number.
     pub fn applied(&self) -> u32
         ensures { result ≡ length (applied_of self.now.records) }

@@ -52,6 +52,13 @@ impl MemDevice {
             cuts: Count::new(),
         }
     }
+
+    /// All of its bytes, where they are.
+    pub fn contents(&self) -> &[u8]
+        ensures { result.now ≡ self.now.contents }
+    {
+        &self.bytes
+    }
 }
 
 impl Device for MemDevice {

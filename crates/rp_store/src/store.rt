@@ -160,6 +160,13 @@ impl<D: Device> Store<D> {
         self.device.len()
     }
 
+    /// The device, where it is.
+    pub fn device(&self) -> &D
+        ensures { result.now ≡ self.now.device }
+    {
+        &self.device
+    }
+
     /// The device, as it is.
     pub fn close(self) -> D
         ensures { result ≡ self.device }

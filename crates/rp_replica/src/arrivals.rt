@@ -18,73 +18,77 @@ use rp_store::Device;
 impl<M: Machine, D: Device> Replica<M, D> {
     /// The node notes an occurrence of an interrupt's source, 1 to 8 and from 1: it becomes pending
     /// unless it or a higher one counted, and is dropped where 32 items are pending.
-    pub(crate) fn on_interrupt(&self, source: u8, occurrence: u32) -> Plan
+    pub(crate) fn on_interrupt(&self, source: u8, occurrence: u32, plan: &mut Plan)
         requires right { IsRight (actions.Interrupt source occurrence) }
-        ensures turn { turn_of M.next M.answers self.now result ≡ on_interrupt
+        ensures turn { turn_of M.next M.answers self.now plan.new ≡ on_interrupt
             (kept_of M.next M.answers self.now.begin (applied_of self.now.records))
             self.now.running source occurrence }
-        ensures may { MayCommit self.now result }
+        ensures may { MayCommit self.now plan.new }
     {
         if self.last_occurrence(source) < occurrence {
-            self.adds(RightAction::new(Action::Interrupt { source, occurrence }))
+            let item = RightAction::new(Action::Interrupt { source, occurrence });
+            self.adds(item, plan);
         } else {
-            Plan::Pass(Dropped::No)
+            *plan = Plan::Pass(Dropped::No);
         }
     }
 
     /// The node notes a tick of the clock: it becomes pending, and is dropped where 32 items are
     /// pending.
-    pub(crate) fn on_tick(&self, now: u32) -> Plan
-        ensures turn { turn_of M.next M.answers self.now result ≡ on_tick self.now.running now }
-        ensures may { MayCommit self.now result }
+    pub(crate) fn on_tick(&self, now: u32, plan: &mut Plan)
+        ensures turn { turn_of M.next M.answers self.now plan.new
+            ≡ on_tick self.now.running now }
+        ensures may { MayCommit self.now plan.new }
     {
-        self.adds(RightAction::new(Action::Tick { now }))
+        self.adds(RightAction::new(Action::Tick { now }), plan);
     }
 
     /// A `Call` comes, with a right action.
-    pub(crate) fn on_call(&self, action: Action) -> Plan
+    pub(crate) fn on_call(&self, action: Action, plan: &mut Plan)
         requires right { IsRight action }
         ensures turn { let applied = applied_of self.now.records in
-            turn_of M.next M.answers self.now result ≡ on_call self.now.me
+            turn_of M.next M.answers self.now plan.new ≡ on_call self.now.me
             (kept_of M.next M.answers self.now.begin applied)
             (replay_answers M.next M.answers self.now.begin applied) self.now.running action }
-        ensures may { MayCommit self.now result }
+        ensures may { MayCommit self.now plan.new }
     {
         let Action::Call { task, number, .. } = action else {
-            return Plan::Pass(Dropped::No);
+            *plan = Plan::Pass(Dropped::No);
+            return;
         };
         match self.kept_reply(task, number) {
-            Some(reply) => Plan::Answer(task, number, reply),
-            None => self.on_unanswered(task, number, action),
+            Some(reply) => *plan = Plan::Answer(task, number, reply),
+            None => self.on_unanswered(task, number, action, plan),
         }
     }
 
     /// A call comes of which no reply is kept.
-    fn on_unanswered(&self, task: TaskId, number: u32, call: Action) -> Plan
+    fn on_unanswered(&self, task: TaskId, number: u32, call: Action, plan: &mut Plan)
         requires right { IsRight call }
-        ensures turn { turn_of M.next M.answers self.now result ≡ on_numbered self.now.me
+        ensures turn { turn_of M.next M.answers self.now plan.new ≡ on_numbered self.now.me
             (kept_of M.next M.answers self.now.begin (applied_of self.now.records))
             self.now.running task number call None }
-        ensures may { MayCommit self.now result }
+        ensures may { MayCommit self.now plan.new }
     {
         if number < self.last_number(task) {
-            return Plan::Pass(Dropped::No);
+            *plan = Plan::Pass(Dropped::No);
+            return;
         }
-        self.adds(RightAction::new(call))
+        self.adds(RightAction::new(call), plan);
     }
 
     /// An item becomes pending, unless it is a call that is, or 32 are.
-    fn adds(&self, item: RightAction) -> Plan
-        ensures turn { turn_of M.next M.answers self.now result
+    fn adds(&self, item: RightAction, plan: &mut Plan)
+        ensures turn { turn_of M.next M.answers self.now plan.new
             ≡ adds_pending self.now.running item }
-        ensures may { MayCommit self.now result }
+        ensures may { MayCommit self.now plan.new }
     {
         if self.pending.has(item.get()) {
-            return Plan::Pass(Dropped::No);
+            *plan = Plan::Pass(Dropped::No);
+        } else if self.pending.has_room() {
+            *plan = Plan::Await(item);
+        } else {
+            *plan = Plan::Pass(Dropped::Full);
         }
-        if !self.pending.has_room() {
-            return Plan::Pass(Dropped::Full);
-        }
-        Plan::Await(item)
     }
 }

@@ -123,10 +123,10 @@ impl<M: Machine, D: Device> Replica<M, D> {
             (party_number packet.now.from) packet.now.body }
         ensures may { MayCommit self.now plan.new }
     {
-        *plan = match *packet.body() {
-            Body::Call { action } => self.on_call(action),
-            _ => Plan::Pass(Dropped::No),
-        };
+        match *packet.body() {
+            Body::Call { action } => self.on_call(action, plan),
+            _ => *plan = Plan::Pass(Dropped::No),
+        }
     }
 }
 

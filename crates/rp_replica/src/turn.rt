@@ -43,9 +43,9 @@ impl<M: Machine, D: Device> Replica<M, D> {
             Input::Lead(choice) => *plan = self.on_lead(choice)?,
             Input::LeadRange(range) => *plan = self.on_lead_range(range)?,
             Input::Interrupt { source, occurrence } => {
-                *plan = self.on_interrupt(source, occurrence);
+                self.on_interrupt(source, occurrence, plan);
             }
-            Input::Tick { now } => *plan = self.on_tick(now),
+            Input::Tick { now } => self.on_tick(now, plan),
             Input::Report(first) => *plan = Plan::Report(first),
         }
         Ok(())

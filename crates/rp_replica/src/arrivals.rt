@@ -78,6 +78,7 @@ impl<M: Machine, D: Device> Replica<M, D> {
     }
 
     /// An item becomes pending, unless it is a call that is, or 32 are.
+    #[inline(always)]
     fn adds(&self, item: RightAction, plan: &mut Plan)
         ensures turn { turn_of M.next M.answers self.now plan.new
             ≡ adds_pending self.now.running item }

@@ -151,6 +151,7 @@ fn is_no_node_above(nodes: u8, party: Party) -> bool
 }
 
 /// Whether the position, or each of a range, is within the log, and who asks for a ballot owns it.
+#[inline(always)]
 fn is_allowed(max_positions: u16, from: Party, body: &Body) -> bool
     ensures { result ≡ is_allowed max_positions (party_number from) body.now }
 {

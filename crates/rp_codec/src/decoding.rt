@@ -230,8 +230,8 @@ fn one_piece_of(bytes: &[u8]) -> Option<Packet>
 
 /// The packet of which the bytes are a text, if it is of a usual kind and is read in one piece: a call
 /// of a task, a packet between nodes whose action, if any, is a call, or a reply with a value, in
-/// version 2. `None` where it is not, also where the bytes are another packet's text: `decode` reads
-/// those. It takes no memory.
+/// version 2. It takes no memory. `None` says nothing of the bytes: `decode_fields` reads those. Which
+/// packets it reads is a matter of speed alone, and no clause says it.
 #[inline(always)]
 pub fn usual_packet(bytes: &[u8]) -> Option<Packet>
     ensures { IfSome result (λ packet. IsDecoded bytes.now (Ok packet)) }

@@ -1,0 +1,7 @@
+pub mod Refusals
+pub mod Buffers
+pub mod Requests
+pub mod Nodes
+pub mod Opening
+pub mod TaskRequests
+pub mod Tasks

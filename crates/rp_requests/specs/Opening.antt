@@ -1,0 +1,17 @@
+-- What opening a node gives (ours).
+use Rattle.std.specs.Prelude.{◌≡◌, ℕ, List, [], length}
+use Rattle.rp_base.specs.declared.config.Config.{Config}
+use Rattle.rp_store.specs.Disk.{Disk}
+use Rattle.rp_replica.specs.Opening.{Opens}
+use Rattle.rp_requests.specs.Nodes.{NodeState}
+
+-- The node runs by the whole records that the device's bytes begin with, n of them, which have these many bytes; it
+-- has made no step.
+pub record IsOpenedNode {S : Type 0} (me : ℕ) (config : Config) (begin : S) (bytes : List ℕ) (node : NodeState S)
+    (records kept : ℕ) : Type 0 where
+  pub disk : Disk
+  pub holds : disk.contents ≡ bytes
+  pub cut_bytes : ℕ
+  pub opens : Opens me config begin disk node.replica records cut_bytes
+  pub kept_is : kept ≡ length node.replica.disk.contents
+  pub no_step : (node.stored ≡ []) × (node.packets ≡ [])

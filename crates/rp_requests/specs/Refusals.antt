@@ -1,0 +1,14 @@
+-- The numbers of refusals (those from 64 on are ours).
+use Rattle.std.specs.Prelude.{ℕ}
+use Rattle.rp_base.specs.Fault.{code_of}
+use Rattle.rp_requests.specs.declared.refusal.Refusal.{Refusal}
+use Rattle.rp_requests.specs.declared.refusal.Refusal.TheVariants.{Fault, ShortAnswer, BadRequest, NoObjects}
+use Rattle.rp_requests.specs.declared.refusal.Refusal.TheVariants.{LongAnswer}
+
+-- that of the fault, or one of the request's from 64 on
+abbrev pub refusal_code : Refusal → ℕ
+refusal_code (Fault fault) = code_of fault
+refusal_code (ShortAnswer length) = 64
+refusal_code BadRequest = 65
+refusal_code NoObjects = 66
+refusal_code (LongAnswer length) = 67

@@ -1,0 +1,107 @@
+-- What the answer of a task is (ours).
+use Rattle.std.specs.Prelude.{◌≡◌, ◌<◌, ℕ, nat_eq, Bool, false, Option, Some, None, Result, Ok, Err, List, [], length}
+use Rattle.std.specs.Prelude.{if◌then◌else◌}
+use Rattle.rp_base.specs.Calls.{next_call, is_reply_to}
+use Rattle.rp_base.specs.declared.action.Action.{Action}
+use Rattle.rp_base.specs.declared.fault.Fault.TheVariants as faults
+use Rattle.rp_base.specs.declared.fault.Fault.{Fault}
+use Rattle.rp_base.specs.declared.fault.PacketReason.{PacketReason}
+use Rattle.rp_base.specs.declared.reply.Reply.{Reply}
+use Rattle.rp_codec.specs.Message.{Message}
+use Rattle.rp_codec.specs.Reading.{all_of}
+use Rattle.rp_codec.specs.Text.{text_of, reply_text}
+use Rattle.rp_codec.specs.declared.packet.Party.{Party}
+use Rattle.rp_codec.specs.declared.packet.Party.TheVariants.{Node, Task, Audit}
+use Rattle.rp_codec.specs.declared.packet.Body.{Body}
+use Rattle.rp_codec.specs.declared.packet.Body.TheVariants as bodies
+use Rattle.rp_tasks.specs.Calls.{Calls, refusal_of, with_call, with_reply}
+use Rattle.rp_requests.specs.declared.buffer.Lengths.{Lengths}
+use Rattle.rp_requests.specs.declared.refusal.Refusal.{Refusal}
+use Rattle.rp_requests.specs.declared.refusal.Refusal.TheVariants as refusals
+use Rattle.rp_requests.specs.Buffers.{IsPut}
+use Rattle.rp_requests.specs.TaskRequests.{TaskAsked, MakeCall, SendAgain, TakePacket}
+
+-- the fewest bytes of a buffer for the answer of a task
+abbrev pub task_bytes : ℕ
+task_bytes = 40
+
+-- Nothing changed.
+pub record IsSameTask (old new : Calls) (before after : List ℕ) : Type 0 where
+  pub task : new ≡ old
+  pub buffer : after ≡ before
+
+-- the packet of a call through a node
+abbrev pub call_packet : ℕ → ℕ → Action → Message
+call_packet task node call = record { from = Task task; to = Node node; body = bodies.Call call }
+
+-- the text of the outstanding call's packet, or of none
+abbrev pub again_text : ℕ → ℕ → Option Action → List ℕ
+again_text task node None = []
+again_text task node (Some call) = text_of (call_packet task node call)
+
+-- the party is this task
+abbrev pub is_task : ℕ → Party → Bool
+is_task task (Task number) = nat_eq number task
+is_task task (Node number) = false
+is_task task Audit = false
+
+-- the reply to the outstanding call that a body carries, or none
+abbrev pub reply_in : Calls → Body → Option Reply
+reply_in calls (bodies.Reply number reply) = if is_reply_to number calls.outstanding then Some reply else None
+reply_in calls _ = None
+
+-- the reply to the task's outstanding call that a packet carries, or none
+abbrev pub reply_taken : Calls → Message → Option Reply
+reply_taken calls packet = if is_task calls.task packet.to then reply_in calls packet.body else None
+
+abbrev pub once_taken : Calls → Option Reply → Calls
+once_taken calls None = calls
+once_taken calls (Some reply) = with_reply calls
+
+abbrev pub taken_text : Option Reply → List ℕ
+taken_text None = []
+taken_text (Some reply) = reply_text reply
+
+-- The next call was made, and its packet is in the buffer.
+pub record CallPut (call : Action) (node : ℕ) (old new : Calls) (before after : List ℕ) (lengths : Lengths)
+    : Type 0 where
+  pub may : refusal_of old ≡ None
+  pub goes : new ≡ with_call old call
+  pub put : IsPut [] (text_of (call_packet old.task node call)) before after lengths
+
+-- The reply that the packet carries, if it is to the outstanding call, is taken, and in the buffer.
+pub record ReplyPut (read : Result Message PacketReason) (old new : Calls) (before after : List ℕ) (lengths : Lengths)
+    : Type 0 where
+  pub packet : Message
+  pub is : read ≡ Ok packet
+  pub goes : new ≡ once_taken old (reply_taken old packet)
+  pub put : IsPut [] (taken_text (reply_taken old packet)) before after lengths
+
+-- Why a packet was not taken: it is none, or memory ran out.
+abbrev pub NotTaken : Result Message PacketReason → Fault → Type 0
+NotTaken read (faults.BadPacket reason) = read ≡ Err reason
+NotTaken read faults.OutOfMemory = Unit {0}
+NotTaken read _ = ⊥
+
+-- What a request that was read is answered.
+abbrev pub TaskDoes : Option TaskAsked → Calls → Calls → List ℕ → List ℕ → Result Lengths Refusal → Type 0
+TaskDoes None old new before after result = IsSameTask old new before after × (result ≡ Err refusals.BadRequest)
+TaskDoes (Some (MakeCall node object operation arg)) old new before after (Ok lengths) =
+    CallPut (next_call old.task old.made object operation arg) node old new before after lengths
+TaskDoes (Some (MakeCall node object operation arg)) old new before after (Err refusal) =
+    IsSameTask old new before after
+    × ((fault : Fault) × (refusal ≡ refusals.Fault fault) × (refusal_of old ≡ Some fault))
+TaskDoes (Some (SendAgain node)) old new before after (Ok lengths) =
+    (new ≡ old) × IsPut [] (again_text old.task node old.outstanding) before after lengths
+TaskDoes (Some (SendAgain node)) old new before after (Err refusal) = ⊥
+TaskDoes (Some (TakePacket bytes)) old new before after (Ok lengths) =
+    ReplyPut (all_of bytes) old new before after lengths
+TaskDoes (Some (TakePacket bytes)) old new before after (Err refusal) =
+    IsSameTask old new before after
+    × ((fault : Fault) × (refusal ≡ refusals.Fault fault) × NotTaken (all_of bytes) fault)
+
+-- The buffer has too few bytes for any answer, and nothing changed.
+pub record IsShort (old new : Calls) (before after : List ℕ) (result : Result Lengths Refusal) : Type 0 where
+  pub same : IsSameTask old new before after
+  pub short : length before < task_bytes
+  pub is : result ≡ Err (refusals.ShortAnswer task_bytes)

@@ -1,0 +1,54 @@
+//! Answers that are put into a caller's buffer.
+
+ghost use Rattle.std.specs.Prelude.{◌≤◌, [], length};
+ghost use Rattle.rp_requests.specs.Buffers.{IsPut, Puts, PutsOr};
+
+use crate::refusal::Refusal;
+
+/// How long an answer is: so many bytes to be stored, and then the others.
+#[derive(Clone, Copy, Debug, PartialEq, Eq)]
+pub struct Lengths {
+    /// How many of its first bytes are to be stored.
+    pub stored: usize,
+    /// How many bytes it has.
+    pub used: usize,
+}
+
+/// Puts what is to be stored and then the others at the front of the buffer, where they fit; or returns
+/// how many bytes they are.
+pub(crate) fn put_parts(stored: &[u8], others: &[u8], answer: &mut [u8]) -> Result<Lengths, usize>
+    ensures { Puts stored.now others.now answer.old answer.new result }
+{
+    let used = stored.len() + others.len();
+    if used > answer.len() {
+        return Err(used);
+    }
+    answer[..stored.len()].copy_from_slice(stored);
+    answer[stored.len()..used].copy_from_slice(others);
+    Ok(Lengths {
+        stored: stored.len(),
+        used,
+    })
+}
+
+/// Puts a text of which nothing is to be stored at the front of the buffer, where it fits.
+pub(crate) fn put(text: &[u8], answer: &mut [u8]) -> Result<Lengths, Refusal>
+    ensures { PutsOr [] text.now answer.old answer.new result }
+{
+    match put_parts(&[], text, answer) {
+        Ok(lengths) => Ok(lengths),
+        Err(needed) => Err(Refusal::ShortAnswer(needed)),
+    }
+}
+
+/// Puts a text of which nothing is to be stored at the front of the buffer, into which it fits.
+pub(crate) fn put_short(text: &[u8], answer: &mut [u8]) -> Lengths
+    requires { length text.now ≤ length answer.old }
+    ensures { IsPut [] text.now answer.old answer.new result }
+{
+    answer[..text.len()].copy_from_slice(text);
+    Lengths {
+        stored: 0,
+        used: text.len(),
+    }
+}

@@ -1,0 +1,26 @@
+//! Nodes and tasks as a caller in C or Ada has them: requests as bytes in, answers as bytes out. The
+//! caller keeps the device and sends the packets.
+//!
+//! In reading order:
+//! - `refusal`: why a request is refused
+//! - `request`: what a caller asks of a node, as bytes
+//! - `buffer`: answers that are put into a caller's buffer
+//! - `opening`: a node that is opened over a caller's bytes
+//! - `node`: a node that answers requests
+//! - `task_request`: what a caller asks of a task, as bytes
+//! - `task`: a task that answers requests
+#![tactic(auto)]
+
+mod buffer;
+mod node;
+mod opening;
+mod refusal;
+mod request;
+mod task;
+mod task_request;
+
+pub use buffer::Lengths;
+pub use node::{Node, STEP_BYTES};
+pub use opening::Opened;
+pub use refusal::Refusal;
+pub use task::{TASK_BYTES, Task};

@@ -1,0 +1,75 @@
+//! A node that is opened over a caller's bytes.
+
+ghost use Rattle.std.specs.Prelude.{◌≡◌, ◌≤◌, IfOk, IfErr};
+ghost use Rattle.rp_base.specs.Config.{IsRightConfig};
+ghost use Rattle.rp_base.specs.declared.fault.Fault.TheVariants as faults;
+ghost use Rattle.rp_store.specs.Disk.{disk_of};
+ghost use Rattle.rp_requests.specs.Opening.{IsOpenedNode};
+ghost use Rattle.rp_requests.specs.declared.refusal.Refusal.TheVariants as refusals;
+
+use crate::node::Node;
+use crate::refusal::Refusal;
+use rp_base::{Config, Fault, NodeId};
+use rp_machine::Machine;
+use rp_replica::Replica;
+use rp_store::{Device, MemDevice};
+use std::alloc::Global;
+
+/// What opening a node gives.
+#[derive(Drop)]
+pub struct Opened<M: Machine> {
+    pub node: Node<M>,
+    /// How many records the device holds.
+    pub records: usize,
+    /// How many bytes of the device are whole records: the caller truncates what is after them.
+    pub kept: usize,
+}
+
+impl<M: Machine> Node<M> {
+    /// Opens a node over the bytes of its device, which are copied: it runs by the whole records that
+    /// they begin with. Refused with `OutOfMemory`.
+    pub fn open(
+        alloc: Global,
+        node: NodeId,
+        config: Config,
+        program: &M::Program,
+        bytes: &[u8],
+    ) -> Result<Opened<M>, Refusal>
+        requires config { IsRightConfig config }
+        requires node { node ≤ config.nodes }
+        // claim (ok): A node by handle is opened by the records that its device's bytes begin with, and by
+        //   nothing else
+        ensures ok { IfOk result (λ opened. IsOpenedNode node config (M.begin program.now)
+            bytes.now opened.node opened.records opened.kept) }
+        // claim (err): A node by handle is not opened only if memory ran out
+        ensures err { IfErr result (λ refusal. refusal ≡ refusals.Fault faults.OutOfMemory) }
+    {
+        let device = device_of(alloc, bytes)?;
+        match Replica::<M, MemDevice>::open(alloc, node, config, program, device) {
+            Ok(opening) => {
+                let records = opening.records as usize;
+                let kept = opening.replica.stored() as usize;
+                Ok(Opened {
+                    node: Node::new(alloc, opening.replica),
+                    records,
+                    kept,
+                })
+            }
+            // A device in memory does not fail.
+            Err(_) => Err(Refusal::Fault(Fault::OutOfMemory)),
+        }
+    }
+}
+
+/// A device that holds the bytes, all of them stable.
+fn device_of(alloc: Global, bytes: &[u8]) -> Result<MemDevice, Refusal>
+    ensures ok { IfOk result (λ device. (disk_of device).contents ≡ bytes.now) }
+    ensures err { IfErr result (λ refusal. refusal ≡ refusals.Fault faults.OutOfMemory) }
+{
+    let mut device = MemDevice::new(alloc);
+    // It does not fail.
+    if device.append(bytes).is_err() || device.sync().is_err() {
+        return Err(Refusal::Fault(Fault::OutOfMemory));
+    }
+    Ok(device)
+}

@@ -1,0 +1,125 @@
+//! What a caller asks of a node, as bytes: one that says what it is, and its operands, numbers in
+//! big-endian order.
+
+ghost use Rattle.std.specs.Prelude.{◌≡◌, ◌∷◌, [], Some, None, IfSome, IfNone, option_map};
+ghost use Rattle.std.specs.Int.{w16, from_be_bytes};
+ghost use Rattle.rp_base.specs.Number.{IsPosition};
+ghost use Rattle.rp_requests.specs.Requests.{asked, asked_of, lead_asked, interrupt_asked, tick_asked, report_asked, range_asked, IsRightRequest};
+
+use rp_base::{Position, PositionRange};
+use rp_replica::Input;
+
+/// What a caller asks of a node.
+#[derive(Clone, Copy, Debug)]
+pub(crate) enum Request<'a> {
+    /// A step.
+    Step(Input<'a>),
+    /// How many actions it has applied.
+    Applied,
+    /// Lines that show the state of its objects.
+    Image,
+    /// The answer of the last step that was made.
+    LastAnswer,
+}
+
+/// The request that the bytes are, or `None`.
+#[tactic(auto, unfolding(crate::specs::Requests::asked_of, crate::specs::Requests::asked_by))]
+pub(crate) fn request_of(bytes: &[u8]) -> Option<Request<'_>>
+    ensures asked { option_map asked result ≡ asked_of bytes.now }
+    ensures right { IfSome result IsRightRequest }
+{
+    let (kind, operands) = bytes.split_first()?;
+    match *kind {
+        1 => Some(Request::Step(Input::Receive(operands))),
+        2 => lead_of(operands),
+        3 => interrupt_of(operands),
+        4 => tick_of(operands),
+        5 => report_of(operands),
+        6 => range_of(operands),
+        16 if operands.is_empty() => Some(Request::Applied),
+        17 if operands.is_empty() => Some(Request::Image),
+        18 if operands.is_empty() => Some(Request::LastAnswer),
+        _ => None,
+    }
+}
+
+/// The word to lead, at a position of two bytes or at the least free one.
+fn lead_of(operands: &[u8]) -> Option<Request<'static>>
+    ensures asked { option_map asked result ≡ lead_asked operands.now }
+    ensures right { IfSome result IsRightRequest }
+{
+    match operands {
+        [] => Some(Request::Step(Input::Lead(None))),
+        [high, low] => {
+            let position = position_of(*high, *low)?;
+            Some(Request::Step(Input::Lead(Some(position))))
+        }
+        _ => None,
+    }
+}
+
+/// An interrupt: its source, 1 to 8, and the number of its occurrence, four bytes and from 1.
+fn interrupt_of(operands: &[u8]) -> Option<Request<'static>>
+    ensures asked { option_map asked result ≡ interrupt_asked operands.now }
+    ensures right { IfSome result IsRightRequest }
+{
+    let [source, a, b, c, d] = operands else {
+        return None;
+    };
+    let occurrence = u32::from_be_bytes([*a, *b, *c, *d]);
+    if *source < 1 || *source > 8 || occurrence < 1 {
+        return None;
+    }
+    Some(Request::Step(Input::Interrupt {
+        source: *source,
+        occurrence,
+    }))
+}
+
+/// A tick: the clock, four bytes.
+fn tick_of(operands: &[u8]) -> Option<Request<'static>>
+    ensures asked { option_map asked result ≡ tick_asked operands.now }
+    ensures right { IfSome result IsRightRequest }
+{
+    let [a, b, c, d] = operands else {
+        return None;
+    };
+    let now = u32::from_be_bytes([*a, *b, *c, *d]);
+    Some(Request::Step(Input::Tick { now }))
+}
+
+/// The wish for a report: the position from which on, two bytes.
+fn report_of(operands: &[u8]) -> Option<Request<'static>>
+    ensures asked { option_map asked result ≡ report_asked operands.now }
+    ensures right { IfSome result IsRightRequest }
+{
+    let [high, low] = operands else {
+        return None;
+    };
+    let first = position_of(*high, *low)?;
+    Some(Request::Step(Input::Report(first)))
+}
+
+/// The word to lead in a range: its first position, two bytes, and how many it has, one byte.
+fn range_of(operands: &[u8]) -> Option<Request<'static>>
+    ensures asked { option_map asked result ≡ range_asked operands.now }
+    ensures right { IfSome result IsRightRequest }
+{
+    let [high, low, count] = operands else {
+        return None;
+    };
+    let first = position_of(*high, *low)?;
+    match PositionRange::new(first, *count) {
+        Ok(range) => Some(Request::Step(Input::LeadRange(range))),
+        Err(_) => None,
+    }
+}
+
+/// The position of these two bytes.
+fn position_of(high: u8, low: u8) -> Option<Position>
+    ensures some { IfSome result (λ position. position ≡ from_be_bytes w16 (high ∷ low ∷ [])) }
+    ensures right { IfSome result IsPosition }
+    ensures none { IfNone result (¬ IsPosition (from_be_bytes w16 (high ∷ low ∷ []))) }
+{
+    Position::new(u16::from_be_bytes([high, low]))
+}

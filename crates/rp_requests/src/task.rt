@@ -1,0 +1,228 @@
+//! A task that answers requests.
+
+ghost use Rattle.std.specs.Prelude.{◌≡◌, ◌⊎◌, ◌≤◌, [], ◌∷◌, length, Some, None, IfOk, IfErr};
+ghost use Rattle.rp_base.specs.Action.{IsIndex, IsRight, IsRightOperation};
+ghost use Rattle.rp_base.specs.Calls.{next_call};
+ghost use Rattle.rp_base.specs.declared.fault.Fault.TheVariants as faults;
+ghost use Rattle.rp_base.specs.Number.{IsTask};
+ghost use Rattle.rp_codec.specs.Message.{IsCallOf};
+ghost use Rattle.rp_codec.specs.Text.{text_of, reply_text};
+ghost use Rattle.rp_codec.specs.declared.packet.Party.TheVariants.{Task as TaskParty};
+ghost use Rattle.rp_tasks.specs.Calls.{no_calls};
+ghost use Rattle.rp_requests.specs.Buffers.{IsPut};
+ghost use Rattle.rp_requests.specs.TaskRequests.{task_asked, task_asked_of, IsRightTaskRequest, MakeCall, TakePacket};
+ghost use Rattle.rp_requests.specs.Tasks.{IsShort, TaskDoes, again_text, call_packet, is_task, once_taken, reply_taken, taken_text};
+ghost use Rattle.rp_requests.specs.declared.refusal.Refusal.TheVariants as refusals;
+
+use crate::buffer::{Lengths, put_short};
+use crate::refusal::Refusal;
+use crate::task_request::{TaskRequest, task_request_of};
+use rp_base::{Action, Fault, NodeId, Operation, Reply, TaskId};
+use rp_codec::{Body, Packet, Party, decode, text_of_packet};
+use rp_tasks::Stub;
+use std::alloc::Global;
+use std::marker::Model;
+
+/// The fewest bytes of a buffer for the answer of a task.
+pub const TASK_BYTES: usize = 40;
+
+/// A task, by its number and the calls that it made.
+#[derive(Drop)]
+pub struct Task {
+    task: TaskId,
+    stub: Stub,
+}
+
+impl Model for Task {
+    ghost use Rattle.std.specs.Prelude.{◌≡◌, IfSome};
+    ghost use Rattle.rp_codec.specs.Message.{IsCallBy};
+    ghost use Rattle.rp_tasks.specs.Calls.{Calls};
+
+    ghost Value = { Calls };
+
+    ghost view = { λ t. t.stub };
+
+    ghost invariant = { λ t. (t.stub.task ≡ t.task)
+        × IfSome t.stub.outstanding (IsCallBy t.task) };
+}
+
+impl Task {
+    /// The task of this number, 1 to 8, which has made no call; `BadConfig` for another number.
+    pub fn new(number: u8) -> Result<Self, Refusal>
+        ensures ok { IfOk result (λ task. task ≡ no_calls number) }
+        ensures err { IfErr result (λ refusal. (refusal ≡ refusals.Fault faults.BadConfig)
+            × (¬ IsTask number)) }
+    {
+        match TaskId::new(number) {
+            Some(task) => Ok(Task {
+                task,
+                stub: Stub::new(task),
+            }),
+            None => Err(Refusal::Fault(Fault::BadConfig)),
+        }
+    }
+
+    /// Answers a request: the packet of a call to send, or the reply that a packet carries; the buffer
+    /// has `TASK_BYTES` bytes at least. Refused with `ShortAnswer` where the buffer is too short, with
+    /// `BadRequest` where the bytes are no request, with `TaskBusy` or `NumbersSpent` where no call
+    /// may be made, with `BadPacket` or `OutOfMemory` where a packet is not read.
+    pub fn call(
+        &mut self,
+        alloc: Global,
+        request: &[u8],
+        answer: &mut [u8],
+    ) -> Result<Lengths, Refusal>
+        // claim: A task by handle makes of each request what its bytes ask for, as its stub does: a
+        //   call's packet, the outstanding call's packet again, or the reply to it; what is refused
+        //   changes nothing
+        ensures { IsShort self.old self.new answer.old answer.new result
+            ⊎ TaskDoes (task_asked_of request.now) self.old self.new answer.old answer.new result }
+    {
+        if answer.len() < TASK_BYTES {
+            return Err(Refusal::ShortAnswer(TASK_BYTES));
+        }
+        match task_request_of(request) {
+            Some(request) => self.serve(alloc, &request, answer),
+            None => Err(Refusal::BadRequest),
+        }
+    }
+
+    /// Answers a request that was read.
+    fn serve(
+        &mut self,
+        alloc: Global,
+        request: &TaskRequest<'_>,
+        answer: &mut [u8],
+    ) -> Result<Lengths, Refusal>
+        requires right { IsRightTaskRequest request.now }
+        requires room { 40 ≤ length answer.old }
+        ensures { TaskDoes (Some (task_asked request.now))
+            self.old self.new answer.old answer.new result }
+    {
+        match request {
+            TaskRequest::Call {
+                node,
+                object,
+                operation,
+                arg,
+            } => self.make(*node, *object, *operation, *arg, answer),
+            TaskRequest::Again(node) => Ok(self.put_again(*node, answer)),
+            TaskRequest::Receive(packet) => self.receive(alloc, packet, answer),
+        }
+    }
+
+    /// Makes the next call, and puts its packet.
+    fn make(
+        &mut self,
+        node: NodeId,
+        object: u8,
+        operation: Operation,
+        arg: i64,
+        answer: &mut [u8],
+    ) -> Result<Lengths, Refusal>
+        requires object { IsIndex object }
+        requires operation { IsRightOperation operation }
+        requires room { 40 ≤ length answer.old }
+        ensures { TaskDoes (Some (MakeCall node object operation arg))
+            self.old self.new answer.old answer.new result }
+    {
+        match self.stub.call(object, operation, arg) {
+            Ok(action) => Ok(put_call(self.task, node, action, answer)),
+            Err(fault) => Err(Refusal::Fault(fault)),
+        }
+    }
+
+    /// Puts the packet of the outstanding call to a node, or nothing.
+    fn put_again(&self, node: NodeId, answer: &mut [u8]) -> Lengths
+        requires room { 40 ≤ length answer.old }
+        ensures { IsPut [] (again_text self.now.task node self.now.outstanding)
+            answer.old answer.new result }
+    {
+        match self.stub.retry() {
+            Some(action) => put_call(self.task, node, action, answer),
+            None => put_short(&[], answer),
+        }
+    }
+
+    /// Takes the reply of a packet, where it is to the outstanding call; otherwise the answer is empty.
+    fn receive(
+        &mut self,
+        alloc: Global,
+        bytes: &[u8],
+        answer: &mut [u8],
+    ) -> Result<Lengths, Refusal>
+        requires room { 40 ≤ length answer.old }
+        ensures { TaskDoes (Some (TakePacket bytes.now))
+            self.old self.new answer.old answer.new result }
+    {
+        match decode(alloc, bytes) {
+            Ok(Ok(packet)) => Ok(self.take(&packet, answer)),
+            Ok(Err(reason)) => Err(Refusal::Fault(Fault::BadPacket(reason))),
+            Err(_) => Err(Refusal::Fault(Fault::OutOfMemory)),
+        }
+    }
+
+    /// Takes the reply of a packet, where it is to the outstanding call; otherwise the answer is empty.
+    fn take(&mut self, packet: &Packet, answer: &mut [u8]) -> Lengths
+        requires room { 40 ≤ length answer.old }
+        ensures taken { self.new ≡ once_taken self.old (reply_taken self.old packet.now) }
+        ensures put { IsPut [] (taken_text (reply_taken self.old packet.now))
+            answer.old answer.new result }
+    {
+        if !self.is_to(packet.to()) {
+            return put_short(&[], answer);
+        }
+        let Body::Reply { number, reply } = *packet.body() else {
+            return put_short(&[], answer);
+        };
+        if !self.stub.reply(number, reply) {
+            return put_short(&[], answer);
+        }
+        put_reply(reply, answer)
+    }
+
+    /// Whether the party is the task.
+    fn is_to(&self, party: Party) -> bool
+        ensures { result ≡ is_task self.now.task party }
+    {
+        match party {
+            Party::Task(task) => task.get() == self.task.get(),
+            Party::Node(_) | Party::Audit => false,
+        }
+    }
+}
+
+/// Puts the packet of a call of the task to a node.
+fn put_call(task: TaskId, node: NodeId, action: Action, answer: &mut [u8]) -> Lengths
+    requires own { IsCallOf (TaskParty task) action }
+    requires right { IsRight action }
+    requires room { 40 ≤ length answer.old }
+    ensures { IsPut [] (text_of (call_packet task node action)) answer.old answer.new result }
+{
+    let packet = Packet::new(Party::Task(task), Party::Node(node), Body::Call { action });
+    put_short(text_of_packet(&packet).as_slice(), answer)
+}
+
+/// Puts a reply: 1 and a value of eight bytes, 2 and a truth of one, or 3 to 5 alone.
+fn put_reply(reply: Reply, answer: &mut [u8]) -> Lengths
+    requires room { 40 ≤ length answer.old }
+    ensures { IsPut [] (reply_text reply) answer.old answer.new result }
+{
+    match reply {
+        Reply::Value(value) => put_tagged(1, &value.to_be_bytes(), answer),
+        Reply::Truth(truth) => put_short(&[2, u8::from(truth)], answer),
+        Reply::ConstraintError => put_short(&[3], answer),
+        Reply::ProgramError => put_short(&[4], answer),
+        Reply::NoSuchOperation => put_short(&[5], answer),
+    }
+}
+
+/// Puts a byte and then eight others.
+fn put_tagged(tag: u8, bytes: &[u8; 8], answer: &mut [u8]) -> Lengths
+    requires room { 40 ≤ length answer.old }
+    ensures { IsPut [] (tag ∷ bytes.now) answer.old answer.new result }
+{
+    answer[0] = tag;
+    answer[1..9].copy_from_slice(bytes);
+    Lengths { stored: 0, used: 9 }
+}

@@ -62,9 +62,9 @@ pub fn run_deck<W: Write>(
     writer: &mut W,
 ) -> Result<(), Fault>
     requires { IsRightDeck deck }
-    // claim: What a deck's run writes is the stated output of the deck, with its packets if this is
-    //   asked for; if a fault ends the run, `OutOfMemory`, or `Io` if the writer fails, it is a
-    //   prefix of that
+    // claim (output, fault): What a deck's run writes is the stated output of the deck, with its
+    //   packets if this is asked for; if a fault ends the run, it is a prefix of that. The fault is
+    //   `OutOfMemory`, or `Io` if the writer fails, and no other
     ensures output { Writes (W.contents writer.old) (W.contents writer.new)
         (output_of traced deck) result }
     // claim (headline): What a deck's run writes is the texts of its items, each of one of four

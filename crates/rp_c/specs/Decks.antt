@@ -5,8 +5,8 @@ use Rattle.rp_base.specs.declared.fault.DeckReason.{DeckReason}
 use Rattle.rp_deck.specs.Meaning.{meaning_of}
 use Rattle.rp_deck.specs.declared.deck.Mode.TheVariants.{Script}
 use Rattle.rp_script.specs.Agreeing.{ScriptPrints}
-use Rattle.rp_script.specs.FaultMessage.{fault_message_of, with_line_feed}
-use Rattle.rp_script.specs.Stream.{most_bytes}
+use Rattle.rp_output.specs.FaultMessage.{fault_message_of, with_line_feed}
+use Rattle.rp_script.specs.Given.{most_bytes}
 use Rattle.rp_c.specs.declared.status.Status.{Status}
 use Rattle.rp_c.specs.declared.status.Status.TheVariants.{Done, OutOfMemory, BadPacket, BadDeck, Io, ShortAnswer}
 

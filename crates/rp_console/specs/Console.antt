@@ -17,7 +17,7 @@ use Rattle.rp_script.specs.Figures.{figures_line_of}
 use Rattle.rp_script.specs.Given.{IsMeant}
 use Rattle.rp_script.specs.LiveRun.{LiveBegins, LivePrints}
 use Rattle.rp_console.specs.Status.{status_after, status_of}
-use Rattle.rp_script.specs.FaultMessage.{fault_message_of, with_line_feed}
+use Rattle.rp_output.specs.FaultMessage.{fault_message_of, with_line_feed}
 use Rattle.rp_console.specs.declared.args.Args.{Args}
 use Rattle.rp_console.specs.declared.args.Args.TheVariants.{Script, Live}
 use Rattle.rp_console.specs.declared.console.Ending.{Ending}

@@ -7,7 +7,7 @@ ghost use Rattle.rp_console.specs.Console.{FollowsWords, HasBegun, IsUnread, Pri
 ghost use Rattle.rp_script.specs.Faults.{IsBadDeck, IsProgramFault};
 ghost use Rattle.rp_console.specs.Status.{status_after, status_of};
 ghost use Rattle.rp_script.specs.Given.{IsMeant};
-ghost use Rattle.rp_script.specs.FaultMessage.{fault_message_of, with_line_feed};
+ghost use Rattle.rp_output.specs.FaultMessage.{fault_message_of, with_line_feed};
 
 use crate::args::{Args, read_args, unread_words, words_status};
 use crate::status::status;

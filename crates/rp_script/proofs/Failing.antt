@@ -4,7 +4,7 @@ use Rattle.std.specs.Prelude.{OnErr}
 use Rattle.rp_base.specs.declared.fault.Fault.{Fault}
 use Rattle.rp_base.specs.declared.fault.Fault.TheVariants.{OutOfMemory, Device, Failed, BadPacket, NotRunning, BallotsSpent, LogFull, NoSuchMessage, TaskBusy, NumbersSpent, BadDeck, BadConfig, Io}
 use Rattle.rp_deck.specs.declared.deck.Mode.{Mode}
-use Rattle.rp_script.specs.Faults.{IsRunFault}
+use Rattle.rp_output.specs.Faults.{IsRunFault}
 use Rattle.rp_script.specs.Given.{IsMeant}
 
 -- what is so is so on a failure

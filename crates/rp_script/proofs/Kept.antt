@@ -5,9 +5,11 @@ use Rattle.rp_deck.specs.declared.deck.Deck.{Deck}
 use Rattle.rp_deck_declarations.specs.declared.deck_program.DeckProgram.{DeckProgram}
 use Rattle.rp_deck_declarations.specs.declared.deck_program.DeckProgram.TheVariants.{Tally, Objects}
 use Rattle.rp_deck.specs.declared.deck.Line.{Line}
-use Rattle.rp_script.specs.Agreeing.{RunPrints, PrintsAt}
-use Rattle.rp_script.specs.Output.{RunSetting, tally_run, objects_run, drain_limit}
-use Rattle.rp_script.proofs.Writing.{appends_kept}
+use Rattle.rp_run.specs.Agreeing.{RunPrints}
+use Rattle.rp_script.specs.Agreeing.{PrintsAt}
+use Rattle.rp_run.specs.Output.{RunSetting}
+use Rattle.rp_script.specs.Output.{tally_run, objects_run, drain_limit}
+use Rattle.rp_output.proofs.Writing.{appends_kept}
 
 run_kept : {S : Type 0} (s : RunSetting S) (most : ℕ) (lines : List Line) (a b c : Option (List ℕ)) → RunPrints s most lines a b → Keeps b c → RunPrints s most lines a c
 run_kept s most lines a b c p kept = record { written = appends_kept a b c _ p.written kept; printed = p.printed; agrees = p.agrees }

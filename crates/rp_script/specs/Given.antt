@@ -9,6 +9,10 @@ use Rattle.rp_deck.specs.Meaning.{DeckText, meaning_of}
 use Rattle.rp_deck.specs.declared.deck.Deck.{Deck}
 use Rattle.rp_deck.specs.declared.deck.Mode.{Mode}
 
+-- how many bytes a deck has at most
+abbrev pub most_bytes : ℕ
+most_bytes = 1048576
+
 -- Some bytes mean this in a mode, and they are all that the reader gives, where it is known what it gives.
 pub record Means (mode : Mode) (given : Option (List ℕ)) (meaning : Result DeckText BadLine) : Type 0 where
   pub bytes : List ℕ

@@ -1,15 +1,7 @@
 pub mod Given
-pub mod Items
-pub mod Settled
 pub mod Output
-pub mod PartyText
-pub mod Printed
-pub mod Trace
-pub mod Runs
 pub mod Agreeing
 pub mod LiveRun
 pub mod LiveOutput
 pub mod Figures
-pub mod FaultMessage
 pub mod Faults
-pub mod Stream

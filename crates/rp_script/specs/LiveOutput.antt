@@ -2,9 +2,9 @@
 use Rattle.std.specs.Prelude.{ℕ, suc, Bool, List, [], ◌∷◌, ◌++◌, flat_map, if◌then◌else◌}
 use Rattle.rp_base.specs.declared.reply.Answer.{Answer}
 use Rattle.rp_live.specs.declared.run.LiveOutcome.{LiveOutcome}
-use Rattle.rp_script.specs.Printed.{reply_line_of, applied_line_of, agreed_line}
-use Rattle.rp_script.specs.FaultMessage.{with_line_feed}
-use Rattle.rp_script.specs.Trace.{task_name}
+use Rattle.rp_output.specs.Printed.{reply_line_of, applied_line_of, agreed_line}
+use Rattle.rp_output.specs.FaultMessage.{with_line_feed}
+use Rattle.rp_output.specs.Trace.{task_name}
 
 -- a reply, under the name of its task
 abbrev pub reply_text : List (List ℕ) → Answer → List ℕ

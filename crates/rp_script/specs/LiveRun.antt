@@ -11,8 +11,8 @@ use Rattle.rp_live.specs.declared.figures.Figures.{Figures}
 use Rattle.rp_live.specs.declared.run.LiveOutcome.{LiveOutcome}
 use Rattle.rp_script.specs.Given.{MeansDeck}
 use Rattle.rp_script.specs.LiveOutput.{outcome_text}
-use Rattle.rp_script.specs.Output.{names_of}
-use Rattle.rp_script.specs.Stream.{Begins}
+use Rattle.rp_run.specs.Output.{names_of}
+use Rattle.rp_output.specs.Stream.{Begins}
 use Rattle.rp_deck.specs.Live.{IsDeckFor}
 use Rattle.rp_deck.specs.declared.deck.Command.{Command}
 use Rattle.rp_deck.specs.declared.deck.Command.TheVariants.{Take, Lose, Drain, Show}

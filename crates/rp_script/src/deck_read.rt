@@ -1,15 +1,24 @@
 //! Reads a deck from a reader.
 
-ghost use Rattle.std.specs.Prelude.{◌≡◌, IfErr, IfOk};
+ghost use Rattle.std.specs.Prelude.{◌≡◌, ◌≤◌, length, IfErr, IfOk, IfSome};
+ghost use Rattle.rp_output.specs.Stream.{IsReadFault};
 ghost use Rattle.rp_script.specs.Faults.{IsProgramFault};
-ghost use Rattle.rp_script.specs.Given.{IsMeant, MeansDeck};
+ghost use Rattle.rp_script.specs.Given.{IsMeant, MeansDeck, most_bytes};
 ghost use Rattle.rp_deck.specs.Live.{IsDeckFor};
 
-use crate::stream::read_whole;
 use rp_base::Fault;
 use rp_deck::{Deck, Mode, read_deck};
 use std::alloc::Global;
 use std::io::Read;
+
+/// The most bytes of a deck.
+pub const MOST_BYTES: usize = 1_048_576;
+
+/// The most reads that a deck takes.
+const MOST_READS: u32 = 2_097_152;
+
+/// How many bytes are asked for at a time.
+const CHUNK: usize = 4096;
 
 /// Reads the deck that the reader's bytes mean in a mode. Where they mean none, the fault has the
 /// first bad line and the first reason on it.
@@ -24,4 +33,29 @@ pub fn read_given<R: Read>(alloc: Global, reader: &mut R, mode: Mode) -> Result<
 {
     let text = read_whole(alloc, reader)?;
     read_deck(alloc, &text, mode)
+}
+
+/// Reads all that the reader gives. `Io` where a read fails, where there are more than 1,048,576
+/// bytes, and where the end does not come within 2,097,152 reads.
+pub fn read_whole<R: Read>(alloc: Global, reader: &mut R) -> Result<Vec<u8>, Fault>
+    ensures whole { IfOk result (λ bytes. IfSome (R.remaining reader.old) (λ all. bytes.items
+        ≡ all)) }
+    ensures size { IfOk result (λ bytes. length bytes.items ≤ most_bytes) }
+    ensures fault { IfErr result IsReadFault }
+{
+    let mut bytes = Vec::new(alloc);
+    for _ in 0..MOST_READS {
+        let mut chunk = [0; CHUNK];
+        let Ok(count) = reader.read(&mut chunk) else {
+            return Err(Fault::Io);
+        };
+        if count == 0 {
+            return Ok(bytes);
+        }
+        if count > MOST_BYTES - bytes.len() {
+            return Err(Fault::Io);
+        }
+        bytes.extend_from_slice(&chunk[..count])?;
+    }
+    Err(Fault::Io)
 }

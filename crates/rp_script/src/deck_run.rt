@@ -1,22 +1,21 @@
 //! Runs the script of a deck.
 
-ghost use Rattle.std.specs.Prelude.{◌≡◌, ◌≤◌, [], length, All, IfOk, IfErr, OnOk, OnErr};
+ghost use Rattle.std.specs.Prelude.{◌≡◌, [], length, All, IfOk, IfErr, OnOk, OnErr};
 ghost use Rattle.rp_script.specs.Agreeing.{DeckPrints, ScriptBegins, ScriptPrints};
 ghost use Rattle.rp_deck.specs.Deck.{IsRightDeck};
-ghost use Rattle.rp_script.specs.Faults.{IsBadDeck, IsRunFault, IsProgramFault};
+ghost use Rattle.rp_script.specs.Faults.{IsBadDeck, IsProgramFault};
+ghost use Rattle.rp_output.specs.Faults.{IsRunFault};
 ghost use Rattle.rp_script.specs.Given.{IsMeant};
 ghost use Rattle.rp_script.specs.Output.{output_of};
-ghost use Rattle.rp_script.specs.Stream.{Writes};
+ghost use Rattle.rp_output.specs.Stream.{Writes};
 
-use crate::agreeing::scripts_agree;
 use crate::deck_read::read_given;
-use crate::options::RunOptions;
-use crate::run::run_lines;
-use crate::stream::write_out;
 use rp_base::Fault;
 use rp_deck::{Deck, DeckProgram, Mode};
 use rp_machine::Tally;
 use rp_object::Objects;
+use rp_output::write_out;
+use rp_run::{RunOptions, run_lines, scripts_agree};
 use rp_store::MemDevice;
 use std::alloc::{AllocError, Global};
 use std::io::{Read, Write};
@@ -63,7 +62,9 @@ pub fn run_deck<W: Write>(
     writer: &mut W,
 ) -> Result<(), Fault>
     requires { IsRightDeck deck }
-    // claim as run_lines
+    // claim (output, fault): What a deck's run writes is the stated output of the deck, with its
+    //   packets if this is asked for; if a fault ends the run, it is a prefix of that. The fault is
+    //   `OutOfMemory`, or `Io` if the writer fails, and no other
     ensures output { Writes (W.contents writer.old) (W.contents writer.new)
         (output_of traced deck) result }
     // claim (headline): What a deck's run writes is the texts of its items, each of one of four

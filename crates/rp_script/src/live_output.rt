@@ -1,18 +1,17 @@
 //! Prints the result of a run in threads.
 
-ghost use Rattle.std.specs.Prelude.{◌≡◌, ◌≤◌, length, IfErr};
-ghost use Rattle.rp_script.specs.Faults.{IsRunFault};
+ghost use Rattle.std.specs.Prelude.{◌≤◌, length, IfErr};
+ghost use Rattle.rp_output.specs.Faults.{IsRunFault};
 ghost use Rattle.rp_script.specs.LiveOutput.{replies_text, node_text, applied_text, agreed_text, outcome_text};
-ghost use Rattle.rp_script.specs.Output.{names_of};
-ghost use Rattle.rp_script.specs.Stream.{Writes};
+ghost use Rattle.rp_run.specs.Output.{names_of};
+ghost use Rattle.rp_output.specs.Stream.{Writes};
 
-use crate::effects::print_reply;
-use crate::printed::{AgreedLine, AppliedLine};
-use crate::stream::{print, write_out};
 use indexmap::IndexMap;
 use rp_base::{Answer, Fault, NodeId};
 use rp_deck::Task;
 use rp_live::LiveOutcome;
+use rp_output::{AgreedLine, AppliedLine, print, write_out};
+use rp_run::print_reply;
 use std::alloc::Global;
 use std::io::Write;
 

@@ -2,7 +2,8 @@
 
 ghost use Rattle.std.specs.Prelude.{◌≡◌, All, IfErr, IfOk, OnErr};
 ghost use Rattle.std.specs.Arc.{arc_value};
-ghost use Rattle.rp_script.specs.Faults.{IsBadDeck, IsProgramFault, IsRunFault};
+ghost use Rattle.rp_script.specs.Faults.{IsBadDeck, IsProgramFault};
+ghost use Rattle.rp_output.specs.Faults.{IsRunFault};
 ghost use Rattle.rp_script.specs.Given.{IsMeant};
 ghost use Rattle.rp_script.specs.LiveRun.{LiveBegins, LivePrints, IsOutcome, event_of, events_of};
 ghost use Rattle.rp_base.specs.Config.{IsRightConfig};

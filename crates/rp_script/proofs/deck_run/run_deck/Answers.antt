@@ -2,8 +2,8 @@
 use Rattle.std.proofs.Common.{OnOk, sym, ap, subst}
 use Rattle.rp_script.specs.Agreeing.{PrintsAt}
 use Rattle.rp_script.specs.Output.{output_by, tally_run, objects_run, drain_limit}
-use Rattle.rp_script.proofs.Printing.{prints_if}
-use Rattle.rp_script.proofs.Writing.{writes_nothing, writes_same}
+use Rattle.rp_run.proofs.Printing.{prints_if}
+use Rattle.rp_output.proofs.Writing.{writes_nothing, writes_same}
 use Rattle.rp_script.proofs.deck_run.run_deck.Goals as goal
 
 pub returns-in_err-devices-clause-output : goal.returns-in_err-devices-clause-output

@@ -6,7 +6,7 @@ use Rattle.rp_script.specs.Agreeing.{ScriptPrints}
 use Rattle.rp_script.specs.Output.{output_of}
 use Rattle.rp_script.proofs.Failing.{on_err}
 use Rattle.rp_script.proofs.Kept.{deck_kept}
-use Rattle.rp_script.proofs.Writing.{appends_kept, begins_all}
+use Rattle.rp_output.proofs.Writing.{appends_kept, begins_all}
 use Rattle.rp_script.proofs.deck_run.run_script.Goals as goal
 
 pub returns-clause-output : goal.returns-clause-output

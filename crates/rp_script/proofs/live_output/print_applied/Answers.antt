@@ -3,9 +3,9 @@ use Rattle.std.proofs.Common.{◌+◌, List, ℕ, get_or, rules, arith, sym, sub
 use Rattle.std.specs.Io.KnownBytes.{Appends}
 use Rattle.std.proofs.KnownBytes.{Appends-nil}
 use Rattle.rp_script.specs.LiveOutput.{node_text}
-use Rattle.rp_script.specs.Stream.{Begins}
+use Rattle.rp_output.specs.Stream.{Begins}
 use Rattle.rp_script.proofs.LivePrinting.{applied_next, applied_end}
-use Rattle.rp_script.proofs.Writing.{writes_failed, wrote_nothing, wrote_more, wrote_some, wrote_all}
+use Rattle.rp_output.proofs.Writing.{writes_failed, wrote_nothing, wrote_more, wrote_some, wrote_all}
 use Rattle.rp_script.proofs.live_output.print_applied.Goals as goal
 
 pub loop-count-init : goal.loop-count-init

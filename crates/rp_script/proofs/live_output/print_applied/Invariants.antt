@@ -1,6 +1,6 @@
 use Rattle.std.proofs.Common.{◌≡◌, ◌+◌, drop}
 use Rattle.rp_script.specs.LiveOutput.{applied_text}
-use Rattle.rp_script.specs.Stream.{WroteBefore}
+use Rattle.rp_output.specs.Stream.{WroteBefore}
 use Rattle.rp_script.proofs.live_output.print_applied.Given as goal
 
 -- the nodes so far are printed

@@ -1,8 +1,8 @@
 -- The replies, the nodes after them, and at the end that the logs agree.
 use Rattle.std.proofs.Common.{◌++◌}
 use Rattle.rp_script.specs.LiveOutput.{replies_text, applied_text, agreed_text}
-use Rattle.rp_script.specs.Output.{names_of}
-use Rattle.rp_script.proofs.Writing.{writes_failed, writes_after, begins_longer, begins_after}
+use Rattle.rp_run.specs.Output.{names_of}
+use Rattle.rp_output.proofs.Writing.{writes_failed, writes_after, begins_longer, begins_after}
 use Rattle.rp_script.proofs.live_output.print_outcome.Goals as goal
 
 pub returns-in_err-print_replies-clause-printed : goal.returns-in_err-print_replies-clause-printed

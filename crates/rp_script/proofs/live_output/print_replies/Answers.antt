@@ -2,9 +2,9 @@
 use Rattle.std.proofs.Common.{List, ℕ, arith, sym, subst}
 use Rattle.std.specs.Io.KnownBytes.{Appends}
 use Rattle.std.proofs.KnownBytes.{Appends-nil}
-use Rattle.rp_script.specs.Output.{names_of}
+use Rattle.rp_run.specs.Output.{names_of}
 use Rattle.rp_script.proofs.LivePrinting.{replies_next, replies_end}
-use Rattle.rp_script.proofs.Writing.{writes_failed, wrote_nothing, wrote_more, wrote_some, wrote_all}
+use Rattle.rp_output.proofs.Writing.{writes_failed, wrote_nothing, wrote_more, wrote_some, wrote_all}
 use Rattle.rp_script.proofs.live_output.print_replies.Goals as goal
 
 pub loop-reply-init : goal.loop-reply-init

@@ -1,7 +1,7 @@
 use Rattle.std.proofs.Common.{drop}
 use Rattle.rp_script.specs.LiveOutput.{replies_text}
-use Rattle.rp_script.specs.Output.{names_of}
-use Rattle.rp_script.specs.Stream.{WroteBefore}
+use Rattle.rp_run.specs.Output.{names_of}
+use Rattle.rp_output.specs.Stream.{WroteBefore}
 use Rattle.rp_script.proofs.live_output.print_replies.Given as goal
 
 -- the replies before this one are printed

@@ -1,7 +1,7 @@
 -- What was printed is kept.
 use Rattle.rp_script.specs.LiveOutput.{outcome_text}
-use Rattle.rp_script.specs.Output.{names_of}
-use Rattle.rp_script.proofs.Writing.{writes_failed, writes_kept}
+use Rattle.rp_run.specs.Output.{names_of}
+use Rattle.rp_output.proofs.Writing.{writes_failed, writes_kept}
 use Rattle.rp_script.proofs.live_output.write_outcome.Goals as goal
 
 pub returns-in_err-print_outcome-clause-printed : goal.returns-in_err-print_outcome-clause-printed

@@ -10,7 +10,7 @@ use Rattle.rp_script.specs.Faults.{IsProgramFault}
 use Rattle.rp_script.specs.Given.{IsMeant, MeansDeck}
 use Rattle.rp_script.specs.LiveOutput.{outcome_text}
 use Rattle.rp_script.specs.LiveRun.{IsLiveText, IsOutcome}
-use Rattle.rp_script.specs.Output.{names_of}
+use Rattle.rp_run.specs.Output.{names_of}
 use Rattle.rp_script.proofs.Failing.{meant_run}
 use Rattle.rp_script.proofs.live_run.run_live.Goals as goal
 

@@ -1,0 +1,2 @@
+mod StreamLemmas
+pub mod Writing

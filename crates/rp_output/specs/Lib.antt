@@ -1,0 +1,6 @@
+pub mod Printed
+pub mod PartyText
+pub mod Trace
+pub mod FaultMessage
+pub mod Faults
+pub mod Stream

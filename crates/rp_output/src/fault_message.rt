@@ -1,0 +1,80 @@
+//! What is printed of a fault.
+
+ghost use Rattle.std.specs.Prelude.{◌≡◌, ◌≤◌, ◌↔◌, IsTrue, OnOk, Some};
+ghost use Rattle.rp_base.specs.Fault.{code_of};
+ghost use Rattle.std.specs.Io.KnownBytes.{Appends};
+ghost use Rattle.rp_output.specs.FaultMessage.{reason_text_of, fault_message_of, with_line_feed};
+
+use rp_base::{DeckReason, Fault};
+use std::io::Write;
+use std::{fmt, io};
+
+/// Whether the fault refuses one step, after which a script goes on.
+pub fn is_refusal(fault: &Fault) -> bool
+    ensures { IsTrue result ↔ ((5 ≤ code_of fault.now) × (code_of fault.now ≤ 10)) }
+{
+    matches!(
+        fault,
+        Fault::NotRunning
+            | Fault::BallotsSpent
+            | Fault::LogFull
+            | Fault::NoSuchMessage
+            | Fault::TaskBusy
+            | Fault::NumbersSpent
+    )
+}
+
+/// Writes the line of a fault: where and why the deck is bad, or the fault's number and name.
+pub fn tell<W: Write>(fault: &Fault, writer: &mut W) -> io::Result<()>
+    ensures { OnOk result (Appends (W.contents writer.old) (W.contents writer.new)
+        (with_line_feed (fault_message_of fault.now))) }
+{
+    let line = FaultMessage { fault: *fault };
+    writeln!(writer, "{line}")
+}
+
+/// The words by which a reason is printed.
+pub fn reason_text(reason: DeckReason) -> &'static str
+    ensures { result.now ≡ reason_text_of reason }
+{
+    match reason {
+        DeckReason::NodesExpected => "nodes expected",
+        DeckReason::UnknownWord => "unknown word",
+        DeckReason::WrongNumberOfWords => "wrong number of words",
+        DeckReason::BadNumber => "bad number",
+        DeckReason::BadName => "bad name",
+        DeckReason::DuplicateName => "duplicate name",
+        DeckReason::UnknownName => "unknown name",
+        DeckReason::TooMany => "too many",
+        DeckReason::BadExpression => "bad expression",
+        DeckReason::TaskExpected => "task expected",
+        DeckReason::ObjectExpected => "object expected",
+        DeckReason::EndExpected => "end expected",
+        DeckReason::ScriptExpected => "script expected",
+        DeckReason::NotInLive => "not in live",
+    }
+}
+
+/// The line for a fault.
+#[derive(Clone, Copy, Debug, PartialEq, Eq)]
+pub struct FaultMessage {
+    pub fault: Fault,
+}
+
+impl fmt::Display for FaultMessage {
+    ghost output = { λ l. Some (fault_message_of l.fault) };
+
+    fn fmt<W: fmt::Write>(&self, f: &mut fmt::Formatter<W>) -> fmt::Result {
+        match self.fault {
+            Fault::BadDeck { line, reason } => {
+                let reason = reason_text(reason);
+                write!(f, "deck line {line}: {reason}")
+            }
+            fault => {
+                let code = fault.code();
+                let name = fault.name();
+                write!(f, "fault {code} {name}")
+            }
+        }
+    }
+}

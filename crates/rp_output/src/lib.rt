@@ -1,0 +1,21 @@
+//! The lines that a run prints, and how they are written.
+//!
+//! In reading order:
+//! - `printed`: the lines that a run prints
+//! - `trace`: the line of a trace for a packet
+//! - `fault_message`: what is printed of a fault
+//! - `stream`: writes what a run prints
+#![tactic(auto)]
+
+mod fault_message;
+mod printed;
+mod stream;
+mod trace;
+
+pub use fault_message::{FaultMessage, is_refusal, reason_text, tell};
+pub use printed::{
+    AgreedLine, AppliedLine, DrainLimitLine, FullLine, OpenedLine, RefusedLine, ReplyLine,
+    ReplyText, RunningLine, StoppedLine,
+};
+pub use stream::{print, write_out, write_whole};
+pub use trace::{BodyText, PartyText, TraceLine};

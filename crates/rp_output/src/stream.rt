@@ -1,0 +1,57 @@
+//! Writes what a run prints.
+
+ghost use Rattle.std.specs.Prelude.{◌++◌, [], ◌∷◌, IfSome, IfErr};
+ghost use Rattle.std.specs.Io.KnownBytes.{Keeps};
+ghost use Rattle.rp_output.specs.Faults.{IsRunFault};
+ghost use Rattle.rp_output.specs.Stream.{IsReadFault, IsWriteFault, Writes};
+
+use rp_base::Fault;
+use std::alloc::Global;
+use std::fmt::Display;
+use std::io::Write;
+
+/// Most lines have no more bytes than this, with their ends.
+const USUAL_LINE: usize = 80;
+
+/// Writes all bytes. `Io` where a write fails or takes nothing, and then a beginning of them is
+/// written.
+pub fn write_whole<W: Write>(writer: &mut W, bytes: &[u8]) -> Result<(), Fault>
+    ensures written { Writes (W.contents writer.old) (W.contents writer.new) bytes.now result }
+    ensures fault { IfErr result IsWriteFault }
+{
+    let mut written = 0;
+    while written < bytes.len() {
+        match writer.write(&bytes[written..]) {
+            Ok(0) => return Err(Fault::Io),
+            Ok(count) => written += count,
+            Err(_) => return Err(Fault::Io),
+        }
+    }
+    Ok(())
+}
+
+/// Lets out what was written and waits in a buffer of the writer. `Io` where that fails.
+pub fn write_out<W: Write>(writer: &mut W) -> Result<(), Fault>
+    ensures kept { Keeps (W.contents writer.old) (W.contents writer.new) }
+    ensures fault { IfErr result IsRunFault }
+{
+    match writer.flush() {
+        Ok(()) => Ok(()),
+        Err(_) => Err(Fault::Io),
+    }
+}
+
+/// Writes a line and its end.
+pub fn print<W: Write, D: Display + Drop>(
+    alloc: Global,
+    writer: &mut W,
+    line: D,
+) -> Result<(), Fault>
+    ensures printed { IfSome (D.output line) (λ text.
+        Writes (W.contents writer.old) (W.contents writer.new) (text ++ 10 ∷ []) result) }
+    ensures fault { IfErr result IsReadFault }
+{
+    let mut text = String::with_capacity(alloc, USUAL_LINE)?;
+    writeln!(text, "{line}")?;
+    write_whole(writer, text.as_bytes())
+}

@@ -1,0 +1,12 @@
+mod PrintedNames
+pub mod Among
+mod Tracing
+pub mod Refusing
+pub mod LeastUnsettled
+mod Histories
+mod ItemTexts
+mod Acting
+mod Recounting
+pub mod Printing
+pub mod RunParts
+pub mod Stepping

@@ -1,0 +1,39 @@
+-- A script's lines are events one after another.
+use Rattle.std.proofs.Common.{List, length, take, subst}
+use Rattle.std.proofs.Math.Seq.{take-length}
+use Rattle.rp_run.specs.Agreeing.{RunIsPrinted, world_after}
+use Rattle.rp_run.specs.Runs.{run_setting, opening_setup}
+use Rattle.rp_run.proofs.Histories.{run_is_history, run_has_moments}
+use Rattle.rp_run.proofs.Printing.{run_is_printed}
+use Rattle.rp_run.proofs.agreeing.scripts_agree.Goals as goal
+use Rattle.rp_deck.specs.declared.deck.Line.{Line}
+
+pub returns-clause-agrees : goal.returns-clause-agrees
+returns-clause-agrees g c = λ program.
+    let m = g.M.Machine in
+    let options = c.args.options.now in
+    let config = options.config in
+    let s = run_setting m.next m.answers m.begin m.image (opening_setup config program) options in
+    let lines = c.args.lines.now in
+    let right = c.lines_keep_ranges.ensures in
+    let laws = c.histories_are_ordered.ensures in
+    record {
+      agree = λ i j up. laws.agree config program (world_after s options.most lines i) (world_after s options.most lines j) (run_has_moments s options.right options.most lines right i j up);
+      printed = λ i.
+          let history = run_is_history s options.right options.most lines right i in
+          let world = world_after s options.most lines i in
+          run_is_printed s options.most (take i lines) options.right (laws.ordered config program history.0 world history.1) (c.records_stay_in_the_log.ensures.applied s.setting history.0 world history.1);
+    }
+
+pub returns-clause-printed : goal.returns-clause-printed
+returns-clause-printed g c = λ program.
+    let m = g.M.Machine in
+    let options = c.args.options.now in
+    let config = options.config in
+    let s = run_setting m.next m.answers m.begin m.image (opening_setup config program) options in
+    let lines = c.args.lines.now in
+    let all = length lines in
+    let history = run_is_history s options.right options.most lines c.lines_keep_ranges.ensures all in
+    let world = world_after s options.most lines all in
+    subst (λ (list : List Line). RunIsPrinted s options.most list) (take-length lines)
+    (run_is_printed s options.most (take all lines) options.right (c.histories_are_ordered.ensures.ordered config program history.0 world history.1) (c.records_stay_in_the_log.ensures.applied s.setting history.0 world history.1))

@@ -1,0 +1,104 @@
+-- One line more, or the end.
+use Rattle.std.proofs.Common.{◌≡◌, ◌+◌, ◌<◌, ◌≤◌, List, [], ◌∷◌, length, drop, arith, sym, ap, ◌∙◌}
+use Rattle.std.proofs.lemmas.List.{drop_more, drop_all}
+use Rattle.rp_output.specs.Faults.{IsRunFault}
+use Rattle.rp_run.specs.Output.{Play, opening_play, command_said, script_said}
+use Rattle.rp_run.specs.Runs.{opening_setup, run_setting}
+use Rattle.rp_deck.specs.declared.deck.Line.{Line}
+use Rattle.rp_run.proofs.RunParts.{sets_out, goes_on, fails, ends, script_ends, script_more}
+use Rattle.rp_run.proofs.Stepping.{faulted, same_setting, same_trans, opening_parts, never_rises}
+use Rattle.rp_output.proofs.Writing.{writes_nothing, writes_failed}
+use Rattle.rp_run.proofs.run.run_lines.Goals as goal
+
+pub returns-in_err-new-clause-output : goal.returns-in_err-new-clause-output
+returns-in_err-new-clause-output g c = writes_nothing _ _ c.from_residual.result c.from_residual.ensures.0
+
+pub loop-line-init : goal.loop-line-init
+loop-line-init g c =
+    let m = g.M.Machine in
+    let options = c.args.options.now in
+    let s = run_setting m.next m.answers m.begin m.image (opening_setup options.config c.args.program) options in
+    let cluster = c.in_ok-new.field-0 in
+    let opened = c.in_ok-new.ensures.opened in
+    record {
+      parts = opening_parts options.config.nodes cluster (ap (λ k. k.config.nodes) opened) (ap (λ k. k.world) opened);
+      setup = record { config = ap (λ k. k.config) opened; program = ap (λ k. k.program) opened };
+      so_far = sets_out cluster.world c.new-2.result (g.W.Write.contents c.args.writer.now) (opening_play s) (λ (now : Play). script_said s options.most now c.args.lines.now)
+          (record { world_is = ap (λ k. k.world) opened; settled_are = c.new-2.ensures });
+    }
+
+pub returns-in_err-taken-clause-output : goal.returns-in_err-taken-clause-output
+returns-in_err-taken-clause-output g c =
+    let m = g.M.Machine in
+    let options = c.args.options.now in
+    let opening = opening_setup options.config c.args.program in
+    let s = run_setting m.next m.answers m.begin m.image opening options in
+    let most = options.most in
+    let lines = c.args.lines.now in
+    let i = c.loop-line.line-index in
+    let line = c.line-item.result in
+    let below : i < length lines = omega arith in
+    let here : drop i lines ≡ line ∷ drop (i + 1) lines = drop_more lines i line below ∙ ap (λ (x : Line). x ∷ drop (i + 1) lines) (sym c.line-item.is) in
+    let run = c.loop-line.run in
+    let so_far = c.loop-line.invariant.so_far in
+    let now = so_far.said.play in
+    let same = same_setting m.next m.answers m.begin m.image options opening run.cluster c.loop-line.invariant.setup in
+    let said = c.in_err-taken.ensures.said now so_far.follows in
+    writes_failed _ _ _ c.from_residual-in_err-taken.result c.from_residual-in_err-taken.ensures.0
+    (fails run.cluster.world c.take-taken.new.self.cluster.world run.settled c.take-taken.new.self.settled
+    (g.W.Write.contents c.args.writer.now) (g.W.Write.contents c.loop-line.writer) (g.W.Write.contents c.take-taken.new.writer)
+    (script_said s most (opening_play s) lines) (λ (p : Play). script_said s most p (drop i lines)) so_far
+    (command_said s most line.number now line.command) (λ (p : Play). script_said s most p (drop (i + 1) lines))
+    (ap (λ (rest : List Line). script_said s most now rest) here ∙ script_more s most now line (drop (i + 1) lines))
+    (rw same at said))
+
+pub returns-in_err-taken-clause-fault : goal.returns-in_err-taken-clause-fault
+returns-in_err-taken-clause-fault g c =
+    faulted IsRunFault _ c.from_residual-in_err-taken.result c.from_residual-in_err-taken.ensures.1
+    (never_rises c.loop-line.run.cluster.failures c.take-taken.new.self.cluster.failures _ c.never_failed.ensures c.in_err-taken.ensures.fault)
+
+pub loop-line-preserved : goal.loop-line-preserved
+loop-line-preserved g c =
+    let m = g.M.Machine in
+    let options = c.args.options.now in
+    let opening = opening_setup options.config c.args.program in
+    let s = run_setting m.next m.answers m.begin m.image opening options in
+    let most = options.most in
+    let lines = c.args.lines.now in
+    let i = c.loop-line.line-index in
+    let line = c.line-item.result in
+    let below : i < length lines = omega arith in
+    let here : drop i lines ≡ line ∷ drop (i + 1) lines = drop_more lines i line below ∙ ap (λ (x : Line). x ∷ drop (i + 1) lines) (sym c.line-item.is) in
+    let run = c.loop-line.run in
+    let so_far = c.loop-line.invariant.so_far in
+    let now = so_far.said.play in
+    let same = same_setting m.next m.answers m.begin m.image options opening run.cluster c.loop-line.invariant.setup in
+    let said = c.in_ok-taken.ensures.said now so_far.follows in
+    let resulted = rw same at said in
+    record {
+      parts = c.in_ok-taken.ensures.parts;
+      setup = same_trans opening run.cluster c.take-taken.new.self.cluster c.loop-line.invariant.setup c.take-taken.ensures.setup;
+      so_far = goes_on run.cluster.world c.take-taken.new.self.cluster.world run.settled c.take-taken.new.self.settled
+          (g.W.Write.contents c.args.writer.now) (g.W.Write.contents c.loop-line.writer) (g.W.Write.contents c.take-taken.new.writer)
+          (script_said s most (opening_play s) lines) (λ (p : Play). script_said s most p (drop i lines)) so_far
+          (command_said s most line.number now line.command) (λ (p : Play). script_said s most p (drop (i + 1) lines))
+          (ap (λ (rest : List Line). script_said s most now rest) here ∙ script_more s most now line (drop (i + 1) lines))
+          resulted.0 resulted.1;
+    }
+
+pub returns-clause-output : goal.returns-clause-output
+returns-clause-output g c =
+    let m = g.M.Machine in
+    let options = c.args.options.now in
+    let s = run_setting m.next m.answers m.begin m.image (opening_setup options.config c.args.program) options in
+    let most = options.most in
+    let lines = c.args.lines.now in
+    let i = c.loop-line.line-index in
+    let past : length lines ≤ i = omega arith in
+    let none : drop i lines ≡ [] = drop_all i lines past in
+    let run = c.loop-line.run in
+    let so_far = c.loop-line.invariant.so_far in
+    let now = so_far.said.play in
+    (ends run.cluster.world run.settled (g.W.Write.contents c.args.writer.now) (g.W.Write.contents c.loop-line.writer)
+    (script_said s most (opening_play s) lines) (λ (p : Play). script_said s most p (drop i lines)) so_far tt
+    (ap (λ (rest : List Line). script_said s most now rest) none ∙ script_ends s most now)).1

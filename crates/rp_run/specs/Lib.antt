@@ -1,0 +1,6 @@
+pub mod Items
+pub mod Settled
+pub mod Output
+pub mod Runs
+pub mod Agreeing
+pub mod Faults

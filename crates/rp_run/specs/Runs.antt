@@ -1,0 +1,50 @@
+-- How a run in memory is related to a play, and what it writes.
+use Rattle.std.specs.Prelude.{◌≡◌, ℕ, Option, Result, Ok, Err, List, length, replicate}
+use Rattle.std.specs.Io.KnownBytes.{Appends}
+use Rattle.rp_base.specs.declared.action.Action.{Action}
+use Rattle.rp_base.specs.declared.config.Config.{Config}
+use Rattle.rp_base.specs.declared.fault.Fault.{Fault}
+use Rattle.rp_base.specs.declared.reply.Answer.{Answer}
+use Rattle.rp_model.specs.World.{World, opening_world}
+use Rattle.rp_world.specs.Steps.{Setup, setting_of}
+use Rattle.rp_run.specs.Output.{RunSetting, Play, Said, text_of, names_of, is_among}
+use Rattle.rp_run.specs.Settled.{is_settled}
+use Rattle.rp_output.specs.Stream.{Begins}
+use Rattle.rp_run.specs.declared.options.RunOptions.{RunOptions}
+use Rattle.rp_run.specs.declared.settled.Settled.{Settled}
+
+-- what stays through a run of a cluster
+abbrev pub run_setting : {S P : Type 0} → (S → Action → S) → (S → Action → List Answer) → (P → S) → (S → List ℕ)
+    → Setup P → RunOptions → RunSetting S
+run_setting next answers start image cluster options = record {
+  setting = setting_of next answers start cluster;
+  image = image;
+  names = names_of options.tasks.now;
+  traced = options.traced;
+}
+
+-- a cluster that opens over devices that have not failed
+abbrev pub opening_setup : {P : Type 0} → Config → P → Setup P
+opening_setup config program = record {
+  config = config;
+  program = program;
+  world = opening_world config.nodes;
+  failures = replicate config.nodes 0;
+}
+
+-- the cluster has n nodes, and eight tasks
+pub record HasParts {P : Type 0} (nodes : ℕ) (cluster : Setup P) : Type 0 where
+  pub config : cluster.config.nodes ≡ nodes
+  pub nodes_there : length cluster.world.nodes ≡ nodes
+  pub tasks : length cluster.world.tasks ≡ 8
+
+-- a world and what is settled of it are those of the play
+pub record Follows (world : World) (settled : Settled) (play : Play) : Type 0 where
+  pub world_is : world ≡ play.world
+  pub settled_are : (m : ℕ) → is_settled settled m ≡ is_among play.settled m
+
+-- The run has reached the play that is said, and what it wrote is the text; or it wrote a beginning of the text where
+-- something failed.
+abbrev pub Says : World → Settled → Option (List ℕ) → Option (List ℕ) → Said → Result Unit Fault → Type 0
+Says world settled old new said (Ok done) = Follows world settled said.play × Appends old new (text_of said)
+Says world settled old new said (Err fault) = Begins old new (text_of said)

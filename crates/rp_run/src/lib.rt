@@ -1,0 +1,21 @@
+//! Runs the lines of a script over a cluster, and prints what happens.
+//!
+//! In reading order:
+//! - `run`: runs the lines of a script, at any machine and over any devices that never fail
+//! - `options`: how a script is run
+//! - `agreeing`: at any two lines of a script nodes agree, and replies are those of one order
+//! - `effects`: prints the result of an event
+//! - `settled`: which messages of a run are settled
+#![tactic(auto)]
+
+mod agreeing;
+mod effects;
+mod options;
+mod run;
+mod settled;
+
+pub use agreeing::scripts_agree;
+pub use effects::{node_of_event, party_text, print_reply, sent_packet};
+pub use options::RunOptions;
+pub use run::run_lines;
+pub use settled::Settled;

@@ -1,0 +1,243 @@
+//! Runs the lines of a script, at any machine and over any devices that never fail.
+
+ghost use Rattle.std.specs.Prelude.{◌≡◌, ◌≤◌, ◌<◌, ◌^◌, [], length, All, IfErr, OnOk};
+ghost use Rattle.rp_model.specs.World.{part_at};
+ghost use Rattle.rp_world.specs.Steps.{IsSameSetup};
+ghost use Rattle.rp_deck.specs.Script.{FitsIn, IsEventWithin};
+ghost use Rattle.rp_run.specs.Output.{Play, event_said, lost, drained, part_text, nodes_text, command_said, run_said, text_of};
+ghost use Rattle.rp_run.specs.Runs.{run_setting, opening_setup, HasParts, Follows, Says};
+ghost use Rattle.rp_output.specs.Stream.{Writes};
+ghost use Rattle.rp_run.specs.Faults.{IsDeviceRunFault};
+ghost use Rattle.rp_output.specs.Faults.{IsRunFault};
+
+use crate::effects::print_effect;
+use crate::options::RunOptions;
+use crate::settled::Settled;
+use rp_base::{Fault, NodeId};
+use rp_deck::{Command, Line};
+use rp_machine::Machine;
+use rp_model::{Event, Step, worlds_grow};
+use rp_output::{
+    AppliedLine, DrainLimitLine, RefusedLine, StoppedLine, is_refusal, print, write_whole,
+};
+use rp_store::{CutDevice, InfallibleDevice};
+use rp_world::Cluster;
+use std::alloc::Global;
+use std::io::Write;
+
+/// Runs the lines of a script over a cluster of new devices that never fail, and writes what they print.
+/// A fault ends the run where it comes, and then a beginning of that is written: `OutOfMemory`, or `Io`
+/// where the writer fails.
+pub fn run_lines<M: Machine, D: CutDevice + InfallibleDevice, W: Write>(
+    alloc: Global,
+    options: &RunOptions<'_>,
+    program: M::Program,
+    devices: Vec<D>,
+    lines: &[Line],
+    writer: &mut W,
+) -> Result<(), Fault>
+    requires devices { length devices.items ≡ options.now.config.nodes }
+    requires empty { All (λ d. (D.disk d).contents ≡ []) devices.items }
+    requires lines { All (λ line. FitsIn options.now.config.nodes 8 8 line.command) lines.now }
+    // claim: What a run prints is the stated output of its deck, with its packets if this is asked
+    //   for; if a fault ends the run, it is a prefix of that, for every machine and over any
+    //   devices that never fail. Such a run ends by `OutOfMemory`, or by `Io` if the writer fails,
+    //   and by no other fault: a run in memory never returns `Device`
+    ensures output { Writes (W.contents writer.old) (W.contents writer.new)
+        (text_of (run_said (run_setting M.next M.answers M.begin M.image
+        (opening_setup options.now.config program) options.now)
+        options.now.most lines.now)) result }
+    ensures fault { IfErr result IsRunFault }
+{
+    let mut run = Run {
+        cluster: Cluster::<M, D>::new(alloc, options.config, program, devices)?,
+        settled: Settled::new(alloc),
+    };
+    for line in lines {
+        let taken = run.take(alloc, options, line, writer);
+        run.cluster.never_failed();
+        taken?;
+    }
+    Ok(())
+}
+
+/// A run of a script.
+#[derive(Drop)]
+struct Run<M: Machine, D: CutDevice> {
+    cluster: Cluster<M, D>,
+    settled: Settled,
+}
+
+impl<M: Machine, D: CutDevice> Run<M, D> {
+    /// Does what a line asks for.
+    fn take<W: Write>(
+        &mut self,
+        alloc: Global,
+        options: &RunOptions<'_>,
+        line: &Line,
+        writer: &mut W,
+    ) -> Result<(), Fault>
+        requires parts { HasParts options.now.config.nodes self.old.cluster }
+        requires line { FitsIn options.now.config.nodes 8 8 line.now.command }
+        ensures parts { OnOk result (HasParts options.now.config.nodes self.new.cluster) }
+        ensures setup { IsSameSetup self.old.cluster self.new.cluster }
+        ensures counts { OnOk result (self.new.cluster.failures ≡ self.old.cluster.failures) }
+        ensures said { (play : Play) → Follows self.old.cluster.world self.old.settled play
+            → Says self.new.cluster.world self.new.settled
+            (W.contents writer.old) (W.contents writer.new)
+            (command_said (run_setting M.next M.answers M.begin M.image self.old.cluster
+            options.now)
+            options.now.most line.now.number play line.now.command) result }
+        ensures fault { IfErr result (IsDeviceRunFault self.old.cluster.failures
+            self.new.cluster.failures) }
+    {
+        let number = line.number;
+        match line.command {
+            Command::Take(event) => self.step(alloc, options, number, &event, writer),
+            Command::Lose { first, last } => self.lose(alloc, number, first, last, writer),
+            Command::Drain => self.drain(alloc, options, number, writer),
+            Command::Show => self.show(alloc, options, writer),
+        }
+    }
+
+    /// Takes a step, settles its messages and prints its effect; or prints that it was refused.
+    fn step<W: Write>(
+        &mut self,
+        alloc: Global,
+        options: &RunOptions<'_>,
+        line: u32,
+        event: &Event,
+        writer: &mut W,
+    ) -> Result<(), Fault>
+        requires parts { HasParts options.now.config.nodes self.old.cluster }
+        requires event { IsEventWithin options.now.config.nodes 8 8 event.now }
+        ensures parts { OnOk result (HasParts options.now.config.nodes self.new.cluster) }
+        ensures setup { IsSameSetup self.old.cluster self.new.cluster }
+        ensures counts { OnOk result (self.new.cluster.failures ≡ self.old.cluster.failures) }
+        ensures said { (play : Play) → Follows self.old.cluster.world self.old.settled play
+            → Says self.new.cluster.world self.new.settled
+            (W.contents writer.old) (W.contents writer.new)
+            (event_said (run_setting M.next M.answers M.begin M.image self.old.cluster options.now)
+            line play event.now) result }
+        ensures fault { IfErr result (IsDeviceRunFault self.old.cluster.failures
+            self.new.cluster.failures) }
+    {
+        worlds_grow::<M>();
+        match self.cluster.step(alloc, event) {
+            Ok(effect) => {
+                self.settled.settle_by(event)?;
+                print_effect(alloc, &self.cluster, options, event, &effect, writer)
+            }
+            Err(fault) if is_refusal(&fault) => print(alloc, writer, RefusedLine { line, fault }),
+            Err(fault) => Err(fault),
+        }
+    }
+
+    /// The messages from the first to the last count as settled, where all of them were sent.
+    fn lose<W: Write>(
+        &mut self,
+        alloc: Global,
+        line: u32,
+        first: u64,
+        last: u64,
+        writer: &mut W,
+    ) -> Result<(), Fault>
+        requires first { 1 ≤ first }
+        requires last { last < 2 ^ 63 }
+        ensures cluster { self.new.cluster ≡ self.old.cluster }
+        ensures said { (play : Play) → Follows self.old.cluster.world self.old.settled play
+            → Says self.new.cluster.world self.new.settled
+            (W.contents writer.old) (W.contents writer.new) (lost line play first last) result }
+        ensures fault { IfErr result IsRunFault }
+    {
+        let sent = self.cluster.messages();
+        if first > sent || last > sent {
+            let fault = Fault::NoSuchMessage;
+            return print(alloc, writer, RefusedLine { line, fault });
+        }
+        Ok(self.settled.settle_all(first, last)?)
+    }
+
+    /// Delivers the least message that is not settled, until none is left or n were delivered.
+    fn drain<W: Write>(
+        &mut self,
+        alloc: Global,
+        options: &RunOptions<'_>,
+        line: u32,
+        writer: &mut W,
+    ) -> Result<(), Fault>
+        requires parts { HasParts options.now.config.nodes self.old.cluster }
+        ensures parts { OnOk result (HasParts options.now.config.nodes self.new.cluster) }
+        ensures setup { IsSameSetup self.old.cluster self.new.cluster }
+        ensures counts { OnOk result (self.new.cluster.failures ≡ self.old.cluster.failures) }
+        ensures said { (play : Play) → Follows self.old.cluster.world self.old.settled play
+            → Says self.new.cluster.world self.new.settled
+            (W.contents writer.old) (W.contents writer.new)
+            (drained (run_setting M.next M.answers M.begin M.image self.old.cluster options.now)
+            line options.now.most play) result }
+        ensures fault { IfErr result (IsDeviceRunFault self.old.cluster.failures
+            self.new.cluster.failures) }
+    {
+        for delivered in 0..options.most {
+            let message = self.settled.least();
+            if message > self.cluster.messages() {
+                return Ok(());
+            }
+            let event = Event::Node(Step::Deliver(message));
+            self.step(alloc, options, line, &event, writer)?;
+        }
+        if self.settled.least() > self.cluster.messages() {
+            return Ok(());
+        }
+        print(alloc, writer, DrainLimitLine { line })
+    }
+
+    /// Prints every node's state.
+    fn show<W: Write>(
+        &self,
+        alloc: Global,
+        options: &RunOptions<'_>,
+        writer: &mut W,
+    ) -> Result<(), Fault>
+        requires { HasParts options.now.config.nodes self.now.cluster }
+        ensures shown { Writes (W.contents writer.old) (W.contents writer.new)
+            (nodes_text (run_setting M.next M.answers M.begin M.image self.now.cluster options.now)
+            self.now.cluster.world options.now.config.nodes) result }
+        ensures fault { IfErr result IsRunFault }
+    {
+        for place in 0..options.config.nodes {
+            let node = NodeId::new(place + 1).unwrap();
+            self.show_node(alloc, options, node, writer)?;
+        }
+        Ok(())
+    }
+
+    /// Prints a node's state.
+    fn show_node<W: Write>(
+        &self,
+        alloc: Global,
+        options: &RunOptions<'_>,
+        node: NodeId,
+        writer: &mut W,
+    ) -> Result<(), Fault>
+        requires parts { HasParts options.now.config.nodes self.now.cluster }
+        requires node { node ≤ options.now.config.nodes }
+        ensures shown { Writes (W.contents writer.old) (W.contents writer.new)
+            (part_text (run_setting M.next M.answers M.begin M.image self.now.cluster options.now)
+            node (part_at self.now.cluster.world.nodes node)) result }
+        ensures fault { IfErr result IsRunFault }
+    {
+        match self.cluster.applied(node) {
+            Ok(applied) => {
+                let line = AppliedLine {
+                    node,
+                    applied: u32::from(applied),
+                };
+                print(alloc, writer, line)?;
+                let image = self.cluster.image(alloc, node)?;
+                write_whole(writer, &image)
+            }
+            Err(_) => print(alloc, writer, StoppedLine { node }),
+        }
+    }
+}

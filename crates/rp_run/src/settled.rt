@@ -1,0 +1,119 @@
+//! Which messages of a run are settled.
+
+ghost use Rattle.std.specs.Prelude.{◌≡◌, ℕ, ◌+◌, ◌-◌, ◌^◌, ◌<◌, ◌≤◌, ◌==◌, ◌||◌, true, false, OnOk, OnErr};
+ghost use Rattle.std.specs.Ordering.{nat_cmp};
+ghost use Rattle.std.specs.BTreeSet.{contains};
+
+use rp_model::{Event, Step};
+use std::alloc::{AllocError, Global};
+use std::collections::BTreeSet;
+
+/// The messages that were delivered, cut at or lost, by their numbers from 1.
+#[derive(Drop)]
+pub struct Settled {
+    /// Not settled, and all from 1 to the one before it are.
+    least: u64,
+    /// The settled ones above it.
+    above: BTreeSet<u64>,
+    ghost from_one: { 1 ≤ least },
+    ghost all_above: { (m : ℕ) → contains nat_cmp above m ≡ true → (least < m) × (m + 1 < 2 ^ 64) },
+}
+
+impl Settled {
+    ghost use Rattle.std.specs.Prelude.{All};
+    ghost use Rattle.rp_run.specs.Settled.{is_settled, least_of};
+    ghost use Rattle.rp_run.specs.Output.{is_among, from_to, delivered_by, settled_by};
+
+    /// No message is settled.
+    pub fn new(alloc: Global) -> Self
+        ensures { (m : ℕ) → is_settled result m ≡ false }
+    {
+        Settled {
+            least: 1,
+            above: BTreeSet::new(alloc),
+        }
+    }
+
+    /// The least number from 1 that is not settled.
+    pub fn least(&self) -> u64
+        ensures unsettled { is_settled self.now result ≡ false }
+        ensures least { (m : ℕ) → 1 ≤ m → m < result → is_settled self.now m ≡ true }
+        ensures from_one { 1 ≤ result }
+    {
+        self.least
+    }
+
+    /// A message is settled from now on. Together, the calls take logarithmic time each.
+    #[inline(always)]
+    pub fn settle(&mut self, message: u64) -> Result<(), AllocError>
+        requires from_one { 1 ≤ message }
+        requires not_last { message + 1 < 2 ^ 64 }
+        ensures ok { OnOk result ((m : ℕ)
+            → is_settled self.new m ≡ (m == message || is_settled self.old m)) }
+        ensures err { OnErr result ((m : ℕ) → is_settled self.new m ≡ is_settled self.old m) }
+    {
+        if message > self.least {
+            self.above.insert(message)?;
+        } else if message == self.least {
+            self.pass();
+        }
+        Ok(())
+    }
+
+    /// The messages from the first to the last are settled from now on.
+    pub fn settle_all(&mut self, first: u64, last: u64) -> Result<(), AllocError>
+        requires from_one { 1 ≤ first }
+        requires not_last { last + 1 < 2 ^ 64 }
+        ensures { OnOk result ((m : ℕ) → is_settled self.new m
+            ≡ (is_among (from_to first last) m || is_settled self.old m)) }
+    {
+        for message in first..last + 1 {
+            self.settle(message)?;
+        }
+        Ok(())
+    }
+
+    /// The messages that an event settles are settled from now on.
+    pub fn settle_by(&mut self, event: &Event) -> Result<(), AllocError>
+        requires { All (λ m. (1 ≤ m) × (m < 2 ^ 63)) (settled_by event.now) }
+        ensures { OnOk result ((m : ℕ)
+            → is_settled self.new m
+            ≡ (is_among (settled_by event.now) m || is_settled self.old m)) }
+    {
+        match *event {
+            Event::Node(step) | Event::Cut { step, .. } => self.settle_step(step),
+            Event::Submit { .. } | Event::Again { .. } | Event::Stop(_) | Event::Restart(_) => {
+                Ok(())
+            }
+        }
+    }
+
+    /// The same of a step, whole or cut.
+    fn settle_step(&mut self, step: Step) -> Result<(), AllocError>
+        requires { All (λ m. (1 ≤ m) × (m < 2 ^ 63)) (delivered_by step) }
+        ensures { OnOk result ((m : ℕ)
+            → is_settled self.new m ≡ (is_among (delivered_by step) m || is_settled self.old m)) }
+    {
+        match step {
+            Step::Deliver(message) => self.settle(message),
+            Step::Lead { .. }
+            | Step::LeadRange { .. }
+            | Step::Interrupt { .. }
+            | Step::Tick { .. }
+            | Step::Report { .. } => Ok(()),
+        }
+    }
+
+    /// Settles the least number, and passes those that are settled after it.
+    fn pass(&mut self)
+        requires { least_of self.old + 1 < 2 ^ 64 }
+        ensures { (m : ℕ) → is_settled self.new m
+            ≡ (m == least_of self.old || is_settled self.old m) }
+    {
+        let mut least = self.least + 1;
+        while self.above.remove(&least) {
+            least += 1;
+        }
+        self.least = least;
+    }
+}

@@ -1,8 +1,0 @@
-use Rattle.std.proofs.Common.{sym, ap}
-use Rattle.rp_script.specs.Output.{names_of, taken_text}
-use Rattle.rp_script.proofs.Writing.{writes_same}
-use Rattle.rp_script.proofs.effects.print_taken.Goals as goal
-
-pub returns-in-Some-clause-printed : goal.returns-in-Some-clause-printed
-returns-in-Some-clause-printed g c =
-    writes_same _ _ _ _ c.print_reply.result (ap (taken_text (names_of c.args.tasks.now)) (sym c.in-Some.is)) c.print_reply.ensures.printed

@@ -1,8 +1,8 @@
 //! A line that loses packets, doubles them and changes their order.
 
-ghost use Rattle.std.specs.Prelude.{◌≡◌, ◌≢◌, ◌⊎◌, ℕ, List, [], ◌∷◌, ◌++◌, take, Some, option_map, IfOk, OnOk, OnErr, IsOkUnless};
+ghost use Rattle.std.specs.Prelude.{◌≡◌, ◌≢◌, ◌⊎◌, ℕ, ◌+◌, ◌-◌, List, [], ◌∷◌, ◌++◌, length, take, Some, option_map, IfOk, OnOk, OnErr, IsOkUnless};
 ghost use Rattle.rp_base.specs.Sets.{Has};
-ghost use Rattle.rp_tasks.specs.Line.{Line, line_of, word_of, drawn, accepted, picked, released};
+ghost use Rattle.rp_tasks.specs.Line.{Line, line_of, word_of, drawn, accepted, picked, released, saturating_sum};
 
 use rand_chacha::ChaCha20Rng;
 use rand_chacha::rand_core::SeedableRng;
@@ -50,6 +50,7 @@ impl Model for FaultLine {
     ghost view = { λ l. record {
       held = map (λ packet. packet.items) l.held.items;
       words = l.before.value;
+      lost = l.lost;
     } };
 
     ghost invariant = { λ l. (length l.held.items ≤ 16) × (16 ≤ vec_capacity l.held)
@@ -76,9 +77,11 @@ impl FaultLine {
         })
     }
 
-    /// How many packets were lost since the line was made: by their words, or for want of a place.
-    /// A packet that was to be held twice and found one place counts as well.
-    pub fn lost(&self) -> u64 {
+    /// How many copies were lost since the line was made: a packet that its word loses counts once,
+    /// and each copy for which there is no place counts once. The count stays at `u64::MAX`.
+    pub fn lost(&self) -> u64
+        ensures { result ≡ self.now.lost }
+    {
         self.lost
     }
 
@@ -206,7 +209,7 @@ impl FaultLine {
 
     /// A copy is lost: it is counted, and the line keeps its buffer if it has few.
     fn lose(&mut self, packet: Vec<u8>)
-        ensures { self.new ≡ self.old }
+        ensures { self.new ≡ record self.old { lost = saturating_sum self.old.lost 1 } }
     {
         self.lost = self.lost.saturating_add(1);
         if self.spares.len() < MOST_SPARES {
@@ -217,8 +220,10 @@ impl FaultLine {
 
     /// Holds a packet after the others, or loses it where there is no place.
     fn hold_one(&mut self, packet: Vec<u8>)
-        ensures { self.new
-            ≡ record self.old { held = take 16 (self.old.held ++ packet.items ∷ []) } }
+        ensures { self.new ≡ record self.old {
+          held = take 16 (self.old.held ++ packet.items ∷ []);
+          lost = saturating_sum self.old.lost (length self.old.held + 1 - 16);
+        } }
     {
         if self.held.len() < ROOM {
             self.held.push_reserved(packet);

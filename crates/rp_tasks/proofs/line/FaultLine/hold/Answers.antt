@@ -11,8 +11,9 @@ returns-in-0-clause-ok c =
 
 pub returns-in_ok-copy-in-2-clause-ok : goal.returns-in_ok-copy-in-2-clause-ok
 returns-in_ok-copy-in-2-clause-ok c =
+    let within : length c.args.self.now.held ≤ 16 = grind (arith, common_steps, length-map) in
     let low : 2 ≤ c.args.word % 16 = omega arith in
     let high : c.args.word % 16 < 4 = omega arith in
-    let both = two_accepted c.args.word c.args.packet.items c.args.self.now low high in
+    let both = two_accepted c.args.word c.args.packet.items c.args.self.now low high within in
     let copied : c.in_ok-copy-in-2.copy.items ≡ c.args.packet.items = c.in_ok-copy-in-2.ensures.copy ∙ c.as_slice.ensures.value in
     rw (c.hold_one-in-2.ensures, c.hold_one.ensures, copied, c.copy_of.ensures.same) both

@@ -26,6 +26,9 @@ pub fn draw(alloc: Global, sketch: &Sketch, lanes: &[Lane]) -> Result<String, Fa
     requires down { AreDown sketch.now.lines sketch.now.ways.items }
     requires lines { sketch.now.lines ≤ 2 ^ 32 }
     requires lanes { length lanes.now ≤ 16 }
+    // claim: Each message whose way is drawn has its arrow in the drawing, from its sender's lane, in
+    //   the line of the moment that sent it, to its receiver's, in the line of the moment that settled
+    //   it; the text has at most 300 bytes for each message, moment and lane, and 9,300 besides
     ensures { IfOk result (λ text. IsDrawnBy sketch.now (length lanes.now) (string_bytes text)) }
 {
     let page = Page {

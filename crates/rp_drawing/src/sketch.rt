@@ -145,6 +145,9 @@ impl Sketch {
         ensures moments { OnOk result (moments_of self.new ≡ moments_of self.old ++ moment ∷ []) }
         ensures count { OnOk result (length self.new.ways.items
             ≡ moment.before + length moment.sends.items) }
+        // claim (ways, down): With each moment that is added to a sketch, the ways stay those of its
+        //   messages: each begins in the moment that sent the message, and ends in the first one that
+        //   settled it, a later one; no way that is drawn goes upwards
         ensures ways { OnOk result (AreWays self.new.rows.items self.new.ways.items) }
         ensures down { OnOk result (AreDown self.new.lines self.new.ways.items) }
         ensures few { OnOk result (self.new.lines ≤ 2 ^ 32) }

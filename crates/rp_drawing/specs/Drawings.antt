@@ -1,0 +1,60 @@
+-- The drawing of a sketch (this project's own).
+use Rattle.std.specs.Prelude.{◌≡◌, ℕ, ◌+◌, ◌-◌, ◌*◌, ◌/◌, ◌≤◌, nat_eq, Option, Some, None, List, [], ◌∷◌, ◌++◌, flat_map}
+use Rattle.std.specs.Prelude.{length, if◌then◌else◌}
+use Rattle.rp_drawing.specs.Elements.{curve_text}
+use Rattle.rp_drawing.specs.Pages.{arrival_y, departure_y, lane_x}
+use Rattle.rp_drawing.specs.declared.elements.Curve.{Curve}
+use Rattle.rp_drawing.specs.declared.sketch.Arrival.{Arrival}
+use Rattle.rp_drawing.specs.declared.sketch.End.{End}
+use Rattle.rp_drawing.specs.declared.sketch.End.TheVariants.{Taken, Unheard, Lost}
+use Rattle.rp_drawing.specs.declared.sketch.Sketch.{Sketch}
+use Rattle.rp_drawing.specs.declared.sketch.Way.{Way}
+
+-- what a way looks like by how it ends
+abbrev pub end_kind : End → ℕ
+end_kind Taken = 0
+end_kind Unheard = 1
+end_kind Lost = 2
+
+-- a curve of this colour and kind from one place to another: a straight one, or one that leaves its lane to the left
+-- and comes back
+abbrev pub curve_between : ℕ → ℕ → ℕ → ℕ → ℕ → ℕ → ℕ → Curve
+curve_between colour kind x to_x y end_x end_y = record {
+  look = record { colour = colour; kind = kind };
+  from = record { x = x; y = y };
+  by = record { x = if nat_eq x to_x then x - 24 else (x + end_x) / 2; y = (y + end_y) / 2 };
+  to = record { x = end_x; y = end_y };
+}
+
+-- A way begins on the lane of its packet's sender, in the line of the moment that sent it, and ends on the receiver's
+-- lane in the line of the moment that settled it; where nothing did, it ends half way.
+abbrev pub curve_to : ℕ → Way → Option Arrival → Curve
+curve_to lanes way None =
+    let x = lane_x lanes way.sending.from in
+    let to_x = lane_x lanes way.sending.to in
+    let y = departure_y lanes way.line in
+    curve_between way.sending.colour 3 x to_x y ((x + to_x) / 2) (y + 12)
+curve_to lanes way (Some arrival) =
+    let x = lane_x lanes way.sending.from in
+    let to_x = lane_x lanes way.sending.to in
+    let y = departure_y lanes way.line in
+    curve_between way.sending.colour (end_kind arrival.end) x to_x y to_x (arrival_y lanes arrival.line)
+
+abbrev pub way_curve : ℕ → Way → Curve
+way_curve lanes way = curve_to lanes way way.ended
+
+-- the arrow of a way, if it is drawn
+abbrev pub way_text : ℕ → Way → List ℕ
+way_text lanes way = if way.sending.is_drawn then curve_text (way_curve lanes way) ++ 10 ∷ [] else []
+
+-- there is more of the text, after what there was
+abbrev pub Extends : List ℕ → List ℕ → Type 0
+Extends old new = (more : List ℕ) × (new ≡ old ++ more)
+
+-- The text has the arrow of each way that is drawn, in order, and is short.
+pub record IsDrawnBy (sketch : Sketch) (lanes : ℕ) (text : List ℕ) : Type 0 where
+  pub front : List ℕ
+  pub back : List ℕ
+  pub parts : text ≡ front ++ (flat_map (way_text lanes) sketch.ways.items ++ back)
+  pub short : length text
+      ≤ 9300 + 300 * (lanes + length sketch.ways.items + length sketch.rows.items)

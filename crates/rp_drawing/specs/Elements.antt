@@ -1,0 +1,26 @@
+-- The elements of a drawing as text (this project's own).
+use Rattle.std.specs.Prelude.{ℕ, List, ◌++◌, codes, decimal}
+use Rattle.rp_drawing.specs.declared.elements.Curve.{Curve}
+use Rattle.rp_drawing.specs.declared.elements.Look.{Look}
+use Rattle.rp_drawing.specs.declared.elements.Place.{Place}
+
+-- how many bytes an element has at most
+abbrev pub most_bytes : ℕ
+most_bytes = 300
+
+abbrev pub most_head_bytes : ℕ
+most_head_bytes = 9000
+
+-- a look, as two classes
+abbrev pub look_text : Look → List ℕ
+look_text l = codes "c" ++ (decimal l.colour ++ (codes " k" ++ decimal l.kind))
+
+-- a place, as its two numbers
+abbrev pub place_text : Place → List ℕ
+place_text p = decimal p.x ++ (codes " " ++ decimal p.y)
+
+-- a curve, as a path
+abbrev pub curve_text : Curve → List ℕ
+curve_text c =
+    codes "<path class='" ++ (look_text c.look ++ (codes "' d='M" ++ (place_text c.from
+    ++ (codes "Q" ++ (place_text c.by ++ (codes " " ++ (place_text c.to ++ codes "'/>")))))))

@@ -1,0 +1,4 @@
+pub mod Drawings
+pub mod Elements
+pub mod Pages
+pub mod Ways

@@ -1,0 +1,147 @@
+//! The elements of a drawing, as text.
+
+ghost use Rattle.std.specs.Prelude.{◌≡◌, ◌+◌, ◌++◌, ◌∷◌, [], ◌≤◌, IfOk, OnOk, length, string_bytes};
+ghost use Rattle.rp_drawing.specs.Elements.{curve_text, most_bytes, most_head_bytes};
+
+use crate::words::Words;
+use rp_base::Fault;
+use std::alloc::{AllocError, Global};
+use std::fmt;
+
+/// The most bytes of an element.
+pub const MOST_BYTES: usize = 300;
+
+/// The most bytes of the head of a drawing.
+pub const MOST_HEAD_BYTES: usize = 9000;
+
+/// How an element looks: its colour and its kind.
+#[derive(Clone, Copy)]
+pub struct Look {
+    pub colour: u8,
+    pub kind: u8,
+}
+
+impl fmt::Display for Look {
+    ghost use Rattle.std.specs.Prelude.{Some};
+    ghost use Rattle.rp_drawing.specs.Elements.{look_text};
+
+    ghost output = { λ l. Some (look_text l) };
+
+    fn fmt<W: fmt::Write>(&self, f: &mut fmt::Formatter<W>) -> fmt::Result {
+        let colour = self.colour;
+        let kind = self.kind;
+        write!(f, "c{colour} k{kind}")
+    }
+}
+
+/// A place on a page.
+#[derive(Clone, Copy)]
+pub struct Place {
+    pub x: u64,
+    pub y: u64,
+}
+
+impl fmt::Display for Place {
+    ghost use Rattle.std.specs.Prelude.{Some};
+    ghost use Rattle.rp_drawing.specs.Elements.{place_text};
+
+    ghost output = { λ p. Some (place_text p) };
+
+    fn fmt<W: fmt::Write>(&self, f: &mut fmt::Formatter<W>) -> fmt::Result {
+        let x = self.x;
+        let y = self.y;
+        write!(f, "{x} {y}")
+    }
+}
+
+/// A curve from one place to another, by way of a third one.
+#[derive(Clone, Copy)]
+pub struct Curve {
+    pub look: Look,
+    pub from: Place,
+    pub by: Place,
+    pub to: Place,
+}
+
+impl Curve {
+    /// Its text.
+    pub fn text(&self, alloc: Global) -> Result<String, AllocError>
+        ensures { IfOk result (λ text. string_bytes text ≡ curve_text self.now) }
+    {
+        let look = self.look;
+        let from = self.from;
+        let by = self.by;
+        let to = self.to;
+        format!(in alloc; "<path class='{look}' d='M{from}Q{by} {to}'/>")
+    }
+}
+
+/// A line from a place to the right.
+#[derive(Clone, Copy)]
+pub struct Dash {
+    pub look: Look,
+    pub from: Place,
+    pub width: u64,
+}
+
+impl Dash {
+    /// Its text.
+    pub fn text(&self, alloc: Global) -> Result<String, AllocError> {
+        let Dash { look, from, width } = *self;
+        format!(in alloc; "<path class='{look}' d='M{from}h{width}'/>")
+    }
+}
+
+/// A line from a place down.
+#[derive(Clone, Copy)]
+pub struct Upright {
+    pub look: Look,
+    pub from: Place,
+    pub to_y: u64,
+}
+
+impl Upright {
+    /// Its text.
+    pub fn text(&self, alloc: Global) -> Result<String, AllocError> {
+        let Upright { look, from, to_y } = *self;
+        format!(in alloc; "<path class='{look}' d='M{from}V{to_y}'/>")
+    }
+}
+
+/// The text of words at a place.
+pub fn words_at(
+    alloc: Global,
+    colour: u8,
+    place: Place,
+    words: &Words,
+) -> Result<String, AllocError> {
+    let Place { x, y } = place;
+    let text = words.as_str();
+    format!(in alloc; "<text class='t{colour}' x='{x}' y='{y}'>{text}</text>")
+}
+
+/// Adds an element, and the end of its line. `OutOfMemory`, also where it has more than 300 bytes, as
+/// none has.
+pub fn add_element(text: &mut String, element: &str) -> Result<(), Fault>
+    ensures added { OnOk result (string_bytes text.new
+        ≡ string_bytes text.old ++ (element.now ++ 10 ∷ [])) }
+    ensures short { OnOk result (length (string_bytes text.new)
+        ≤ length (string_bytes text.old) + most_bytes) }
+{
+    if element.len() >= MOST_BYTES {
+        return Err(Fault::OutOfMemory);
+    }
+    text.push_str(element)?;
+    Ok(text.push_str("\n")?)
+}
+
+/// Adds the head of a drawing. `OutOfMemory`, also where it has more than 9,000 bytes, as none has.
+pub fn add_head(text: &mut String, head: &str) -> Result<(), Fault>
+    ensures short { OnOk result (length (string_bytes text.new)
+        ≤ length (string_bytes text.old) + most_head_bytes) }
+{
+    if head.len() > MOST_HEAD_BYTES {
+        return Err(Fault::OutOfMemory);
+    }
+    Ok(text.push_str(head)?)
+}

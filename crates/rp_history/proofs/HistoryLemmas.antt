@@ -1,0 +1,74 @@
+-- One step more of a history.
+use Rattle.std.proofs.Common.{◌≡◌, ◌∙◌, ℕ, zero, suc, ◌+◌, ◌≤◌, ◌^◌, Option, Some, None, Result, Ok, Err, OnOk, List, [], ◌∷◌, ◌++◌, length, drop, arith, refl, sym, ap, subst}
+use Rattle.std.proofs.lemmas.List.{map-append, length-map, length-drop}
+use Rattle.std.proofs.lemmas.Option.{slice_get_within}
+use Rattle.rp_base.specs.declared.fault.Fault.{Fault}
+use Rattle.rp_codec.specs.Message.{Message}
+use Rattle.rp_drawing.specs.Ways.{AreDown, AreWays, moments_of, IsEndingWithin}
+use Rattle.rp_drawing.specs.declared.sketch.Moment.{Moment}
+use Rattle.rp_drawing.specs.declared.sketch.Sketch.{Sketch}
+use Rattle.rp_model.specs.Effect.{Setting}
+use Rattle.rp_model.specs.World.{World, opening_world, part_at}
+use Rattle.rp_model.specs.declared.event.Event.{Event}
+use Rattle.rp_history.specs.Histories.{HistoryStep, IsStepFrom, Leads, IsHistory, IsDrawable, IsSketchOf, ending_of, ending_at, ending_by, delivered_by}
+use Rattle.rp_history.specs.Views.{sending_of}
+use Rattle.rp_history.specs.declared.stage.Stage.{Stage}
+
+-- ---- what is ended was sent before
+
+message_within : (sent : List Message) (number : ℕ) (m : Message) → part_at sent number ≡ Some m → (1 ≤ number) × (number ≤ length sent)
+message_within sent zero m there = absurd (cc)
+message_within sent (suc k) m there = let below = slice_get_within sent k m there in (omega arith, omega (arith, below))
+
+ending_of_within : (w : World) (number : ℕ) (found : Option Message) → part_at w.sent number ≡ found → IsEndingWithin (length w.sent) (ending_of w number found)
+ending_of_within w number None there = tt
+ending_of_within w number (Some m) there = message_within w.sent number m there
+
+ending_at_within : (w : World) (number : Option ℕ) → IsEndingWithin (length w.sent) (ending_at w number)
+ending_at_within w None = tt
+ending_at_within w (Some number) = ending_of_within w number (part_at w.sent number) refl
+
+pub ending_within : (w : World) (event : Event) → IsEndingWithin (length w.sent) (ending_by w event)
+ending_within w event = ending_at_within w (delivered_by event)
+
+-- ---- one step more
+
+module _ {S : Type 0} (s : Setting S) (stage : Stage) where
+  lead_more : (w : World) (steps : List HistoryStep) (last : World) (step : HistoryStep) → Leads s stage w steps last → IsStepFrom s stage last step
+      → Leads s stage w (steps ++ step ∷ []) step.after
+  lead_more w [] last step lead is = (subst (λ (x : World). IsStepFrom s stage x step) lead is, refl)
+  lead_more w (first ∷ rest) last step lead is = (lead.0, lead_more first.after rest last step lead.1 is)
+
+  pub history_begins : IsHistory s stage [] (opening_world s.config.nodes)
+  history_begins = record { steps = []; moments_are = refl; leads = refl }
+
+  history_more : (moments : List Moment) (last : World) (step : HistoryStep) → IsHistory s stage moments last → IsStepFrom s stage last step
+      → IsHistory s stage (moments ++ step.moment ∷ []) step.after
+  history_more moments last step history is = record {
+    steps = history.steps ++ step ∷ [];
+    moments_are = ap (λ (l : List Moment). l ++ step.moment ∷ []) history.moments_are ∙ sym (map-append (λ (x : HistoryStep). x.moment) history.steps (step ∷ []));
+    leads = lead_more (opening_world s.config.nodes) history.steps last step history.leads is;
+  }
+
+-- ---- the sketch of one moment more
+
+pub drawable_now : (answer : Result Unit Fault) (new : Sketch) → OnOk answer (AreWays new.rows.items new.ways.items)
+    → OnOk answer (AreDown new.lines new.ways.items) → OnOk answer (new.lines ≤ 2 ^ 32) → OnOk answer (IsDrawable new)
+drawable_now (Ok done) new ways down few = record { ways = ways; down = down; few = few }
+drawable_now (Err fault) new ways down few = tt
+
+module _ {S : Type 0} (s : Setting S) (stage : Stage) (old new : Sketch) (moment : Moment) (before after : World) where
+  -- all goes well, or nothing is promised
+  pub sketch_more : (answer : Result Unit Fault) (event : Option Event) → OnOk answer (moments_of new ≡ moments_of old ++ moment ∷ [])
+      → OnOk answer (length new.ways.items ≡ moment.before + length moment.sends.items)
+      → IsStepFrom s stage before (record { moment = moment; event = event; after = after }) → length before.sent ≤ length after.sent
+      → IsSketchOf s stage old before → OnOk answer (IsDrawable new) → OnOk answer (IsSketchOf s stage new after)
+  sketch_more (Ok done) event is count step grows so_far drawable =
+      let sends = ap length step.sends ∙ length-map (drop (length before.sent) after.sent) (sending_of stage) ∙ length-drop (length before.sent) after.sent in
+      record {
+        history = subst (λ (l : List Moment). IsHistory s stage l after) (sym is)
+            (history_more s stage (moments_of old) before (record { moment = moment; event = event; after = after }) so_far.history step);
+        drawable = drawable;
+        count = omega (arith, count, sends, step.before, grows);
+      }
+  sketch_more (Err fault) event is count step grows so_far drawable = tt

@@ -1,0 +1,8 @@
+-- What is drawn is the sketch of the history.
+use Rattle.std.proofs.lemmas.Result.{IfOk-weaker}
+use Rattle.rp_history.proofs.chart.Chart.draw.Goals as goal
+
+pub returns : goal.returns
+returns g c = record {
+  drawn = λ s last sketched. IfOk-weaker c.draw.result _ _ (λ text drawn. record { sketch = c.args.self.now.sketch; sketched = sketched; drawn = drawn }) c.draw.ensures;
+}

@@ -1,0 +1,25 @@
+-- The event is the last moment.
+use Rattle.std.proofs.Common.{◌∙◌, Some, List, map, length, length-append, arith, ap}
+use Rattle.rp_codec.specs.Message.{Message}
+use Rattle.rp_drawing.specs.declared.sketch.Moment.{Moment}
+use Rattle.rp_model.specs.Events.{event_of}
+use Rattle.rp_model.specs.World.{World}
+use Rattle.rp_history.specs.Views.{sending_of}
+use Rattle.rp_history.proofs.HistoryLemmas.{drawable_now, sketch_more}
+use Rattle.rp_history.proofs.chart.Chart.happen.Goals as goal
+
+pub returns-clause-happened : goal.returns-clause-happened
+returns-clause-happened g c = λ s before after event so_far results packets ending.
+    let stage = c.args.self.now.stage in
+    let moment : Moment = record { before = c.messages.result; sends = c.in_ok-sends_of.field-0; ending = c.args.ending } in
+    let grows = c.worlds_grow.ensures s before (event_of event) results.transition results.effect in
+    let sent = ap (λ (w : World). w.sent) results.world ∙ grows.sent in
+    let longer = length-append before.sent results.transition.sends in
+    let more = ap length sent in
+    sketch_more s stage c.args.self.now.sketch c.add.new.self moment before after c.add.result (Some event) c.add.ensures.moments c.add.ensures.count
+    (record {
+      before = c.messages.ensures ∙ so_far.count;
+      sends = c.in_ok-sends_of.ensures ∙ ap (λ (l : List Message). map (sending_of stage) l) packets;
+      happens = (results, ending);
+    })
+    (omega (arith, more, longer)) so_far (drawable_now c.add.result c.add.new.self c.add.ensures.ways c.add.ensures.down c.add.ensures.few)

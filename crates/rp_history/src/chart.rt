@@ -1,0 +1,136 @@
+//! The chart of a run so far.
+
+ghost use Rattle.std.specs.Prelude.{◌≡◌, ◌≤◌, length, drop, IfErr, IfOk, OnOk, string_bytes};
+ghost use Rattle.rp_history.specs.Histories.{ending_by, IsDrawable, IsDrawingOf, IsSketchOf, lost_of};
+ghost use Rattle.rp_drawing.specs.Ways.{IsEndingWithin};
+ghost use Rattle.rp_model.specs.Answers.{ResultsIn};
+ghost use Rattle.rp_model.specs.Effect.{Setting};
+ghost use Rattle.rp_model.specs.Events.{event_of};
+ghost use Rattle.rp_model.specs.World.{World, opening_world};
+ghost use Rattle.rp_model.specs.declared.event.Event.{Event};
+
+use crate::stage::Stage;
+use rp_base::Fault;
+use rp_codec::Packet;
+use rp_drawing::{End, Ending, Label, Lane, Moment, Sketch, draw};
+use rp_machine::Machine;
+use rp_model::worlds_grow;
+use std::alloc::Global;
+
+/// The chart of a run so far: its moments, and the ways of its messages.
+#[derive(Drop)]
+pub struct Chart {
+    pub stage: Stage,
+    pub sketch: Sketch,
+}
+
+impl Chart {
+    /// The chart of the opening world: nothing has happened.
+    pub fn new<M: Machine>(alloc: Global, stage: Stage) -> Self
+        ensures stage { result.stage ≡ stage }
+        ensures drawable { IsDrawable result.sketch }
+        ensures opening { (s : Setting M) → IsSketchOf s result.stage result.sketch
+            (opening_world s.config.nodes) }
+    {
+        Chart {
+            stage,
+            sketch: Sketch::new(alloc),
+        }
+    }
+
+    /// One more moment, in which an event happened: these packets are sent, and the way of this message
+    /// ends. `OutOfMemory`: then the chart may lack the moment.
+    pub fn happen<M: Machine>(
+        &mut self,
+        alloc: Global,
+        packets: &[Packet],
+        ending: Option<Ending>,
+        label: Label,
+    ) -> Result<(), Fault>
+        requires drawable { IsDrawable self.old.sketch }
+        requires ending { IsEndingWithin (length self.old.sketch.ways.items) ending }
+        ensures stage { self.new.stage ≡ self.old.stage }
+        ensures drawable { OnOk result (IsDrawable self.new.sketch) }
+        // claim: An event that happened is the last moment of the chart of its run: the messages that
+        //   it sent begin their ways there, and the one that it delivered ends there, taken or, at a
+        //   stopped node, not heard
+        ensures happened { (s : Setting M) (before after : World) (event : Event)
+            → IsSketchOf s self.old.stage self.old.sketch before
+            → ResultsIn s before (event_of event) after
+            → packets.now ≡ drop (length before.sent) after.sent
+            → ending ≡ ending_by before event
+            → OnOk result (IsSketchOf s self.new.stage self.new.sketch after) }
+        ensures fault { IfErr result (λ fault. fault ≡ Fault.OutOfMemory) }
+    {
+        worlds_grow::<M>();
+        let moment = Moment {
+            before: self.messages(),
+            sends: self.stage.sends_of(alloc, packets)?,
+            ending,
+        };
+        self.sketch.add(moment, label)
+    }
+
+    /// One more moment, in which nothing happened, but that a message may have been lost. `OutOfMemory`: then
+    /// the chart may lack the moment.
+    pub fn stay<M: Machine>(
+        &mut self,
+        alloc: Global,
+        lost: Option<u64>,
+        label: Label,
+    ) -> Result<(), Fault>
+        requires drawable { IsDrawable self.old.sketch }
+        requires lost { IsEndingWithin (length self.old.sketch.ways.items) (lost_of lost) }
+        ensures stage { self.new.stage ≡ self.old.stage }
+        ensures drawable { OnOk result (IsDrawable self.new.sketch) }
+        // claim: A line that was refused, a message that was lost and a node that was shown is a moment
+        //   of the chart in which the world stays
+        ensures stays { (s : Setting M) (world : World)
+            → IsSketchOf s self.old.stage self.old.sketch world
+            → OnOk result (IsSketchOf s self.new.stage self.new.sketch world) }
+        ensures fault { IfErr result (λ fault. fault ≡ Fault.OutOfMemory) }
+    {
+        let moment = Moment {
+            before: self.messages(),
+            sends: Vec::new(alloc),
+            ending: lost_of(lost),
+        };
+        self.sketch.add(moment, label)
+    }
+
+    /// How many messages were sent.
+    fn messages(&self) -> u64
+        ensures { result ≡ length self.now.sketch.ways.items }
+    {
+        self.sketch.ways.len() as u64
+    }
+
+    /// The drawing of the run, of at most 300 bytes for each message, moment and lane, and 9,300 besides.
+    /// `OutOfMemory`.
+    pub fn draw<M: Machine>(&self, alloc: Global, lanes: &[Lane]) -> Result<String, Fault>
+        requires drawable { IsDrawable self.now.sketch }
+        requires lanes { length lanes.now ≤ 16 }
+        // claim: The arrows of a chart are the messages of its run's history, each from its sender's
+        //   lane, where it was sent, down to its receiver's, where it was taken, not heard or lost;
+        //   none goes upwards, and the drawing is short
+        ensures drawn { (s : Setting M) (last : World)
+            → IsSketchOf s self.now.stage self.now.sketch last
+            → IfOk result (λ text. IsDrawingOf s self.now.stage (length lanes.now) last
+            (string_bytes text)) }
+    {
+        draw(alloc, &self.sketch, lanes)
+    }
+}
+
+/// How the way of a message ends that is lost, if one is.
+fn lost_of(message: Option<u64>) -> Option<Ending>
+    ensures { result ≡ lost_of message }
+{
+    match message {
+        Some(message) => Some(Ending {
+            message,
+            end: End::Lost,
+        }),
+        None => None,
+    }
+}

@@ -1,0 +1,119 @@
+//! What happened in an event, by its effect and by its node before it and after it.
+
+ghost use Rattle.std.specs.Prelude.{◌≡◌};
+ghost use Rattle.rp_history.specs.Histories.{delivered_by};
+
+use crate::stage::Stage;
+use crate::view::colour_of;
+use rp_codec::{Packet, Party};
+use rp_drawing::{Kind, Label, Mark, Words};
+use rp_model::{Dropped, Effect, Event, Step};
+
+/// What is asked of a node before an event and after it.
+#[derive(Clone, Copy)]
+pub struct NodeState {
+    /// How many bytes its device holds.
+    pub stored: u64,
+    /// How many actions it has applied, 0 where it is stopped.
+    pub applied: u16,
+    pub is_stopped: bool,
+}
+
+/// An event that happened, its effect, who acted, and what was asked of that node before it and after it.
+/// The packet is the one that it delivered, or else the first one that it sent.
+#[derive(Drop)]
+pub struct Happened {
+    pub event: Event,
+    pub effect: Effect,
+    pub actor: Option<Party>,
+    pub before: NodeState,
+    pub after: NodeState,
+    pub packet: Option<Packet>,
+}
+
+/// The number of the message that an event delivers, whole or cut.
+pub fn delivered_by(event: &Event) -> Option<u64>
+    ensures { result ≡ delivered_by event.now }
+{
+    match *event {
+        Event::Node(Step::Deliver(number))
+        | Event::Cut {
+            step: Step::Deliver(number),
+            ..
+        } => Some(number),
+        _ => None,
+    }
+}
+
+/// Who acts in an event that delivers a packet to this receiver, if it delivers one.
+pub fn actor_of(event: &Event, receiver: Option<Party>) -> Option<Party> {
+    match *event {
+        Event::Submit { task, .. } | Event::Again { task, .. } => Some(Party::Task(task)),
+        Event::Stop(node) | Event::Restart(node) => Some(Party::Node(node)),
+        Event::Node(step) | Event::Cut { step, .. } => match step {
+            Step::Deliver(_) => receiver,
+            Step::Lead { node, .. }
+            | Step::LeadRange { node, .. }
+            | Step::Interrupt { node, .. }
+            | Step::Tick { node, .. }
+            | Step::Report { node, .. } => Some(Party::Node(node)),
+        },
+    }
+}
+
+impl Happened {
+    /// Whether its node wrote a record, or a part of one.
+    pub fn has_written(&self) -> bool {
+        self.after.stored > self.before.stored
+    }
+
+    /// What is drawn of it beside the ways of packets, with the words of what happened and of what its actor
+    /// did then.
+    pub fn label(&self, stage: &Stage, cause: Words, effect: Words) -> Label {
+        Label {
+            cause,
+            effect,
+            mark: self.mark(stage),
+            is_drawn: stage.view.shows_all() && self.is_notable(),
+        }
+    }
+
+    /// Its mark.
+    fn mark(&self, stage: &Stage) -> Option<Mark> {
+        let actor = self.actor?;
+        let colour = match &self.packet {
+            Some(packet) => colour_of(packet.body()),
+            None => 0,
+        };
+        Some(Mark {
+            lane: stage.lane_of(actor),
+            colour,
+            kind: self.kind(),
+        })
+    }
+
+    /// What its mark stands for.
+    fn kind(&self) -> Kind {
+        match self.event {
+            Event::Stop(_) => Kind::Stop,
+            Event::Restart(_) => Kind::Restart,
+            Event::Cut { .. } if self.has_written() => Kind::Torn,
+            Event::Cut { .. } => Kind::Stop,
+            Event::Submit { .. } | Event::Again { .. } => Kind::Act,
+            Event::Node(_) if self.has_written() => Kind::Record,
+            Event::Node(_) => Kind::Act,
+        }
+    }
+
+    /// Whether more is to be drawn of it than the way of a packet.
+    fn is_notable(&self) -> bool {
+        match self.event {
+            Event::Node(Step::Deliver(_)) => {
+                self.effect.taken.is_some()
+                    || self.effect.dropped == Dropped::Full
+                    || self.before.is_stopped
+            }
+            _ => true,
+        }
+    }
+}

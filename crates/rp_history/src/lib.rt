@@ -1,0 +1,18 @@
+//! The chart of a run: each event is a moment in it, and each message has its way through the moments.
+//!
+//! In reading order:
+//! - `chart`: the chart of a run so far, and its drawing
+//! - `happened`: what happened in an event, by its effect and by its node before it and after it
+//! - `stage`: on which lanes packets are drawn
+//! - `view`: which packets are drawn, and in which colour
+#![tactic(auto)]
+
+mod chart;
+mod happened;
+mod stage;
+mod view;
+
+pub use chart::Chart;
+pub use happened::{Happened, NodeState, actor_of, delivered_by};
+pub use stage::Stage;
+pub use view::{View, colour_of};

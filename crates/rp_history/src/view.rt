@@ -1,0 +1,112 @@
+//! What of a run is drawn.
+
+ghost use Rattle.std.specs.Prelude.{◌≡◌};
+ghost use Rattle.rp_history.specs.Views.{named_ballot, colour_of, is_about, is_node, is_to_itself, names_position, shows};
+
+use rp_base::{Ballot, NodeId, Position};
+use rp_codec::{Body, Packet, Party};
+
+/// What of a run is drawn.
+#[derive(Clone, Copy)]
+pub struct View {
+    /// Only what names this position, if there is one.
+    pub position: Option<Position>,
+    /// No packets from a node to itself.
+    pub hides_self: bool,
+}
+
+impl View {
+    /// Whether a packet's arrow is drawn.
+    pub fn shows(&self, packet: &Packet) -> bool
+        ensures { result ≡ shows self.now packet.now }
+    {
+        if self.hides_self && is_to_itself(packet.from(), packet.to()) {
+            return false;
+        }
+        self.is_about(packet.body())
+    }
+
+    /// Whether a packet names the position, if there is one.
+    fn is_about(&self, body: &Body) -> bool
+        ensures { result ≡ is_about self.now.position body.now }
+    {
+        match self.position {
+            Some(position) => names_position(body, position),
+            None => true,
+        }
+    }
+
+    /// Whether what names no position is drawn, as calls.
+    pub fn shows_all(&self) -> bool {
+        self.position.is_none()
+    }
+}
+
+/// Whether a packet is from a node to itself.
+fn is_to_itself(from: Party, to: Party) -> bool
+    ensures { result ≡ is_to_itself from to }
+{
+    match from {
+        Party::Node(sender) => is_node(to, sender),
+        Party::Task(_) | Party::Audit => false,
+    }
+}
+
+/// Whether a party is this node.
+fn is_node(party: Party, node: NodeId) -> bool
+    ensures { result ≡ is_node party node }
+{
+    match party {
+        Party::Node(other) => other.get() == node.get(),
+        Party::Task(_) | Party::Audit => false,
+    }
+}
+
+/// Whether a packet names a position.
+fn names_position(body: &Body, at: Position) -> bool
+    ensures { result ≡ names_position body.now at }
+{
+    match body {
+        Body::Prepare { position, .. }
+        | Body::Promise { position, .. }
+        | Body::Accept { position, .. }
+        | Body::Accepted { position, .. }
+        | Body::Decided { position, .. }
+        | Body::Ask { position }
+        | Body::Nack { position, .. } => position.get() == at.get(),
+        Body::PrepareRange { range, .. } | Body::PromiseRange { range, .. } => range.covers(at),
+        Body::Call { .. } | Body::Reply { .. } | Body::Report { .. } => false,
+    }
+}
+
+/// The ballot that a packet names, if it names one.
+fn named_ballot(body: &Body) -> Option<Ballot>
+    ensures { result ≡ named_ballot body.now }
+{
+    match body {
+        Body::Prepare { ballot, .. }
+        | Body::Promise { ballot, .. }
+        | Body::Accept { ballot, .. }
+        | Body::Accepted { ballot, .. }
+        | Body::Nack { ballot, .. }
+        | Body::PrepareRange { ballot, .. }
+        | Body::PromiseRange { ballot, .. } => Some(*ballot),
+        Body::Call { .. }
+        | Body::Decided { .. }
+        | Body::Ask { .. }
+        | Body::Reply { .. }
+        | Body::Report { .. } => None,
+    }
+}
+
+/// The colour of the ballot that a packet names: that of the node that owns it, 1 to 7, and 7 more in every
+/// other round; or 0.
+pub fn colour_of(body: &Body) -> u8
+    ensures { result ≡ colour_of body.now }
+{
+    match named_ballot(body) {
+        Some(ballot) if ballot.round() % 2 == 1 => ballot.owner().get(),
+        Some(ballot) => ballot.owner().get() + 7,
+        None => 0,
+    }
+}

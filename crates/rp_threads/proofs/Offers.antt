@@ -1,7 +1,7 @@
 -- The packets of a step, each offered to its box.
 use Rattle.std.proofs.Common.{◌≡◌, ◌⊎◌, ℕ, ◌+◌, ◌-◌, ◌≤◌, Bool, true, false, if◌then◌else◌, Result, Ok, Err, List, [], ◌∷◌, ◌++◌, length, take, drop, inl, inr, refl, sym, ap, subst, ◌∙◌, arith, append_assoc}
 use Rattle.std.proofs.lemmas.List.{append-nil, length-drop, take-append-drop}
-use Rattle.core.specs.Int.{from_bool}
+use Rattle.std.specs.Int.{from_bool}
 use Rattle.std.specs.Prelude.{IfOk}
 use Rattle.rp_base.specs.Sets.{Has}
 use Rattle.rp_base.specs.declared.action.Action.{Action}
@@ -66,9 +66,9 @@ module _ {S P : Type 0} (next : S → Action → S) (answers : S → Action → 
   -- these packets and then others
   then_offered : (seat : SeatState P) (ps qs : List Message) (a b : ℕ) → AreOffered next answers begin from seat ps a → AreOffered next answers begin from seat qs b
       → AreOffered next answers begin from seat (ps ++ qs) (a + b)
-  then_offered seat [] qs a b first then = let same : b ≡ a + b = omega (arith, first) in subst (λ (n : ℕ). AreOffered next answers begin from seat qs n) same then
-  then_offered seat (p ∷ ps) qs a b first then =
-      let sum = first.4 in (first.0, first.1 + b, first.2, then_offered seat ps qs first.1 b first.3 then, omega (arith, sum))
+  then_offered seat [] qs a b first following = let same : b ≡ a + b = omega (arith, first) in subst (λ (n : ℕ). AreOffered next answers begin from seat qs n) same following
+  then_offered seat (p ∷ ps) qs a b first following =
+      let sum = first.4 in (first.0, first.1 + b, first.2, then_offered seat ps qs first.1 b first.3 following, omega (arith, sum))
 
   -- one packet
   one_alone : (seat : SeatState P) (m : Message) (is_lost : Bool) → IsOffered next answers begin from seat (text_of m) is_lost → AreOffered next answers begin from seat (m ∷ []) (one_if is_lost)
@@ -102,13 +102,13 @@ module _ {S P : Type 0} (next : S → Action → S) (answers : S → Action → 
 
   more_offered : (seat : SeatState P) (a b : List ℕ) (n k : ℕ) → AreTextsOffered next answers begin from seat a n → AreTextsOffered next answers begin from seat b k
       → AreTextsOffered next answers begin from seat (a ++ b) (n + k)
-  more_offered seat a b n k first then = record {
+  more_offered seat a b n k first following = record {
     are = record {
-      packets = first.are.packets ++ then.are.packets;
-      texts = ap (λ (t : List ℕ). t ++ b) first.are.texts ∙ ap (λ (t : List ℕ). texts_of first.are.packets ++ t) then.are.texts ∙ ap (λ (r : Run). r.bytes) (packets_then (run_of []) first.are.packets then.are.packets);
-      sent = λ m has. elim (has_split m first.are.packets then.are.packets has) [ inl here ↦ first.are.sent m here | inr there ↦ then.are.sent m there ];
+      packets = first.are.packets ++ following.are.packets;
+      texts = ap (λ (t : List ℕ). t ++ b) first.are.texts ∙ ap (λ (t : List ℕ). texts_of first.are.packets ++ t) following.are.texts ∙ ap (λ (r : Run). r.bytes) (packets_then (run_of []) first.are.packets following.are.packets);
+      sent = λ m has. elim (has_split m first.are.packets following.are.packets has) [ inl here ↦ first.are.sent m here | inr there ↦ following.are.sent m there ];
     };
-    offered = then_offered seat first.are.packets then.are.packets n k first.offered then.offered;
+    offered = then_offered seat first.are.packets following.are.packets n k first.offered following.offered;
   }
 
   pub one_more_offered : (seat : SeatState P) (bytes left : List ℕ) (len lost : ℕ) (is_lost : Bool) → IsPartOffered seat bytes left lost → IsSentText seat.part (take len left)

@@ -192,7 +192,6 @@ impl<M: Machine> Unseated<M> {
                     place,
                     board,
                     spares: Vec::new(alloc),
-                    lost: 0,
                 })
             }
             Err((fault, _)) => Err(fault),
@@ -240,7 +239,6 @@ impl<M: Machine> Unseated<M> {
             place,
             board,
             spares: Vec::new(alloc),
-            lost: 0,
         })
     }
 

@@ -77,7 +77,6 @@ impl<M: Machine> AuditSeat<M> {
             place: task_place,
             board: task_board,
             spares: task_spares,
-            lost,
         } = task;
         let (task_place, place) = look_together::<M>(&task_board.shared, task_place, place);
         let audit = AuditSeat {
@@ -92,7 +91,6 @@ impl<M: Machine> AuditSeat<M> {
             place: task_place,
             board: task_board,
             spares: task_spares,
-            lost,
         };
         (audit, task)
     }

@@ -37,8 +37,6 @@ pub struct NodeSeat<M: Machine, D: Device> {
     pub(crate) board: Arc<Board<M>, Global>,
     /// Buffers for packets to come.
     pub(crate) spares: Vec<Vec<u8>>,
-    /// How many packets were given back and let go.
-    pub(crate) lost: u64,
 }
 
 impl<M: Machine, D: Device> Model for NodeSeat<M, D> {
@@ -156,18 +154,6 @@ impl<M: Machine, D: Device> NodeSeat<M, D> {
             }
             Err(packet) => Err(packet),
         }
-    }
-
-    /// Counts a packet that was given back and is let go.
-    pub fn lose(&mut self)
-        ensures { self.new ≡ self.old }
-    {
-        self.lost = self.lost.saturating_add(1);
-    }
-
-    /// How many packets were let go so.
-    pub fn lost(&self) -> u64 {
-        self.lost
     }
 
     /// The packet in the box from that party to this seat, as its text, or `None` where the box is

@@ -9,9 +9,9 @@ use Rattle.rp_tasks.specs.Line.{Line}
 use Rattle.rp_boxes.specs.Seats.{SeatState}
 use Rattle.rp_threads.specs.Lines.{given_on}
 use Rattle.rp_threads.specs.Loops.{is_refusal, sender_at}
-use Rattle.rp_threads.specs.Rounds.{AreTurns, IsLeadAnew, IsMade, IsMadeOrSkipped, IsUnmade, NodeAt, is_to_lead, result_of_turn}
+use Rattle.rp_threads.specs.Rounds.{AreTurns, IsLeadAnew, IsMade, IsMadeOrSkipped, IsUnmade, NodeAt, is_to_lead}
 use Rattle.rp_threads.specs.Turns.{IsNodeTurn, MayFetch, Works}
-use Rattle.rp_threads.specs.declared.turns.Turn as declared
+use Rattle.rp_threads.specs.declared.turns.PacketCounts.{PacketCounts}
 use Rattle.rp_threads.specs.declared.turns.TurnResult.{TurnResult}
 use Rattle.rp_threads.proofs.Steps.{fails_stays, stop_stays}
 use Rattle.rp_live.specs.Seats.{Runs}
@@ -25,19 +25,19 @@ fetch_runs None from to old new f runs = same_runs old new f runs
 fetch_runs {P} (Some text) from to old new f runs = (runs.0, ap (λ (c : SeatState P). c.part.role) f.after ∙ runs.1, runs.2)
 
 module _ {S P : Type 0} (next : S → Action → S) (answers : S → Action → List Answer) (begin : P → S) where
-  works_runs : (given : Option (List ℕ)) (lead : Bool) (old new : SeatState P) (count : ℕ) → Works next answers begin given lead old new count → Runs old.part → Runs new.part
-  works_runs (Some text) lead old new count w runs = turn_runs next answers begin old new w.input w.sent w.turn
-  works_runs None true old new count w runs = turn_runs next answers begin old new w.input w.sent w.turn
-  works_runs None false old new count w runs = same_runs old new w.0 runs
+  works_runs : (given : Option (List ℕ)) (lead : Bool) (old new : SeatState P) (packets : PacketCounts) → Works next answers begin given lead old new packets → Runs old.part → Runs new.part
+  works_runs (Some text) lead old new packets w runs = turn_runs next answers begin old new w.input w.sent w.turn
+  works_runs None true old new packets w runs = turn_runs next answers begin old new w.input w.sent w.turn
+  works_runs None false old new packets w runs = same_runs old new w.0 runs
 
   module _ (from : Party) (lead : Bool) (old new : SeatState P) (line after : Line) where
     own_runs : (between : SeatState P) (turned : TurnResult) → IsNodeTurn next answers begin from lead old between line after turned → Runs old.part → Runs between.part
     own_runs between turned t runs =
-        works_runs (given_on t.full) lead t.between between turned.sent t.works (fetch_runs t.brought.fetched from (Node old.number) old t.between t.brought.fetch runs)
+        works_runs (given_on t.full) lead t.between between turned.packets t.works (fetch_runs t.brought.fetched from (Node old.number) old t.between t.brought.fetch runs)
 
-    made_runs : (turn : declared.Turn) (sent : ℕ) → IsMade next answers begin from lead old new line after turn sent → Runs old.part → Runs new.part
-    made_runs turn sent (inl own) runs = own_runs new (result_of_turn turn sent) own runs
-    made_runs turn sent (inr anew) runs = let led = anew.1 in turn_runs next answers begin led.between new led.leads.input led.leads.sent led.leads.turn
+    made_runs : (turned : TurnResult) → IsMade next answers begin from lead old new line after turned → Runs old.part → Runs new.part
+    made_runs turned (inl own) runs = own_runs new turned own runs
+    made_runs turned (inr anew) runs = let led = anew.1 in turn_runs next answers begin led.between new led.leads.input led.leads.sent led.leads.turn
 
     refused_runs : (fault : Fault) → is_refusal fault ≡ true → IsUnmade next answers begin from lead old new line after fault → Runs old.part → Runs new.part
     refused_runs fault refusal (inl lost) runs = fetch_runs (Some lost.packet) from (Node old.number) old new lost.fetch runs
@@ -50,8 +50,8 @@ module _ {S P : Type 0} (next : S → Action → S) (answers : S → Action → 
         let stays = stop_stays next answers begin (IsLeadAnew between.part) between new fault refusal anew.stops in
         same_runs between new stays (own_runs between anew.turned anew.first runs)
 
-    one_runs : (heard : ℕ → Type 0) (passes : Bool) (made : Option declared.Turn) → IsMadeOrSkipped next answers begin from lead old new line after heard passes made → Runs old.part → Runs new.part
-    one_runs heard passes (Some turn) made runs = made_runs turn made.1 made.2 runs
+    one_runs : (heard : ℕ → Type 0) (passes : Bool) (made : Option TurnResult) → IsMadeOrSkipped next answers begin from lead old new line after heard passes made → Runs old.part → Runs new.part
+    one_runs heard passes (Some turned) made runs = made_runs turned made.1 runs
     one_runs heard passes None (inl skipped) runs = same_runs old new skipped.1 runs
     one_runs heard passes None (inr refused) runs = refused_runs refused.1 refused.2 refused.3 runs
 

@@ -15,6 +15,7 @@ use Rattle.rp_replica.specs.declared.input.Input.{Input}
 use Rattle.rp_replica.specs.declared.input.Input.TheVariants as inputs
 use Rattle.rp_replica.specs.declared.sent.Sent.{Sent}
 use Rattle.rp_threads.specs.Turns.{IsEventBy, IsStopBy}
+use Rattle.rp_threads.specs.declared.turns.PacketCounts.{PacketCounts}
 use Rattle.rp_live.specs.Seats.{Runs, IsNote}
 
 -- ---- one node
@@ -105,11 +106,11 @@ module _ {S P : Type 0} (next : S → Action → S) (answers : S → Action → 
         | inr other ↦ elim other [ inl none ↦ stops_memory stop.input fault taken runs never (inr none) | inr unsent ↦ unsent.memory ]
       ]
 
-  pub note_turn : (input : Input) (count : ℕ) → IsEventBy next answers begin (λ given. given ≡ input) old new count → (sent : Sent) × IsTurn next answers begin old input new sent
-  note_turn input count event = (event.sent, subst (λ (i : Input). IsTurn next answers begin old i new event.sent) event.is event.turn)
+  pub note_turn : (input : Input) (packets : PacketCounts) → IsEventBy next answers begin (λ given. given ≡ input) old new packets → (sent : Sent) × IsTurn next answers begin old input new sent
+  note_turn input packets event = (event.sent, subst (λ (i : Input). IsTurn next answers begin old i new event.sent) event.is event.turn)
 
-  pub note_runs : (input : Input) (count : ℕ) → IsEventBy next answers begin (λ given. given ≡ input) old new count → Runs new.part
-  note_runs input count event = turn_runs event.input event.sent event.turn
+  pub note_runs : (input : Input) (packets : PacketCounts) → IsEventBy next answers begin (λ given. given ≡ input) old new packets → Runs new.part
+  note_runs input packets event = turn_runs event.input event.sent event.turn
 
 -- a note is within its ranges, and no packet
 pub note_right : (input : Input) → IsNote input → IsRightInput input

@@ -16,7 +16,7 @@ use Rattle.rp_boxes.specs.Together.{IsTaskOf}
 use Rattle.rp_threads.specs.Loops.{IsSameSeat}
 use Rattle.rp_threads.specs.Rounds.{IsNodeFault, before_turns}
 use Rattle.rp_threads.specs.Tasks.{HasMade}
-use Rattle.rp_threads.specs.Threads.{IsLooped, IsTaskLooped, node_at_end}
+use Rattle.rp_threads.specs.Threads.{IsLooped, IsTaskLooped}
 use Rattle.rp_threads.specs.declared.loops.NodeEnd.{NodeEnd}
 use Rattle.rp_threads.specs.declared.tasks.TaskEnd.{TaskEnd}
 use Rattle.rp_threads.specs.declared.tasks.TaskCall.{TaskCall}
@@ -95,12 +95,13 @@ module _ {S P : Type 0} (next : S → Action → S) (answers : S → Action → 
 
     pub nodes_ended : All IsEndOfRun nodes
     nodes_ended = zip_all (λ seat. Runs seat.part) IsNodeLoop IsEndOfRun
-        (λ seat end run ran. (seat, (run, some_then _ (IsNodeFault seat end.seat) (λ fault ended. ended.1.cause) end.fault ran.fault))) noted nodes runs node_loops
+        (λ seat end run ran. (seat, (run, some_then _ (IsNodeFault seat end.seat) (λ fault ended. subst (λ (c : SeatState P). IsNodeFault seat c fault) (sym (ap (λ (e : NodeEnd S Memory P). e.seat) ended.1)) ended.2.cause) end.fault ran.fault))) noted nodes runs node_loops
 
     pub nodes_still : All StillRuns nodes
     nodes_still = zip_all (λ seat. Runs seat.part) IsNodeLoop StillRuns
         (λ seat end run ran none. let t = ran.turned none in
-        turns_run next answers begin paced heard config.nodes (before_turns seat (party_line seed (Node seat.number))) turns (node_at_end end t.0) t.1 run) noted nodes runs node_loops
+        subst (λ (c : SeatState P). Runs c.part) (sym (ap (λ (e : NodeEnd S Memory P). e.seat) t.1))
+        (turns_run next answers begin paced heard config.nodes (before_turns seat (party_line seed (Node seat.number))) turns t.0 t.2 run)) noted nodes runs node_loops
 
     -- each task made calls among the events
     abbrev HasCalls : TaskEnd S P → Type 0

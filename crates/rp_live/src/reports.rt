@@ -33,14 +33,12 @@ fn report_from<M: Machine, D: InfallibleDevice>(
     report
 }
 
-/// Puts a report that the node sent into its box. Where the box is not empty it is lost, and counted.
+/// Puts a report that the node sent into its box. Where the box is not empty it is lost.
 fn put_report<M: Machine, D: InfallibleDevice>(seat: &mut NodeSeat<M, D>, report: Vec<u8>)
     requires { IsSentText seat.old.part report.items }
     ensures { seat.new ≡ seat.old }
 {
-    if seat.put(report).is_err() {
-        seat.lose();
-    }
+    let _given_back = seat.put(report);
 }
 
 /// The node reports from a position on: the report goes into its box.

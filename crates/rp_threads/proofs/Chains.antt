@@ -8,15 +8,13 @@ use Rattle.rp_base.specs.declared.reply.Answer.{Answer}
 use Rattle.rp_tasks.specs.Line.{Line}
 use Rattle.rp_boxes.specs.Parts.{Part}
 use Rattle.rp_boxes.specs.Seats.{SeatState, IsStopped}
-use Rattle.rp_threads.specs.Loops.{IsSameSeat, counted, events_of, is_refusal, sender_at, total_of, turns_off}
+use Rattle.rp_threads.specs.Loops.{IsSameSeat, counted, events_made, is_refusal, sender_at, total_of, turns_off}
 use Rattle.rp_threads.specs.Rounds.{NodeAt, AreTurns, IsEndedBy, IsNextTurn, IsNodeFault, IsUnmade, before_turns, is_to_lead}
 use Rattle.rp_threads.specs.Threads.{IsLooped, end_of}
 use Rattle.rp_threads.specs.declared.loops.Counts.{Counts}
 use Rattle.rp_threads.specs.declared.loops.NodeEnd.{NodeEnd}
-use Rattle.rp_threads.specs.declared.turns.Turn.{Turn}
-use Rattle.rp_threads.specs.declared.turns.Turn.TheVariants.{Idle}
 use Rattle.rp_threads.proofs.Leads.{turned_same, turned_events, turned_idle, unmade_same}
-use Rattle.rp_threads.proofs.Rounds.{led_off, counted_total, counted_events, counted_idle}
+use Rattle.rp_threads.proofs.Rounds.{IsIdle, led_off, counted_total, counted_events, counted_idle}
 use Rattle.rp_threads.proofs.Steps.{same_seat, same_on}
 use Rattle.rp_threads.proofs.Stops.{IsSound, IsLeft, IsCause, sound_same, sound_on, turned_sound, unmade_left}
 
@@ -45,12 +43,12 @@ module _ {S P : Type 0} (next : S → Action → S) (answers : S → Action → 
       let lead = is_to_lead number (suc n) in
       let passes = lets number (suc n) in
       let hears = heard number (suc n) in
-      let more : now.seat.part.events ≡ before.seat.part.events + events_of t.made =
+      let more : now.seat.part.events ≡ before.seat.part.events + events_made t.made =
       turned_events next answers begin from lead before.seat now.seat before.line now.line hears passes t.made t.turns in
-      let count : now.counts.received + now.counts.led ≡ before.counts.received + before.counts.led + events_of t.made =
+      let count : now.counts.received + now.counts.led ≡ before.counts.received + before.counts.led + events_made t.made =
       ap (λ (c : Counts). c.received + c.led) t.counts ∙ counted_events t.made before.counts in
       let total : total_of now.counts ≡ total_of before.counts + 1 = ap total_of t.counts ∙ counted_total t.made before.counts in
-      let off : t.made ≡ Some Idle → suc n % (8 + number) ≢ 0 =
+      let off : IsIdle t.made → suc n % (8 + number) ≢ 0 =
       λ idle. led_off (suc n) number number refl (turned_idle next answers begin from lead before.seat now.seat before.line now.line hears passes t.made t.turns idle) in
       let were = has.events in
       let totals = has.total in
@@ -84,18 +82,18 @@ module _ {S P : Type 0} (next : S → Action → S) (answers : S → Action → 
   kept_failures first before last fault sound (inl device) other = absurd (other device.0)
   kept_failures first before last fault sound (inr left) other = left.0.failures ∙ sound.failures
 
-  module _ {M D : Type 0} (turns : ℕ) (seat : SeatState P) (line : Line) (lost : ℕ) where
+  module _ {M D : Type 0} (turns : ℕ) (seat : SeatState P) (line : Line) where
     abbrev IsEnd : NodeEnd M D P → Type 0
     IsEnd end = IsLooped next answers begin lets heard nodes turns seat line end
 
-    pub looped : (now : NodeAt P) → AreTurns next answers begin lets heard nodes (before_turns seat line) turns now → IsEnd (end_of now.counts now.seat lost None)
+    pub looped : (now : NodeAt P) → AreTurns next answers begin lets heard nodes (before_turns seat line) turns now → IsEnd (end_of now None)
     looped now are =
         let has = all_turned (before_turns seat line) turns now are in
         let total = has.total in
         let events = has.events in
         record {
           same = has.same;
-          turned = λ none. (now.line, are);
+          turned = λ none. (now, refl, are);
           counted = λ none. omega (arith, total);
           events = λ none. omega (arith, events);
           idle = λ none. has.idle refl;
@@ -106,7 +104,7 @@ module _ {S P : Type 0} (next : S → Action → S) (answers : S → Action → 
     pub ended : (done : ℕ) (before : NodeAt P) (last : SeatState P) (after : Line) (fault : Fault) → AreTurns next answers begin lets heard nodes (before_turns seat line) done before → done < turns
         → is_refusal fault ≡ false → lets before.seat.number (suc done) ≡ true
         → IsUnmade next answers begin (sender_at nodes (suc done)) (is_to_lead before.seat.number (suc done)) before.seat last before.line after fault
-        → IsEnd (end_of before.counts last lost (Some fault))
+        → IsEnd (end_of (record { seat = last; line = after; counts = before.counts }) (Some fault))
     ended done before last after fault are within ends passes unmade =
         let has = all_turned (before_turns seat line) done before are in
         let from = sender_at nodes (suc done) in
@@ -120,7 +118,8 @@ module _ {S P : Type 0} (next : S → Action → S) (answers : S → Action → 
           idle = λ none. absurd (some_fault fault none);
           failures = λ other. kept_failures seat before.seat last fault has.sound left (λ device. other (ap (λ (f : Fault). Some f) device));
           fault = (
-            after,
+            record { seat = last; line = after; counts = before.counts },
+            refl,
             record {
               cause = cause_of seat before.seat last fault ends has.sound left;
               done = done;

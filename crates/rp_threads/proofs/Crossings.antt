@@ -137,7 +137,7 @@ node_inside M D P m d s t = recorded_send (node_seat.the_field M D P m d).row _ 
       search (crosses, sendable, place.the_send) depth 9,
       (
         search (crosses, sendable, shared.the_send, shared.the_sync, lease.the_send, lease.the_sync) depth 25,
-        (search (crosses, sendable), (search (crosses, sendable), tt)),
+        (search (crosses, sendable), tt),
       ),
     ),
   ),
@@ -162,7 +162,7 @@ task_inside M P m s = recorded_send (task_seat.the_field M P m).row _ _ (task_se
         search (crosses, sendable, place.the_send) depth 9,
         (
           search (crosses, sendable, shared.the_send, shared.the_sync, lease.the_send, lease.the_sync) depth 25,
-          (search (crosses, sendable), (search (crosses, sendable), tt)),
+          (search (crosses, sendable), tt),
         ),
       ),
     ),

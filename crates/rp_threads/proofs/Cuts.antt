@@ -14,12 +14,14 @@ use Rattle.rp_threads.specs.Turns.{AreSentTexts}
 
 -- n bytes are the text of the first packet, and the others follow
 pub record IsFirst (part : Part) (texts : List ℕ) (len : ℕ) : Type 0 where
+  pub some : 1 ≤ len
   pub within : len ≤ length texts
   pub text : IsSentText part (take len texts)
   pub others : AreSentTexts part (drop len texts)
 
 first : (part : Part) (m : Message) (sends : List Message) → ((p : Message) → Has p (m ∷ sends) → Has p part.sent) → IsFirst part (text_of m ++ texts_of sends) (length (text_of m))
 first part m sends are = record {
+  some = omega arith;
   within = omega (arith, length-append (text_of m) (texts_of sends));
   text = (m, are m (inl refl), take-append_seam (text_of m) (texts_of sends));
   others = record { packets = sends; texts = drop-append_seam (text_of m) (texts_of sends); sent = (λ p has. are p (inr has)) };

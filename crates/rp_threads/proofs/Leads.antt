@@ -10,20 +10,21 @@ use Rattle.rp_model.specs.Parts.{Running}
 use Rattle.rp_tasks.specs.Line.{Line}
 use Rattle.rp_boxes.specs.Parts.{Part}
 use Rattle.rp_boxes.specs.Seats.{SeatState, HasApplied, IsRunning}
-use Rattle.rp_threads.specs.Loops.{is_refusal, is_idle, events_of, IsSameSeat}
-use Rattle.rp_threads.specs.Rounds.{HasPending, IsToLeadAt, IsLeadAnew, IsLedAnew, IsStoppedAnew, IsMade, IsUnmade, IsMadeOrSkipped, result_of_turn}
+use Rattle.rp_threads.specs.Loops.{is_refusal, is_idle, events_made, events_of, IsSameSeat}
+use Rattle.rp_threads.specs.Rounds.{HasPending, IsToLeadAt, IsLeadAnew, IsLedAnew, IsStoppedAnew, IsMade, IsUnmade, IsMadeOrSkipped}
 use Rattle.rp_threads.specs.Turns.{IsEventBy, IsStopBy, IsNodeTurn}
 use Rattle.rp_threads.specs.declared.turns.Turn.{Turn}
 use Rattle.rp_threads.specs.declared.turns.Turn.TheVariants.{Received, Led, Idle}
 use Rattle.rp_threads.specs.declared.turns.TurnResult.{TurnResult}
+use Rattle.rp_threads.proofs.Rounds.{IsIdle}
 use Rattle.rp_threads.proofs.Steps.{same_part, same_seat, same_on, stop_same, stop_stays, turn_same, turn_events, turn_idle, fault_same, fault_events}
 
 module _ {S P : Type 0} (next : S → Action → S) (answers : S → Action → List Answer) (begin : P → S) (from : Party) (lead : Bool) (old new : SeatState P) (line after : Line) where
   -- ---- it stays the same seat
 
-  pub made_same : (turn : Turn) (sent : ℕ) → IsMade next answers begin from lead old new line after turn sent → IsSameSeat old new
-  made_same turn sent (inl own) = turn_same next answers begin from lead old new line after (result_of_turn turn sent) own
-  made_same turn sent (inr anew) =
+  pub made_same : (turned : TurnResult) → IsMade next answers begin from lead old new line after turned → IsSameSeat old new
+  made_same turned (inl own) = turn_same next answers begin from lead old new line after turned own
+  made_same turned (inr anew) =
       let led = anew.1 in
       same_on old led.between new (turn_same next answers begin from lead old led.between line after led.turned led.first) (same_part led.between new _ led.leads.turn.after)
 
@@ -34,8 +35,8 @@ module _ {S P : Type 0} (next : S → Action → S) (answers : S → Action → 
       same_on old anew.between new (turn_same next answers begin from lead old anew.between line after anew.turned anew.first)
       (stop_same next answers begin (IsLeadAnew anew.between.part) anew.between new fault anew.stops)
 
-  pub turned_same : (heard : ℕ → Type 0) (passes : Bool) (made : Option Turn) → IsMadeOrSkipped next answers begin from lead old new line after heard passes made → IsSameSeat old new
-  turned_same heard passes (Some turn) made = made_same turn made.1 made.2
+  pub turned_same : (heard : ℕ → Type 0) (passes : Bool) (made : Option TurnResult) → IsMadeOrSkipped next answers begin from lead old new line after heard passes made → IsSameSeat old new
+  turned_same heard passes (Some turned) made = made_same turned made.1
   turned_same heard passes None (inl stays) = same_seat old new stays.1
   turned_same heard passes None (inr refused) = unmade_same refused.1 refused.3
 
@@ -45,16 +46,16 @@ module _ {S P : Type 0} (next : S → Action → S) (answers : S → Action → 
   idle_events : (between : SeatState P) (turned : TurnResult) → IsNodeTurn next answers begin from lead old between line after turned → turned.turn ≡ Idle → between.part.events ≡ old.part.events
   idle_events between turned t idle =
       let e : between.part.events ≡ old.part.events + 0 =
-      turn_events next answers begin from lead old between line after turned t ∙ ap (λ (u : Turn). old.part.events + events_of (Some u)) idle in
+      turn_events next answers begin from lead old between line after turned t ∙ ap (λ (u : Turn). old.part.events + events_of u) idle in
       omega (arith, e)
 
-  made_events : (turn : Turn) (sent : ℕ) → IsMade next answers begin from lead old new line after turn sent → new.part.events ≡ old.part.events + events_of (Some turn)
-  made_events turn sent (inl own) = turn_events next answers begin from lead old new line after (result_of_turn turn sent) own
-  made_events turn sent (inr anew) =
+  made_events : (turned : TurnResult) → IsMade next answers begin from lead old new line after turned → new.part.events ≡ old.part.events + events_of turned.turn
+  made_events turned (inl own) = turn_events next answers begin from lead old new line after turned own
+  made_events turned (inr anew) =
       let led = anew.1 in
       let first = idle_events led.between led.turned led.first led.idle in
       let more : new.part.events ≡ led.between.part.events + 1 = ap (λ (c : SeatState P). c.part.events) led.leads.turn.after in
-      let one : events_of (Some turn) ≡ 1 = ap (λ (u : Turn). events_of (Some u)) anew.0 in
+      let one : events_of turned.turn ≡ 1 = ap (λ (u : Turn). events_of u) anew.0 in
       omega (arith, first, more, one)
 
   unmade_events : (fault : Fault) → is_refusal fault ≡ true → IsUnmade next answers begin from lead old new line after fault → new.part.events ≡ old.part.events
@@ -64,21 +65,21 @@ module _ {S P : Type 0} (next : S → Action → S) (answers : S → Action → 
       ap (λ (c : SeatState P). c.part.events) (stop_stays next answers begin (IsLeadAnew anew.between.part) anew.between new fault refuses anew.stops)
       ∙ idle_events anew.between anew.turned anew.first anew.idle
 
-  pub turned_events : (heard : ℕ → Type 0) (passes : Bool) (made : Option Turn) → IsMadeOrSkipped next answers begin from lead old new line after heard passes made
-      → new.part.events ≡ old.part.events + events_of made
-  turned_events heard passes (Some turn) made = made_events turn made.1 made.2
+  pub turned_events : (heard : ℕ → Type 0) (passes : Bool) (made : Option TurnResult) → IsMadeOrSkipped next answers begin from lead old new line after heard passes made
+      → new.part.events ≡ old.part.events + events_made made
+  turned_events heard passes (Some turned) made = made_events turned made.1
   turned_events heard passes None (inl stays) = let e : new.part.events ≡ old.part.events = ap (λ (c : SeatState P). c.part.events) stays.1 in omega (arith, e)
   turned_events heard passes None (inr refused) = let e = unmade_events refused.1 refused.2 refused.3 in omega (arith, e)
 
   -- ---- an idle turn was not to lead
 
-  made_idle : (turn : Turn) (sent : ℕ) → IsMade next answers begin from lead old new line after turn sent → turn ≡ Idle → lead ≡ false
-  made_idle turn sent (inl own) idle = turn_idle next answers begin from lead old new line after (result_of_turn turn sent) own idle
-  made_idle turn sent (inr anew) idle = let clash : Led ≡ Idle = sym anew.0 ∙ idle in absurd (cc)
+  made_idle : (turned : TurnResult) → IsMade next answers begin from lead old new line after turned → turned.turn ≡ Idle → lead ≡ false
+  made_idle turned (inl own) idle = turn_idle next answers begin from lead old new line after turned own idle
+  made_idle turned (inr anew) idle = let clash : Led ≡ Idle = sym anew.0 ∙ idle in absurd (cc)
 
-  pub turned_idle : (heard : ℕ → Type 0) (passes : Bool) (made : Option Turn) → IsMadeOrSkipped next answers begin from lead old new line after heard passes made → made ≡ Some Idle → lead ≡ false
-  turned_idle heard passes (Some turn) made is = made_idle turn made.1 made.2 (cc)
-  turned_idle heard passes None skipped is = absurd (cc)
+  pub turned_idle : (heard : ℕ → Type 0) (passes : Bool) (made : Option TurnResult) → IsMadeOrSkipped next answers begin from lead old new line after heard passes made → IsIdle made → lead ≡ false
+  turned_idle heard passes (Some turned) made is = made_idle turned made.1 is
+  turned_idle heard passes None skipped is = absurd is
 
 -- ---- a node leads anew
 
@@ -107,8 +108,8 @@ module _ (part : Part) (waits : Bool) (stated : (running : Running) → IsRunnin
 module _ {S P : Type 0} (next : S → Action → S) (answers : S → Action → List Answer) (begin : P → S) (from : Party) (lead : Bool) (old new between : SeatState P) (line after : Line) (turned : TurnResult)
     (first : IsNodeTurn next answers begin from lead old between line after turned) (idle : turned.turn ≡ Idle) where
   pub led_anew : (result : Result TurnResult Fault)
-      → IfOk result (λ made. (made.turn ≡ Led) × IsEventBy next answers begin (IsLeadAnew between.part) between new made.sent)
-      → IfOk result (λ made. IsMade next answers begin from lead old new line after made.turn made.sent)
+      → IfOk result (λ made. (made.turn ≡ Led) × IsEventBy next answers begin (IsLeadAnew between.part) between new made.packets)
+      → IfOk result (IsMade next answers begin from lead old new line after)
   led_anew (Ok made) ok = inr (ok.0, record { between = between; turned = turned; first = first; idle = idle; leads = ok.1 })
   led_anew (Err fault) ok = tt
 

@@ -13,11 +13,12 @@ use Rattle.rp_replica.specs.declared.sent.Sent.{Sent}
 use Rattle.rp_tasks.specs.Line.{Line}
 use Rattle.rp_boxes.specs.Parts.{Part}
 use Rattle.rp_boxes.specs.Seats.{SeatState, IsTurn}
-use Rattle.rp_threads.specs.Turns.{MayFetch, IsBrought, IsLost, turn_of, IsReceipt, IsLead, AreSent, IsAllOffered, IsEventBy, IsStopBy, Works, Fails, IsNodeTurn, IsStoppedTurn}
+use Rattle.rp_threads.specs.Turns.{MayFetch, IsBrought, IsLost, turn_of, IsReceipt, IsLead, AreSent, IsAllOffered, IsEventBy, IsStopBy, Works, Fails, IsNodeTurn, IsStoppedTurn, no_packets}
 use Rattle.rp_threads.specs.Loops.{IsSameSeat, events_of, is_refusal}
 use Rattle.rp_threads.specs.Lines.{given_on, line_after}
 use Rattle.rp_threads.specs.declared.turns.Turn.{Turn}
 use Rattle.rp_threads.specs.declared.turns.Turn.TheVariants.{Received, Led, Idle}
+use Rattle.rp_threads.specs.declared.turns.PacketCounts.{PacketCounts}
 use Rattle.rp_threads.specs.declared.turns.TurnResult.{TurnResult}
 
 -- ---- the same seat
@@ -68,9 +69,9 @@ module _ {S P : Type 0} (next : S → Action → S) (answers : S → Action → 
   -- ---- an event
 
   -- by this input, once its packets were offered
-  pub event_by : (old new : SeatState P) (input : Input) (sent : Sent) (turn : IsTurn next answers begin old input new sent) → IsAllOffered next answers begin (Node new.number) new sent
-      → IsEventBy next answers begin (λ given. given ≡ input) old new sent.packets
-  event_by old new input sent turn offered = record {
+  pub event_by : (old new : SeatState P) (input : Input) (sent : Sent) (lost : ℕ) (turn : IsTurn next answers begin old input new sent)
+      → IsAllOffered next answers begin (Node new.number) new sent lost → IsEventBy next answers begin (λ given. given ≡ input) old new (record { sent = sent.packets; lost = lost })
+  event_by old new input sent lost turn offered = record {
     input = input;
     is = refl;
     sent = sent;
@@ -107,16 +108,16 @@ module _ {S P : Type 0} (next : S → Action → S) (answers : S → Action → 
 
   -- ---- the work of a turn
 
-  pub works_same : (given : Option (List ℕ)) (lead : Bool) (old new : SeatState P) (count : ℕ) → Works next answers begin given lead old new count → IsSameSeat old new
-  works_same (Some text) lead old new count w = same_part old new _ w.turn.after
-  works_same None true old new count w = same_part old new _ w.turn.after
-  works_same None false old new count w = same_seat old new w.0
+  pub works_same : (given : Option (List ℕ)) (lead : Bool) (old new : SeatState P) (packets : PacketCounts) → Works next answers begin given lead old new packets → IsSameSeat old new
+  works_same (Some text) lead old new packets w = same_part old new _ w.turn.after
+  works_same None true old new packets w = same_part old new _ w.turn.after
+  works_same None false old new packets w = same_seat old new w.0
 
-  pub works_events : (given : Option (List ℕ)) (lead : Bool) (old new : SeatState P) (count : ℕ) → Works next answers begin given lead old new count
-      → new.part.events ≡ old.part.events + events_of (Some (turn_of given lead))
-  works_events (Some text) lead old new count w = ap (λ (c : SeatState P). c.part.events) w.turn.after
-  works_events None true old new count w = ap (λ (c : SeatState P). c.part.events) w.turn.after
-  works_events None false old new count w = let e : new.part.events ≡ old.part.events = ap (λ (c : SeatState P). c.part.events) w.0 in omega (arith, e)
+  pub works_events : (given : Option (List ℕ)) (lead : Bool) (old new : SeatState P) (packets : PacketCounts) → Works next answers begin given lead old new packets
+      → new.part.events ≡ old.part.events + events_of (turn_of given lead)
+  works_events (Some text) lead old new packets w = ap (λ (c : SeatState P). c.part.events) w.turn.after
+  works_events None true old new packets w = ap (λ (c : SeatState P). c.part.events) w.turn.after
+  works_events None false old new packets w = let e : new.part.events ≡ old.part.events = ap (λ (c : SeatState P). c.part.events) w.0 in omega (arith, e)
 
   pub fails_same : (given : Option (List ℕ)) (lead : Bool) (old new : SeatState P) (fault : Fault) → Fails next answers begin given lead old new fault → IsSameSeat old new
   fails_same (Some text) lead old new fault f = stop_same (IsReceipt text) old new fault f
@@ -129,10 +130,10 @@ module _ {S P : Type 0} (next : S → Action → S) (answers : S → Action → 
   fails_stays None false old new fault refuses f = absurd f
 
   -- the node receives what is given on
-  pub received : (given : Option (List ℕ)) (text : List ℕ) (lead : Bool) (input : Input) (old new : SeatState P) (count : ℕ) → given ≡ Some text → IsReceipt text input
-      → IsEventBy next answers begin (λ i. i ≡ input) old new count → Works next answers begin given lead old new count
-  received given text lead input old new count is receipt e =
-      subst (λ (o : Option (List ℕ)). Works next answers begin o lead old new count) (sym is)
+  pub received : (given : Option (List ℕ)) (text : List ℕ) (lead : Bool) (input : Input) (old new : SeatState P) (packets : PacketCounts) → given ≡ Some text → IsReceipt text input
+      → IsEventBy next answers begin (λ i. i ≡ input) old new packets → Works next answers begin given lead old new packets
+  received given text lead input old new packets is receipt e =
+      subst (λ (o : Option (List ℕ)). Works next answers begin o lead old new packets) (sym is)
       (record { input = e.input; is = subst (IsReceipt text) (sym e.is) receipt; sent = e.sent; turn = e.turn; stated = e.stated; offered = e.offered })
 
   pub receipt_stopped : (given : Option (List ℕ)) (text : List ℕ) (lead : Bool) (input : Input) (old new : SeatState P) (fault : Fault) → given ≡ Some text → IsReceipt text input
@@ -142,19 +143,19 @@ module _ {S P : Type 0} (next : S → Action → S) (answers : S → Action → 
       (record { input = e.input; is = subst (IsReceipt text) (sym e.is) receipt; why = e.why })
 
   -- nothing is given on, and the node leads
-  pub led : (given : Option (List ℕ)) (lead : Bool) (old new : SeatState P) (count : ℕ) → given ≡ None → lead ≡ true
-      → IsEventBy next answers begin IsLead old new count → Works next answers begin given lead old new count
-  led given lead old new count is leads e =
-      subst (λ (o : Option (List ℕ)). Works next answers begin o lead old new count) (sym is) (subst (λ (b : Bool). Works next answers begin None b old new count) (sym leads) e)
+  pub led : (given : Option (List ℕ)) (lead : Bool) (old new : SeatState P) (packets : PacketCounts) → given ≡ None → lead ≡ true
+      → IsEventBy next answers begin IsLead old new packets → Works next answers begin given lead old new packets
+  led given lead old new packets is leads e =
+      subst (λ (o : Option (List ℕ)). Works next answers begin o lead old new packets) (sym is) (subst (λ (b : Bool). Works next answers begin None b old new packets) (sym leads) e)
 
   pub lead_stopped : (given : Option (List ℕ)) (lead : Bool) (old new : SeatState P) (fault : Fault) → given ≡ None → lead ≡ true
       → IsStopBy next answers begin IsLead old new fault → Fails next answers begin given lead old new fault
   lead_stopped given lead old new fault is leads e =
       subst (λ (o : Option (List ℕ)). Fails next answers begin o lead old new fault) (sym is) (subst (λ (b : Bool). Fails next answers begin None b old new fault) (sym leads) e)
 
-  pub idles : (given : Option (List ℕ)) (lead : Bool) (seat : SeatState P) → given ≡ None → lead ≡ false → Works next answers begin given lead seat seat 0
+  pub idles : (given : Option (List ℕ)) (lead : Bool) (seat : SeatState P) → given ≡ None → lead ≡ false → Works next answers begin given lead seat seat no_packets
   idles given lead seat is leads =
-      subst (λ (o : Option (List ℕ)). Works next answers begin o lead seat seat 0) (sym is) (subst (λ (b : Bool). Works next answers begin None b seat seat 0) (sym leads) (refl, refl))
+      subst (λ (o : Option (List ℕ)). Works next answers begin o lead seat seat no_packets) (sym is) (subst (λ (b : Bool). Works next answers begin None b seat seat no_packets) (sym leads) (refl, refl))
 
   -- ---- what a turn is
 
@@ -169,13 +170,13 @@ module _ {S P : Type 0} (next : S → Action → S) (answers : S → Action → 
   module _ (from : Party) (lead : Bool) (old new : SeatState P) (line after : Line) where
     pub turn_same : (turned : TurnResult) → IsNodeTurn next answers begin from lead old new line after turned → IsSameSeat old new
     turn_same turned t =
-        same_on old t.between new (may_same t.brought.fetched from (Node old.number) old t.between t.brought.fetch) (works_same (given_on t.full) lead t.between new turned.sent t.works)
+        same_on old t.between new (may_same t.brought.fetched from (Node old.number) old t.between t.brought.fetch) (works_same (given_on t.full) lead t.between new turned.packets t.works)
 
-    pub turn_events : (turned : TurnResult) → IsNodeTurn next answers begin from lead old new line after turned → new.part.events ≡ old.part.events + events_of (Some turned.turn)
+    pub turn_events : (turned : TurnResult) → IsNodeTurn next answers begin from lead old new line after turned → new.part.events ≡ old.part.events + events_of turned.turn
     turn_events turned t =
-        works_events (given_on t.full) lead t.between new turned.sent t.works
-        ∙ ap (λ (n : ℕ). n + events_of (Some (turn_of (given_on t.full) lead))) (may_events t.brought.fetched from (Node old.number) old t.between t.brought.fetch)
-        ∙ ap (λ (u : Turn). old.part.events + events_of (Some u)) (sym t.turn)
+        works_events (given_on t.full) lead t.between new turned.packets t.works
+        ∙ ap (λ (n : ℕ). n + events_of (turn_of (given_on t.full) lead)) (may_events t.brought.fetched from (Node old.number) old t.between t.brought.fetch)
+        ∙ ap (λ (u : Turn). old.part.events + events_of u) (sym t.turn)
 
     pub stopped_same : (fault : Fault) → IsStoppedTurn next answers begin from lead old new line after fault → IsSameSeat old new
     stopped_same fault t =
@@ -202,7 +203,7 @@ module _ {S P : Type 0} (next : S → Action → S) (answers : S → Action → 
     -- what was brought, and the work after it
     module _ (between : SeatState P) (full : Line) (brought : IsBrought from (Node old.number) old between line full) (gives : after ≡ line_after full) where
       pub is_turn : (result : Result TurnResult Fault) → IfOk result (λ turned. turned.turn ≡ turn_of (given_on full) lead)
-          → IfOk result (λ turned. Works next answers begin (given_on full) lead between new turned.sent)
+          → IfOk result (λ turned. Works next answers begin (given_on full) lead between new turned.packets)
           → IfOk result (λ turned. IsNodeTurn next answers begin from lead old new line after turned)
       is_turn (Ok turned) turn works = record { between = between; full = full; brought = brought; turn = turn; works = works; gives = gives }
       is_turn (Err fault) turn works = tt

@@ -26,9 +26,9 @@ use Rattle.rp_boxes.specs.Parts.{Part, Role, OfNode}
 use Rattle.rp_boxes.specs.Seats.{SeatState, IsReason, IsStopped, IsTurn, IsNoTurn, setting_at}
 use Rattle.rp_threads.specs.Lines.{given_on}
 use Rattle.rp_threads.specs.Loops.{is_refusal}
-use Rattle.rp_threads.specs.Rounds.{IsLeadAnew, IsMade, IsUnmade, IsMadeOrSkipped, result_of_turn}
+use Rattle.rp_threads.specs.Rounds.{IsLeadAnew, IsMade, IsUnmade, IsMadeOrSkipped}
 use Rattle.rp_threads.specs.Turns.{MayFetch, IsBrought, IsReceipt, IsLead, IsEventBy, IsStopBy, Works, Fails, IsNodeTurn}
-use Rattle.rp_threads.specs.declared.turns.Turn as declared
+use Rattle.rp_threads.specs.declared.turns.PacketCounts.{PacketCounts}
 use Rattle.rp_threads.specs.declared.turns.TurnResult.{TurnResult}
 use Rattle.rp_threads.proofs.Rounds.{refusal_stays}
 
@@ -225,10 +225,10 @@ module _ {S P : Type 0} (next : S → Action → S) (answers : S → Action → 
     ]
   ]
 
-  works_sound : (given : Option (List ℕ)) (lead : Bool) (old new : SeatState P) (count : ℕ) → Works next answers begin given lead old new count → IsSound old new
-  works_sound (Some text) lead old new count w = event_sound old new w.input w.sent w.turn
-  works_sound None true old new count w = event_sound old new w.input w.sent w.turn
-  works_sound None false old new count w = sound_same old new w.0
+  works_sound : (given : Option (List ℕ)) (lead : Bool) (old new : SeatState P) (packets : PacketCounts) → Works next answers begin given lead old new packets → IsSound old new
+  works_sound (Some text) lead old new packets w = event_sound old new w.input w.sent w.turn
+  works_sound None true old new packets w = event_sound old new w.input w.sent w.turn
+  works_sound None false old new packets w = sound_same old new w.0
 
   fails_left : (given : Option (List ℕ)) (lead : Bool) (old new : SeatState P) (fault : Fault) → Fails next answers begin given lead old new fault → IsLeft old new fault
   fails_left (Some text) lead old new fault f = stop_left (IsReceipt text) old new fault (receipt_no_range text) f
@@ -241,11 +241,11 @@ module _ {S P : Type 0} (next : S → Action → S) (answers : S → Action → 
 
     turn_sound : (between : SeatState P) (turn_done : TurnResult) → IsNodeTurn next answers begin from lead old between line after turn_done → IsSound old between
     turn_sound between turn_done t =
-        sound_on old t.between between (brought_sound t.between t.full t.brought) (works_sound (given_on t.full) lead t.between between turn_done.sent t.works)
+        sound_on old t.between between (brought_sound t.between t.full t.brought) (works_sound (given_on t.full) lead t.between between turn_done.packets t.works)
 
-    made_sound : (turn : declared.Turn) (sent : ℕ) → IsMade next answers begin from lead old new line after turn sent → IsSound old new
-    made_sound turn sent (inl own) = turn_sound new (result_of_turn turn sent) own
-    made_sound turn sent (inr anew) =
+    made_sound : (turned : TurnResult) → IsMade next answers begin from lead old new line after turned → IsSound old new
+    made_sound turned (inl own) = turn_sound new turned own
+    made_sound turned (inr anew) =
         let led = anew.1 in
         sound_on old led.between new (turn_sound led.between led.turned led.first) (event_sound led.between new led.leads.input led.leads.sent led.leads.turn)
 
@@ -258,7 +258,7 @@ module _ {S P : Type 0} (next : S → Action → S) (answers : S → Action → 
         left_on old anew.between new fault (turn_sound anew.between anew.turned anew.first) (stop_left (IsLeadAnew anew.between.part) anew.between new fault (anew_no_range anew.between.part) anew.stops)
 
     -- a turn that is made or skipped
-    pub turned_sound : (heard : ℕ → Type 0) (passes : Bool) (made : Option declared.Turn) → IsMadeOrSkipped next answers begin from lead old new line after heard passes made → IsSound old new
-    turned_sound heard passes (Some turn) made = made_sound turn made.1 made.2
+    pub turned_sound : (heard : ℕ → Type 0) (passes : Bool) (made : Option TurnResult) → IsMadeOrSkipped next answers begin from lead old new line after heard passes made → IsSound old new
+    turned_sound heard passes (Some turned) made = made_sound turned made.1
     turned_sound heard passes None (inl skipped) = sound_same old new skipped.1
     turned_sound heard passes None (inr refused) = sound_left old new refused.1 (refusal_stays refused.1 refused.2) (unmade_left refused.1 refused.3)

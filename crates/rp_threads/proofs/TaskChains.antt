@@ -23,7 +23,7 @@ use Rattle.rp_boxes.specs.TaskSeats.{IsNoTaskTurn}
 use Rattle.rp_threads.specs.Lines.{given_on, line_after}
 use Rattle.rp_threads.specs.Loops.{IsSameSeat, node_at}
 use Rattle.rp_threads.specs.Tasks.{HasMade, TaskAt, Waits, before_calls, call_after}
-use Rattle.rp_threads.specs.TaskRounds.{AreTaskTurns, Asks, Hears, IsBadCall, IsHeard, IsRefused, IsTaskEndedBy, IsTaskFault, IsTaskTurnOf, IsUnasked, IsUnheard, IsUnmadeTurn, asked_by, asked_for, asked_in, heard_by, made_by, submitted, with_call}
+use Rattle.rp_threads.specs.TaskRounds.{AreTaskTurns, Asks, Hears, IsBadCall, IsHeard, IsRefused, IsTaskEndedBy, IsTaskFault, IsTaskTurnOf, IsUnasked, IsUnheard, IsUnmadeTurn, asked_by, asked_for, asked_in, heard_by, made_by, submitted, with_call, with_lost}
 use Rattle.rp_threads.specs.Threads.{IsTaskLooped, task_end_of}
 use Rattle.rp_threads.specs.Turns.{IsBrought, IsLost, MayFetch}
 use Rattle.rp_threads.specs.declared.tasks.Calls.{Calls}
@@ -87,26 +87,26 @@ module _ {S P : Type 0} (next : S → Action → S) (answers : S → Action → 
 
     -- ---- what is asked
 
-    submit_on : (call : Option TaskCall) (old new : SeatState P) (so_far : Calls) → slice_get calls so_far.made ≡ call → Asks next answers begin (submitted call) old new
+    submit_on : (call : Option TaskCall) (old new : SeatState P) (so_far : Calls) (lost : ℕ) → slice_get calls so_far.made ≡ call → Asks next answers begin (submitted call) old new lost
         → IsMadeOn old new (record so_far { waits = false }) (with_call call so_far)
-    submit_on None old new so_far at a = (same_seat old new a, λ h. subst (λ (c : SeatState P). HasMade calls c so_far.made false) (sym a) h)
-    submit_on (Some call) old new so_far at a = (same_part old new _ a.turn.after, λ h. call_made calls old new call so_far.made a.sent a.turn at h)
+    submit_on None old new so_far lost at a = (same_seat old new a.0, λ h. subst (λ (c : SeatState P). HasMade calls c so_far.made false) (sym a.0) h)
+    submit_on (Some call) old new so_far lost at a = (same_part old new _ a.turn.after, λ h. call_made calls old new call so_far.made a.sent a.turn at h)
 
-    again_on : (due : Bool) (node : ℕ) (old new : SeatState P) (so_far : Calls) → Asks next answers begin (if due then Some (Again node) else None) old new
+    again_on : (due : Bool) (node : ℕ) (old new : SeatState P) (so_far : Calls) (lost : ℕ) → Asks next answers begin (if due then Some (Again node) else None) old new lost
         → IsMadeOn old new (record so_far { waits = true }) (record so_far { waits = true })
-    again_on true node old new so_far a = (same_part old new _ a.turn.after, λ h. again_made calls old new node so_far.made true a.sent a.turn h)
-    again_on false node old new so_far a = (same_seat old new a, λ h. subst (λ (c : SeatState P). HasMade calls c so_far.made true) (sym a) h)
+    again_on true node old new so_far lost a = (same_part old new _ a.turn.after, λ h. again_made calls old new node so_far.made true a.sent a.turn h)
+    again_on false node old new so_far lost a = (same_seat old new a.0, λ h. subst (λ (c : SeatState P). HasMade calls c so_far.made true) (sym a.0) h)
 
-    asked_on : (waits : Bool) (turn : ℕ) (old new : SeatState P) (so_far : Calls) → Asks next answers begin (asked_by waits nodes calls so_far.made turn) old new
+    asked_on : (waits : Bool) (turn : ℕ) (old new : SeatState P) (so_far : Calls) (lost : ℕ) → Asks next answers begin (asked_by waits nodes calls so_far.made turn) old new lost
         → IsMadeOn old new (record so_far { waits = waits }) (made_by waits calls so_far)
-    asked_on true turn old new so_far a = again_on (nat_eq (turn % 16) 0) (node_at nodes (turn / 16)) old new so_far a
-    asked_on false turn old new so_far a = submit_on (slice_get calls so_far.made) old new so_far refl a
+    asked_on true turn old new so_far lost a = again_on (nat_eq (turn % 16) 0) (node_at nodes (turn / 16)) old new so_far lost a
+    asked_on false turn old new so_far lost a = submit_on (slice_get calls so_far.made) old new so_far lost refl a
 
     turn_on : (turn : ℕ) (old new : TaskAt P) → IsTaskTurnOf next answers begin nodes calls turn old new → IsMadeOn old.seat new.seat old.so_far new.so_far
     turn_on turn old new t =
         subst (λ (c : Calls). IsMadeOn old.seat new.seat old.so_far c) (sym t.counts)
         (made_then old.seat t.heard new.seat old.so_far t.so_far (asked_for calls t.so_far)
-        (hears_on turn old t.heard new.line t.so_far t.hears) (asked_on t.so_far.waits turn t.heard new.seat t.so_far t.asks))
+        (hears_on turn old t.heard new.line t.so_far t.hears) (asked_on t.so_far.waits turn t.heard new.seat t.so_far t.lost t.asks))
 
     turns_on : (gate_heard : ℕ → ℕ → Type 0) (first : TaskAt P) (n : ℕ) (now : TaskAt P) → AreTaskTurns next answers begin gate_heard nodes calls first n now → IsMadeOn first.seat now.seat first.so_far now.so_far
     turns_on gate_heard first zero now are = subst (λ (at : TaskAt P). IsMadeOn first.seat at.seat first.so_far at.so_far) (sym are) (same_seat first.seat first.seat refl, λ h. h)
@@ -239,24 +239,24 @@ module _ {S P : Type 0} (next : S → Action → S) (answers : S → Action → 
 
     -- ---- ends of loops
 
-    module _ {M : Type 0} (gate_heard : ℕ → ℕ → Type 0) (turns : ℕ) (seat : SeatState P) (line : Line) (fresh : seat.part ≡ fresh_part (OfTask fresh_task)) (lost : ℕ) where
+    module _ {M : Type 0} (gate_heard : ℕ → ℕ → Type 0) (turns : ℕ) (seat : SeatState P) (line : Line) (fresh : seat.part ≡ fresh_part (OfTask fresh_task)) where
       abbrev IsEnd : TaskEnd M P → Type 0
       IsEnd end = IsTaskLooped next answers begin gate_heard nodes turns calls seat line end
 
-      pub task_looped : (now : TaskAt P) → AreTaskTurns next answers begin gate_heard nodes calls (before_calls seat line) turns now → IsEnd (task_end_of now.seat now.so_far lost None)
+      pub task_looped : (now : TaskAt P) → AreTaskTurns next answers begin gate_heard nodes calls (before_calls seat line) turns now → IsEnd (task_end_of now None)
       task_looped now are =
           let on = turns_on gate_heard (before_calls seat line) turns now are in
           let none = none_made calls seat fresh in
           record {
             same = on.0;
-            turned = λ ended. (now.line, now.so_far.waits, are);
+            turned = λ ended. (now, refl, are);
             made = (now.so_far.waits, on.1 none);
             first = λ ended some more. first_made gate_heard (before_calls seat line) turns now none are some more;
             fault = tt;
           }
 
       pub task_ended : (done : ℕ) (before last : TaskAt P) (fault : Fault) → 1 ≤ nodes → AreTaskTurns next answers begin gate_heard nodes calls (before_calls seat line) done before → done < turns
-          → gate_heard before.seat.number (suc done) → IsUnmadeTurn nodes calls (suc done) before last fault → IsEnd (task_end_of last.seat last.so_far lost (Some fault))
+          → gate_heard before.seat.number (suc done) → IsUnmadeTurn nodes calls (suc done) before last fault → IsEnd (task_end_of last (Some fault))
       task_ended done before last fault some are within heard unmade =
           let on = turns_on gate_heard (before_calls seat line) done before are in
           let left = unmade_on (suc done) seat before last fault some on.0 (on.1 (none_made calls seat fresh)) unmade in
@@ -265,7 +265,7 @@ module _ {S P : Type 0} (next : S → Action → S) (answers : S → Action → 
             turned = λ none. absurd (some_fault fault none);
             made = (last.so_far.waits, left.1);
             first = λ none. absurd (some_fault fault none);
-            fault = (last.line, last.so_far.waits, record { cause = left.2; done = done; within = within; before = before; made = are; heard = heard; unmade = unmade });
+            fault = (last, refl, record { cause = left.2; done = done; within = within; before = before; made = are; heard = heard; unmade = unmade });
           }
         where
           some_fault : (f : Fault) → Some f ≡ None → ⊥
@@ -290,17 +290,13 @@ module _ {S P : Type 0} (next : S → Action → S) (answers : S → Action → 
     abbrev is_heard : IsHeard nodes calls turn old heard new.line so_far
     is_heard = record { between = between; full = full; brought = brought; answered = answered; hears = hears; gives = gives; counts = counts }
 
-    pub turn_made : {A : Type 0} (result : Result A Fault) → OnOk result (Asks next answers begin (asked_in nodes calls turn so_far) heard new.seat) → OnOk result (new.so_far ≡ asked_for calls so_far)
-        → OnOk result (IsTaskTurnOf next answers begin nodes calls turn old new)
-    turn_made (Ok x) asks made = record { heard = heard; so_far = so_far; hears = is_heard; asks = asks; counts = made }
-    turn_made (Err fault) asks made = tt
+    pub turn_made : (lost : ℕ) → Asks next answers begin (asked_in nodes calls turn so_far) heard new.seat lost → new.so_far ≡ with_lost lost (asked_for calls so_far)
+        → IsTaskTurnOf next answers begin nodes calls turn old new
+    turn_made lost asks made = record { heard = heard; so_far = so_far; hears = is_heard; lost = lost; asks = asks; counts = made }
 
-    pub turn_unmade : {A : Type 0} (result : Result A Fault)
-        → IfErr result (λ fault. (new.so_far ≡ so_far) × IsRefused (asked_in nodes calls turn so_far) heard new.seat fault)
-        → IfErr result (IsUnmadeTurn nodes calls turn old new)
-    turn_unmade (Ok x) err = tt
-    turn_unmade (Err fault) err = inr (inr (record {
+    pub turn_unmade : (fault : Fault) → new.so_far ≡ so_far → IsRefused (asked_in nodes calls turn so_far) heard new.seat fault → IsUnmadeTurn nodes calls turn old new fault
+    turn_unmade fault stays refused = inr (inr (record {
       heard = heard;
-      hears = subst (λ (c : Calls). IsHeard nodes calls turn old heard new.line c) (sym err.0) is_heard;
-      refused = subst (λ (c : Calls). IsRefused (asked_in nodes calls turn c) heard new.seat fault) (sym err.0) err.1;
+      hears = subst (λ (c : Calls). IsHeard nodes calls turn old heard new.line c) (sym stays) is_heard;
+      refused = subst (λ (c : Calls). IsRefused (asked_in nodes calls turn c) heard new.seat fault) (sym stays) refused;
     }))

@@ -248,9 +248,9 @@ module _ {P : Type 0} (old new : SeatState P) (sent : Sent) where
       omega (arith, few, t.describes.count)
 
   -- what is asked, once its packet was offered
-  pub asked_by_turn : {S : Type 0} (next : S → Action → S) (answers : S → Action → List Answer) (begin : P → S) (input : TaskInput) (turn : IsTaskTurn old input new sent)
-      → IsAllOffered next answers begin (Task new.number) new sent → IsAskedBy next answers begin input old new
-  asked_by_turn next answers begin input turn offered = record {
+  pub asked_by_turn : {S : Type 0} (next : S → Action → S) (answers : S → Action → List Answer) (begin : P → S) (input : TaskInput) (lost : ℕ) (turn : IsTaskTurn old input new sent)
+      → IsAllOffered next answers begin (Task new.number) new sent lost → IsAskedBy next answers begin input old new lost
+  asked_by_turn next answers begin input lost turn offered = record {
     sent = sent;
     turn = turn;
     offered = offered turn.done.sends turn.describes.bytes turn.describes.count

@@ -6,9 +6,11 @@ use Rattle.rp_base.specs.declared.fault.Fault.TheVariants.{BallotsSpent, LogFull
 use Rattle.rp_codec.specs.declared.packet.Party.{Party}
 use Rattle.rp_codec.specs.declared.packet.Party.TheVariants.{Node, Task}
 use Rattle.rp_boxes.specs.Seats.{SeatState}
+use Rattle.rp_tasks.specs.Line.{saturating_sum}
 use Rattle.rp_threads.specs.declared.loops.Counts.{Counts}
 use Rattle.rp_threads.specs.declared.turns.Turn.{Turn}
 use Rattle.rp_threads.specs.declared.turns.Turn.TheVariants.{Received, Led, Idle}
+use Rattle.rp_threads.specs.declared.turns.TurnResult.{TurnResult}
 
 -- ---- whose box is emptied
 
@@ -37,22 +39,32 @@ is_idle Idle = true
 is_idle Received = false
 is_idle Led = false
 
--- how many events a turn is; none where it is skipped
-abbrev pub events_of : Option Turn → ℕ
-events_of (Some Received) = 1
-events_of (Some Led) = 1
-events_of (Some Idle) = 0
-events_of None = 0
+-- how many events a turn is
+abbrev pub events_of : Turn → ℕ
+events_of Received = 1
+events_of Led = 1
+events_of Idle = 0
+
+-- none where it is skipped
+abbrev pub events_made : Option TurnResult → ℕ
+events_made (Some turned) = events_of turned.turn
+events_made None = 0
 
 -- no turn yet
 abbrev pub no_turns : Counts
-no_turns = record { received = 0; led = 0; idle = 0; skipped = 0 }
+no_turns = record { received = 0; led = 0; idle = 0; skipped = 0; lost = 0 }
 
--- the counts with one turn more, which was made or skipped
-abbrev pub counted : Option Turn → Counts → Counts
-counted (Some Received) counts = record counts { received = counts.received + 1 }
-counted (Some Led) counts = record counts { led = counts.led + 1 }
-counted (Some Idle) counts = record counts { idle = counts.idle + 1 }
+-- the counts with one turn more of this kind
+abbrev pub with_turn : Turn → Counts → Counts
+with_turn Received counts = record counts { received = counts.received + 1 }
+with_turn Led counts = record counts { led = counts.led + 1 }
+with_turn Idle counts = record counts { idle = counts.idle + 1 }
+
+-- the counts with one turn more, which was made or skipped: of a turn that was made, also the packets that it lost at
+-- boxes
+abbrev pub counted : Option TurnResult → Counts → Counts
+counted (Some turned) counts =
+    record (with_turn turned.turn counts) { lost = saturating_sum counts.lost turned.packets.lost }
 counted None counts = record counts { skipped = counts.skipped + 1 }
 
 -- all turns that are counted

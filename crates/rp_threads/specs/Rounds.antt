@@ -16,7 +16,7 @@ use Rattle.rp_boxes.specs.Seats.{SeatState, HasApplied, IsRunning, IsStopped}
 use Rattle.rp_threads.specs.Loops.{sender_at, is_refusal, no_turns, counted}
 use Rattle.rp_threads.specs.Turns.{IsLost, IsEventBy, IsStopBy, IsNodeTurn, IsStoppedTurn}
 use Rattle.rp_threads.specs.declared.loops.Counts.{Counts}
-use Rattle.rp_threads.specs.declared.turns.Turn.{Turn}
+use Rattle.rp_threads.specs.declared.turns.PacketCounts.{PacketCounts}
 use Rattle.rp_threads.specs.declared.turns.Turn.TheVariants.{Led, Idle}
 use Rattle.rp_threads.specs.declared.turns.TurnResult.{TurnResult}
 
@@ -35,19 +35,15 @@ pub record IsToLeadAt (part : Part) (position : ℕ) : Type 0 where
 abbrev pub IsLeadAnew : Part → Input → Type 0
 IsLeadAnew part input = (position : ℕ) × IsToLeadAt part position × (input ≡ Lead (Some position))
 
--- a turn of this kind, in which n packets were sent
-abbrev pub result_of_turn : Turn → ℕ → TurnResult
-result_of_turn turn sent = record { turn = turn; sent = sent }
-
 module _ {S P : Type 0} (next : S → Action → S) (answers : S → Action → List Answer) (begin : P → S) where
   module _ (from : Party) (lead : Bool) (old new : SeatState P) (line after : Line) where
-    -- The turn of the node was idle, and it led anew: n packets were sent.
-    pub record IsLedAnew (sent : ℕ) : Type 0 where
+    -- The turn of the node was idle, and it led anew: so many packets were sent and lost.
+    pub record IsLedAnew (packets : PacketCounts) : Type 0 where
       pub between : SeatState P
       pub turned : TurnResult
       pub first : IsNodeTurn next answers begin from lead old between line after turned
       pub idle : turned.turn ≡ Idle
-      pub leads : IsEventBy next answers begin (IsLeadAnew between.part) between new sent
+      pub leads : IsEventBy next answers begin (IsLeadAnew between.part) between new packets
 
     -- The turn of the node was idle, and the step by which it was to lead anew was cut, or was none.
     pub record IsStoppedAnew (fault : Fault) : Type 0 where
@@ -57,10 +53,10 @@ module _ {S P : Type 0} (next : S → Action → S) (answers : S → Action → 
       pub idle : turned.turn ≡ Idle
       pub stops : IsStopBy next answers begin (IsLeadAnew between.part) between new fault
 
-    -- the turn that was made, in which n packets were sent: the node's own, or one in which it led anew
-    abbrev pub IsMade : Turn → ℕ → Type 0
-    IsMade turn sent = IsNodeTurn next answers begin from lead old new line after (result_of_turn turn sent)
-        ⊎ ((turn ≡ Led) × IsLedAnew sent)
+    -- the turn that was made: the node's own, or one in which it led anew
+    abbrev pub IsMade : TurnResult → Type 0
+    IsMade turned = IsNodeTurn next answers begin from lead old new line after turned
+        ⊎ ((turned.turn ≡ Led) × IsLedAnew turned.packets)
 
     -- a fault, by which no turn was made
     abbrev pub IsUnmade : Fault → Type 0
@@ -69,12 +65,13 @@ module _ {S P : Type 0} (next : S → Action → S) (answers : S → Action → 
 
     -- a turn that was made, or skipped: by the gate, or since the node was refused to lead. Unless the gate skips it,
     -- that hears how many packets were sent in it
-    abbrev pub IsMadeOrSkipped : (ℕ → Type 0) → Bool → Option Turn → Type 0
-    IsMadeOrSkipped heard passes (Some turn) = (passes ≡ true) × (sent : ℕ) × IsMade turn sent × heard sent
+    abbrev pub IsMadeOrSkipped : (ℕ → Type 0) → Bool → Option TurnResult → Type 0
+    IsMadeOrSkipped heard passes (Some turned) = (passes ≡ true) × IsMade turned × heard turned.packets.sent
     IsMadeOrSkipped heard passes None = ((passes ≡ false) × (new ≡ old) × (after ≡ line))
         ⊎ ((passes ≡ true) × (fault : Fault) × (is_refusal fault ≡ true) × IsUnmade fault × heard 0)
 
--- where a node's loop is: its seat, its line, and how many turns of each kind it made
+-- where a node's loop is: its seat, its line, how many turns of each kind it made, and how many packets these lost at
+-- boxes
 pub record NodeAt (P : Type 0) : Type 0 where
   pub seat : SeatState P
   pub line : Line
@@ -100,14 +97,14 @@ module _ {S P : Type 0} (next : S → Action → S) (answers : S → Action → 
     (lets : ℕ → ℕ → Bool) (heard : ℕ → ℕ → ℕ → Type 0) (nodes : ℕ) where
   -- the turn of this number, of a node among n: the gate is asked about it and hears of it, and the box of its sender
   -- is emptied
-  abbrev pub IsTurnOf : ℕ → SeatState P → SeatState P → Line → Line → Option Turn → Type 0
+  abbrev pub IsTurnOf : ℕ → SeatState P → SeatState P → Line → Line → Option TurnResult → Type 0
   IsTurnOf turn old new line after made =
       IsMadeOrSkipped next answers begin (sender_at nodes turn) (is_to_lead old.number turn) old new line after
       (heard old.number turn) (lets old.number turn) made
 
   -- One turn more, which is counted.
   pub record IsNextTurn (turn : ℕ) (old new : NodeAt P) : Type 0 where
-    pub made : Option Turn
+    pub made : Option TurnResult
     pub turns : IsTurnOf turn old.seat new.seat old.line new.line made
     pub counts : new.counts ≡ counted made old.counts
 
@@ -116,7 +113,8 @@ module _ {S P : Type 0} (next : S → Action → S) (answers : S → Action → 
   AreTurns first zero now = now ≡ first
   AreTurns first (suc n) now = (before : NodeAt P) × AreTurns first n before × IsNextTurn (suc n) before now
 
-  -- After some turns the next one, of at most n, was not made, by a fault that is no refusal to lead.
+  -- After some turns the next one, of at most n, was not made, by a fault that is no refusal to lead. No packet of it
+  -- counts as lost at a box.
   pub record IsEndedBy (first : NodeAt P) (turns : ℕ) (last : NodeAt P) (fault : Fault) : Type 0 where
     pub cause : IsNodeFault first.seat last.seat fault
     pub done : ℕ

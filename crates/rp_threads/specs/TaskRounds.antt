@@ -2,25 +2,22 @@
 use Rattle.std.specs.Prelude.{◌≡◌, ◌⊎◌, ℕ, zero, suc, ◌+◌, ◌%◌, ◌/◌, ◌<◌, ◌||◌, not, nat_eq, nat_lt, Bool, true, false}
 use Rattle.std.specs.Prelude.{is_some, Option, Some, None, List, slice_get, if◌then◌else◌}
 use Rattle.rp_base.specs.Action.{is_right}
-use Rattle.rp_base.specs.Sets.{Has}
 use Rattle.rp_base.specs.declared.action.Action.{Action}
 use Rattle.rp_base.specs.Calls.{are_exhausted}
 use Rattle.rp_base.specs.declared.config.Config.{Config}
 use Rattle.rp_base.specs.declared.fault.Fault.{Fault}
 use Rattle.rp_base.specs.declared.fault.Fault.TheVariants.{OutOfMemory, NumbersSpent, BadConfig}
 use Rattle.rp_base.specs.declared.reply.Answer.{Answer}
-use Rattle.rp_codec.specs.Message.{Message}
-use Rattle.rp_codec.specs.Text.{text_of}
 use Rattle.rp_codec.specs.declared.packet.Party.TheVariants.{Node, Task}
 use Rattle.rp_model.specs.Tasks.{TaskInput, Submit, Again}
 use Rattle.rp_replica.specs.declared.sent.Sent.{Sent}
-use Rattle.rp_tasks.specs.Line.{Line}
+use Rattle.rp_tasks.specs.Line.{Line, saturating_sum}
 use Rattle.rp_boxes.specs.Seats.{SeatState}
 use Rattle.rp_boxes.specs.TaskSeats.{IsTaskTurn, IsNoTaskTurn, IsReplyTurn}
 use Rattle.rp_threads.specs.Lines.{given_on, line_after}
 use Rattle.rp_threads.specs.Loops.{node_at}
 use Rattle.rp_threads.specs.Tasks.{TaskAt, call_after}
-use Rattle.rp_threads.specs.Turns.{IsBrought, IsLost, IsOffered}
+use Rattle.rp_threads.specs.Turns.{AreOffered, IsBrought, IsLost}
 use Rattle.rp_threads.specs.declared.tasks.Calls.{Calls}
 use Rattle.rp_threads.specs.declared.tasks.TaskCall.{TaskCall}
 
@@ -53,16 +50,16 @@ abbrev pub asked_in : ℕ → List TaskCall → ℕ → Calls → Option TaskInp
 asked_in nodes calls turn so_far = asked_by so_far.waits nodes calls so_far.made turn
 
 module _ {S P : Type 0} (next : S → Action → S) (answers : S → Action → List Answer) (begin : P → S) where
-  -- One event, by this input; its packet, if it sends one, was offered to its box.
-  pub record IsAskedBy (input : TaskInput) (old new : SeatState P) : Type 0 where
+  -- One event, by this input; its packet, if it sends one, was offered to its box, and so many are lost.
+  pub record IsAskedBy (input : TaskInput) (old new : SeatState P) (lost : ℕ) : Type 0 where
     pub sent : Sent
     pub turn : IsTaskTurn old input new sent
-    pub offered : (m : Message) → Has m turn.done.sends → IsOffered next answers begin (Task new.number) new (text_of m)
+    pub offered : AreOffered next answers begin (Task new.number) new turn.done.sends lost
 
-  -- the seat once that is asked
-  abbrev pub Asks : Option TaskInput → SeatState P → SeatState P → Type 0
-  Asks None old new = new ≡ old
-  Asks (Some input) old new = IsAskedBy input old new
+  -- the seat once that is asked, and how many packets are lost
+  abbrev pub Asks : Option TaskInput → SeatState P → SeatState P → ℕ → Type 0
+  Asks None old new lost = (new ≡ old) × (lost ≡ 0)
+  Asks (Some input) old new lost = IsAskedBy input old new lost
 
 -- it is refused
 abbrev pub IsRefused : {P : Type 0} → Option TaskInput → SeatState P → SeatState P → Fault → Type 0
@@ -81,6 +78,10 @@ made_by false calls so_far = with_call (slice_get calls so_far.made) so_far
 
 abbrev pub asked_for : List TaskCall → Calls → Calls
 asked_for calls so_far = made_by so_far.waits calls so_far
+
+-- n packets more are lost at boxes
+abbrev pub with_lost : ℕ → Calls → Calls
+with_lost lost so_far = record so_far { lost = saturating_sum so_far.lost lost }
 
 -- ---- turns
 
@@ -136,8 +137,9 @@ module _ {S P : Type 0} (next : S → Action → S) (answers : S → Action → 
     pub heard : SeatState P
     pub so_far : Calls
     pub hears : IsHeard nodes calls turn old heard new.line so_far
-    pub asks : Asks next answers begin (asked_in nodes calls turn so_far) heard new.seat
-    pub counts : new.so_far ≡ asked_for calls so_far
+    pub lost : ℕ
+    pub asks : Asks next answers begin (asked_in nodes calls turn so_far) heard new.seat lost
+    pub counts : new.so_far ≡ with_lost lost (asked_for calls so_far)
 
 module _ {S P : Type 0} (next : S → Action → S) (answers : S → Action → List Answer) (begin : P → S)
     (gate_heard : ℕ → ℕ → Type 0) (nodes : ℕ) (calls : List TaskCall) where

@@ -53,7 +53,7 @@ pub record HasMade {P : Type 0} (calls : List TaskCall) (seat : SeatState P) (ma
   pub count : length task.replies + (if waits then 1 else 0) ≡ made
   pub waiting : Waits seat.number calls made waits task.outstanding
 
--- where a task's loop is: its seat, its line, and how many calls it made
+-- where a task's loop is: its seat, its line, how many calls it made, and how many packets its turns lost at boxes
 pub record TaskAt (P : Type 0) : Type 0 where
   pub seat : SeatState P
   pub line : Line
@@ -62,4 +62,4 @@ pub record TaskAt (P : Type 0) : Type 0 where
 -- before its first turn
 abbrev pub before_calls : {P : Type 0} → SeatState P → Line → TaskAt P
 before_calls seat line =
-    record { seat = seat; line = line; so_far = record { made = 0; waits = false; last_reply = 0 } }
+    record { seat = seat; line = line; so_far = record { made = 0; waits = false; last_reply = 0; lost = 0 } }

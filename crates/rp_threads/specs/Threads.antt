@@ -5,35 +5,25 @@ use Rattle.rp_base.specs.declared.fault.Fault.{Fault}
 use Rattle.rp_base.specs.declared.fault.Fault.TheVariants.{Device}
 use Rattle.rp_base.specs.declared.reply.Answer.{Answer}
 use Rattle.rp_boxes.specs.Seats.{SeatState}
-use Rattle.rp_tasks.specs.Line.{Line}
+use Rattle.rp_tasks.specs.Line.{Line, saturating_sum}
 use Rattle.rp_threads.specs.Loops.{IsSameSeat, turns_off}
 use Rattle.rp_threads.specs.Rounds.{NodeAt, before_turns, AreTurns, IsEndedBy}
 use Rattle.rp_threads.specs.Tasks.{TaskAt, before_calls, HasMade}
 use Rattle.rp_threads.specs.TaskRounds.{AreTaskTurns, IsTaskEndedBy}
-use Rattle.rp_threads.specs.declared.loops.Counts.{Counts}
 use Rattle.rp_threads.specs.declared.loops.NodeEnd.{NodeEnd}
-use Rattle.rp_threads.specs.declared.tasks.Calls.{Calls}
 use Rattle.rp_threads.specs.declared.tasks.TaskCall.{TaskCall}
 use Rattle.rp_threads.specs.declared.tasks.TaskEnd.{TaskEnd}
 
--- the end of a node's loop with these counts, and n packets lost
-abbrev pub end_of : {M D P : Type 0} → Counts → SeatState P → ℕ → Option Fault → NodeEnd M D P
-end_of counts seat lost fault = record {
-  seat = seat;
-  received = counts.received;
-  led = counts.led;
-  idle = counts.idle;
-  skipped = counts.skipped;
-  lost = lost;
+-- the end of a node's loop that is there: its packets that were lost are those at boxes and those on its line
+abbrev pub end_of : {M D P : Type 0} → NodeAt P → Option Fault → NodeEnd M D P
+end_of last fault = record {
+  seat = last.seat;
+  received = last.counts.received;
+  led = last.counts.led;
+  idle = last.counts.idle;
+  skipped = last.counts.skipped;
+  lost = saturating_sum last.counts.lost last.line.lost;
   fault = fault;
-}
-
--- where the loop is at its end, with this line
-abbrev pub node_at_end : {M D P : Type 0} → NodeEnd M D P → Line → NodeAt P
-node_at_end end line = record {
-  seat = end.seat;
-  line = line;
-  counts = record { received = end.received; led = end.led; idle = end.idle; skipped = end.skipped };
 }
 
 -- A loop of n turns, of the node of this seat among n and over this line, had this end: without a fault all turns
@@ -42,26 +32,23 @@ pub record IsLooped {S M D P : Type 0} (next : S → Action → S) (answers : S 
     (lets : ℕ → ℕ → Bool) (heard : ℕ → ℕ → ℕ → Type 0) (nodes turns : ℕ) (seat : SeatState P) (line : Line)
     (end : NodeEnd M D P) : Type 0 where
   pub same : IsSameSeat seat end.seat
-  pub turned : end.fault ≡ None → (after : Line)
-      × AreTurns next answers begin lets heard nodes (before_turns seat line) turns (node_at_end end after)
+  pub turned : end.fault ≡ None → (last : NodeAt P) × (end ≡ end_of last None)
+      × AreTurns next answers begin lets heard nodes (before_turns seat line) turns last
   pub counted : end.fault ≡ None → end.received + end.led + end.idle + end.skipped ≡ turns
   pub events : end.fault ≡ None → end.seat.part.events ≡ seat.part.events + end.received + end.led
   pub idle : end.fault ≡ None → end.idle ≤ turns_off (8 + seat.number) turns
   pub failures : end.fault ≢ Some Device → end.seat.failures ≡ seat.failures
-  pub fault : IfSome end.fault (λ fault. (after : Line) × IsEndedBy next answers begin lets heard nodes
-      (before_turns seat line) turns (node_at_end end after) fault)
+  pub fault : IfSome end.fault (λ fault. (last : NodeAt P) × (end ≡ end_of last (Some fault))
+      × IsEndedBy next answers begin lets heard nodes (before_turns seat line) turns last fault)
 
--- the end of a task's loop with these calls, and n packets lost
-abbrev pub task_end_of : {M P : Type 0} → SeatState P → Calls → ℕ → Option Fault → TaskEnd M P
-task_end_of seat so_far lost fault =
-    record { seat = seat; made = so_far.made; last_reply = so_far.last_reply; lost = lost; fault = fault }
-
--- where a task's loop is at its end, with this line, whether it waits or not
-abbrev pub task_at_end : {M P : Type 0} → TaskEnd M P → Line → Bool → TaskAt P
-task_at_end end line waits = record {
-  seat = end.seat;
-  line = line;
-  so_far = record { made = end.made; waits = waits; last_reply = end.last_reply };
+-- the end of a task's loop that is there: its packets that were lost are those at boxes and those on its line
+abbrev pub task_end_of : {M P : Type 0} → TaskAt P → Option Fault → TaskEnd M P
+task_end_of last fault = record {
+  seat = last.seat;
+  made = last.so_far.made;
+  last_reply = last.so_far.last_reply;
+  lost = saturating_sum last.so_far.lost last.line.lost;
+  fault = fault;
 }
 
 -- A loop of n turns, of the task of this seat with these calls among n nodes and over this line, had this end:
@@ -70,11 +57,9 @@ pub record IsTaskLooped {S M P : Type 0} (next : S → Action → S) (answers : 
     (gate_heard : ℕ → ℕ → Type 0) (nodes turns : ℕ) (calls : List TaskCall) (seat : SeatState P) (line : Line)
     (end : TaskEnd M P) : Type 0 where
   pub same : IsSameSeat seat end.seat
-  pub turned : end.fault ≡ None → (after : Line) × (waits : Bool)
-      × AreTaskTurns next answers begin gate_heard nodes calls (before_calls seat line) turns
-      (task_at_end end after waits)
+  pub turned : end.fault ≡ None → (last : TaskAt P) × (end ≡ task_end_of last None)
+      × AreTaskTurns next answers begin gate_heard nodes calls (before_calls seat line) turns last
   pub made : (waits : Bool) × HasMade calls end.seat end.made waits
   pub first : end.fault ≡ None → 0 < length calls → 0 < turns → 0 < end.made
-  pub fault : IfSome end.fault (λ fault. (after : Line) × (waits : Bool)
-      × IsTaskEndedBy next answers begin gate_heard nodes calls (before_calls seat line) turns
-      (task_at_end end after waits) fault)
+  pub fault : IfSome end.fault (λ fault. (last : TaskAt P) × (end ≡ task_end_of last (Some fault))
+      × IsTaskEndedBy next answers begin gate_heard nodes calls (before_calls seat line) turns last fault)

@@ -1,5 +1,6 @@
 -- The result of a turn of a node.
-use Rattle.std.specs.Prelude.{◌≡◌, ◌⊎◌, ℕ, Bool, true, false, Option, Some, None, List, length}
+use Rattle.std.specs.Prelude.{◌≡◌, ◌⊎◌, ℕ, ◌+◌, Bool, true, false, Option, Some, None, List, [], ◌∷◌, length}
+use Rattle.std.specs.Prelude.{if◌then◌else◌}
 use Rattle.rp_base.specs.declared.action.Action.{Action}
 use Rattle.rp_base.specs.declared.fault.Fault.{Fault}
 use Rattle.rp_base.specs.declared.fault.Fault.TheVariants.{OutOfMemory}
@@ -20,6 +21,7 @@ use Rattle.rp_boxes.specs.Seats.{SeatState, IsFetched, IsTurn, IsCutTurn, IsNoTu
 use Rattle.rp_threads.specs.Lines.{line_with, given_on, line_after}
 use Rattle.rp_threads.specs.declared.turns.Turn.{Turn}
 use Rattle.rp_threads.specs.declared.turns.Turn.TheVariants.{Received, Led, Idle}
+use Rattle.rp_threads.specs.declared.turns.PacketCounts.{PacketCounts}
 use Rattle.rp_threads.specs.declared.turns.TurnResult.{TurnResult}
 
 -- ---- what comes in
@@ -44,6 +46,10 @@ pub record IsLost {P : Type 0} (from to : Party) (old new : SeatState P) (line a
   pub stays : after ≡ line
 
 -- ---- what is done
+
+-- nothing was sent
+abbrev pub no_packets : PacketCounts
+no_packets = record { sent = 0; lost = 0 }
 
 -- the node receives what the line gives on, or else leads where it is to
 abbrev pub turn_of : Option (List ℕ) → Bool → Turn
@@ -78,30 +84,38 @@ pub record AreSent (part : Part) (sent : Sent) : Type 0 where
   pub sent_all : (m : Message) → Has m packets → Has m part.sent
 
 module _ {S P : Type 0} (next : S → Action → S) (answers : S → Action → List Answer) (begin : P → S) where
-  -- the packet of this text went from the seat of a party into its box, or that box was not empty
-  abbrev pub IsOffered : Party → SeatState P → List ℕ → Type 0
-  IsOffered from seat text = WasPut next answers begin from text seat ⊎ WasInUse next answers begin from text seat
+  -- the packet of this text went from the seat of a party into its box; or that box was not empty, and it is lost
+  abbrev pub IsOffered : Party → SeatState P → List ℕ → Bool → Type 0
+  IsOffered from seat text false = WasPut next answers begin from text seat
+  IsOffered from seat text true = WasInUse next answers begin from text seat
 
-  -- The bytes are the texts of packets that the party sent, and each of these was offered to its box.
-  pub record AreOffered (from : Party) (seat : SeatState P) (bytes : List ℕ) : Type 0 where
+  -- each of these packets was offered to its box, and n of them are lost
+  abbrev pub AreOffered : Party → SeatState P → List Message → ℕ → Type 0
+  AreOffered from seat [] lost = lost ≡ 0
+  AreOffered from seat (m ∷ others) lost =
+      (is_lost : Bool) × (more : ℕ) × IsOffered from seat (text_of m) is_lost × AreOffered from seat others more
+      × (lost ≡ (if is_lost then 1 else 0) + more)
+
+  -- The bytes are the texts of packets that the party sent; each of these was offered to its box, and n are lost.
+  pub record AreTextsOffered (from : Party) (seat : SeatState P) (bytes : List ℕ) (lost : ℕ) : Type 0 where
     pub are : AreSentTexts seat.part bytes
-    pub each : (m : Message) → Has m are.packets → IsOffered from seat (text_of m)
+    pub offered : AreOffered from seat are.packets lost
 
-  -- each packet that a step gives out was offered to its box
-  abbrev pub IsAllOffered : Party → SeatState P → Sent → Type 0
-  IsAllOffered from seat sent =
+  -- each packet that a step gives out was offered to its box, and n of them are lost
+  abbrev pub IsAllOffered : Party → SeatState P → Sent → ℕ → Type 0
+  IsAllOffered from seat sent lost =
       (packets : List Message) → sent.bytes.items ≡ texts_of packets → sent.packets ≡ length packets
-      → ((m : Message) → Has m packets → Has m seat.part.sent) → (m : Message) → Has m packets
-      → IsOffered from seat (text_of m)
+      → ((m : Message) → Has m packets → Has m seat.part.sent) → AreOffered from seat packets lost
 
-  -- One event, by such an input; n packets were sent, each of which was offered to its box.
-  pub record IsEventBy (Is : Input → Type 0) (old new : SeatState P) (packets : ℕ) : Type 0 where
+  -- One event, by such an input; so many packets were sent, each of which was offered to its box, and so many of them
+  -- are lost.
+  pub record IsEventBy (Is : Input → Type 0) (old new : SeatState P) (packets : PacketCounts) : Type 0 where
     pub input : Input
     pub is : Is input
     pub sent : Sent
     pub turn : IsTurn next answers begin old input new sent
-    pub stated : packets ≡ sent.packets
-    pub offered : (m : Message) → Has m turn.done.sends → IsOffered (Node new.number) new (text_of m)
+    pub stated : packets.sent ≡ sent.packets
+    pub offered : AreOffered (Node new.number) new turn.done.sends packets.lost
 
   -- One event, but memory ran out before each of its packets was offered to its box.
   pub record IsUnsent (old : SeatState P) (input : Input) (new : SeatState P) (fault : Fault) : Type 0 where
@@ -117,10 +131,10 @@ module _ {S P : Type 0} (next : S → Action → S) (answers : S → Action → 
         ⊎ (IsNoTurn next answers begin old input new fault ⊎ IsUnsent old input new fault)
 
   -- what the turn does to the seat, by what the line gives on and whether the node is to lead
-  abbrev pub Works : Option (List ℕ) → Bool → SeatState P → SeatState P → ℕ → Type 0
+  abbrev pub Works : Option (List ℕ) → Bool → SeatState P → SeatState P → PacketCounts → Type 0
   Works (Some text) lead old new packets = IsEventBy (IsReceipt text) old new packets
   Works None true old new packets = IsEventBy IsLead old new packets
-  Works None false old new packets = (new ≡ old) × (packets ≡ 0)
+  Works None false old new packets = (new ≡ old) × (packets ≡ no_packets)
 
   -- how it fails
   abbrev pub Fails : Option (List ℕ) → Bool → SeatState P → SeatState P → Fault → Type 0
@@ -136,7 +150,7 @@ module _ {S P : Type 0} (next : S → Action → S) (answers : S → Action → 
     pub full : Line
     pub brought : IsBrought from (Node old.number) old between line full
     pub turn : turned.turn ≡ turn_of (given_on full) lead
-    pub works : Works (given_on full) lead between new turned.sent
+    pub works : Works (given_on full) lead between new turned.packets
     pub gives : after ≡ line_after full
 
   -- The step after that was cut, or was none; the packet that the line gave on is lost.

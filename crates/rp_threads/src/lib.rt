@@ -30,4 +30,4 @@ pub use loops::{NodeEnd, node_loop};
 pub use starts::{NodeStart, TaskStart};
 pub use tasks::{TaskCall, TaskEnd, task_loop};
 pub use threads::run_threads;
-pub use turns::{Turn, TurnResult, node_step, node_turn};
+pub use turns::{PacketCounts, Turn, TurnResult, node_step, node_turn};

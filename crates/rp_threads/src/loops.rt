@@ -1,8 +1,8 @@
 //! A node's turns, one after the other.
 
-ghost use Rattle.std.specs.Prelude.{◌≡◌, ℕ, ◌+◌, ◌^◌, ◌<◌, ◌≤◌, false, true, [], IfOk, IfErr, IfSome};
+ghost use Rattle.std.specs.Prelude.{◌≡◌, ◌+◌, ◌^◌, ◌<◌, ◌≤◌, false, true, [], IfOk, IfErr, IfSome};
 ghost use Rattle.rp_threads.specs.Lines.{HoldsTextsOf};
-ghost use Rattle.rp_threads.specs.Loops.{is_refusal, is_idle, sender_at, counted, total_of};
+ghost use Rattle.rp_threads.specs.Loops.{is_refusal, is_idle, sender_at, counted, total_of, with_turn};
 ghost use Rattle.rp_threads.specs.Rounds.{IsToLeadAt, IsLeadAnew, IsMade, IsUnmade, IsTurnOf, is_to_lead};
 ghost use Rattle.rp_threads.specs.Threads.{IsLooped, end_of};
 ghost use Rattle.rp_threads.specs.Turns.{IsEventBy, IsStopBy};
@@ -29,32 +29,48 @@ pub struct NodeEnd<M: Machine, D: Device> {
     pub led: u64,
     pub idle: u64,
     pub skipped: u64,
-    /// How many packets were lost on its line and at boxes that were not empty.
+    /// How many packets were lost: on its line since that was made, and, in the turns that were made,
+    /// at boxes that were not empty. It stays at `u64::MAX`.
     pub lost: u64,
     /// Why the node stopped before its last turn.
     pub fault: Option<Fault>,
 }
 
-/// How many turns there were of each kind.
+/// How many turns there were of each kind, and how many packets they lost at boxes that were not
+/// empty.
 #[derive(Clone, Copy)]
 struct Counts {
     received: u64,
     led: u64,
     idle: u64,
     skipped: u64,
+    lost: u64,
 }
 
 impl Counts {
     /// Counts a turn that was made or skipped.
-    fn count(&mut self, made: Option<Turn>)
+    fn count(&mut self, made: Option<TurnResult>)
         requires { total_of self.old + 1 < 2 ^ 64 }
         ensures { self.new ≡ counted made self.old }
     {
         match made {
-            Some(Turn::Received) => self.received += 1,
-            Some(Turn::Led) => self.led += 1,
-            Some(Turn::Idle) => self.idle += 1,
+            Some(turned) => {
+                self.add(turned.turn);
+                self.lost = self.lost.saturating_add(turned.packets.lost as u64);
+            }
             None => self.skipped += 1,
+        }
+    }
+
+    /// One turn more of this kind.
+    fn add(&mut self, turn: Turn)
+        requires { total_of self.old + 1 < 2 ^ 64 }
+        ensures { self.new ≡ with_turn turn self.old }
+    {
+        match turn {
+            Turn::Received => self.received += 1,
+            Turn::Led => self.led += 1,
+            Turn::Idle => self.idle += 1,
         }
     }
 }
@@ -122,14 +138,14 @@ fn lead_at<M: Machine, D: Device>(
     ensures got { seat.new.part.got ≡ seat.old.part.got }
     ensures ok { IfOk result (λ turned. (turned.turn ≡ Turn.Led)
         × IsEventBy M.next M.answers M.begin (IsLeadAnew seat.old.part)
-        seat.old seat.new turned.sent) }
+        seat.old seat.new turned.packets) }
     ensures err { IfErr result (λ fault. IsStopBy M.next M.answers M.begin
         (IsLeadAnew seat.old.part) seat.old seat.new fault) }
 {
-    let sent = node_step(seat, alloc, &Input::Lead(Some(position)))?;
+    let packets = node_step(seat, alloc, &Input::Lead(Some(position)))?;
     Ok(TurnResult {
         turn: Turn::Led,
-        sent,
+        packets,
     })
 }
 
@@ -138,8 +154,8 @@ impl<M: Machine, D: Device> Worker<M, D> {
     fn work(&mut self, alloc: Global, from: Party, lead: bool) -> Result<TurnResult, Fault>
         requires held { HoldsTextsOf self.old.seat.part.got self.old.line }
         ensures held { HoldsTextsOf self.new.seat.part.got self.new.line }
-        ensures ok { IfOk result (λ turned. IsMade M.next M.answers M.begin from lead
-            self.old.seat self.new.seat self.old.line self.new.line turned.turn turned.sent) }
+        ensures ok { IfOk result (IsMade M.next M.answers M.begin from lead
+            self.old.seat self.new.seat self.old.line self.new.line) }
         ensures err { IfErr result (λ fault. IsUnmade M.next M.answers M.begin from lead
             self.old.seat self.new.seat self.old.line self.new.line fault) }
     {
@@ -155,9 +171,10 @@ impl<M: Machine, D: Device> Worker<M, D> {
 
     /// The end of a loop with these counts.
     fn ended(self, counts: Counts, fault: Option<Fault>) -> NodeEnd<M, D>
-        ensures { (lost : ℕ) × (result ≡ end_of counts self.seat lost fault) }
+        ensures { result
+            ≡ end_of (record { seat = self.seat; line = self.line; counts = counts }) fault }
     {
-        let lost = self.seat.lost().saturating_add(self.line.lost());
+        let lost = counts.lost.saturating_add(self.line.lost());
         NodeEnd {
             seat: self.seat,
             received: counts.received,
@@ -176,7 +193,7 @@ impl<M: Machine, D: Device> Worker<M, D> {
         nodes: u8,
         gate: &G,
         turn: u64,
-    ) -> Result<Option<Turn>, Fault>
+    ) -> Result<Option<TurnResult>, Fault>
         requires nodes { nodes ≤ 7 }
         requires held { HoldsTextsOf self.old.seat.part.got self.old.line }
         ensures held { HoldsTextsOf self.new.seat.part.got self.new.line }
@@ -195,8 +212,8 @@ impl<M: Machine, D: Device> Worker<M, D> {
         let lead = turn % (8 + u64::from(node.get())) == 0;
         match self.work(alloc, sender(nodes, turn), lead) {
             Ok(turned) => {
-                gate.after(node, turn, turned.sent);
-                Ok(Some(turned.turn))
+                gate.after(node, turn, turned.packets.sent);
+                Ok(Some(turned))
             }
             Err(fault) if refuses_to_lead(fault) => {
                 gate.after(node, turn, 0);
@@ -232,6 +249,8 @@ pub fn node_loop<M: Machine, D: Device, G: Gate>(
     // claim (result): Without a fault a node's loop counts all turns, its seat had one event for
     //   each that was received or led, and only turns in which it was not to lead are idle;
     //   failures of the device are counted only if it ends by `Device`
+    // claim (result): The packets that a node's loop counts as lost are those of its turns that
+    //   found their boxes in use, and the copies that its link lost
     // claim (result): A node's loop ends by the fault of a turn that was not made, after turns that
     //   were: out of memory, `Device` if a call of the device failed, or `Failed` if the node was
     //   stopped from the start
@@ -247,6 +266,7 @@ pub fn node_loop<M: Machine, D: Device, G: Gate>(
         led: 0,
         idle: 0,
         skipped: 0,
+        lost: 0,
     };
     for done in 0..turns {
         match worker.turn(alloc, nodes, gate, done + 1) {

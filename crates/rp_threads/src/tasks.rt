@@ -1,6 +1,6 @@
 //! A task's calls, one after the other.
 
-ghost use Rattle.std.specs.Prelude.{◌≡◌, ◌≤◌, ℕ, [], Some, IfOk, IfErr, OnOk};
+ghost use Rattle.std.specs.Prelude.{◌≡◌, ◌≤◌, [], Some, IfOk, IfErr, OnOk};
 ghost use Rattle.rp_base.specs.declared.fault.Fault.TheVariants.{OutOfMemory};
 ghost use Rattle.rp_boxes.specs.Parts.{fresh_part, OfTask};
 ghost use Rattle.rp_boxes.specs.Seats.{IsSentText};
@@ -9,7 +9,7 @@ ghost use Rattle.rp_model.specs.Parts.{fresh_task};
 ghost use Rattle.rp_model.specs.Tasks.{Again};
 ghost use Rattle.rp_threads.specs.Lines.{HoldsTextsOf, given_on, line_after};
 ghost use Rattle.rp_threads.specs.Tasks.{called};
-ghost use Rattle.rp_threads.specs.TaskRounds.{Hears, Asks, IsRefused, IsTaskTurnOf, IsUnmadeTurn, asked_in, asked_for, heard_by, submitted};
+ghost use Rattle.rp_threads.specs.TaskRounds.{Hears, Asks, IsRefused, IsTaskTurnOf, IsUnmadeTurn, asked_in, asked_for, heard_by, submitted, with_lost};
 ghost use Rattle.rp_threads.specs.Threads.{IsTaskLooped, task_end_of};
 ghost use Rattle.rp_threads.specs.Turns.{AreSent, IsAllOffered, IsBrought, IsLost, IsOffered};
 
@@ -42,19 +42,22 @@ pub struct TaskEnd<M: Machine> {
     pub made: usize,
     /// The turn in which its last reply came, or 0.
     pub last_reply: u64,
-    /// How many packets were lost on its line and at boxes that were not empty.
+    /// How many packets were lost: on its line since that was made, and, in the turns that were made,
+    /// at boxes that were not empty. It stays at `u64::MAX`.
     pub lost: u64,
     /// Why the task stopped before its last turn.
     pub fault: Option<Fault>,
 }
 
-/// How many calls a task made, whether it waits for the last, and in which turn the last reply came.
+/// How many calls a task made, whether it waits for the last, in which turn the last reply came, and
+/// how many packets were lost at boxes that were not empty.
 #[derive(Clone, Copy)]
 struct Calls {
     made: usize,
     waits: bool,
     /// 0 where no reply came.
     last_reply: u64,
+    lost: u64,
 }
 
 impl Calls {
@@ -66,6 +69,13 @@ impl Calls {
             self.waits = false;
             self.last_reply = turn;
         }
+    }
+
+    /// So many packets more are lost at boxes.
+    fn lose(&mut self, lost: usize)
+        ensures { self.new ≡ with_lost lost self.old }
+    {
+        self.lost = self.lost.saturating_add(lost as u64);
     }
 }
 
@@ -120,37 +130,38 @@ fn hear<M: Machine>(
     }
 }
 
-/// Puts a packet that the task sent into its box. Where the box is not empty it is lost and counted,
-/// and the seat keeps its buffer.
-fn put_text<M: Machine>(seat: &mut TaskSeat<M>, packet: Vec<u8>)
+/// Puts a packet that the task sent into its box. Where the box is not empty the packet is lost, and
+/// the seat keeps its buffer. Whether it is lost.
+fn put_text<M: Machine>(seat: &mut TaskSeat<M>, packet: Vec<u8>) -> bool
     requires { IsSentText seat.old.part packet.items }
     ensures unchanged { seat.new ≡ seat.old }
     ensures offered { IsOffered M.next M.answers M.begin (parties.Task seat.new.number)
-        seat.new packet.items }
+        seat.new packet.items result }
 {
     match seat.put(packet) {
-        Ok(()) => {}
+        Ok(()) => false,
         Err(packet) => {
-            seat.lose();
             seat.lend(packet);
+            true
         }
     }
 }
 
-/// Puts the packet of a step into its box, if it has one.
-fn put_sent<M: Machine>(seat: &mut TaskSeat<M>, sent: Sent)
+/// Puts the packet of a step into its box, if it has one. How many are lost.
+fn put_sent<M: Machine>(seat: &mut TaskSeat<M>, sent: Sent) -> usize
     requires sent { AreSent seat.old.part sent }
     requires few { sent.packets ≤ 1 }
     ensures unchanged { seat.new ≡ seat.old }
     ensures offered { IsAllOffered M.next M.answers M.begin (parties.Task seat.new.number)
-        seat.new sent }
+        seat.new sent result }
 {
     if sent.packets == 1 {
-        put_text(seat, sent.bytes);
+        return usize::from(put_text(seat, sent.bytes));
     }
+    0
 }
 
-/// The task makes a call, and asks its node.
+/// The task makes a call, and asks its node. How many packets are lost.
 fn make<M: Machine>(
     seat: &mut TaskSeat<M>,
     alloc: Global,
@@ -158,32 +169,34 @@ fn make<M: Machine>(
     object: u8,
     operation: Operation,
     arg: i64,
-) -> Result<(), Fault>
+) -> Result<usize, Fault>
     ensures got { seat.new.part.got ≡ seat.old.part.got }
-    ensures ok { OnOk result
+    ensures ok { IfOk result
         (Asks M.next M.answers M.begin (submitted (Some (called node object operation arg)))
         seat.old seat.new) }
     ensures err { IfErr result (IsRefused (submitted (Some (called node object operation arg)))
         seat.old seat.new) }
 {
     let sent = seat.call(alloc, node, object, operation, arg)?;
-    put_sent(seat, sent);
-    Ok(())
+    Ok(put_sent(seat, sent))
 }
 
-/// The task asks a node once more, for the call that it waits for.
-fn ask_again<M: Machine>(seat: &mut TaskSeat<M>, alloc: Global, node: NodeId) -> Result<(), Fault>
+/// The task asks a node once more, for the call that it waits for. How many packets are lost.
+fn ask_again<M: Machine>(
+    seat: &mut TaskSeat<M>,
+    alloc: Global,
+    node: NodeId,
+) -> Result<usize, Fault>
     ensures got { seat.new.part.got ≡ seat.old.part.got }
-    ensures ok { OnOk result (Asks M.next M.answers M.begin (Some (Again node)) seat.old seat.new) }
+    ensures ok { IfOk result (Asks M.next M.answers M.begin (Some (Again node)) seat.old seat.new) }
     ensures err { IfErr result (IsRefused (Some (Again node)) seat.old seat.new) }
 {
     let sent = seat.retry(alloc, node)?;
-    put_sent(seat, sent);
-    Ok(())
+    Ok(put_sent(seat, sent))
 }
 
 /// The task makes its next call, if it waits for none and there is one. While it waits it asks the
-/// next node again from time to time.
+/// next node again from time to time. How many packets are lost.
 fn ask<M: Machine>(
     seat: &mut TaskSeat<M>,
     alloc: Global,
@@ -191,10 +204,10 @@ fn ask<M: Machine>(
     calls: &[TaskCall],
     so_far: &mut Calls,
     turn: u64,
-) -> Result<(), Fault>
+) -> Result<usize, Fault>
     requires nodes { (1 ≤ nodes) × (nodes ≤ 7) }
     ensures got { seat.new.part.got ≡ seat.old.part.got }
-    ensures ok { OnOk result
+    ensures ok { IfOk result
         (Asks M.next M.answers M.begin
         (asked_in nodes calls.now turn so_far.old) seat.old seat.new) }
     ensures made { OnOk result (so_far.new ≡ asked_for calls.now so_far.old) }
@@ -202,30 +215,34 @@ fn ask<M: Machine>(
         × IsRefused (asked_in nodes calls.now turn so_far.old) seat.old seat.new fault) }
 {
     if so_far.waits {
-        if turn % PATIENCE == 0 {
-            ask_again(seat, alloc, node_in_turn(nodes, turn / PATIENCE))?;
+        if turn % PATIENCE != 0 {
+            return Ok(0);
         }
-    } else if let Some(call) = calls.get(so_far.made) {
-        make(
-            seat,
-            alloc,
-            call.node,
-            call.object,
-            call.operation,
-            call.arg,
-        )?;
-        so_far.made += 1;
-        so_far.waits = true;
+        return ask_again(seat, alloc, node_in_turn(nodes, turn / PATIENCE));
     }
-    Ok(())
+    let Some(call) = calls.get(so_far.made) else {
+        return Ok(0);
+    };
+    let lost = make(
+        seat,
+        alloc,
+        call.node,
+        call.object,
+        call.operation,
+        call.arg,
+    )?;
+    so_far.made += 1;
+    so_far.waits = true;
+    Ok(lost)
 }
 
 impl<M: Machine> Caller<M> {
     /// The end of a loop.
     fn ended(self, fault: Option<Fault>) -> TaskEnd<M>
-        ensures { (lost : ℕ) × (result ≡ task_end_of self.seat self.so_far lost fault) }
+        ensures { result ≡ task_end_of
+            (record { seat = self.seat; line = self.line; so_far = self.so_far }) fault }
     {
-        let lost = self.seat.lost().saturating_add(self.line.lost());
+        let lost = self.so_far.lost.saturating_add(self.line.lost());
         TaskEnd {
             seat: self.seat,
             made: self.so_far.made,
@@ -256,7 +273,9 @@ impl<M: Machine> Caller<M> {
         )?;
         let answered = hear(&mut self.seat, &mut self.line, alloc)?;
         self.so_far.hear(answered, turn);
-        ask(&mut self.seat, alloc, nodes, calls, &mut self.so_far, turn)
+        let lost = ask(&mut self.seat, alloc, nodes, calls, &mut self.so_far, turn)?;
+        self.so_far.lose(lost);
+        Ok(())
     }
 }
 
@@ -286,6 +305,8 @@ pub fn task_loop<M: Machine, G: Gate>(
     //   others; at least one if there is a call and a turn. What it asks went into its box or found
     //   it in use. The turn of the last reply is the one in which the last call got its reply, 0 if
     //   none did
+    // claim (result): The packets that a task's loop counts as lost are those of its turns that
+    //   found their boxes in use, and the copies that its link lost
     // claim (result): A task's loop ends by the fault of a turn that was not made, after turns
     //   that were
     ensures { IsTaskLooped M.next M.answers M.begin G.heard_task nodes turns calls.now
@@ -298,6 +319,7 @@ pub fn task_loop<M: Machine, G: Gate>(
             made: 0,
             waits: false,
             last_reply: 0,
+            lost: 0,
         },
     };
     for done in 0..turns {

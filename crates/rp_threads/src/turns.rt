@@ -28,12 +28,20 @@ pub enum Turn {
     Idle,
 }
 
-/// A turn that was made.
+/// What became of the packets of a step.
+#[derive(Clone, Copy, Debug, PartialEq, Eq)]
+pub struct PacketCounts {
+    /// How many the step sent.
+    pub sent: usize,
+    /// How many of them are lost, since their boxes were not empty.
+    pub lost: usize,
+}
+
+/// A turn that was made, and the packets that the node sent in it.
 #[derive(Clone, Copy, Debug, PartialEq, Eq)]
 pub struct TurnResult {
     pub turn: Turn,
-    /// How many packets the node sent.
-    pub sent: usize,
+    pub packets: PacketCounts,
 }
 
 /// The line takes the packet in the box from a party, if there is one.
@@ -58,29 +66,32 @@ fn bring<M: Machine, D: Device>(
 }
 
 /// One step of a node, of a packet that its seat got or of another input, whose packets go into their
-/// boxes: one whose box is not empty is lost. How many were sent. Refused as `NodeSeat::turn` is, which
+/// boxes: one whose box is not empty is lost. How many were sent and lost. Refused as `NodeSeat::turn` is, which
 /// says what that leaves; and with `OutOfMemory` where memory runs out for the copy of a packet: then
 /// the step was made, and that packet and those after it are lost.
 pub fn node_step<M: Machine, D: Device>(
     seat: &mut NodeSeat<M, D>,
     alloc: Global,
     input: &Input,
-) -> Result<usize, Fault>
+) -> Result<PacketCounts, Fault>
     requires right { IsRightInput input.now }
     requires got { IsGot seat.old.part input.now }
     // claim: A step of a node's seat is one event, and then each packet that it sent went into its
-    //   box or found it in use; or it is the turn's refusal; or there is no memory for the copy of
-    //   a packet, which ends the loop
+    //   box, or found it in use and is counted as lost; or it is the turn's refusal; or there is no
+    //   memory for the copy of a packet, which ends the loop
     ensures got { seat.new.part.got ≡ seat.old.part.got }
-    ensures ok { IfOk result (λ count. IsEventBy M.next M.answers M.begin
-        (λ given. given ≡ input.now) seat.old seat.new count) }
+    ensures ok { IfOk result (IsEventBy M.next M.answers M.begin
+        (λ given. given ≡ input.now) seat.old seat.new) }
     ensures err { IfErr result (λ fault. IsStopBy M.next M.answers M.begin
         (λ given. given ≡ input.now) seat.old seat.new fault) }
 {
     let sent = seat.turn(alloc, input)?;
     let packets = sent.packets;
-    put_all(seat, alloc, sent)?;
-    Ok(packets)
+    let lost = put_all(seat, alloc, sent)?;
+    Ok(PacketCounts {
+        sent: packets,
+        lost,
+    })
 }
 
 /// The node receives what the line gives on, or else leads where it is to.
@@ -95,30 +106,30 @@ fn work<M: Machine, D: Device>(
     ensures line { line.new ≡ line_after line.old }
     ensures turn { IfOk result (λ turned. turned.turn ≡ turn_of (given_on line.old) lead) }
     ensures ok { IfOk result (λ turned. Works M.next M.answers M.begin
-        (given_on line.old) lead seat.old seat.new turned.sent) }
+        (given_on line.old) lead seat.old seat.new turned.packets) }
     ensures err { IfErr result (λ fault. Fails M.next M.answers M.begin
         (given_on line.old) lead seat.old seat.new fault) }
 {
     gives_what_it_took();
     match line.release() {
         Some(packet) => {
-            let sent = node_step(seat, alloc, &Input::Receive(packet.as_slice()))?;
+            let packets = node_step(seat, alloc, &Input::Receive(packet.as_slice()))?;
             seat.lend(packet);
             Ok(TurnResult {
                 turn: Turn::Received,
-                sent,
+                packets,
             })
         }
         None if lead => {
-            let sent = node_step(seat, alloc, &Input::Lead(None))?;
+            let packets = node_step(seat, alloc, &Input::Lead(None))?;
             Ok(TurnResult {
                 turn: Turn::Led,
-                sent,
+                packets,
             })
         }
         None => Ok(TurnResult {
             turn: Turn::Idle,
-            sent: 0,
+            packets: PacketCounts { sent: 0, lost: 0 },
         }),
     }
 }

@@ -6,7 +6,7 @@ use rp_machine::{Machine, Tally, TallyProgram};
 use rp_replica::Input;
 use rp_store::{Device, MemDevice};
 use rp_tasks::FaultLine;
-use rp_threads::{Open, TaskCall, Turn, node_step, node_turn, task_loop};
+use rp_threads::{Open, PacketCounts, TaskCall, Turn, node_step, node_turn, task_loop};
 use std::alloc::Global;
 use std::test::Fail;
 
@@ -31,7 +31,7 @@ fn leads<M: Machine, D: Device>(
     let turned = node_turn(node, &mut line, alloc, from, true)?;
     Ok(Made {
         turn: Some(turned.turn),
-        made: turned.sent,
+        made: turned.packets.sent,
         packet: node.fetch(from),
     })
 }
@@ -76,7 +76,7 @@ fn delivers<M: Machine, D: Device>(
 ) -> Result<Delivered, Fault> {
     let mut all: AllSeats<M, D> = seats(alloc, CONFIG, program, devices)?;
     let leader = all.nodes.first_mut().ok_or(Fault::BadConfig)?;
-    let sent = node_step(leader, alloc, &Input::Lead(None))?;
+    let sent = node_step(leader, alloc, &Input::Lead(None))?.sent;
     let from = Party::Node(NodeId::new(1).ok_or(Fault::BadConfig)?);
     let mut boxed: usize = 0;
     for seat in all.nodes.iter_mut() {
@@ -94,6 +94,30 @@ fn each_packet_of_a_step_is_put_into_its_box(rt: HostRuntime) -> Result<(), Fail
     let devices = devices(alloc)?;
     let delivered = delivers::<Tally, MemDevice>(alloc, &program, devices)?;
     assert_eq!(rt; delivered, Delivered { sent: 3, boxed: 3 });
+    Ok(())
+}
+
+/// Node 1 leads twice, and nobody looks into its box: what becomes of the packets of each step.
+fn leads_twice<M: Machine, D: Device>(
+    alloc: Global,
+    program: &M::Program,
+    devices: Vec<D>,
+) -> Result<(PacketCounts, PacketCounts), Fault> {
+    let mut all: AllSeats<M, D> = seats(alloc, CONFIG, program, devices)?;
+    let leader = all.nodes.first_mut().ok_or(Fault::BadConfig)?;
+    let first = node_step(leader, alloc, &Input::Lead(None))?;
+    let second = node_step(leader, alloc, &Input::Lead(None))?;
+    Ok((first, second))
+}
+
+#[test]
+fn a_packet_whose_box_is_in_use_is_counted_as_lost(rt: HostRuntime) -> Result<(), Fail> {
+    let alloc = rt.alloc();
+    let program = TallyProgram::new(1).ok_or("one object")?;
+    let devices = devices(alloc)?;
+    let (first, second) = leads_twice::<Tally, MemDevice>(alloc, &program, devices)?;
+    assert_eq!(rt; first, PacketCounts { sent: 3, lost: 0 });
+    assert_eq!(rt; second, PacketCounts { sent: 3, lost: 3 });
     Ok(())
 }
 

@@ -15,33 +15,24 @@ use Rattle.rp_threads.proofs.tasks.ask.Goals as goal
 abbrev at : Calls → ℕ → Bool → Calls
 at so_far made waits = record so_far { made = made; waits = waits }
 
-pub returns-in_err-make-clause-err : goal.returns-in_err-make-clause-err
-returns-in_err-make-clause-err g c =
+pub returns-in_err-lost-clause-err : goal.returns-in_err-lost-clause-err
+returns-in_err-lost-clause-err g c =
     let a = c.args in
     let now = c.make.new.seat in
     let made = a.so_far.now.made in
-    let fault = c.in_err-make.field-0.0 in
+    let fault = c.in_err-lost.field-0.0 in
     let found = c.in-Some.ensures.lookup in
     let here = slice_get_read a.calls.now (length a.calls.now) made c.in-Some.call.now refl found.3.0 found.1 in
     let call = c.in-Some.call.now in
     let fits : FitsSigned w64 call.arg = search rules in
-    let stated = subst (λ (z : ℤ). IsNoTaskTurn a.seat.now (Submit call.node call.object call.operation z) now fault) (to_z-of_z w64 call.arg fits) c.in_err-make.ensures.err in
+    let stated = subst (λ (z : ℤ). IsNoTaskTurn a.seat.now (Submit call.node call.object call.operation z) now fault) (to_z-of_z w64 call.arg fits) c.in_err-lost.ensures.err in
     let refused = subst (λ (o : Option TaskCall). IsRefused (submitted o) a.seat.now now fault) (sym here) stated in
     let asked = subst (λ (b : Bool). IsRefused (asked_by b a.nodes a.calls.now made a.turn) a.seat.now now fault) (sym c.if-so_far.false) refused in
     at_fault (λ (e : Fault). (a.so_far.now ≡ a.so_far.now) × IsRefused (asked_by a.so_far.now.waits a.nodes a.calls.now made a.turn) a.seat.now now e) fault
-    c.from_residual-in_err-make.result c.from_residual-in_err-make.ensures.1 (refl, asked)
+    c.from_residual.result c.from_residual.ensures.1 (refl, asked)
 
-pub returns-in_ok-ask_again-clause-ok : goal.returns-in_ok-ask_again-clause-ok
-returns-in_ok-ask_again-clause-ok g c =
-    let m = g.M.Machine in
-    let a = c.args in
-    let now = c.ask_again.new.seat in
-    let asks = subst (λ (n : ℕ). Asks m.next m.answers m.begin (Some (Again n)) a.seat.now now) c.node_in_turn.ensures c.in_ok-ask_again.ensures.ok in
-    let due = subst (λ (r : ℕ). Asks m.next m.answers m.begin (if nat_eq r 0 then Some (Again (node_at a.nodes (a.turn / 16))) else None) a.seat.now now) (sym c.if-turn-eq0.true) asks in
-    subst (λ (b : Bool). Asks m.next m.answers m.begin (asked_by b a.nodes a.calls.now a.so_far.now.made a.turn) a.seat.now now) (sym c.if-so_far.true) due
-
-pub returns-in_ok-make-clause-ok : goal.returns-in_ok-make-clause-ok
-returns-in_ok-make-clause-ok g c =
+pub returns-clause-ok : goal.returns-clause-ok
+returns-clause-ok g c =
     let m = g.M.Machine in
     let a = c.args in
     let now = c.make.new.seat in
@@ -50,12 +41,12 @@ returns-in_ok-make-clause-ok g c =
     let here = slice_get_read a.calls.now (length a.calls.now) made c.in-Some.call.now refl found.3.0 found.1 in
     let call = c.in-Some.call.now in
     let fits : FitsSigned w64 call.arg = search rules in
-    let stated = subst (λ (z : ℤ). Asks m.next m.answers m.begin (Some (Submit call.node call.object call.operation z)) a.seat.now now) (to_z-of_z w64 call.arg fits) c.in_ok-make.ensures.ok in
-    let asks = subst (λ (o : Option TaskCall). Asks m.next m.answers m.begin (submitted o) a.seat.now now) (sym here) stated in
-    subst (λ (b : Bool). Asks m.next m.answers m.begin (asked_by b a.nodes a.calls.now made a.turn) a.seat.now now) (sym c.if-so_far.false) asks
+    let stated = subst (λ (z : ℤ). Asks m.next m.answers m.begin (Some (Submit call.node call.object call.operation z)) a.seat.now now c.in_ok-lost.lost) (to_z-of_z w64 call.arg fits) c.in_ok-lost.ensures.ok in
+    let asks = subst (λ (o : Option TaskCall). Asks m.next m.answers m.begin (submitted o) a.seat.now now c.in_ok-lost.lost) (sym here) stated in
+    subst (λ (b : Bool). Asks m.next m.answers m.begin (asked_by b a.nodes a.calls.now made a.turn) a.seat.now now c.in_ok-lost.lost) (sym c.if-so_far.false) asks
 
-pub returns-in_ok-make-clause-made : goal.returns-in_ok-make-clause-made
-returns-in_ok-make-clause-made g c =
+pub returns-clause-made : goal.returns-clause-made
+returns-clause-made g c =
     let a = c.args in
     let made = a.so_far.now.made in
     let found = c.in-Some.ensures.lookup in
@@ -70,8 +61,8 @@ returns-in_default-clause-ok g c =
     let a = c.args in
     let made = a.so_far.now.made in
     let none = slice_get_past a.calls.now made c.in_default.ensures.lookup.3 in
-    let asks = subst (λ (o : Option TaskCall). Asks m.next m.answers m.begin (submitted o) a.seat.now a.seat.now) (sym none) refl in
-    subst (λ (b : Bool). Asks m.next m.answers m.begin (asked_by b a.nodes a.calls.now made a.turn) a.seat.now a.seat.now) (sym c.if-so_far.false) asks
+    let asks = subst (λ (o : Option TaskCall). Asks m.next m.answers m.begin (submitted o) a.seat.now a.seat.now 0) (sym none) (refl, refl) in
+    subst (λ (b : Bool). Asks m.next m.answers m.begin (asked_by b a.nodes a.calls.now made a.turn) a.seat.now a.seat.now 0) (sym c.if-so_far.false) asks
 
 pub returns-in_default-clause-made : goal.returns-in_default-clause-made
 returns-in_default-clause-made g c =

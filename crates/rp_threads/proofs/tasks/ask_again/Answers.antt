@@ -18,4 +18,4 @@ returns-clause-ok g c =
     let old = c.args.seat.now in
     let seat = c.put_sent.new.seat in
     let turn = subst (λ (now : SeatState g.row.M-Program.Denot). IsTaskTurn old (Again c.args.node) now c.in_ok-sent.sent) (sym c.put_sent.ensures.unchanged) c.in_ok-sent.ensures.ok in
-    asked_by_turn old seat c.in_ok-sent.sent m.next m.answers m.begin (Again c.args.node) turn c.put_sent.ensures.offered
+    asked_by_turn old seat c.in_ok-sent.sent m.next m.answers m.begin (Again c.args.node) c.put_sent.result turn c.put_sent.ensures.offered

@@ -25,4 +25,4 @@ returns-clause-ok g c =
     let stated = subst (λ (z : ℤ). IsTaskTurn a.seat.now (Submit a.node a.object a.operation z) c.call.new.self sent) (to_z-of_z w64 a.arg c.ranges.arg) c.in_ok-sent.ensures.ok in
     let seat = c.put_sent.new.seat in
     let turn = subst (λ (now : SeatState g.row.M-Program.Denot). IsTaskTurn a.seat.now (Submit a.node a.object a.operation a.arg) now sent) (sym c.put_sent.ensures.unchanged) stated in
-    asked_by_turn a.seat.now seat sent m.next m.answers m.begin (Submit a.node a.object a.operation a.arg) turn c.put_sent.ensures.offered
+    asked_by_turn a.seat.now seat sent m.next m.answers m.begin (Submit a.node a.object a.operation a.arg) c.put_sent.result turn c.put_sent.ensures.offered

@@ -1,9 +1,9 @@
 -- The bytes are the text of the one packet, if there is one.
-use Rattle.std.proofs.Common.{◌≡◌, ◌≢◌, sym, subst, arith}
+use Rattle.std.proofs.Common.{◌≡◌, ◌≢◌, ◌∙◌, sym, subst, arith}
 use Rattle.rp_boxes.specs.Seats.{SeatState}
 use Rattle.rp_codec.specs.declared.packet.Party.TheVariants.{Task}
 use Rattle.rp_threads.specs.Turns.{IsAllOffered}
-use Rattle.rp_threads.proofs.Offers.{sent_alone, one_is_offered, none_is_offered}
+use Rattle.rp_threads.proofs.Offers.{sent_alone, one_if_is, one_is_offered, none_is_offered}
 use Rattle.rp_threads.proofs.tasks.put_sent.Goals as goal
 
 pub put_text-requires : goal.put_text-requires
@@ -13,4 +13,5 @@ pub returns-then-sent-eq1-clause-offered : goal.returns-then-sent-eq1-clause-off
 returns-then-sent-eq1-clause-offered g c =
     let m = g.M.Machine in
     let seat = c.put_text.new.seat in
-    one_is_offered m.next m.answers m.begin (Task seat.number) seat c.args.sent c.if-sent-eq1.true c.put_text.ensures.offered
+    subst (IsAllOffered m.next m.answers m.begin (Task seat.number) seat c.args.sent) (sym (c.from.ensures ∙ one_if_is c.put_text.result))
+    (one_is_offered m.next m.answers m.begin (Task seat.number) seat c.args.sent c.put_text.result c.if-sent-eq1.true c.put_text.ensures.offered)

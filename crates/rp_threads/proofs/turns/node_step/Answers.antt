@@ -19,14 +19,14 @@ returns-clause-ok g c =
     let old = c.args.seat.now in
     let seat = c.put_all.new.seat in
     let turn = subst (λ (now : SeatState g.row.M-Program.Denot). IsTurn m.next m.answers m.begin old c.args.input.now now c.in_ok-sent.sent) (sym c.put_all.ensures.unchanged) c.in_ok-sent.ensures.ok in
-    event_by m.next m.answers m.begin old seat c.args.input.now c.in_ok-sent.sent turn c.in_ok-put_all.ensures.offered
+    event_by m.next m.answers m.begin old seat c.args.input.now c.in_ok-sent.sent c.in_ok-lost.lost turn c.in_ok-lost.ensures.offered
 
-pub returns-in_err-put_all-clause-err : goal.returns-in_err-put_all-clause-err
-returns-in_err-put_all-clause-err g c =
+pub returns-in_err-lost-clause-err : goal.returns-in_err-lost-clause-err
+returns-in_err-lost-clause-err g c =
     let m = g.M.Machine in
     let old = c.args.seat.now in
     let seat = c.put_all.new.seat in
     let turn = subst (λ (now : SeatState g.row.M-Program.Denot). IsTurn m.next m.answers m.begin old c.args.input.now now c.in_ok-sent.sent) (sym c.put_all.ensures.unchanged) c.in_ok-sent.ensures.ok in
-    at_fault (λ (e : Fault). IsStopBy m.next m.answers m.begin (λ given. given ≡ c.args.input.now) old seat e) OutOfMemory c.from_residual-in_err-put_all.result
-    c.from_residual-in_err-put_all.ensures.1
+    at_fault (λ (e : Fault). IsStopBy m.next m.answers m.begin (λ given. given ≡ c.args.input.now) old seat e) OutOfMemory c.from_residual-in_err-lost.result
+    c.from_residual-in_err-lost.ensures.1
     (record { input = c.args.input.now; is = refl; why = inr (inr (record { memory = refl; sent = c.in_ok-sent.sent; turn = turn })) })

@@ -13,34 +13,34 @@ node_step-requires-clause-got g c =
     subst (IsTextAmong got) (sym c.as_slice.ensures.value)
     (given_holds got c.args.line.now c.in-Some.packet.items c.gives_what_it_took.ensures.picked c.requires.held (sym c.in-Some.ensures.packet))
 
-pub returns-in_err-sent-in-Some-clause-held : goal.returns-in_err-sent-in-Some-clause-held
-returns-in_err-sent-in-Some-clause-held g c =
+pub returns-in_err-packets-in-Some-clause-held : goal.returns-in_err-packets-in-Some-clause-held
+returns-in_err-packets-in-Some-clause-held g c =
     let line = c.args.line.now in
     let is = is_after line c.release.new.self line.held refl c.release.ensures.after c.release.ensures.empty in
     after_holds c.args.seat.now.part.got c.node_step.new.seat.part.got line c.release.new.self c.gives_what_it_took.ensures.released c.requires.held is c.node_step.ensures.got
 
-pub returns-in_err-sent-in-None-clause-held : goal.returns-in_err-sent-in-None-clause-held
-returns-in_err-sent-in-None-clause-held g c =
+pub returns-in_err-packets-in-None-clause-held : goal.returns-in_err-packets-in-None-clause-held
+returns-in_err-packets-in-None-clause-held g c =
     let line = c.args.line.now in
     let is = is_after line c.release.new.self line.held refl c.release.ensures.after c.release.ensures.empty in
     after_holds c.args.seat.now.part.got c.node_step-in-None.new.seat.part.got line c.release.new.self c.gives_what_it_took.ensures.released c.requires.held is c.node_step-in-None.ensures.got
 
-pub returns-in_ok-sent-in-Some-clause-held : goal.returns-in_ok-sent-in-Some-clause-held
-returns-in_ok-sent-in-Some-clause-held g c =
+pub returns-in_ok-packets-in-Some-clause-held : goal.returns-in_ok-packets-in-Some-clause-held
+returns-in_ok-packets-in-Some-clause-held g c =
     let line = c.args.line.now in
     let is = is_after line c.release.new.self line.held refl c.release.ensures.after c.release.ensures.empty in
     subst (λ (seat_state : SeatState g.row.M-Program.Denot). HoldsTextsOf seat_state.part.got c.release.new.self) (sym c.lend.ensures)
     (after_holds c.args.seat.now.part.got c.node_step.new.seat.part.got line c.release.new.self c.gives_what_it_took.ensures.released c.requires.held is c.node_step.ensures.got)
 
-pub returns-in_ok-sent-in-Some-clause-ok : goal.returns-in_ok-sent-in-Some-clause-ok
-returns-in_ok-sent-in-Some-clause-ok g c =
+pub returns-in_ok-packets-in-Some-clause-ok : goal.returns-in_ok-packets-in-Some-clause-ok
+returns-in_ok-packets-in-Some-clause-ok g c =
     let m = g.M.Machine in
-    subst (λ (seat_state : SeatState g.row.M-Program.Denot). Works m.next m.answers m.begin (given_on c.args.line.now) c.args.lead c.args.seat.now seat_state c.in_ok-sent-in-Some.sent) (sym c.lend.ensures)
-    (received m.next m.answers m.begin (given_on c.args.line.now) c.in-Some.packet.items c.args.lead _ c.args.seat.now c.node_step.new.seat c.in_ok-sent-in-Some.sent
-    (sym c.in-Some.ensures.packet) c.as_slice.ensures.value c.in_ok-sent-in-Some.ensures.ok)
+    subst (λ (seat_state : SeatState g.row.M-Program.Denot). Works m.next m.answers m.begin (given_on c.args.line.now) c.args.lead c.args.seat.now seat_state c.in_ok-packets-in-Some.packets) (sym c.lend.ensures)
+    (received m.next m.answers m.begin (given_on c.args.line.now) c.in-Some.packet.items c.args.lead _ c.args.seat.now c.node_step.new.seat c.in_ok-packets-in-Some.packets
+    (sym c.in-Some.ensures.packet) c.as_slice.ensures.value c.in_ok-packets-in-Some.ensures.ok)
 
-pub returns-in_ok-sent-in-None-clause-held : goal.returns-in_ok-sent-in-None-clause-held
-returns-in_ok-sent-in-None-clause-held g c =
+pub returns-in_ok-packets-in-None-clause-held : goal.returns-in_ok-packets-in-None-clause-held
+returns-in_ok-packets-in-None-clause-held g c =
     let line = c.args.line.now in
     let is = is_after line c.release.new.self line.held refl c.release.ensures.after c.release.ensures.empty in
     after_holds c.args.seat.now.part.got c.node_step-in-None.new.seat.part.got line c.release.new.self c.gives_what_it_took.ensures.released c.requires.held is c.node_step-in-None.ensures.got

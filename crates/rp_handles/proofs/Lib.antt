@@ -1,0 +1,3 @@
+pub mod Decks
+pub mod Handles
+pub mod Values

@@ -1,0 +1,52 @@
+-- What opening and calling a handle come to.
+use Rattle.std.specs.Prelude.{◌≡◌, ◌⊎◌, ℕ, Option, Some, None, Result, List}
+use Rattle.rp_base.specs.declared.fault.Fault.TheVariants as faults
+use Rattle.rp_base.specs.Number.{IsTask}
+use Rattle.rp_object.specs.Step.{objects_next, objects_answers}
+use Rattle.rp_object.specs.Image.{objects_image}
+use Rattle.rp_requests.specs.declared.buffer.Lengths.{Lengths}
+use Rattle.rp_requests.specs.declared.refusal.Refusal.{Refusal}
+use Rattle.rp_requests.specs.declared.refusal.Refusal.TheVariants as refusals
+use Rattle.rp_requests.specs.Nodes.{Answers}
+use Rattle.rp_requests.specs.Requests.{asked_of}
+use Rattle.rp_requests.specs.TaskRequests.{task_asked_of}
+use Rattle.rp_requests.specs.Tasks.{IsShort, TaskDoes}
+use Rattle.rp_tasks.specs.Calls.{no_calls}
+use Rattle.rp_handles.specs.DeckNodes.{OpensNode}
+use Rattle.rp_handles.specs.declared.actor.Actor.{Actor}
+use Rattle.rp_handles.specs.declared.actor.Actor.TheVariants.{Node, Task}
+
+-- The answer of a node or of a task to the request that the bytes are.
+abbrev pub ActorAnswers : List ℕ → Actor → Actor → List ℕ → List ℕ → Result Lengths Refusal → Type 0
+ActorAnswers request (Node old) (Node new) before after result =
+    Answers objects_next objects_answers objects_image (asked_of request) old new before after result
+ActorAnswers request (Task old) (Task new) before after result =
+    IsShort old new before after result ⊎ TaskDoes (task_asked_of request) old new before after result
+ActorAnswers request (Node old) (Task new) before after result = ⊥
+ActorAnswers request (Task old) (Node new) before after result = ⊥
+
+-- The answer by a handle: that of its node or task, or none where it is closed, and then nothing changed.
+abbrev pub HandleAnswers : List ℕ → Option Actor → Option Actor → List ℕ → List ℕ → Option (Result Lengths Refusal)
+    → Type 0
+HandleAnswers request None None before after None = after ≡ before
+HandleAnswers request (Some old) (Some new) before after (Some result) = ActorAnswers request old new before after result
+HandleAnswers request None None before after (Some result) = ⊥
+HandleAnswers request (Some old) (Some new) before after None = ⊥
+HandleAnswers request None (Some new) before after result = ⊥
+HandleAnswers request (Some old) None before after result = ⊥
+
+-- It keeps the node of this number of the deck that the text means, opened over these bytes.
+abbrev pub KeepsNode : List ℕ → ℕ → List ℕ → Option Actor → ℕ → ℕ → Type 0
+KeepsNode text number bytes (Some (Node node)) records kept = OpensNode text number bytes node records kept
+KeepsNode text number bytes (Some (Task task)) records kept = ⊥
+KeepsNode text number bytes None records kept = ⊥
+
+-- It keeps the task of this number, which has made no call.
+abbrev pub KeepsTask : ℕ → Option Actor → Type 0
+KeepsTask number kept = kept ≡ Some (Task (no_calls number))
+
+-- Why no task is opened: there is none of this number, or memory ran out.
+abbrev pub IsNoTask : ℕ → Refusal → Type 0
+IsNoTask number (refusals.Fault faults.OutOfMemory) = Unit {0}
+IsNoTask number (refusals.Fault faults.BadConfig) = ¬ IsTask number
+IsNoTask number _ = ⊥

@@ -1,0 +1,3 @@
+pub mod DeckNodes
+pub mod Handles
+pub mod Owning

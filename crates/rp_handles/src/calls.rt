@@ -1,0 +1,119 @@
+//! An actor is opened, called and closed by its handle.
+
+ghost use Rattle.std.specs.Prelude.{◌≡◌, ◌<◌, ◌+◌, ◌^◌, length, Some, None, IfOk, IfErr, OnOk, OnErr};
+ghost use Rattle.rp_base.specs.declared.fault.Fault.TheVariants as faults;
+ghost use Rattle.rp_requests.specs.declared.refusal.Refusal.TheVariants as refusals;
+ghost use Rattle.rp_handles.specs.DeckNodes.{OpensNoNode};
+ghost use Rattle.rp_handles.specs.Handles.{HandleAnswers, IsNoTask, KeepsNode, KeepsTask};
+
+use crate::actor::Actor;
+use crate::deck_nodes::node_of_deck;
+use crate::handle::{Handle, closed, into_box, of};
+use rp_base::Fault;
+use rp_requests::{Lengths, Refusal, Task};
+use std::alloc::Global;
+use std::mem::replace;
+
+/// What a node found on its device.
+#[derive(Clone, Copy, Debug, PartialEq, Eq)]
+pub struct Found {
+    /// How many records the device holds.
+    pub records: usize,
+    /// How many bytes of the device are whole records: the caller truncates what is after them.
+    pub kept: usize,
+}
+
+/// Opens a node of a deck over the bytes of its device, which are copied; the deck's script is not
+/// run. What the handle kept before is closed. Refused with `BadDeck`, with `NoObjects` where the
+/// deck declares a tally, with `BadConfig` where it has no such node, or with `OutOfMemory`: then
+/// the handle keeps what it kept.
+pub fn open_node(
+    alloc: Global,
+    deck: &[u8],
+    number: u8,
+    bytes: &[u8],
+    handle: &mut Handle,
+) -> Result<Found, Refusal>
+    requires { length deck.now + 1 < 2 ^ 32 }
+    // claim (ok): A handle keeps the node of the deck that its bytes mean, which runs by the whole
+    //   records that the device's bytes begin with
+    ensures ok { IfOk result (λ found. KeepsNode deck.now number bytes.now handle.new.kept
+        found.records found.kept) }
+    // claim (err): A node of a deck is refused for the reason that holds: the deck's first bad line,
+    //   a tally, a node that it does not have; or memory ran out
+    ensures err { IfErr result (OpensNoNode deck.now number) }
+    // claim (same): A handle that is refused a node or a task keeps what it kept
+    ensures same { OnErr result (handle.new.kept ≡ handle.old.kept) }
+{
+    let opened = node_of_deck(alloc, deck, number, bytes)?;
+    let found = Found {
+        records: opened.records,
+        kept: opened.kept,
+    };
+    let actor = boxed(alloc, Actor::Node(opened.node))?;
+    keep(alloc, actor, handle);
+    Ok(found)
+}
+
+/// Opens a task, 1 to 8, which has made no call. What the handle kept before is closed. Refused with
+/// `BadConfig` for another number, or with `OutOfMemory`: then the handle keeps what it kept.
+pub fn open_task(alloc: Global, number: u8, handle: &mut Handle) -> Result<(), Refusal>
+    // claim (ok): A handle keeps a task that has made no call
+    ensures ok { OnOk result (KeepsTask number handle.new.kept) }
+    // claim (err): A task is refused only for its number, or if memory ran out
+    ensures err { IfErr result (IsNoTask number) }
+    // claim as open_node (same)
+    ensures same { OnErr result (handle.new.kept ≡ handle.old.kept) }
+{
+    let task = Task::new(number)?;
+    let actor = boxed(alloc, Actor::Task(task))?;
+    keep(alloc, actor, handle);
+    Ok(())
+}
+
+/// Answers a request to the node or the task of a handle, as `Node::call` and `Task::call` of
+/// `rp_requests` say; `None` where the handle is closed.
+pub fn call(
+    alloc: Global,
+    handle: &mut Handle,
+    request: &[u8],
+    answer: &mut [u8],
+) -> Option<Result<Lengths, Refusal>>
+    // claim: A call by a handle is answered by its node or its task, and by nothing else; a closed
+    //   handle has no answer, and nothing has changed
+    ensures { HandleAnswers request.now handle.old.kept handle.new.kept answer.old answer.new result }
+{
+    let taken = replace(handle, closed());
+    let mut actor = into_box(alloc, taken)?;
+    let result = actor.call(alloc, request, answer);
+    *handle = of(actor);
+    Some(result)
+}
+
+/// Gives back what a handle keeps: it is closed.
+pub fn close(alloc: Global, handle: &mut Handle)
+    // claim: A handle that was closed keeps nothing
+    ensures { handle.new.kept ≡ None }
+{
+    let taken = replace(handle, closed());
+    let _ = into_box(alloc, taken);
+}
+
+/// The actor in a box.
+fn boxed(alloc: Global, actor: Actor) -> Result<Box<Actor>, Refusal>
+    ensures ok { IfOk result (λ boxed. boxed.value ≡ actor) }
+    ensures err { IfErr result (λ refusal. refusal ≡ refusals.Fault faults.OutOfMemory) }
+{
+    match Box::new(alloc, actor) {
+        Ok(boxed) => Ok(boxed),
+        Err(_) => Err(Refusal::Fault(Fault::OutOfMemory)),
+    }
+}
+
+/// Has the handle keep the actor, and closes what it kept.
+fn keep(alloc: Global, actor: Box<Actor>, handle: &mut Handle)
+    ensures { handle.new.kept ≡ Some actor.value }
+{
+    let before = replace(handle, of(actor));
+    let _ = into_box(alloc, before);
+}

@@ -1,0 +1,63 @@
+//! A node of a deck that is opened over a caller's bytes.
+
+ghost use Rattle.std.specs.Prelude.{◌≡◌, ◌≤◌, ◌<◌, ◌+◌, ◌^◌, length, IfOk, IfErr};
+ghost use Rattle.rp_base.specs.Number.{IsNode};
+ghost use Rattle.rp_base.specs.declared.fault.Fault.TheVariants as faults;
+ghost use Rattle.rp_requests.specs.declared.refusal.Refusal.TheVariants as refusals;
+ghost use Rattle.rp_handles.specs.DeckNodes.{IsNoDeck, MeansDeck, OpensNode, OpensNoNode};
+
+use rp_base::{Fault, NodeId};
+use rp_deck::{Deck, DeckProgram, Mode, read_deck};
+use rp_object::Objects;
+use rp_requests::{Node, Opened, Refusal};
+use std::alloc::Global;
+
+/// Opens a node of a deck over the bytes of its device. The deck's script is not run. Refused with
+/// `BadDeck`, with `NoObjects` where the deck declares a tally, with `BadConfig` where it has no such
+/// node, or with `OutOfMemory`.
+pub(crate) fn node_of_deck(
+    alloc: Global,
+    deck: &[u8],
+    number: u8,
+    bytes: &[u8],
+) -> Result<Opened<Objects>, Refusal>
+    requires { length deck.now + 1 < 2 ^ 32 }
+    ensures ok { IfOk result (λ opened. OpensNode deck.now number bytes.now
+        opened.node opened.records opened.kept) }
+    ensures err { IfErr result (OpensNoNode deck.now number) }
+{
+    let Deck {
+        config,
+        program,
+        ..
+    } = deck_of(alloc, deck)?;
+    let node = node_of(config.nodes, number)?;
+    match program {
+        DeckProgram::Tally(_) => Err(Refusal::NoObjects),
+        DeckProgram::Objects(program) => Node::open(alloc, node, config, &program, bytes),
+    }
+}
+
+/// The deck that the bytes mean.
+fn deck_of(alloc: Global, bytes: &[u8]) -> Result<Deck, Refusal>
+    requires { length bytes.now + 1 < 2 ^ 32 }
+    ensures ok { IfOk result (MeansDeck bytes.now) }
+    ensures err { IfErr result (IsNoDeck bytes.now) }
+{
+    match read_deck(alloc, bytes, Mode::Script) {
+        Ok(deck) => Ok(deck),
+        Err(fault) => Err(Refusal::Fault(fault)),
+    }
+}
+
+/// The node of this number, one of n.
+fn node_of(nodes: u8, number: u8) -> Result<NodeId, Refusal>
+    ensures ok { IfOk result (λ node. (node ≡ number) × (node ≤ nodes)) }
+    ensures err { IfErr result (λ refusal. (refusal ≡ refusals.Fault faults.BadConfig)
+        × (¬ (IsNode number × (number ≤ nodes)))) }
+{
+    match NodeId::new(number) {
+        Some(node) if node.get() <= nodes => Ok(node),
+        _ => Err(Refusal::Fault(Fault::BadConfig)),
+    }
+}

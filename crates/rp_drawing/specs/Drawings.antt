@@ -1,6 +1,6 @@
 -- The drawing of a sketch (this project's own).
-use Rattle.std.specs.Prelude.{◌≡◌, ℕ, ◌+◌, ◌-◌, ◌*◌, ◌/◌, ◌≤◌, nat_eq, Option, Some, None, List, [], ◌∷◌, ◌++◌, flat_map}
-use Rattle.std.specs.Prelude.{length, if◌then◌else◌}
+use Rattle.std.specs.Prelude.{◌≡◌, ℕ, ◌+◌, ◌-◌, ◌*◌, ◌/◌, ◌≤◌, nat_eq, Option, Some, None, List, [], ◌∷◌, ◌++◌}
+use Rattle.std.specs.Prelude.{flat_map, length, if◌then◌else◌}
 use Rattle.rp_drawing.specs.Elements.{curve_text}
 use Rattle.rp_drawing.specs.Pages.{arrival_y, departure_y, lane_x}
 use Rattle.rp_drawing.specs.declared.elements.Curve.{Curve}

@@ -1,0 +1,219 @@
+with Ada.Streams;
+with Ada.Text_IO;
+with Ada.Text_IO.Text_Streams;
+with Ada.Unchecked_Conversion;
+with Interfaces.C;
+with System;
+
+package body Cluster is
+   use Ada.Streams;
+   use Ada.Text_IO;
+   use type Interfaces.C.size_t;
+   use type Interfaces.Unsigned_8;
+   use type Interfaces.Unsigned_64;
+
+   subtype Count is Interfaces.C.size_t;
+
+   type Store is array (Count range 1 .. 65_536) of aliased RP.Byte with Convention => C;
+
+   --  Bytes that grow: a device, or the packets that are sent.
+   type Run is record
+      Bytes  : Store;
+      Length : Count := 0;
+   end record;
+
+   Deck        : Store;
+   Deck_Length : Count := 0;
+   Nodes       : array (Node_Number) of RP.Handle;
+   Devices     : array (Node_Number) of Run;
+   Writer      : RP.Handle;
+   Queue       : Run;
+   Delivered   : Count := 0;
+   Answer      : array (Count range 1 .. RP.Step_Bytes) of aliased RP.Byte with Convention => C;
+
+   --  The reply that the task took last.
+   Has_Reply : Boolean := False;
+   Kind_Of   : RP.Byte := 0;
+   Content   : Interfaces.Unsigned_64 := 0;
+
+   procedure Must (Result : RP.Status) is
+   begin
+      if Result /= RP.Done then
+         raise Program_Error with "status" & Result'Image;
+      end if;
+   end Must;
+
+   --  Puts the bytes From to To of the answer behind the others.
+   procedure Append (Bytes : in out Run; From, To : Count) is
+   begin
+      for At_Place in From .. To loop
+         Bytes.Length := Bytes.Length + 1;
+         Bytes.Bytes (Bytes.Length) := Answer (At_Place);
+      end loop;
+   end Append;
+
+   function Opened (Number : Node_Number; Records : in out Count) return Count is
+      Device : Run renames Devices (Number);
+      Before : constant Count := Device.Length;
+   begin
+      Must
+        (RP.Node_Open
+           (Deck'Address, Deck_Length, Number, Device.Bytes'Address, Device.Length,
+            Nodes (Number), Records, Device.Length));
+      return Before - Device.Length;
+   end Opened;
+
+   --  A step of a node: its record is put on the device, and only then are its packets sent.
+   procedure Step (Number : Node_Number; Request : System.Address; Length : Count) is
+      Stored, Used : Count := 0;
+   begin
+      Must
+        (RP.Call
+           (Nodes (Number), Request, Length, Answer'Address, Answer'Length, Stored, Used));
+      Append (Devices (Number), 1, Stored);
+      --  Here a device that is a file is synced.
+      Append (Queue, Stored + 1, Used);
+   end Step;
+
+   --  The task takes the reply that a packet carries, where it is to its outstanding call.
+   procedure Take (Request : System.Address; Length : Count) is
+      Stored, Used : Count := 0;
+   begin
+      Must (RP.Call (Writer, Request, Length, Answer'Address, Answer'Length, Stored, Used));
+      if Used > 0 then
+         Has_Reply := True;
+         Kind_Of := Answer (1);
+         Content := 0;
+         for At_Place in 2 .. Used loop
+            Content := Content * 256 + Interfaces.Unsigned_64 (Answer (At_Place));
+         end loop;
+      end if;
+   end Take;
+
+   --  Delivers all packets, in the order in which they were sent.
+   procedure Drain is
+   begin
+      while Delivered < Queue.Length loop
+         declare
+            Length : Count := 0;
+         begin
+            Must
+              (RP.Packet_Length
+                 (Queue.Bytes (Delivered + 1)'Address, Queue.Length - Delivered, Length));
+            declare
+               To      : constant RP.Byte := Queue.Bytes (Delivered + 4);
+               Request : array (Count range 0 .. Length) of aliased RP.Byte with Convention => C;
+            begin
+               for At_Place in 1 .. Length loop
+                  Request (At_Place) := Queue.Bytes (Delivered + At_Place);
+               end loop;
+               Delivered := Delivered + Length;
+               if To in Node_Number then
+                  Request (0) := RP.Receive;
+                  Step (To, Request'Address, Length + 1);
+               else
+                  Request (0) := RP.Take_Packet;
+                  Take (Request'Address, Length + 1);
+               end if;
+            end;
+         end;
+      end loop;
+   end Drain;
+
+   procedure Open is
+      Text : Stream_Element_Array (1 .. Store'Length);
+      Last : Stream_Element_Offset;
+      None : Count := 0;
+   begin
+      Read (Text_Streams.Stream (Standard_Input).all, Text, Last);
+      for At_Place in 1 .. Last loop
+         Deck (Count (At_Place)) := RP.Byte (Text (At_Place));
+      end loop;
+      Deck_Length := Count (Last);
+      for Number in Node_Number loop
+         if Opened (Number, None) /= 0 then
+            raise Program_Error with "torn bytes on a new device";
+         end if;
+      end loop;
+      Must (RP.Task_Open (1, Writer));
+   end Open;
+
+   function Call (Object, Kind, Index : RP.Byte; Argument : Value) return Value is
+      function Unsigned is new Ada.Unchecked_Conversion (Value, Interfaces.Unsigned_64);
+      function Signed is new Ada.Unchecked_Conversion (Interfaces.Unsigned_64, Value);
+      Request : array (Count range 1 .. 13) of aliased RP.Byte with Convention => C;
+      Left    : Interfaces.Unsigned_64 := Unsigned (Argument);
+      Stored  : Count := 0;
+      Used    : Count := 0;
+      Lead    : aliased RP.Byte := RP.Lead;
+   begin
+      Request (1 .. 5) := (RP.Make_Call, 1, Object, Kind, Index);
+      for At_Place in reverse Count range 6 .. 13 loop
+         Request (At_Place) := RP.Byte (Left mod 256);
+         Left := Left / 256;
+      end loop;
+      Must
+        (RP.Call
+           (Writer, Request'Address, Request'Length, Answer'Address, Answer'Length, Stored, Used));
+      Append (Queue, 1, Used);
+      Has_Reply := False;
+      Drain;
+      while not Has_Reply loop
+         Step (1, Lead'Address, 1);
+         Drain;
+      end loop;
+      case Kind_Of is
+         when RP.Value_Reply | RP.Truth_Reply => return Signed (Content);
+         when RP.Constraint_Reply => raise Constraint_Error;
+         when others => raise Program_Error;
+      end case;
+   end Call;
+
+   procedure Restart (Number : Node_Number) is
+      Records, Torn : Count := 0;
+      function Image (Of_Count : Count) return String is
+        (Of_Count'Image (2 .. Of_Count'Image'Last));
+   begin
+      RP.Close (Nodes (Number));
+      Torn := Opened (Number, Records);
+      Put_Line ("node" & Number'Image & " open records " & Image (Records) & " cut " & Image (Torn));
+   end Restart;
+
+   procedure Show is
+      Question     : aliased RP.Byte;
+      Stored, Used : Count := 0;
+      Applied      : Interfaces.Unsigned_64;
+   begin
+      for Number in Node_Number loop
+         Question := RP.Applied;
+         Must
+           (RP.Call
+              (Nodes (Number), Question'Address, 1, Answer'Address, Answer'Length, Stored, Used));
+         Applied := 0;
+         for At_Place in 1 .. Used loop
+            Applied := Applied * 256 + Interfaces.Unsigned_64 (Answer (At_Place));
+         end loop;
+         Put_Line ("node" & Number'Image & " applied" & Applied'Image);
+         Question := RP.Image;
+         Must
+           (RP.Call
+              (Nodes (Number), Question'Address, 1, Answer'Address, Answer'Length, Stored, Used));
+         for At_Place in 1 .. Used loop
+            if Answer (At_Place) = 10 then
+               New_Line;
+            else
+               Put (Character'Val (Answer (At_Place)));
+            end if;
+         end loop;
+      end loop;
+   end Show;
+
+   procedure Close is
+   begin
+      for Handle of Nodes loop
+         RP.Close (Handle);
+      end loop;
+      RP.Close (Writer);
+   end Close;
+
+end Cluster;

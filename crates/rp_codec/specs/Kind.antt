@@ -1,5 +1,5 @@
 -- The kinds of packets, and their numbers.
-use Rattle.std.specs.Prelude.{ℕ, ◌==◌, if◌then◌else◌, Option, Some, None, IsSome}
+use Rattle.std.specs.Prelude.{ℕ, List, ◌==◌, if◌then◌else◌, Option, Some, None, IsSome, slice_get, option_and_then}
 use Rattle.rp_codec.specs.declared.kind.Kind.{Kind}
 use Rattle.rp_codec.specs.declared.kind.Kind.TheVariants.{Call, Prepare, Promise, Accept, Accepted, Decided, Ask, Nack}
 use Rattle.rp_codec.specs.declared.kind.Kind.TheVariants.{Reply, Report, PrepareRange, PromiseRange}
@@ -20,6 +20,10 @@ kind_of n =
     if n == 12 then Some PrepareRange else
     if n == 13 then Some PromiseRange else
     None
+
+-- the kind that bytes name: it is in the second byte of each text
+abbrev pub kind_in : List ℕ → Option Kind
+kind_in bytes = option_and_then kind_of (slice_get bytes 1)
 
 -- the numbers of the kinds
 abbrev pub IsKind : ℕ → Type 0

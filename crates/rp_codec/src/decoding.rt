@@ -211,38 +211,49 @@ pub fn decode_fields(
     }
 }
 
-/// The packet that is read in one piece, if one is. Its text is of version 2.
+/// The packet of this kind that is read in one piece, if one is. Its text is of version 2.
 #[inline(always)]
-fn one_piece_of(bytes: &[u8]) -> Option<Packet>
+fn one_piece_of(kind: Kind, bytes: &[u8]) -> Option<Packet>
     ensures { IfSome result (λ packet. bytes.now ≡ text_of packet) }
 {
-    match bytes {
-        [_, 1, ..] => task_call_of(bytes),
-        [_, 2, ..] => prepare_of(bytes),
-        [_, 3, ..] => promise_of(bytes),
-        [_, 4, ..] => accept_of(bytes),
-        [_, 5, ..] => accepted_of(bytes),
-        [_, 6, ..] => decided_of(bytes),
-        [_, 9, ..] => reply_of(bytes),
-        _ => None,
+    match kind {
+        Kind::Call => task_call_of(bytes),
+        Kind::Prepare => prepare_of(bytes),
+        Kind::Promise => promise_of(bytes),
+        Kind::Accept => accept_of(bytes),
+        Kind::Accepted => accepted_of(bytes),
+        Kind::Decided => decided_of(bytes),
+        Kind::Reply => reply_of(bytes),
+        Kind::Ask | Kind::Nack | Kind::Report | Kind::PrepareRange | Kind::PromiseRange => None,
     }
 }
 
-/// The packet of which the bytes are a text, if it is of a usual kind and is read in one piece: a call
+/// The packet of which the bytes are a text, if it is of this kind and is read in one piece: a call
 /// of a task, a packet between nodes whose action, if any, is a call, or a reply with a value, in
 /// version 2. It takes no memory. `None` says nothing of the bytes: `decode_fields` reads those. Which
-/// packets it reads is a matter of speed alone, and no clause says it.
+/// packets it reads is a matter of speed alone, and no clause says it. It is compiled into its caller:
+/// where that gives the kind as a constant, what the caller does with the packet is compiled for that
+/// kind alone.
 #[inline(always)]
-pub fn usual_packet(bytes: &[u8]) -> Option<Packet>
+pub fn usual_packet(kind: Kind, bytes: &[u8]) -> Option<Packet>
     ensures { IfSome result (λ packet. IsDecoded bytes.now (Ok packet)) }
 {
-    match one_piece_of(bytes) {
+    match one_piece_of(kind, bytes) {
         Some(packet) => {
             let _body = packet.body();
             Some(packet)
         }
         None => None,
     }
+}
+
+/// The packet of which the bytes are a text, whatever its kind, if it is read in one piece.
+#[inline(always)]
+fn any_usual(bytes: &[u8]) -> Option<Packet>
+    ensures { IfSome result (λ packet. IsDecoded bytes.now (Ok packet)) }
+{
+    let kind = Kind::of_text(bytes)?;
+    usual_packet(kind, bytes)
 }
 
 /// The packet of which the bytes are a text, of version 1 or 2, all of the bytes. Where they are no
@@ -257,7 +268,7 @@ pub fn decode(alloc: Global, bytes: &[u8]) -> Result<Result<Packet, PacketReason
     ensures answer { IfOk result (λ answer. IsDecoded bytes.now answer) }
     ensures memory { OnErr result (IsLongText bytes.now) }
 {
-    match usual_packet(bytes) {
+    match any_usual(bytes) {
         Some(packet) => Ok(Ok(packet)),
         None => decode_fields(alloc, bytes),
     }

@@ -1,11 +1,11 @@
 //! The kinds of packets.
 
 ghost use Rattle.std.specs.Prelude.{◌≡◌};
-ghost use Rattle.rp_codec.specs.Kind.{kind_of};
+ghost use Rattle.rp_codec.specs.Kind.{kind_of, kind_in};
 
 /// Which variant of `Body` a packet has.
 #[derive(Clone, Copy, Debug, PartialEq, Eq)]
-pub(crate) enum Kind {
+pub enum Kind {
     Call,
     Prepare,
     Promise,
@@ -41,5 +41,15 @@ impl Kind {
             13 => Some(Kind::PromiseRange),
             _ => None,
         }
+    }
+
+    /// The kind of the packet whose text these bytes are, if they are one's: of a text of either
+    /// version it is the second byte.
+    #[inline(always)]
+    pub fn of_text(bytes: &[u8]) -> Option<Self>
+        ensures { result ≡ kind_in bytes.now }
+    {
+        let number = bytes.get(1)?;
+        Kind::of(*number)
     }
 }

@@ -48,6 +48,7 @@ mod votes_text;
 pub use actions::Actions;
 pub use decoding::{decode, decode_fields, packet_len, usual_packet};
 pub use encoding::{encode, encode_onto, one_text, text_of_packet, two_texts};
+pub use kind::Kind;
 pub use lengths::text_len;
 pub use packet::{Body, Packet, Party};
 pub use record_text::{

@@ -18,8 +18,7 @@ use rp_store::Device;
 
 impl<M: Machine, D: Device> Replica<M, D> {
     /// A packet comes. Only a promise for a range takes memory: its votes are kept in the plan.
-    // A call of its own, so that the packet is read where it lies.
-    #[inline(never)]
+    #[inline(always)]
     pub(crate) fn on_packet(&self, packet: &Packet, plan: &mut Plan) -> Result<(), Fault>
         ensures turn { OnOk result (turn_of M.next M.answers self.now plan.new
             ≡ receives M.next M.answers self.now.begin self.now.config self.now.me
@@ -41,6 +40,7 @@ impl<M: Machine, D: Device> Replica<M, D> {
     }
 
     /// A packet comes from a node, for this one.
+    #[inline(always)]
     fn on_node(&self, from: NodeId, packet: &Packet, plan: &mut Plan) -> Result<(), Fault>
         requires sender { packet.now.from ≡ Node from }
         requires right { is_for_node self.now.config self.now.me packet.now ≡ true }
@@ -116,6 +116,7 @@ impl<M: Machine, D: Device> Replica<M, D> {
     }
 
     /// A packet comes from a task, for this node.
+    #[inline(always)]
     fn on_task(&self, packet: &Packet, plan: &mut Plan)
         requires sender { ¬ IsNodeParty packet.now.from }
         ensures turn { turn_of M.next M.answers self.now plan.new ≡ on_body M.next M.answers
@@ -131,6 +132,7 @@ impl<M: Machine, D: Device> Replica<M, D> {
 }
 
 /// Whether the party is this node.
+#[inline(always)]
 fn is_node(me: NodeId, party: Party) -> bool
     ensures { result ≡ is_node me party }
 {
@@ -141,6 +143,7 @@ fn is_node(me: NodeId, party: Party) -> bool
 }
 
 /// Whether the party is no node above these.
+#[inline(always)]
 fn is_no_node_above(nodes: u8, party: Party) -> bool
     ensures { result ≡ is_no_node_above nodes party }
 {
@@ -176,6 +179,7 @@ fn is_allowed(max_positions: u16, from: Party, body: &Body) -> bool
 }
 
 /// Whether the range begins and ends within the log.
+#[inline(always)]
 fn is_range_within(max_positions: u16, range: PositionRange) -> bool
     ensures { result ≡ is_range_within max_positions range }
 {
@@ -183,6 +187,7 @@ fn is_range_within(max_positions: u16, range: PositionRange) -> bool
 }
 
 /// Whether the ballot is the party's own.
+#[inline(always)]
 fn owns(party: Party, ballot: Ballot) -> bool
     ensures { result ≡ nat_eq (owner_of ballot) (party_number party) }
 {

@@ -14,7 +14,7 @@ use crate::plan::Plan;
 use crate::replica::Replica;
 use crate::sent::{Outbox, Sent};
 use rp_base::{Fault, Position, PositionRange};
-use rp_codec::{decode_fields, usual_packet};
+use rp_codec::{Kind, decode_fields, usual_packet};
 use rp_machine::Machine;
 use rp_model::Dropped;
 use rp_store::Device;
@@ -51,7 +51,8 @@ impl<M: Machine, D: Device> Replica<M, D> {
         Ok(())
     }
 
-    /// A packet comes, as its text.
+    /// A packet comes, as its text. Each usual kind has its arm, in which reading the packet and the
+    /// rule for it are compiled for that kind alone.
     #[inline(always)]
     fn on_text(&self, alloc: Global, bytes: &[u8], plan: &mut Plan) -> Result<(), Fault>
         requires working { self.now.failed ≡ false }
@@ -62,7 +63,35 @@ impl<M: Machine, D: Device> Replica<M, D> {
             (effect_if_given M.next M.answers self.now (packet_given (all_of bytes.now)))
             self.now self.now fault) }
     {
-        match &usual_packet(bytes) {
+        match Kind::of_text(bytes) {
+            Some(Kind::Call) => self.on_usual(alloc, Kind::Call, bytes, plan),
+            Some(Kind::Prepare) => self.on_usual(alloc, Kind::Prepare, bytes, plan),
+            Some(Kind::Promise) => self.on_usual(alloc, Kind::Promise, bytes, plan),
+            Some(Kind::Accept) => self.on_usual(alloc, Kind::Accept, bytes, plan),
+            Some(Kind::Accepted) => self.on_usual(alloc, Kind::Accepted, bytes, plan),
+            Some(Kind::Decided) => self.on_usual(alloc, Kind::Decided, bytes, plan),
+            _ => self.on_other_text(alloc, bytes, plan),
+        }
+    }
+
+    /// The same, where the packet may be of this kind and read in one piece.
+    #[inline(always)]
+    fn on_usual(
+        &self,
+        alloc: Global,
+        kind: Kind,
+        bytes: &[u8],
+        plan: &mut Plan,
+    ) -> Result<(), Fault>
+        requires working { self.now.failed ≡ false }
+        ensures ok { OnOk result (Ok (turn_of M.next M.answers self.now plan.new)
+            ≡ effect_if_given M.next M.answers self.now (packet_given (all_of bytes.now))) }
+        ensures may { OnOk result (MayCommit self.now plan.new) }
+        ensures err { IfErr result (λ fault. StopsIf
+            (effect_if_given M.next M.answers self.now (packet_given (all_of bytes.now)))
+            self.now self.now fault) }
+    {
+        match &usual_packet(kind, bytes) {
             Some(packet) => self.on_packet(packet, plan),
             None => self.on_other_text(alloc, bytes, plan),
         }

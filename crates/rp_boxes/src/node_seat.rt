@@ -67,6 +67,7 @@ impl<M: Machine, D: Device> NodeSeat<M, D> {
     /// the packets are those that it sends. Refused with `OutOfMemory`, with `Failed` once the device
     /// has failed, or with `BallotsSpent` or `LogFull` where the node cannot lead: then nothing has
     /// happened. With `Device` the device fails, and the node stops within the step.
+    #[inline(always)]
     pub fn turn(&mut self, alloc: Global, input: &Input) -> Result<Sent, Fault>
         requires right { IsRightInput input.now }
         requires got { IsGot self.old.part input.now }

@@ -51,6 +51,7 @@ pub(crate) fn apply_ready<M: Machine>(machine: &mut Numbered<M>, log: &mut Log)
 
 /// Applies all that is ready, in order, and pushes a reply for each answer whose call is pending. It
 /// takes no memory.
+#[inline(always)]
 pub(crate) fn apply_and_reply<M: Machine>(
     machine: &mut Numbered<M>,
     log: &mut Log,
@@ -73,6 +74,7 @@ pub(crate) fn apply_and_reply<M: Machine>(
 }
 
 /// Pushes a reply for each of the answers whose call is pending.
+#[inline(always)]
 fn reply_to(me: NodeId, pending: &Pending, answers: &[Answer], out: &mut Outbox)
     requires { longest_text * length (replies_to me pending.now answers.now) ≤ out.old.room }
     ensures run { out.new.run

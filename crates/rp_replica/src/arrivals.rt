@@ -44,6 +44,7 @@ impl<M: Machine, D: Device> Replica<M, D> {
     }
 
     /// A `Call` comes, with a right action.
+    #[inline(always)]
     pub(crate) fn on_call(&self, action: Action, plan: &mut Plan)
         requires right { IsRight action }
         ensures turn { let applied = applied_of self.now.records in

@@ -21,7 +21,7 @@ use rp_output::{
     AppliedLine, DrainLimitLine, RefusedLine, StoppedLine, is_refusal, print, write_whole,
 };
 use rp_store::{CutDevice, InfallibleDevice};
-use rp_world::Cluster;
+use rp_world::{Cluster, no_effect};
 use std::alloc::Global;
 use std::io::Write;
 
@@ -123,8 +123,9 @@ impl<M: Machine, D: CutDevice> Run<M, D> {
             self.new.cluster.failures) }
     {
         worlds_grow::<M>();
-        match self.cluster.step(alloc, event) {
-            Ok(effect) => {
+        let mut effect = no_effect(0);
+        match self.cluster.step_into(alloc, event, &mut effect) {
+            Ok(()) => {
                 self.settled.settle_by(event)?;
                 print_effect(alloc, &self.cluster, options, event, &effect, writer)
             }

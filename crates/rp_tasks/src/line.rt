@@ -129,6 +129,7 @@ impl FaultLine {
 
     /// Takes a packet by the next word of the stream, as `accept` does, and does not copy it unless
     /// it is held twice. At `OutOfMemory` the packet is gone.
+    #[inline(always)]
     pub fn take(&mut self, alloc: Global, packet: Vec<u8>) -> Result<(), Fault>
         ensures ok { OnOk result
             (self.new ≡ accepted (word_of self.old) packet.items (drawn self.old)) }
@@ -158,6 +159,7 @@ impl FaultLine {
 
     /// Gives on the packet whose place, counted from 0 in the order of acceptance, is the word
     /// modulo the number held; those after it move up. `None` where nothing is held.
+    #[inline(always)]
     pub fn release_by(&mut self, word: u32) -> Option<Vec<u8>>
         ensures packet { option_map (λ packet. packet.items) result ≡ picked word self.old }
         ensures after { self.new ≡ released word self.old }
@@ -189,6 +191,7 @@ impl FaultLine {
     }
 
     /// Holds as many copies of a packet as the word asks for. Refused for memory, nothing changes.
+    #[inline(always)]
     fn hold(&mut self, alloc: Global, word: u32, packet: Vec<u8>) -> Result<(), Fault>
         ensures ok { OnOk result (self.new ≡ accepted word packet.items self.old) }
         ensures err { OnErr result (self.new ≡ self.old) }
@@ -219,6 +222,7 @@ impl FaultLine {
     }
 
     /// Holds a packet after the others, or loses it where there is no place.
+    #[inline(always)]
     fn hold_one(&mut self, packet: Vec<u8>)
         ensures { self.new ≡ record self.old {
           held = take 16 (self.old.held ++ packet.items ∷ []);

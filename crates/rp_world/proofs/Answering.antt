@@ -13,7 +13,7 @@ use Rattle.rp_model.specs.Events.{Event, Step, Submit, Again, Makes, Cut, Stop, 
 use Rattle.rp_model.specs.World.{World, Transition, event_effect, cut_step, step_writes}
 use Rattle.rp_model.specs.Answers.{IsLeft, FailsBy, Steps, Happen}
 use Rattle.rp_world.specs.Failures.{RisesOnly, AreCounted}
-use Rattle.rp_world.specs.Going.{Fails, Answers, AnswersRestart, AnswersStop, Counts, no_cut}
+use Rattle.rp_world.specs.Going.{Fails, Answers, AnswersRestart, AnswersStop, Counts, no_cut, stated}
 use Rattle.rp_world.specs.Steps.{Setup, IsSameSetup, setting_of}
 
 module _ {S : Type 0} (s : Setting S) (w : World) (event : Event) (new : World) (cut : ℕ → Result Transition Fault)
@@ -83,6 +83,12 @@ pub rose : {A : Type 0} (why : Type 0) (node : Option ℕ) (before after : List 
 rose {A = A} why node before after (Ok stated) counts = counts
 rose {A = A} why node before after (Err Device) counts = counts.1
 rose {A = A} why node before after (Err _) counts = counts
+
+-- a count is so whether the effect is returned or written in place
+pub counts_stated : {A : Type 0} (why : Type 0) (node : Option ℕ) (before after : List ℕ) (result : Result A Fault) (effect : Effect) → Counts why node before after result → Counts why node before after (stated result effect)
+counts_stated why node before after (Ok done) effect counts = counts
+counts_stated why node before after (Err Device) effect counts = counts
+counts_stated why node before after (Err _) effect counts = counts
 
 calm : (node : Option ℕ) (before after : List ℕ) (answer : Result Effect Fault) → NoDevice answer → after ≡ before → AreCounted node before after answer
 calm node before after (Ok stated) none same = same

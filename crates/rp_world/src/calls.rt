@@ -9,7 +9,7 @@ ghost use Rattle.rp_agreement.specs.Ranges.{IsRangedWorld};
 ghost use Rattle.rp_world.specs.Going.{Answers, no_cut};
 ghost use Rattle.rp_world.specs.Steps.{IsSameSetup};
 
-use crate::effect::{nothing, one_message};
+use crate::effect::{no_effect, one_message};
 use crate::messages::Messages;
 use crate::world::World;
 use rp_base::{Action, Fault, NodeId, Operation, TaskId};
@@ -86,7 +86,7 @@ impl<M: Machine, D: CutDevice> World<M, D> {
             return Err(Fault::BadConfig);
         }
         let Some(call) = self.tasks[usize::from(task.get()) - 1].outstanding() else {
-            return Ok(nothing(first));
+            return Ok(no_effect(first));
         };
         send(&mut self.messages, task, node, call)?;
         Ok(one_message(first))

@@ -19,11 +19,12 @@ ghost use Rattle.rp_agreement.specs.Asked.{Says};
 ghost use Rattle.rp_agreement.specs.Worlds.{node_in};
 ghost use Rattle.rp_world.specs.Agreeing.{Agree, HasWritten, HasWrittenPromise, IsOrdered};
 ghost use Rattle.rp_world.specs.Failures.{SomeHasFailed};
+ghost use Rattle.rp_world.specs.Going.{stated};
 ghost use Rattle.rp_world.specs.Runs.{IsRun};
 ghost use Rattle.rp_world.specs.Shape.{IsCluster};
 ghost use Rattle.rp_world.specs.Steps.{IsStep, IsStored, IsQueryAnswer, IsQueryAnswerUnlessMemory, setting_of};
 
-use crate::effect::Refused;
+use crate::effect::{Refused, no_effect};
 use crate::world::World;
 use rp_agreement::{
     applied_lists_are_alike, applied_lists_begin_the_order, calls_count_in_order,
@@ -106,7 +107,20 @@ impl<M: Machine, D: CutDevice> Cluster<M, D> {
         })
     }
 
-    /// One step of one actor, a stop or a restart, with its effect. Refused, it changes nothing:
+    /// One step of one actor, a stop or a restart, with its effect. Refused as `step_into` is.
+    pub fn step(&mut self, alloc: Global, event: &Event) -> Result<Effect, Fault>
+        // claim as Cluster::step_into
+        ensures step { IsStep M.next M.answers M.begin self.old event.now self.new result }
+    {
+        let mut effect = no_effect(0);
+        match self.step_into(alloc, event, &mut effect) {
+            Ok(()) => Ok(effect),
+            Err(fault) => Err(fault),
+        }
+    }
+
+    /// The same, which writes the effect where its caller holds it, so that none is copied; if it is
+    /// refused, what is there is of no meaning. Refused, it changes nothing:
     /// `NotRunning` for a stopped node or a cut of none, `NoSuchMessage` for a number above the
     /// last, `TaskBusy` while the task's last call has no answer, `LogFull` and `BallotsSpent` for
     /// a leader, `NumbersSpent` for a task's last number, `BadConfig` for a node above the last, a
@@ -115,14 +129,20 @@ impl<M: Machine, D: CutDevice> Cluster<M, D> {
     /// to start again stays stopped, and some of its torn bytes may be gone, as they may be after
     /// `OutOfMemory`.
     #[inline(never)]
-    pub fn step(&mut self, alloc: Global, event: &Event) -> Result<Effect, Fault>
+    pub fn step_into(
+        &mut self,
+        alloc: Global,
+        event: &Event,
+        effect: &mut Effect,
+    ) -> Result<(), Fault>
         // claim: Each step of a cluster, whatever the event, has exactly the effect that the
         //   definitions give, or is refused as they say and changes nothing, or is out of memory,
         //   which a stop never is, and changes nothing; a restart of a stopped node that is refused
         //   for memory or by its device may lose torn bytes. A fault of a device comes only from a
         //   step that writes a record, or from such a restart, and only if the failure count of
         //   that node's device rose, and no other count changes; the step is then cut
-        ensures step { IsStep M.next M.answers M.begin self.old event.now self.new result }
+        ensures step { IsStep M.next M.answers M.begin self.old event.now self.new
+            (stated result effect.new) }
     {
         event.keeps_ranges();
         events_keep_replies::<M>();
@@ -130,10 +150,16 @@ impl<M: Machine, D: CutDevice> Cluster<M, D> {
         // A delivery is by far the most frequent, and goes the shortest way.
         if let Event::Node(step) = *event {
             if let Step::Deliver(number) = step {
-                return self.world.delivered(alloc, number);
+                return self.world.deliver(alloc, number, effect);
             }
         }
-        self.world.step(alloc, event)
+        match self.world.step(alloc, event) {
+            Ok(made) => {
+                *effect = made;
+                Ok(())
+            }
+            Err(fault) => Err(fault),
+        }
     }
 
     /// The steps of these events one after another, up to the first that is refused. Whatever they

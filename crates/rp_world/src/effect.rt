@@ -16,9 +16,9 @@ pub struct Refused {
     pub fault: Fault,
 }
 
-/// Nothing was sent, dropped or taken.
+/// The effect of a step that sent, dropped and took nothing, where this is the number of the next message.
 #[inline(always)]
-pub(crate) fn nothing(first: u64) -> Effect
+pub fn no_effect(first: u64) -> Effect
     ensures { result
         ≡ record { first = first; sent = 0; dropped = No; taken = None; opened = None } }
 {
@@ -38,7 +38,7 @@ pub(crate) fn one_message(first: u64) -> Effect
 {
     Effect {
         sent: 1,
-        ..nothing(first)
+        ..no_effect(first)
     }
 }
 
@@ -49,7 +49,7 @@ pub(crate) fn taken(first: u64, taken: Option<Answer>) -> Effect
 {
     Effect {
         taken,
-        ..nothing(first)
+        ..no_effect(first)
     }
 }
 
@@ -60,7 +60,7 @@ pub(crate) fn opened(first: u64, opened: Option<(u64, u64)>) -> Effect
 {
     Effect {
         opened,
-        ..nothing(first)
+        ..no_effect(first)
     }
 }
 

@@ -26,7 +26,7 @@ mod world;
 
 pub use calls::asks;
 pub use cluster::{Cluster, are_empty};
-pub use effect::Refused;
+pub use effect::{Refused, no_effect};
 pub use headline::histories_are_ordered;
 pub use rp_model::{Dropped, Effect, Event, Interrupt, Step};
 pub use task::Task;

@@ -19,7 +19,7 @@ ghost use Rattle.rp_world.specs.Choosing.{AreNodesOf, Chosen, IsRefused};
 ghost use Rattle.rp_world.specs.Going.{Answers, Counts, reply_in, stated};
 ghost use Rattle.rp_world.specs.Steps.{IsStep, IsSameSetup, setting_of};
 
-use crate::effect::{nothing, of_step, taken};
+use crate::effect::{no_effect, of_step, taken};
 use crate::messages::Messages;
 use crate::node;
 use crate::world::{World, put_back};
@@ -138,7 +138,7 @@ impl<M: Machine, D: CutDevice> World<M, D> {
         let (node, answer) = self.nodes.remove(place).cut(alloc, &input, kept);
         put_back(&mut self.nodes, place, node);
         match answer {
-            Ok(()) => Ok(nothing(first)),
+            Ok(()) => Ok(no_effect(first)),
             Err(fault) => Err(fault),
         }
     }
@@ -284,16 +284,21 @@ impl<M: Machine, D: CutDevice> World<M, D> {
             Counts (IsSome (delivery_writes setting self.old.world message)) (receiver_of message)
             self.old.failures self.new.failures result }
     {
-        let mut effect = nothing(0);
+        let mut effect = no_effect(0);
         match self.deliver(alloc, number, &mut effect) {
             Ok(()) => Ok(effect),
             Err(fault) => Err(fault),
         }
     }
 
-    /// The same, reported in place: the effect is copied once, where the step ends.
+    /// The same, which writes the effect where its caller holds it.
     #[inline(always)]
-    fn deliver(&mut self, alloc: Global, number: u64, effect: &mut Effect) -> Result<(), Fault>
+    pub(crate) fn deliver(
+        &mut self,
+        alloc: Global,
+        number: u64,
+        effect: &mut Effect,
+    ) -> Result<(), Fault>
         requires ranged { IsRangedWorld self.old.config.nodes self.old.world }
         ensures answer { let setting = setting_of M.next M.answers M.begin self.old in
             Answers self.old.world
@@ -320,7 +325,7 @@ impl<M: Machine, D: CutDevice> World<M, D> {
                 Err(fault) => Err(fault),
             },
             Party::Audit => {
-                *effect = nothing(self.messages() + 1);
+                *effect = no_effect(self.messages() + 1);
                 Ok(())
             }
         }
@@ -354,11 +359,11 @@ impl<M: Machine, D: CutDevice> World<M, D> {
         texts_are_packets();
         let first = self.messages() + 1;
         let Some(node) = self.nodes.get_mut(usize::from(node.get()) - 1) else {
-            *effect = nothing(first);
+            *effect = no_effect(first);
             return Ok(());
         };
         if !node.is_running() {
-            *effect = nothing(first);
+            *effect = no_effect(first);
             return Ok(());
         }
         if self.messages.settle().is_err() {
@@ -397,7 +402,7 @@ impl<M: Machine, D: CutDevice> World<M, D> {
             return Err(Fault::OutOfMemory);
         };
         let Some((number, reply)) = reply else {
-            return Ok(nothing(first));
+            return Ok(no_effect(first));
         };
         match self.tasks[usize::from(task.get()) - 1].take(number, reply) {
             Ok(answer) => Ok(taken(first, answer)),

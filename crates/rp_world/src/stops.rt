@@ -6,7 +6,7 @@ ghost use Rattle.rp_world.specs.Going.{AnswersRestart, AnswersStop};
 ghost use Rattle.rp_world.specs.Failures.{AreCounted};
 ghost use Rattle.rp_world.specs.Steps.{IsSameSetup};
 
-use crate::effect::{nothing, opened};
+use crate::effect::{no_effect, opened};
 use crate::world::{World, put_back};
 use rp_base::{Fault, NodeId};
 use rp_machine::Machine;
@@ -33,7 +33,7 @@ impl<M: Machine, D: CutDevice> World<M, D> {
         let (node, answer) = self.nodes.remove(place).stop();
         put_back(&mut self.nodes, place, node);
         match answer {
-            Ok(()) => Ok(nothing(first)),
+            Ok(()) => Ok(no_effect(first)),
             Err(fault) => Err(fault),
         }
     }

@@ -15,8 +15,8 @@ print_effect-requires g c = omega (arith, c.in-Ok.ensures.step.world.describes.f
 pub returns-in_ok-settle_by-in-Ok-clause-parts : goal.returns-in_ok-settle_by-in-Ok-clause-parts
 returns-in_ok-settle_by-in-Ok-clause-parts g c =
     let m = g.M.Machine in
-    always_ok c.print_effect.result (parts_stay m.next m.answers m.begin c.args.options.now.config.nodes c.args.self.now.cluster c.step.new.self c.args.event.now
-    c.requires.parts c.requires.event c.in-Ok.effect c.in-Ok.ensures.step.setup c.in-Ok.ensures.step.world)
+    always_ok c.print_effect.result (parts_stay m.next m.answers m.begin c.args.options.now.config.nodes c.args.self.now.cluster c.step_into.new.self c.args.event.now
+    c.requires.parts c.requires.event c.step_into.new.effect c.in-Ok.ensures.step.setup c.in-Ok.ensures.step.world)
 
 pub returns-in_ok-settle_by-in-Ok-clause-said : goal.returns-in_ok-settle_by-in-Ok-clause-said
 returns-in_ok-settle_by-in-Ok-clause-said g c =
@@ -25,7 +25,7 @@ returns-in_ok-settle_by-in-Ok-clause-said g c =
     let s = run_setting m.next m.answers m.begin m.image old c.args.options.now in
     let done = c.in-Ok.ensures.step.world in
     λ play follows.
-    happened s c.args.line play c.args.event.now old.world c.args.self.now.settled follows c.step.new.self.world c.settle_by.new.self c.in-Ok.effect _ _ c.print_effect.result
+    happened s c.args.line play c.args.event.now old.world c.args.self.now.settled follows c.step_into.new.self.world c.settle_by.new.self c.step_into.new.effect _ _ c.print_effect.result
     done (c.worlds_grow.ensures s.setting old.world (event_of c.args.event.now) done.transition done.resulted) c.in_ok-settle_by-in-Ok.ensures c.print_effect.ensures.printed
 
 pub returns-in_err-settle_by-in-Ok-clause-said : goal.returns-in_err-settle_by-in-Ok-clause-said
@@ -38,7 +38,7 @@ pub returns-in-Err-clause-parts : goal.returns-in-Err-clause-parts
 returns-in-Err-clause-parts g c =
     let m = g.M.Machine in
     let numbered : 5 ≤ code_of c.in-Err.fault = (c.is_refusal.ensures.0 c.if-is_refusal.true).0 in
-    always_ok c.print.result (parts_left m.next m.answers m.begin c.args.options.now.config.nodes c.args.self.now.cluster c.step.new.self c.args.event.now
+    always_ok c.print.result (parts_left m.next m.answers m.begin c.args.options.now.config.nodes c.args.self.now.cluster c.step_into.new.self c.args.event.now
     c.requires.parts c.requires.event c.in-Err.fault c.in-Err.ensures.step.setup (refused_of _ _ _ c.args.event.now c.in-Err.fault c.in-Err.ensures.step.world numbered))
 
 pub returns-in-Err-clause-said : goal.returns-in-Err-clause-said
@@ -48,8 +48,8 @@ returns-in-Err-clause-said g c =
     let s = run_setting m.next m.answers m.begin m.image old c.args.options.now in
     let numbered : 5 ≤ code_of c.in-Err.fault = (c.is_refusal.ensures.0 c.if-is_refusal.true).0 in
     λ play follows.
-    was_refused s c.args.line play c.args.event.now old.world c.args.self.now.settled follows c.step.new.self.world c.in-Err.fault _ _ c.print.result
-    (refused_of s.setting old.world c.step.new.self.world c.args.event.now c.in-Err.fault c.in-Err.ensures.step.world numbered) c.print.ensures.printed
+    was_refused s c.args.line play c.args.event.now old.world c.args.self.now.settled follows c.step_into.new.self.world c.in-Err.fault _ _ c.print.result
+    (refused_of s.setting old.world c.step_into.new.self.world c.args.event.now c.in-Err.fault c.in-Err.ensures.step.world numbered) c.print.ensures.printed
 
 pub returns-in-Err-2-clause-said : goal.returns-in-Err-2-clause-said
 returns-in-Err-2-clause-said g c = λ play follows. begins_nothing _ _
@@ -57,7 +57,7 @@ returns-in-Err-2-clause-said g c = λ play follows. begins_nothing _ _
 pub returns-in-Err-2-clause-fault : goal.returns-in-Err-2-clause-fault
 returns-in-Err-2-clause-fault g c =
     let m = g.M.Machine in
-    ends_with m.next m.answers m.begin c.args.options.now.config.nodes c.args.self.now.cluster c.step.new.self c.args.event.now
+    ends_with m.next m.answers m.begin c.args.options.now.config.nodes c.args.self.now.cluster c.step_into.new.self c.args.event.now
     c.requires.parts c.requires.event c.in-Err.fault c.in-Err.ensures.step.world
     (λ numbered. let is : c.is_refusal.result ≡ true = c.is_refusal.ensures.1 numbered in absurd (cc (is, c.if-is_refusal.false)))
     c.in-Err.ensures.step.failures
@@ -70,5 +70,5 @@ returns-in_ok-settle_by-in-Ok-clause-fault g c = ends_over _ _ c.print_effect.re
 
 pub returns-in-Err-clause-counts : goal.returns-in-Err-clause-counts
 returns-in-Err-clause-counts g c =
-    always_ok c.print.result (refused_counts _ c.args.self.now.cluster.failures c.step.new.self.failures c.in-Err.fault
+    always_ok c.print.result (refused_counts _ c.args.self.now.cluster.failures c.step_into.new.self.failures c.in-Err.fault
     ((c.is_refusal.ensures.0 c.if-is_refusal.true).0) c.in-Err.ensures.step.failures)

@@ -30,8 +30,8 @@ returns-in_default-clause-answer g c =
     let low : c.args.node ≤ inside.config.nodes = omega (arith, c.if-get-self.false, c.get.ensures.value) in
     let first : c.messages-first.result + 1 ≡ length inside.messages.sent + 1 = ap (λ k. k + 1) (c.messages-first.ensures.value ∙ ap (λ v. length v.world.sent) (sym c.self.view_is)) in
     let none = sym c.outstanding.ensures ∙ c.in_default.is in
-    subst (λ v. Goes v.world (task_takes v.config v.world me (Again c.args.node) (part_at v.world.tasks me)) v.world c.nothing.result) c.self.view_is
-    (asks_nothing disk inside.config begin nodes tasks inside.messages i me placed t here c.args.node low none c.nothing.result (c.nothing.ensures ∙ ap (λ (k : ℕ). stated_of k 0) first))
+    subst (λ v. Goes v.world (task_takes v.config v.world me (Again c.args.node) (part_at v.world.tasks me)) v.world c.no_effect.result) c.self.view_is
+    (asks_nothing disk inside.config begin nodes tasks inside.messages i me placed t here c.args.node low none c.no_effect.result (c.no_effect.ensures ∙ ap (λ (k : ℕ). stated_of k 0) first))
 
 pub send-requires-clause-own : goal.send-requires-clause-own
 send-requires-clause-own g c =

@@ -117,10 +117,10 @@ returns-clause-answer g c =
     subst (λ v. Answers v.world (cut_step (setting_of m.next m.answers m.begin v) v.world step c.args.kept) (λ less. cut_step (setting_of m.next m.answers m.begin v) v.world step less) after c.match-answer.result) c.self.view_is
     (elim c.match-answer.branch [
       | in-Ok-answer b ↦
-          let stated = b.nothing.ensures ∙ ap (λ (k : ℕ). let e : Effect = record { first = k; sent = 0; dropped = No; taken = None; opened = None } in e) first in
+          let stated = b.no_effect.ensures ∙ ap (λ (k : ℕ). let e : Effect = record { first = k; sent = 0; dropped = No; taken = None; opened = None } in e) first in
           let ok = subst (λ r. IfOk r (λ done. (p : Member g.row.M.Denot) (v : NodeInput) → given_by c.in-Ok.chosen.1 ≡ Ok v → IsCutBy disk p n new c.args.kept (node_step m.next m.answers p v))) b.in-Ok-answer.is c.cut-node.ensures.ok in
           subst (Answers _ _ _ after) (sym b.result-is)
-          (cut_so disk inside.config begin nodes inside.tasks.items inside.messages c.self.invariant i me placed n here new c.put_back.new.nodes.items put m.next m.answers given c.args.kept (ok member given gives) _ (cut_is c.args.kept) b.nothing.result stated)
+          (cut_so disk inside.config begin nodes inside.tasks.items inside.messages c.self.invariant i me placed n here new c.put_back.new.nodes.items put m.next m.answers given c.args.kept (ok member given gives) _ (cut_is c.args.kept) b.no_effect.result stated)
       | in-Err-answer b ↦
           let err = subst (λ r. IfErr r (λ fault. (p : Member g.row.M.Denot) (v : NodeInput) → given_by c.in-Ok.chosen.1 ≡ Ok v → NotTaken disk p n new (node_step m.next m.answers p v) fault)) b.in-Err-answer.is c.cut-node.ensures.err in
           subst (Answers _ _ _ after) (sym b.result-is)

@@ -76,12 +76,12 @@ returns-in_default-reply-clause-answer g c =
     let text : c.unwrap-text.result.now ≡ text_of message = text_is c.text.result c.unwrap-text.result (part_at inside.messages.sent c.args.number) message c.unwrap-text.ensures c.text.ensures sent in
     let first : c.messages-first.result + 1 ≡ length inside.messages.sent + 1 = ap (λ k. k + 1) (c.messages-first.ensures.value ∙ ap (λ v. length v.world.sent) (sym c.self.view_is)) in
     let stated_is : reply_in message.body ≡ None = sym (c.in-Ok.ensures message packet text) ∙ c.in_default-reply.is in
-    let stated = c.nothing.ensures ∙ ap (λ (k : ℕ). let e : Effect = record { first = k; sent = 0; dropped = No; taken = None; opened = None } in e) first in
+    let stated = c.no_effect.ensures ∙ ap (λ (k : ℕ). let e : Effect = record { first = k; sent = 0; dropped = No; taken = None; opened = None } in e) first in
     let range : IsTask me = subst IsParty to packet.ranges.to in
     let at = task_at disk inside.config begin nodes tasks c.self.invariant me range in
     subst (λ v. Answers v.world (delivers (setting_of m.next m.answers m.begin v) v.world (part_at v.world.sent c.args.number)) (λ kept. delivery_is_cut (setting_of m.next m.answers m.begin v) v.world (part_at v.world.sent c.args.number) kept)
-    v.world (let r : Result Effect Fault = Ok c.nothing.result in r)) c.self.view_is
-    (no_reply s w me c.args.number message sent to at.0 at.1 c.nothing.result stated_is at.2 stated)
+    v.world (let r : Result Effect Fault = Ok c.no_effect.result in r)) c.self.view_is
+    (no_reply s w me c.args.number message sent to at.0 at.1 c.no_effect.result stated_is at.2 stated)
 
 pub invariant_of-self : goal.invariant_of-self
 invariant_of-self g c =

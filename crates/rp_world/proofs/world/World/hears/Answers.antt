@@ -45,10 +45,10 @@ returns-in_default-clause-answer g c =
     let first : c.messages-first.result + 1 ≡ length inside.messages.sent + 1 = ap (λ k. k + 1) (c.messages-first.ensures.value ∙ ap (λ v. length v.world.sent) (sym c.self.view_is)) in
     let off : i < length nodes → ⊥ = λ h. let yes = c.in_default.ensures.variant.1 (omega (arith, h, inside.nodes.ok.0)) in absurd cc in
     let none = none_here disk inside.config begin nodes tasks inside.messages i me placed (omega (arith, off)) in
-    let stated = c.nothing.ensures ∙ ap (λ (k : ℕ). let e : Effect = record { first = k; sent = 0; dropped = No; taken = None; opened = None } in e) first in
+    let stated = c.no_effect.ensures ∙ ap (λ (k : ℕ). let e : Effect = record { first = k; sent = 0; dropped = No; taken = None; opened = None } in e) first in
     subst (λ v. Answers v.world (delivers (setting_of m.next m.answers m.begin v) v.world (part_at v.world.sent c.args.number)) (λ kept. delivery_is_cut (setting_of m.next m.answers m.begin v) v.world (part_at v.world.sent c.args.number) kept)
-    w (let r : Result Effect Fault = Ok c.nothing.result in r)) c.self.view_is
-    (nothing_goes w _ w c.nothing.result (heard_by_none s w me c.args.number message sent to none) refl stated)
+    w (let r : Result Effect Fault = Ok c.no_effect.result in r)) c.self.view_is
+    (nothing_goes w _ w c.no_effect.result (heard_by_none s w me c.args.number message sent to none) refl stated)
 
 pub returns-then-not-is_running-clause-answer : goal.returns-then-not-is_running-clause-answer
 returns-then-not-is_running-clause-answer g c =
@@ -75,11 +75,11 @@ returns-then-not-is_running-clause-answer g c =
     let part_is = part_here disk inside.config begin nodes tasks i me placed n here in
     let so = represents_here disk inside.config begin nodes tasks i me placed n here c.self.invariant in
     let rests = c.is_running.ensures.rests c.if-not-is_running.true member part so in
-    let stated = c.nothing-then-not-is_running.ensures ∙ ap (λ (k : ℕ). let e : Effect = record { first = k; sent = 0; dropped = No; taken = None; opened = None } in e) first in
+    let stated = c.no_effect-then-not-is_running.ensures ∙ ap (λ (k : ℕ). let e : Effect = record { first = k; sent = 0; dropped = No; taken = None; opened = None } in e) first in
     let same : (world_of disk inside.config.max_positions (slice_set nodes i n) tasks inside.messages) ≡ w = ap (λ ps. let x : World = record { nodes = ps; tasks = w.tasks; sent = w.sent } in x) (nodes_stay disk inside.config begin nodes tasks i me placed n here n so) in
     subst (λ v. Answers v.world (delivers (setting_of m.next m.answers m.begin v) v.world (part_at v.world.sent c.args.number)) (λ kept. delivery_is_cut (setting_of m.next m.answers m.begin v) v.world (part_at v.world.sent c.args.number) kept)
-    (world_of disk inside.config.max_positions (slice_set nodes i n) tasks inside.messages) (let r : Result Effect Fault = Ok c.nothing-then-not-is_running.result in r)) c.self.view_is
-    (nothing_goes w _ _ c.nothing-then-not-is_running.result (heard_resting s w me c.args.number message sent to part part_is rests) same stated)
+    (world_of disk inside.config.max_positions (slice_set nodes i n) tasks inside.messages) (let r : Result Effect Fault = Ok c.no_effect-then-not-is_running.result in r)) c.self.view_is
+    (nothing_goes w _ _ c.no_effect-then-not-is_running.result (heard_resting s w me c.args.number message sent to part part_is rests) same stated)
 
 pub returns-then-is_err-clause-answer : goal.returns-then-is_err-clause-answer
 returns-then-is_err-clause-answer g c =
@@ -348,7 +348,7 @@ returns-then-not-is_running-clause-failures g c =
     let message = c.requires.to.0 in
     let sent : part_at inside.messages.sent c.args.number ≡ Some message = ap (λ v. part_at v.world.sent c.args.number) c.self.view_is ∙ c.requires.to.1 in
     let to = c.requires.to.2 in
-    subst (λ v. Counts (IsSome (delivery_writes (setting_of m.next m.answers m.begin v) v.world (part_at v.world.sent c.args.number))) (receiver_of (part_at v.world.sent c.args.number)) v.failures (map (failures_in disk) (slice_set nodes i n)) (let r : Result Effect Fault = Ok c.nothing-then-not-is_running.result in r)) c.self.view_is
+    subst (λ v. Counts (IsSome (delivery_writes (setting_of m.next m.answers m.begin v) v.world (part_at v.world.sent c.args.number))) (receiver_of (part_at v.world.sent c.args.number)) v.failures (map (failures_in disk) (slice_set nodes i n)) (let r : Result Effect Fault = Ok c.no_effect-then-not-is_running.result in r)) c.self.view_is
     (same_counts disk nodes i me placed n here n refl)
 
 pub returns-then-is_err-clause-failures : goal.returns-then-is_err-clause-failures

@@ -58,10 +58,10 @@ returns-clause-answer g c =
     subst (λ v. AnswersStop v.world (stops v.world c.args.node (part_at v.world.nodes c.args.node)) after c.match-answer.result) c.self.view_is
     (elim c.match-answer.branch [
       | in-Ok b ↦
-          let stated = b.nothing.ensures ∙ ap (λ (k : ℕ). let e : Effect = record { first = k; sent = 0; dropped = No; taken = None; opened = None } in e) first in
+          let stated = b.no_effect.ensures ∙ ap (λ (k : ℕ). let e : Effect = record { first = k; sent = 0; dropped = No; taken = None; opened = None } in e) first in
           let ok = subst (λ r. IfOk r (λ done. (m : Member g.row.M.Denot) → GoesBy disk m n new stop_effect DescribesNothing done)) b.in-Ok.is c.stop-node.ensures.ok in
           subst (AnswersStop _ _ after) (sym b.result-is)
-          (stopped disk inside.config begin nodes inside.tasks.items inside.messages c.self.invariant i c.args.node placed n here new c.put_back.new.nodes.items put (ok member) b.nothing.result stated)
+          (stopped disk inside.config begin nodes inside.tasks.items inside.messages c.self.invariant i c.args.node placed n here new c.put_back.new.nodes.items put (ok member) b.no_effect.result stated)
       | in-Err b ↦
           let err = subst (λ r. IfErr r (λ fault. (m : Member g.row.M.Denot) → RefusedBy disk m n new stop_effect fault)) b.in-Err.is c.stop-node.ensures.err in
           subst (AnswersStop _ _ after) (sym b.result-is)

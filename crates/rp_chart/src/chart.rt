@@ -27,6 +27,9 @@ pub fn draw_script<R: Read, W: Write>(
     view: View,
     writer: &mut W,
 ) -> Result<(), Fault>
+    // claim: From bytes to a drawing: what is written is the drawing of the run of the deck that all
+    //   bytes of the reader mean. Its arrows are the messages of that run, each from where it was
+    //   sent down to where it was settled
     ensures { OnOk result (DrawsScript view (R.remaining reader.old) (W.contents writer.old)
         (W.contents writer.new)) }
 {

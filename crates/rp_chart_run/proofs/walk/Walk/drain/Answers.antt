@@ -89,3 +89,26 @@ returns-then-least-messages-clause-reached g c =
     (ends run.cluster.world run.settled None None
     (drained s c.args.line options.most play) (λ (p : Play). drained s c.args.line most p) so_far tt
     (drained_none s c.args.line now most (none_is_left run.cluster.world run.settled now so_far.follows least.result least.ensures.least past))).0
+
+pub returns-clause-reached : goal.returns-clause-reached
+returns-clause-reached g c =
+    let m = g.M.Machine in
+    let options = c.args.scene.now.options.now in
+    let s = run_setting m.next m.answers m.begin m.image c.args.self.now.cluster options in
+    let run = c.loop-delivered.self in
+    let least = c.least in
+    let within : least.result ≤ length run.cluster.world.sent = omega arith in
+    let delivered = c.loop-delivered.delivered in
+    let most = options.most in
+    λ play follows.
+    let so_far = c.loop-delivered.invariant.so_far play follows in
+    let now = so_far.said.play in
+    let here = note_said now (DrainLimit c.args.line) in
+    rw (c.stay.ensures.cluster, c.stay.ensures.settled)
+    (follows_of run.cluster.world run.settled (drained s c.args.line most play) c.stay.result
+    (ends_by run.cluster.world run.cluster.world run.settled run.settled None None None
+    (drained s c.args.line most play) (λ (p : Play). drained s c.args.line (most - delivered) p) so_far
+    here c.stay.result
+    (drained_full s c.args.line now most delivered least.result c.loop-delivered-test.false
+    (least_is_left run.cluster.world run.settled now so_far.follows least.result least.ensures.least least.ensures.from_one within least.ensures.unsettled))
+    (says_by run.cluster.world run.settled None None here c.stay.result so_far.follows (writes_none _ c.stay.result))))

@@ -83,6 +83,9 @@ returns g c =
     (ap (λ (rest : List Line). script_said s most now rest) none ∙ script_ends s most now) in
     let setting = one_setting m.next m.answers m.begin opening walk.cluster c.loop-line.invariant.setup in
     let charted = subst (λ (t : Setting _). IsSketchOf t walk.chart.stage walk.chart.sketch walk.cluster.world) setting c.loop-line.invariant.charted in
-    IfOk-weaker c.draw.result _ _ (λ text drawn. subst (λ (w : World). IsDrawingOf s.setting c.args.scene.now.stage (length c.args.scene.now.lanes.now) w _) done.0.world_is
-    (subst (λ (stage : Stage). IsDrawingOf s.setting stage (length c.args.scene.now.lanes.now) walk.cluster.world _) c.loop-line.invariant.stage drawn))
-    (c.draw.ensures.drawn s.setting walk.cluster.world charted)
+    record {
+      drawing = IfOk-weaker c.draw.result _ _
+          (λ text drawn. subst (λ (w : World). IsDrawingOf s.setting c.args.scene.now.stage (length c.args.scene.now.lanes.now) w _) done.0.world_is
+          (subst (λ (stage : Stage). IsDrawingOf s.setting stage (length c.args.scene.now.lanes.now) walk.cluster.world _) c.loop-line.invariant.stage drawn))
+          (c.draw.ensures.drawn s.setting walk.cluster.world charted);
+    }

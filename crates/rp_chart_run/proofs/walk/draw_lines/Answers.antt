@@ -1,5 +1,5 @@
 -- One line more, or the end.
-use Rattle.std.proofs.Common.{◌≡◌, ◌∙◌, ◌+◌, ◌<◌, ◌≤◌, None, List, [], ◌∷◌, length, drop, arith, refl, sym, ap, subst}
+use Rattle.std.proofs.Common.{◌≡◌, ◌∙◌, ◌+◌, ◌<◌, ◌≤◌, None, List, [], ◌∷◌, length, drop, string_bytes, arith, refl, sym, ap, subst}
 use Rattle.std.proofs.lemmas.List.{drop_more, drop_all}
 use Rattle.std.proofs.lemmas.Result.{IfOk-weaker}
 use Rattle.rp_model.specs.Effect.{Setting}
@@ -85,7 +85,7 @@ returns g c =
     let charted = subst (λ (t : Setting _). IsSketchOf t walk.chart.stage walk.chart.sketch walk.cluster.world) setting c.loop-line.invariant.charted in
     record {
       drawing = IfOk-weaker c.draw.result _ _
-          (λ text drawn. subst (λ (w : World). IsDrawingOf s.setting c.args.scene.now.stage (length c.args.scene.now.lanes.now) w _) done.0.world_is
-          (subst (λ (stage : Stage). IsDrawingOf s.setting stage (length c.args.scene.now.lanes.now) walk.cluster.world _) c.loop-line.invariant.stage drawn))
+          (λ text drawn. subst (λ (w : World). IsDrawingOf s.setting c.args.scene.now.stage (length c.args.scene.now.lanes.now) w (string_bytes text)) done.0.world_is
+          (subst (λ (stage : Stage). IsDrawingOf s.setting stage (length c.args.scene.now.lanes.now) walk.cluster.world (string_bytes text)) c.loop-line.invariant.stage drawn))
           (c.draw.ensures.drawn s.setting walk.cluster.world charted);
     }

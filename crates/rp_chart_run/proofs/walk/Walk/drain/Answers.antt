@@ -6,7 +6,7 @@ use Rattle.rp_run.specs.Items.{DrainLimit}
 use Rattle.rp_run.specs.Output.{Play, drained, event_said, note_said}
 use Rattle.rp_run.specs.Runs.{run_setting}
 use Rattle.rp_run.proofs.LeastUnsettled.{least_is_left, none_is_left}
-use Rattle.rp_run.proofs.RunParts.{Underway, sets_out, goes_on, ends, ends_by, says_by, note_written, drained_none, drained_full, drained_more}
+use Rattle.rp_run.proofs.RunParts.{Underway, sets_out, goes_on, ends, ends_by, says_by, drained_none, drained_full, drained_more}
 use Rattle.rp_run.proofs.Stepping.{same_setting, same_trans}
 use Rattle.rp_chart_run.proofs.Charting.{follows_of, writes_none}
 use Rattle.rp_chart_run.proofs.walk.Walk.drain.Goals as goal

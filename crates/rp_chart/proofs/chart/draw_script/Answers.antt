@@ -1,0 +1,25 @@
+-- The deck is the one that was read, and its chart is written.
+use Rattle.std.proofs.Common.{Result, Ok, Err, Option, List, ℕ, rules, string_bytes}
+use Rattle.std.specs.Prelude.{OnOk}
+use Rattle.rp_base.specs.declared.fault.Fault.{Fault}
+use Rattle.rp_output.proofs.Writing.{appends_kept}
+use Rattle.rp_chart.specs.Charts.{DrawsScript}
+use Rattle.rp_chart.proofs.chart.draw_script.Goals as goal
+
+pub returns : goal.returns
+returns g c = at c.write_out.result
+  where
+    old : Option (List ℕ)
+    old = g.W.Write.contents c.args.writer.now
+
+    written : Option (List ℕ)
+    written = g.W.Write.contents c.write_whole.new.writer
+
+    new : Option (List ℕ)
+    new = g.W.Write.contents c.write_out.new.writer
+
+    at : (answer : Result Unit Fault) → OnOk answer (DrawsScript (g.R.Read.remaining c.args.reader.now) old new)
+    at (Ok done) =
+        let text = string_bytes c.in_ok-drawing.drawing in
+        (c.in_ok-deck.deck, search rules, text, appends_kept old written new text c.in_ok-write_whole.ensures.written c.write_out.ensures.kept, c.in_ok-drawing.ensures)
+    at (Err fault) = tt

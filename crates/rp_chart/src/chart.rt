@@ -1,0 +1,131 @@
+//! Draws the run of a deck.
+
+ghost use Rattle.std.specs.Prelude.{◌≡◌, ◌+◌, ◌≤◌, IfOk, OnOk, length, string_bytes};
+ghost use Rattle.indexmap.specs.IndexMap.{index_map_len};
+ghost use Rattle.rp_chart.specs.Charts.{DrawsScript, IsChartOf};
+ghost use Rattle.rp_deck.specs.Deck.{IsRightDeck};
+
+use indexmap::IndexMap;
+use rp_base::Fault;
+use rp_chart_run::{Scene, draw_lines};
+use rp_deck::{Deck, DeckProgram, Mode, Task, read_deck};
+use rp_drawing::{Lane, Words};
+use rp_history::{Stage, View};
+use rp_machine::Tally;
+use rp_object::Objects;
+use rp_script::{DRAIN_LIMIT, RunOptions, devices, read_whole, write_out, write_whole};
+use rp_store::MemDevice;
+use std::alloc::{AllocError, Global};
+use std::io::{Read, Write};
+
+/// Draws the run of the script of the deck that the reader holds. Where its bytes mean none, nothing is
+/// written, and the fault has the first bad line and the first reason on it. Any other fault is
+/// `OutOfMemory` or `Io`, and leaves nothing written, or a beginning of the drawing.
+pub fn draw_script<R: Read, W: Write>(
+    alloc: Global,
+    reader: &mut R,
+    view: View,
+    writer: &mut W,
+) -> Result<(), Fault>
+    // claim: From bytes to a drawing: what is written is the drawing of the run of the deck that all
+    //   bytes of the reader mean. Its arrows are the messages of that run, each from where it was
+    //   sent down to where it was settled
+    ensures { OnOk result (DrawsScript view (R.remaining reader.old) (W.contents writer.old)
+        (W.contents writer.new)) }
+{
+    let text = read_whole(alloc, reader)?;
+    let deck = read_deck(alloc, &text, Mode::Script)?;
+    let lines = lines_of(alloc, &text)?;
+    let drawing = draw_deck(alloc, deck, view, &lines)?;
+    write_whole(writer, drawing.as_bytes())?;
+    write_out(writer)
+}
+
+/// The drawing of the run of a deck of these lines.
+fn draw_deck(alloc: Global, deck: Deck, view: View, lines: &[&[u8]]) -> Result<String, Fault>
+    requires { IsRightDeck deck }
+    ensures { IfOk result (λ text. IsChartOf deck view (string_bytes text)) }
+{
+    let Deck {
+        config,
+        program,
+        tasks,
+        script,
+        ..
+    } = deck;
+    let devices = devices(alloc, config.nodes)?;
+    let lanes = lanes_of(alloc, &tasks, config.nodes)?;
+    let options = RunOptions {
+        config,
+        tasks: &tasks,
+        traced: false,
+        most: DRAIN_LIMIT,
+    };
+    let scene = Scene {
+        options: &options,
+        deck: lines,
+        stage: Stage {
+            tasks: tasks.len() as u8,
+            view,
+        },
+        lanes: &lanes,
+    };
+    let script = script.as_slice();
+    match program {
+        DeckProgram::Tally(program) => {
+            draw_lines::<Tally, MemDevice>(alloc, &scene, program, devices, script)
+        }
+        DeckProgram::Objects(program) => {
+            draw_lines::<Objects, MemDevice>(alloc, &scene, program, devices, script)
+        }
+    }
+}
+
+/// The lanes of the tasks and of the nodes.
+fn lanes_of(
+    alloc: Global,
+    tasks: &IndexMap<String, Task>,
+    nodes: u8,
+) -> Result<Vec<Lane>, AllocError>
+    requires { nodes ≤ 7 }
+    ensures { IfOk result (λ lanes. length lanes.items ≡ index_map_len tasks.now + nodes) }
+{
+    let mut lanes = Vec::new(alloc);
+    for index in 0..tasks.len() {
+        lanes.push(Lane {
+            name: Words::fitted(alloc, name_at(tasks, index).as_bytes())?,
+            colour: 0,
+        })?;
+    }
+    for place in 0..nodes {
+        let number = place + 1;
+        let name = format!(in alloc; "node {number}")?;
+        lanes.push(Lane {
+            name: Words::fitted(alloc, name.as_bytes())?,
+            colour: number,
+        })?;
+    }
+    Ok(lanes)
+}
+
+/// The name of a task by its place from 0, or nothing.
+fn name_at(tasks: &IndexMap<String, Task>, place: usize) -> &str {
+    match tasks.get_index(place) {
+        Some((name, _)) => name.as_str(),
+        None => "",
+    }
+}
+
+/// The lines of a text, without their ends.
+fn lines_of<'a>(alloc: Global, text: &'a [u8]) -> Result<Vec<&'a [u8]>, AllocError> {
+    let mut lines = Vec::new(alloc);
+    let mut start = 0;
+    for (place, byte) in text.iter().enumerate() {
+        if *byte == b'\n' {
+            lines.push(&text[start..place])?;
+            start = place + 1;
+        }
+    }
+    lines.push(&text[start..])?;
+    Ok(lines)
+}

@@ -1,0 +1,114 @@
+-- One delivery more, or the end.
+use Rattle.std.proofs.Common.{◌≡◌, ◌∙◌, ℕ, ◌+◌, ◌-◌, ◌<◌, ◌≤◌, None, Ok, length, arith, refl, sym, ap, subst}
+use Rattle.rp_model.specs.declared.event.Event.TheVariants.{Node as NodeStep}
+use Rattle.rp_model.specs.declared.event.Step.TheVariants.{Deliver}
+use Rattle.rp_run.specs.Items.{DrainLimit}
+use Rattle.rp_run.specs.Output.{Play, drained, event_said, note_said}
+use Rattle.rp_run.specs.Runs.{run_setting}
+use Rattle.rp_run.proofs.LeastUnsettled.{least_is_left, none_is_left}
+use Rattle.rp_run.proofs.RunParts.{Underway, sets_out, goes_on, ends, ends_by, says_by, drained_none, drained_full, drained_more}
+use Rattle.rp_run.proofs.Stepping.{same_setting, same_trans}
+use Rattle.rp_chart_run.proofs.Charting.{follows_of, writes_none}
+use Rattle.rp_chart_run.proofs.walk.Walk.drain.Goals as goal
+
+pub loop-delivered-init : goal.loop-delivered-init
+loop-delivered-init g c =
+    let m = g.M.Machine in
+    let options = c.args.scene.now.options.now in
+    let s = run_setting m.next m.answers m.begin m.image c.args.self.now.cluster options in
+    let most = options.most in
+    let all : most ≡ most - 0 = omega arith in
+    record {
+      parts = c.requires.parts;
+      setup = record { config = refl; program = refl };
+      stage = refl;
+      so_far = λ play follows.
+          subst (λ (n : ℕ). Underway c.args.self.now.cluster.world c.args.self.now.settled None None (drained s c.args.line most play) (λ (now : Play). drained s c.args.line n now)) all
+          (sets_out c.args.self.now.cluster.world c.args.self.now.settled None play (λ (now : Play). drained s c.args.line most now) follows);
+      charted = c.requires.charted;
+    }
+
+pub loop-delivered-preserved : goal.loop-delivered-preserved
+loop-delivered-preserved g c =
+    let m = g.M.Machine in
+    let options = c.args.scene.now.options.now in
+    let s = run_setting m.next m.answers m.begin m.image c.args.self.now.cluster options in
+    let run = c.loop-delivered.self in
+    let least = c.least-message in
+    let message = least.result in
+    let within : message ≤ length run.cluster.world.sent = omega arith in
+    let delivered = c.loop-delivered.delivered in
+    let most = options.most in
+    let below : delivered < most = omega arith in
+    let same = same_setting m.next m.answers m.begin m.image options c.args.self.now.cluster run.cluster c.loop-delivered.invariant.setup in
+    record {
+      parts = c.in_ok-step.ensures.parts;
+      setup = same_trans c.args.self.now.cluster run.cluster c.step.new.self.cluster c.loop-delivered.invariant.setup c.step.ensures.setup;
+      stage = c.step.ensures.stage ∙ c.loop-delivered.invariant.stage;
+      so_far = λ play follows.
+          let so_far = c.loop-delivered.invariant.so_far play follows in
+          let now = so_far.said.play in
+          let reached = c.in_ok-step.ensures.reached now so_far.follows in
+          goes_on run.cluster.world c.step.new.self.cluster.world run.settled c.step.new.self.settled None None None
+          (drained s c.args.line most play) (λ (p : Play). drained s c.args.line (most - delivered) p) so_far
+          (event_said s c.args.line now (NodeStep (Deliver message))) (λ (p : Play). drained s c.args.line (most - (delivered + 1)) p)
+          (drained_more s c.args.line now most delivered message below
+          (least_is_left run.cluster.world run.settled now so_far.follows message least.ensures.least least.ensures.from_one within least.ensures.unsettled))
+          (rw same at reached) tt;
+      charted = c.in_ok-step.ensures.charted;
+    }
+
+pub returns-then-message-messages-clause-reached : goal.returns-then-message-messages-clause-reached
+returns-then-message-messages-clause-reached g c =
+    let m = g.M.Machine in
+    let options = c.args.scene.now.options.now in
+    let s = run_setting m.next m.answers m.begin m.image c.args.self.now.cluster options in
+    let run = c.loop-delivered.self in
+    let least = c.least-message in
+    let past : length run.cluster.world.sent < least.result = omega arith in
+    λ play follows.
+    let so_far = c.loop-delivered.invariant.so_far play follows in
+    let now = so_far.said.play in
+    let most = options.most - c.loop-delivered.delivered in
+    (ends run.cluster.world run.settled None None
+    (drained s c.args.line options.most play) (λ (p : Play). drained s c.args.line most p) so_far tt
+    (drained_none s c.args.line now most (none_is_left run.cluster.world run.settled now so_far.follows least.result least.ensures.least past))).0
+
+pub returns-then-least-messages-clause-reached : goal.returns-then-least-messages-clause-reached
+returns-then-least-messages-clause-reached g c =
+    let m = g.M.Machine in
+    let options = c.args.scene.now.options.now in
+    let s = run_setting m.next m.answers m.begin m.image c.args.self.now.cluster options in
+    let run = c.loop-delivered.self in
+    let least = c.least in
+    let past : length run.cluster.world.sent < least.result = omega arith in
+    λ play follows.
+    let so_far = c.loop-delivered.invariant.so_far play follows in
+    let now = so_far.said.play in
+    let most = options.most - c.loop-delivered.delivered in
+    (ends run.cluster.world run.settled None None
+    (drained s c.args.line options.most play) (λ (p : Play). drained s c.args.line most p) so_far tt
+    (drained_none s c.args.line now most (none_is_left run.cluster.world run.settled now so_far.follows least.result least.ensures.least past))).0
+
+pub returns-clause-reached : goal.returns-clause-reached
+returns-clause-reached g c =
+    let m = g.M.Machine in
+    let options = c.args.scene.now.options.now in
+    let s = run_setting m.next m.answers m.begin m.image c.args.self.now.cluster options in
+    let run = c.loop-delivered.self in
+    let least = c.least in
+    let within : least.result ≤ length run.cluster.world.sent = omega arith in
+    let delivered = c.loop-delivered.delivered in
+    let most = options.most in
+    λ play follows.
+    let so_far = c.loop-delivered.invariant.so_far play follows in
+    let now = so_far.said.play in
+    let here = note_said now (DrainLimit c.args.line) in
+    rw (c.stay.ensures.cluster, c.stay.ensures.settled)
+    (follows_of run.cluster.world run.settled (drained s c.args.line most play) c.stay.result
+    (ends_by run.cluster.world run.cluster.world run.settled run.settled None None None
+    (drained s c.args.line most play) (λ (p : Play). drained s c.args.line (most - delivered) p) so_far
+    here c.stay.result
+    (drained_full s c.args.line now most delivered least.result c.loop-delivered-test.false
+    (least_is_left run.cluster.world run.settled now so_far.follows least.result least.ensures.least least.ensures.from_one within least.ensures.unsettled))
+    (says_by run.cluster.world run.settled None None here c.stay.result so_far.follows (writes_none _ c.stay.result))))

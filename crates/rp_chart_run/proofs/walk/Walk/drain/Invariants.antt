@@ -1,0 +1,22 @@
+use Rattle.std.proofs.Common.{◌≡◌, ◌-◌, None}
+use Rattle.rp_run.specs.Output.{Play, drained}
+use Rattle.rp_run.specs.Runs.{HasParts, Follows, run_setting}
+use Rattle.rp_run.proofs.RunParts.{Underway}
+use Rattle.rp_world.specs.Steps.{IsSameSetup}
+use Rattle.rp_chart_run.specs.Charts.{IsCharted}
+use Rattle.rp_chart_run.proofs.walk.Walk.drain.Given as goal
+
+-- what was delivered so far, and then a drain of what may still be delivered, is the whole drain
+abbrev pub invariant-loop-delivered : goal.invariant-loop-delivered
+invariant-loop-delivered g l =
+    let m = g.M.Machine in
+    let s = run_setting m.next m.answers m.begin m.image l.fn.self.cluster l.scene.options.now in
+    let most = l.scene.options.now.most in
+    record {
+      parts : HasParts l.scene.options.now.config.nodes l.self.cluster;
+      setup : IsSameSetup l.fn.self.cluster l.self.cluster;
+      stage : l.self.chart.stage ≡ l.fn.self.chart.stage;
+      so_far : (play : Play) → Follows l.fn.self.cluster.world l.fn.self.settled play
+          → Underway l.self.cluster.world l.self.settled None None (drained s l.line most play) (λ now. drained s l.line (most - l.delivered) now);
+      charted : IsCharted m.next m.answers m.begin l.self.cluster l.self.chart;
+    }

@@ -1,0 +1,78 @@
+-- By what the step of the cluster was.
+use Rattle.std.proofs.Common.{◌≡◌, ◌∙◌, ◌+◌, ◌-◌, ℕ, ◌≤◌, List, Option, None, Some, length, length-append, drop, true, arith, sym, ap, subst}
+use Rattle.rp_base.specs.Fault.{code_of}
+use Rattle.rp_codec.specs.Message.{Message}
+use Rattle.rp_drawing.specs.Ways.{IsEndingWithin}
+use Rattle.rp_drawing.specs.declared.sketch.Ending.{Ending}
+use Rattle.rp_history.proofs.HistoryLemmas.{ending_within}
+use Rattle.rp_model.specs.Events.{event_of}
+use Rattle.rp_model.specs.World.{World}
+use Rattle.rp_run.specs.Output.{event_said}
+use Rattle.rp_run.specs.Runs.{run_setting}
+use Rattle.rp_run.proofs.RunParts.{happened, was_refused}
+use Rattle.rp_run.proofs.Stepping.{always_ok, parts_stay, parts_left, refused_of}
+use Rattle.rp_chart_run.proofs.Charting.{charted_by, follows_of, writes_none}
+use Rattle.rp_chart_run.proofs.walk.Walk.step.Goals as goal
+
+pub packets_from-requires-clause-low : goal.packets_from-requires-clause-low
+packets_from-requires-clause-low g c = omega (arith, c.in-Ok.ensures.step.world.describes.first)
+
+pub packets_from-requires-clause-high : goal.packets_from-requires-clause-high
+packets_from-requires-clause-high g c =
+    let done = c.in-Ok.ensures.step.world in
+    let m = g.M.Machine in
+    let old = c.args.self.now.cluster in
+    let s = run_setting m.next m.answers m.begin m.image old c.args.scene.now.options.now in
+    let grows = c.worlds_grow.ensures s.setting old.world (event_of c.args.event.now) done.transition done.resulted in
+    let grown = ap (λ (w : World). length w.sent) done.world ∙ ap length grows.sent in
+    let longer = length-append old.world.sent done.transition.sends in
+    omega (arith, done.describes.first, grown, longer)
+
+pub happen-requires-clause-ending : goal.happen-requires-clause-ending
+happen-requires-clause-ending g c =
+    let world = c.args.self.now.cluster.world in
+    subst (λ (n : ℕ). IsEndingWithin n c.in_ok-prospect.prospect.ending) (sym c.requires.charted.count)
+    (subst (λ (o : Option Ending). IsEndingWithin (length world.sent) o) (sym c.in_ok-prospect.ensures) (ending_within world c.args.event.now))
+
+pub returns-in_ok-packets-in-Ok-clause-parts : goal.returns-in_ok-packets-in-Ok-clause-parts
+returns-in_ok-packets-in-Ok-clause-parts g c =
+    let m = g.M.Machine in
+    always_ok c.happen.result (parts_stay m.next m.answers m.begin c.args.scene.now.options.now.config.nodes c.args.self.now.cluster c.step.new.self c.args.event.now
+    c.requires.parts c.requires.event c.in-Ok.effect c.in-Ok.ensures.step.setup c.in-Ok.ensures.step.world)
+
+pub returns-in_ok-packets-in-Ok-clause-reached : goal.returns-in_ok-packets-in-Ok-clause-reached
+returns-in_ok-packets-in-Ok-clause-reached g c =
+    let m = g.M.Machine in
+    let old = c.args.self.now.cluster in
+    let s = run_setting m.next m.answers m.begin m.image old c.args.scene.now.options.now in
+    let done = c.in-Ok.ensures.step.world in
+    λ play follows.
+    follows_of c.step.new.self.world c.settle_by.new.self (event_said s c.args.line play c.args.event.now) c.happen.result
+    (happened s c.args.line play c.args.event.now old.world c.args.self.now.settled follows c.step.new.self.world c.settle_by.new.self c.in-Ok.effect None None c.happen.result
+    done (c.worlds_grow.ensures s.setting old.world (event_of c.args.event.now) done.transition done.resulted) c.in_ok-settle_by-in-Ok.ensures (writes_none _ c.happen.result))
+
+pub returns-in_ok-packets-in-Ok-clause-charted : goal.returns-in_ok-packets-in-Ok-clause-charted
+returns-in_ok-packets-in-Ok-clause-charted g c =
+    let m = g.M.Machine in
+    let old = c.args.self.now.cluster in
+    let new = c.step.new.self in
+    let s = run_setting m.next m.answers m.begin m.image old c.args.scene.now.options.now in
+    let done = c.in-Ok.ensures.step.world in
+    let place : c.in-Ok.effect.first - 1 ≡ length old.world.sent = omega (arith, done.describes.first) in
+    charted_by m.next m.answers m.begin old new c.happen.new.self c.happen.result c.in-Ok.ensures.step.setup
+    (c.happen.ensures.happened s.setting old.world new.world c.args.event.now c.requires.charted
+    (record { transition = done.transition; effect = done.resulted; world = done.world })
+    (c.deref.ensures.value ∙ c.in_ok-packets-in-Ok.ensures ∙ ap (λ (n : ℕ). drop n new.world.sent) place)
+    c.in_ok-prospect.ensures)
+
+pub returns-in-Err-clause-reached : goal.returns-in-Err-clause-reached
+returns-in-Err-clause-reached g c =
+    let m = g.M.Machine in
+    let old = c.args.self.now.cluster in
+    let s = run_setting m.next m.answers m.begin m.image old c.args.scene.now.options.now in
+    let numbered : 5 ≤ code_of c.in-Err.fault = (c.is_refusal.ensures.0 c.if-is_refusal.true).0 in
+    λ play follows.
+    rw (c.refuse.ensures.cluster, c.refuse.ensures.settled)
+    (follows_of c.step.new.self.world c.args.self.now.settled (event_said s c.args.line play c.args.event.now) c.refuse.result
+    (was_refused s c.args.line play c.args.event.now old.world c.args.self.now.settled follows c.step.new.self.world c.in-Err.fault None None c.refuse.result
+    (refused_of s.setting old.world c.step.new.self.world c.args.event.now c.in-Err.fault c.in-Err.ensures.step.world numbered) (writes_none _ c.refuse.result)))

@@ -1,0 +1,23 @@
+use Rattle.std.proofs.Common.{◌≡◌, None, drop}
+use Rattle.rp_run.specs.Output.{opening_play, script_said}
+use Rattle.rp_run.specs.Runs.{HasParts, opening_setup, run_setting}
+use Rattle.rp_run.proofs.RunParts.{Underway}
+use Rattle.rp_world.specs.Steps.{IsSameSetup}
+use Rattle.rp_chart_run.specs.Charts.{IsCharted}
+use Rattle.rp_chart_run.proofs.walk.draw_lines.Given as goal
+
+-- what happened so far, and then the lines that are left, is the whole script
+abbrev pub invariant-loop-line : goal.invariant-loop-line
+invariant-loop-line g l =
+    let m = g.M.Machine in
+    let options = l.scene.options.now in
+    let opening = opening_setup options.config l.fn.program in
+    let s = run_setting m.next m.answers m.begin m.image opening options in
+    record {
+      parts : HasParts options.config.nodes l.walk.cluster;
+      setup : IsSameSetup opening l.walk.cluster;
+      stage : l.walk.chart.stage ≡ l.scene.stage;
+      so_far : Underway l.walk.cluster.world l.walk.settled None None (script_said s options.most (opening_play s) l.lines)
+          (λ now. script_said s options.most now (drop l.line-index l.lines));
+      charted : IsCharted m.next m.answers m.begin l.walk.cluster l.walk.chart;
+    }

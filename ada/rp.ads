@@ -1,11 +1,12 @@
 --  What Ada calls of the static library crates/rp_c/out/librp_c.a: the binding of include/rp.h.
 --
---  Bytes in, bytes out: no call keeps an address or anything else after it returns, none starts a
---  task or reads a file. Two tasks may be in two calls at once.
+--  Bytes in, bytes out: no call keeps an address that it is given, none starts a task or reads a file.
+--  Two tasks may be in two calls at once, but not with one handle.
 --
 --  What a caller owes, for every call:
 --  * An address is that of the first byte of an array, also where its count is 0.
 --  * An array that is written is used by nobody else during the call, and overlaps no other argument.
+--  * No byte of a handle (Node, Task_Stub) is changed. It is used by the task that opened it.
 --  * No call is made from a signal handler.
 
 with Interfaces;
@@ -26,10 +27,20 @@ package RP is
    Done          : constant Status := 0;
    Out_Of_Memory : constant Status := 1;   --  there was no memory for the call; nothing has changed
    Bad_Packet    : constant Status := 4;   --  the bytes are no packet
+   Ballots_Spent : constant Status := 6;   --  the node has no ballot left
+   Log_Full      : constant Status := 7;   --  no position is left that the node may lead at
+   Task_Busy     : constant Status := 9;   --  the task's last call has no reply yet
+   Numbers_Spent : constant Status := 10;  --  the task made its last call
    Bad_Deck      : constant Status := 11;  --  the deck is bad
+   Bad_Config    : constant Status := 12;  --  the deck has no such node, or no deck has such a task
    Io            : constant Status := 13;  --  a deck of more than 1_048_576 bytes; nothing has changed
    Short_Answer  : constant Status := 64;  --  the answer is longer than its array; nothing but its length
                                            --  is written
+   Bad_Request   : constant Status := 65;  --  the bytes are no request; nothing has changed
+   No_Objects    : constant Status := 66;  --  the deck declares a tally, and no protected objects
+   Long_Answer   : constant Status := 67;  --  the step was made, and its answer is longer than the array
+   Wrong_Handle  : constant Status := 68;  --  the handle is closed, or of the other kind; nothing has
+                                           --  changed
 
    --  Why bytes are no packet. Exactly one of these is so of bytes that are none.
 
@@ -71,5 +82,170 @@ package RP is
    --  Short_Answer: the answer has Used bytes, more than Size, and Answer is as it was. Call again with
    --  an array of Used bytes: the same deck has the same answer.
    --  Out_Of_Memory, Io: Answer and Used are as they were.
+
+   --  Nodes and tasks by handle
+   --
+   --  The caller keeps the handle. The node or the task that it keeps is the library's, from Open until
+   --  the handle is closed or opened anew. A handle that is never closed leaks it.
+
+   type Node is limited private;
+   type Task_Stub is limited private;
+
+   type Lengths is record
+      Stored : Interfaces.C.size_t := 0;  --  how many of the answer's first bytes go to the device
+      Used   : Interfaces.C.size_t := 0;  --  how many bytes it has, or, where it does not fit, needs
+   end record
+     with Convention => C;
+
+   --  The parties of a packet, by its fourth byte, which says to whom it is: node k is k, task t is
+   --  Task_Party + t.
+
+   Task_Party  : constant Byte := 16;
+   Audit_Party : constant Byte := 32;
+
+   --  A node, which runs over a copy of its device
+   --
+   --  The caller keeps the device, a run of bytes that survives a stop. What the caller owes:
+   --  * The answer of a step is first the bytes of its record, Stored of them, and then its packets, one
+   --    after another (Packet_Length says where each ends). The caller puts the record at the end of the
+   --    device and syncs it BEFORE it sends a packet of that answer. A packet that is sent first may
+   --    break the agreement: after a stop the node does not know what it said.
+   --  * A record that could not be stored: no packet of that answer is sent, and the node is closed. It
+   --    is opened again from the bytes that the device has.
+   --  * No two handles run over one device at a time.
+   --  Packets may be lost, repeated, reordered or delayed by anybody, and they may not be altered.
+
+   Step_Bytes : constant := 8_192;  --  the least size of the array for the answer of a step
+
+   type Found is record
+      Records : Interfaces.C.size_t := 0;  --  how many records the device holds
+      Kept    : Interfaces.C.size_t := 0;  --  how many bytes they have: what is after them is torn
+   end record
+     with Convention => C;
+
+   --  The requests to a node, by their first byte; the operands follow, numbers in big-endian order.
+
+   Receive     : constant Byte := 1;   --  a step: a packet came. The packet, all of it
+   Lead        : constant Byte := 2;   --  a step: the node is to lead. The position (2 bytes), or nothing:
+                                       --  the least free
+   Interrupt   : constant Byte := 3;   --  a step: an interrupt. Its source, 1 to 8 (1), and which
+                                       --  occurrence, from 1 (4)
+   Tick        : constant Byte := 4;   --  a step: the clock has this time (4)
+   Report      : constant Byte := 5;   --  a step: a report to the audit. The first position (2)
+   Lead_Range  : constant Byte := 6;   --  a step: the node is to lead at a range. Its first position (2),
+                                       --  its length, 1 to 64 (1)
+   Applied     : constant Byte := 16;  --  a question: how many actions are applied. 4 bytes
+   Image       : constant Byte := 17;  --  a question: the lines that `show` prints of the objects and the
+                                       --  clock
+   Last_Answer : constant Byte := 18;  --  a question: the answer of the last step that was made, again
+
+   function Node_Open
+     (Deck   : System.Address;
+      Count  : Interfaces.C.size_t;
+      Number : Byte;
+      Device : System.Address;
+      Held   : Interfaces.C.size_t;
+      Handle : in out Node;
+      What   : in out Found) return Status
+     with Import, Convention => C, External_Name => "rp_node_open";
+   --  Opens this node of the deck over the Held bytes of its device, which are copied; the deck's script
+   --  is not run.
+   --  Done: the handle keeps the node, and what it kept before is closed; What says what the device
+   --  holds. The caller truncates its device to What.Kept bytes before the node's first step.
+   --  Bad_Deck, No_Objects, Bad_Config, Io, Out_Of_Memory: nothing has changed.
+
+   function Node_Call
+     (Handle  : in out Node;
+      Request : System.Address;
+      Count   : Interfaces.C.size_t;
+      Answer  : System.Address;
+      Size    : Interfaces.C.size_t;
+      Length  : in out Lengths) return Status
+     with Import, Convention => C, External_Name => "rp_node_call";
+   --  Answers a request to a node.
+   --  Done: the first Length.Used bytes of Answer are the answer, and its first Length.Stored bytes go to
+   --  the device.
+   --  Short_Answer: the array has fewer than Length.Used bytes. A step needs Step_Bytes and is not made.
+   --  Long_Answer: the step was made, its answer has Length.Used bytes, and Answer is as it was:
+   --  Last_Answer gives it into a longer array. No step is known to need that.
+   --  Wrong_Handle, Bad_Request, Bad_Packet, Ballots_Spent, Log_Full, Out_Of_Memory: nothing has changed.
+
+   procedure Node_Close (Handle : in out Node)
+     with Import, Convention => C, External_Name => "rp_node_close";
+   --  Stops a node: the handle is closed, and what the node knew besides its device is gone. A closed
+   --  handle stays closed.
+
+   --  A task's stub
+   --
+   --  It makes one call at a time, which has a number, and sends it again, also to another node, until its
+   --  reply came. What the caller owes: a task that stopped makes no call under the same number again,
+   --  since the nodes would take it for the old call. So a task's stub lives as long as its nodes'
+   --  devices.
+
+   Task_Bytes : constant := 40;  --  the least size of the array for the answer of a task
+
+   --  The requests to a task, by their first byte; the operands follow, numbers in big-endian order.
+
+   Make_Call   : constant Byte := 1;  --  a new call. The node, the object, the kind of operation and its
+                                      --  index (1 byte each), the argument (8). The answer is the packet
+                                      --  to send
+   Send_Again  : constant Byte := 2;  --  the call that has no reply yet, again. The node (1). The answer is
+                                      --  the packet to send, or nothing if there is no such call
+   Take_Packet : constant Byte := 3;  --  a packet came. The packet, all of it. The answer is the reply to
+                                      --  the call, or nothing if the packet is none
+
+   --  The kinds of operation, each with an index from 1 in the order of the deck; objects are numbered so
+   --  too.
+
+   A_Function   : constant Byte := 1;
+   A_Procedure  : constant Byte := 2;
+   An_Entry     : constant Byte := 3;
+   Set_Timer    : constant Byte := 4;
+   Cancel_Timer : constant Byte := 5;
+
+   --  A reply, by its first byte.
+
+   Value_Reply       : constant Byte := 1;  --  a whole number: 8 bytes, negative in two's complement
+   Truth_Reply       : constant Byte := 2;  --  a truth: 1 byte, 0 or 1
+   Constraint_Reply  : constant Byte := 3;  --  the operation raised Constraint_Error
+   Program_Reply     : constant Byte := 4;  --  the operation raised Program_Error
+   No_Such_Operation : constant Byte := 5;  --  the object has no such operation
+
+   function Task_Open (Number : Byte; Handle : in out Task_Stub) return Status
+     with Import, Convention => C, External_Name => "rp_task_open";
+   --  Opens the stub of this task, 1 to 8, which has made no call; what the handle kept before is closed.
+   --  Bad_Config, Out_Of_Memory: nothing has changed.
+
+   function Task_Call
+     (Handle  : in out Task_Stub;
+      Request : System.Address;
+      Count   : Interfaces.C.size_t;
+      Answer  : System.Address;
+      Size    : Interfaces.C.size_t;
+      Length  : in out Lengths) return Status
+     with Import, Convention => C, External_Name => "rp_task_call";
+   --  Answers a request to a task. Done: the first Length.Used bytes of Answer are the answer.
+   --  Short_Answer: the array has fewer than Task_Bytes bytes; nothing but Length.Used is written.
+   --  Wrong_Handle, Bad_Request, Task_Busy, Numbers_Spent, Bad_Packet, Out_Of_Memory: nothing has changed.
+
+   procedure Task_Close (Handle : in out Task_Stub)
+     with Import, Convention => C, External_Name => "rp_task_close";
+   --  Gives a task's stub back: the handle is closed. A closed handle stays closed.
+
+private
+
+   --  A handle that is not opened yet is closed.
+
+   type Node is limited record
+      Open     : Interfaces.C.C_bool := Interfaces.C.C_bool (False);
+      At_Place : System.Address := System.Null_Address;
+   end record
+     with Convention => C;
+
+   type Task_Stub is limited record
+      Open     : Interfaces.C.C_bool := Interfaces.C.C_bool (False);
+      At_Place : System.Address := System.Null_Address;
+   end record
+     with Convention => C;
 
 end RP;

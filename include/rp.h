@@ -1,7 +1,7 @@
 /* What C and Ada call of the static library crates/rp_c/out/librp_c.a.
  *
- * Bytes in, bytes out: no call keeps a pointer, a handle or anything else after it returns, none
- * starts a thread or reads a file. Two threads may be in two calls at once.
+ * Bytes in, bytes out: no call keeps a pointer that it is given, none starts a thread or reads a file.
+ * Two threads may be in two calls at once, but not with one handle.
  *
  * What a caller owes, for every call:
  * - No pointer is null, also where its length is 0.
@@ -9,6 +9,8 @@
  *   other argument.
  * - malloc, realloc and free are those of one allocator, and align a block to each power of two up to
  *   16 that divides its size. No call is made from a signal handler.
+ * - A handle (rp_node, rp_task) is all zero before it is opened: RP_CLOSED. Then the caller changes no
+ *   byte of it and uses no copy of it; it may be moved. It is used by the thread that opened it.
  *
  * Link with liblibc_c.a of the Rattle kit, /opt/rattle/c. */
 #ifndef RP_H
@@ -25,11 +27,20 @@ extern "C" {
 /* How a call ends. The numbers below 64 are those of the faults that the program prints. */
 enum rp_status {
   RP_DONE = 0,
-  RP_OUT_OF_MEMORY = 1, /* there was no memory for the call; nothing has changed */
-  RP_BAD_PACKET = 4,    /* the bytes are no packet */
-  RP_BAD_DECK = 11,     /* the deck is bad */
-  RP_IO = 13,           /* the deck has more than 1,048,576 bytes; nothing has changed */
-  RP_SHORT_ANSWER = 64  /* the answer is longer than its buffer; nothing but its length is written */
+  RP_OUT_OF_MEMORY = 1,  /* there was no memory for the call; nothing has changed */
+  RP_BAD_PACKET = 4,     /* the bytes are no packet */
+  RP_BALLOTS_SPENT = 6,  /* the node has no ballot left */
+  RP_LOG_FULL = 7,       /* no position is left that the node may lead at */
+  RP_TASK_BUSY = 9,      /* the task's last call has no reply yet */
+  RP_NUMBERS_SPENT = 10, /* the task made its last call */
+  RP_BAD_DECK = 11,      /* the deck is bad */
+  RP_BAD_CONFIG = 12,    /* the deck has no such node, or no deck has such a task */
+  RP_IO = 13,            /* the deck has more than 1,048,576 bytes; nothing has changed */
+  RP_SHORT_ANSWER = 64,  /* the answer is longer than its buffer; nothing but its length is written */
+  RP_BAD_REQUEST = 65,   /* the bytes are no request; nothing has changed */
+  RP_NO_OBJECTS = 66,    /* the deck declares a tally, and no protected objects */
+  RP_LONG_ANSWER = 67,   /* the step was made, and its answer is longer than the buffer */
+  RP_WRONG_HANDLE = 68   /* the handle is closed, or of the other kind; nothing has changed */
 };
 
 /* Why bytes are no packet. Exactly one of these is so of bytes that are none. */
@@ -58,6 +69,138 @@ uint8_t rp_packet_check(const uint8_t *bytes, size_t count, uint8_t *reason);
  * RP_OUT_OF_MEMORY, RP_IO: `answer` and *used are as they were. */
 uint8_t rp_run_deck(const uint8_t *deck, size_t count, bool traced, uint8_t *answer, size_t size,
                     size_t *used);
+
+/* ---- Nodes and tasks by handle
+ *
+ * The caller keeps the handle. The node or the task that it keeps is the library's, from rp_node_open or
+ * rp_task_open until the handle is closed or opened anew. A handle that is never closed leaks it. */
+
+/* The value of a handle that is closed. */
+#define RP_CLOSED {false, NULL}
+
+/* How long an answer is. */
+typedef struct rp_lengths {
+  size_t stored; /* how many of its first bytes go to the node's device; 0 but for a step */
+  size_t used;   /* how many bytes it has, or, where it does not fit, how many the buffer needs */
+} rp_lengths;
+
+/* The parties of a packet, by its byte at 3, which says to whom it is: node k is k, task t is
+ * RP_TASK_PARTY + t. */
+enum rp_party { RP_TASK_PARTY = 16, RP_AUDIT_PARTY = 32 };
+
+/* ---- A node, which runs over a copy of its device
+ *
+ * The caller keeps the device, a run of bytes that survives a stop. What the caller owes:
+ * - The answer of a step is first the bytes of its record, `stored` of them, and then its packets, one
+ *   after another (rp_packet_length says where each ends). The caller puts the record at the end of the
+ *   device and syncs it BEFORE it sends a packet of that answer. A packet that is sent first may break
+ *   the agreement: after a stop the node does not know what it said.
+ * - A record that could not be stored: no packet of that answer is sent, and the node is closed. It is
+ *   opened again from the bytes that the device has.
+ * - No two handles run over one device at a time.
+ * Packets may be lost, repeated, reordered or delayed by anybody, and they may not be altered. */
+typedef struct rp_node {
+  bool open;
+  uint8_t *at;
+} rp_node;
+
+/* What a node found on its device. */
+typedef struct rp_found {
+  size_t records; /* how many records the device holds */
+  size_t kept;    /* how many bytes they have: what is after them is torn */
+} rp_found;
+
+/* The least size of the buffer for the answer of a step. */
+#define RP_STEP_BYTES 8192
+
+/* The requests to a node, by their first byte; the operands follow, numbers in big-endian order. */
+enum rp_node_request {
+  RP_NODE_RECEIVE = 1,    /* a step: a packet came. The packet, all of it */
+  RP_NODE_LEAD = 2,       /* a step: the node is to lead. The position (2 bytes), or nothing: the least free */
+  RP_NODE_INTERRUPT = 3,  /* a step: an interrupt. Its source, 1 to 8 (1), and which occurrence, from 1 (4) */
+  RP_NODE_TICK = 4,       /* a step: the clock has this time (4) */
+  RP_NODE_REPORT = 5,     /* a step: a report to the audit. The first position (2) */
+  RP_NODE_LEAD_RANGE = 6, /* a step: the node is to lead at a range. Its first position (2), its length,
+                           * 1 to 64 (1) */
+  RP_NODE_APPLIED = 16,   /* a question: how many actions are applied. The answer has 4 bytes */
+  RP_NODE_IMAGE = 17,     /* a question: the lines that `show` prints of the objects and the clock */
+  RP_NODE_LAST = 18       /* a question: the answer of the last step that was made, again */
+};
+
+/* Opens node `number` of the deck over the `held` bytes of its device, which are copied; the deck's
+ * script is not run.
+ *
+ * RP_DONE: *node keeps the node, and what it kept before is closed; *found says what the device holds.
+ *   The caller truncates its device to found->kept bytes before the node's first step.
+ * RP_BAD_DECK, RP_NO_OBJECTS, RP_BAD_CONFIG, RP_IO, RP_OUT_OF_MEMORY: nothing has changed. */
+uint8_t rp_node_open(const uint8_t *deck, size_t count, uint8_t number, const uint8_t *device, size_t held,
+                     rp_node *node, rp_found *found);
+
+/* Answers a request to a node.
+ *
+ * RP_DONE: the first lengths->used bytes of `answer` are the answer, and its first lengths->stored bytes
+ *   go to the device.
+ * RP_SHORT_ANSWER: the buffer has fewer than lengths->used bytes. A step needs RP_STEP_BYTES and is not made.
+ * RP_LONG_ANSWER: the step was made, its answer has lengths->used bytes, and `answer` is as it was:
+ *   RP_NODE_LAST gives it into a longer buffer. No step is known to need that.
+ * RP_WRONG_HANDLE, RP_BAD_REQUEST, RP_BAD_PACKET, RP_BALLOTS_SPENT, RP_LOG_FULL, RP_OUT_OF_MEMORY:
+ *   nothing has changed. */
+uint8_t rp_node_call(rp_node *node, const uint8_t *request, size_t count, uint8_t *answer, size_t size,
+                     rp_lengths *lengths);
+
+/* Stops a node: the handle is closed, and what the node knew besides its device is gone. A closed handle
+ * stays closed. */
+void rp_node_close(rp_node *node);
+
+/* ---- A task's stub
+ *
+ * It makes one call at a time, which has a number, and sends it again, also to another node, until its
+ * reply came. What the caller owes: a task that stopped makes no call under the same number again, since
+ * the nodes would take it for the old call. So a task's stub lives as long as its nodes' devices. */
+typedef struct rp_task {
+  bool open;
+  uint8_t *at;
+} rp_task;
+
+/* The least size of the buffer for the answer of a task. */
+#define RP_TASK_BYTES 40
+
+/* The requests to a task, by their first byte; the operands follow, numbers in big-endian order. */
+enum rp_task_request {
+  RP_TASK_CALL = 1,   /* a new call. The node, the object, the kind of operation and its index (1 byte each),
+                       * the argument (8). The answer is the packet to send */
+  RP_TASK_AGAIN = 2,  /* the call that has no reply yet, again. The node (1). The answer is the packet to
+                       * send, or nothing if there is no such call */
+  RP_TASK_RECEIVE = 3 /* a packet came. The packet, all of it. The answer is the reply to the call, or
+                       * nothing if the packet is none */
+};
+
+/* The kinds of operation, each with an index from 1 in the order of the deck; objects are numbered so too. */
+enum rp_operation { RP_FUNCTION = 1, RP_PROCEDURE = 2, RP_ENTRY = 3, RP_SET_TIMER = 4, RP_CANCEL_TIMER = 5 };
+
+/* A reply, by its first byte. */
+enum rp_reply {
+  RP_REPLY_VALUE = 1,            /* a whole number: 8 bytes, negative in two's complement */
+  RP_REPLY_TRUTH = 2,            /* a truth: 1 byte, 0 or 1 */
+  RP_REPLY_CONSTRAINT_ERROR = 3, /* the operation raised Constraint_Error */
+  RP_REPLY_PROGRAM_ERROR = 4,    /* the operation raised Program_Error */
+  RP_REPLY_NO_SUCH_OPERATION = 5 /* the object has no such operation */
+};
+
+/* Opens the stub of task `number`, 1 to 8, which has made no call; what the handle kept before is closed.
+ * RP_BAD_CONFIG, RP_OUT_OF_MEMORY: nothing has changed. */
+uint8_t rp_task_open(uint8_t number, rp_task *task);
+
+/* Answers a request to a task. RP_DONE: the first lengths->used bytes of `answer` are the answer.
+ *
+ * RP_SHORT_ANSWER: the buffer has fewer than RP_TASK_BYTES bytes; nothing but lengths->used is written.
+ * RP_WRONG_HANDLE, RP_BAD_REQUEST, RP_TASK_BUSY, RP_NUMBERS_SPENT, RP_BAD_PACKET, RP_OUT_OF_MEMORY:
+ *   nothing has changed. */
+uint8_t rp_task_call(rp_task *task, const uint8_t *request, size_t count, uint8_t *answer, size_t size,
+                     rp_lengths *lengths);
+
+/* Gives a task's stub back: the handle is closed. A closed handle stays closed. */
+void rp_task_close(rp_task *task);
 
 #ifdef __cplusplus
 }

@@ -1,3 +1,4 @@
 pub mod Decks
+pub mod Handles
 pub mod Packets
 pub mod Status

@@ -16,24 +16,23 @@ use Rattle.rp_handles.specs.DeckNodes.{OpensNode}
 use Rattle.rp_handles.specs.declared.actor.Actor.{Actor}
 use Rattle.rp_handles.specs.declared.actor.Actor.TheVariants.{Node, Task}
 
--- The answer of a node or of a task to the request that the bytes are.
-abbrev pub ActorAnswers : List ℕ → Actor → Actor → List ℕ → List ℕ → Result Lengths Refusal → Type 0
-ActorAnswers request (Node old) (Node new) before after result =
-    Answers objects_next objects_answers objects_image (asked_of request) old new before after result
-ActorAnswers request (Task old) (Task new) before after result =
-    IsShort old new before after result ⊎ TaskDoes (task_asked_of request) old new before after result
-ActorAnswers request (Node old) (Task new) before after result = ⊥
-ActorAnswers request (Task old) (Node new) before after result = ⊥
-
--- The answer by a handle: that of its node or task, or none where it is closed, and then nothing changed.
-abbrev pub HandleAnswers : List ℕ → Option Actor → Option Actor → List ℕ → List ℕ → Option (Result Lengths Refusal)
+-- The answer to a request of the node that a handle keeps; none if it keeps no node, and then nothing changed.
+abbrev pub NodeAnswers : List ℕ → Option Actor → Option Actor → List ℕ → List ℕ → Option (Result Lengths Refusal)
     → Type 0
-HandleAnswers request None None before after None = after ≡ before
-HandleAnswers request (Some old) (Some new) before after (Some result) = ActorAnswers request old new before after result
-HandleAnswers request None None before after (Some result) = ⊥
-HandleAnswers request (Some old) (Some new) before after None = ⊥
-HandleAnswers request None (Some new) before after result = ⊥
-HandleAnswers request (Some old) None before after result = ⊥
+NodeAnswers request (Some (Node old)) (Some (Node new)) before after (Some result) =
+    Answers objects_next objects_answers objects_image (asked_of request) old new before after result
+NodeAnswers request (Some (Node old)) new before after result = ⊥
+NodeAnswers request old new before after (Some result) = ⊥
+NodeAnswers request old new before after None = (new ≡ old) × (after ≡ before)
+
+-- The answer to a request of the task that a handle keeps; none if it keeps no task, and then nothing changed.
+abbrev pub TaskAnswers : List ℕ → Option Actor → Option Actor → List ℕ → List ℕ → Option (Result Lengths Refusal)
+    → Type 0
+TaskAnswers request (Some (Task old)) (Some (Task new)) before after (Some result) =
+    IsShort old new before after result ⊎ TaskDoes (task_asked_of request) old new before after result
+TaskAnswers request (Some (Task old)) new before after result = ⊥
+TaskAnswers request old new before after (Some result) = ⊥
+TaskAnswers request old new before after None = (new ≡ old) × (after ≡ before)
 
 -- It keeps the node of this number of the deck that the text means, opened over these bytes.
 abbrev pub KeepsNode : List ℕ → ℕ → List ℕ → Option Actor → ℕ → ℕ → Type 0

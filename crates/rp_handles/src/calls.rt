@@ -4,7 +4,7 @@ ghost use Rattle.std.specs.Prelude.{◌≡◌, ◌<◌, ◌+◌, ◌^◌, length
 ghost use Rattle.rp_base.specs.declared.fault.Fault.TheVariants as faults;
 ghost use Rattle.rp_requests.specs.declared.refusal.Refusal.TheVariants as refusals;
 ghost use Rattle.rp_handles.specs.DeckNodes.{OpensNoNode};
-ghost use Rattle.rp_handles.specs.Handles.{HandleAnswers, IsNoTask, KeepsNode, KeepsTask};
+ghost use Rattle.rp_handles.specs.Handles.{IsNoTask, KeepsNode, KeepsTask, NodeAnswers, TaskAnswers};
 
 use crate::actor::Actor;
 use crate::deck_nodes::node_of_deck;
@@ -15,6 +15,7 @@ use std::alloc::Global;
 use std::mem::replace;
 
 /// What a node found on its device.
+#[repr(C)]
 #[derive(Clone, Copy, Debug, PartialEq, Eq)]
 pub struct Found {
     /// How many records the device holds.
@@ -71,23 +72,42 @@ pub fn open_task(alloc: Global, number: u8, handle: &mut Handle) -> Result<(), R
     Ok(())
 }
 
-/// Answers a request to the node or the task of a handle, as `Node::call` and `Task::call` of
-/// `rp_requests` say; `None` where the handle is closed.
-pub fn call(
+/// Answers a request to the node of a handle, as `Node::call` of `rp_requests` says; `None` if the
+/// handle is closed or keeps a task.
+pub fn call_node(
     alloc: Global,
     handle: &mut Handle,
     request: &[u8],
     answer: &mut [u8],
 ) -> Option<Result<Lengths, Refusal>>
-    // claim: A call by a handle is answered by its node or its task, and by nothing else; a closed
-    //   handle has no answer, and nothing has changed
-    ensures { HandleAnswers request.now handle.old.kept handle.new.kept answer.old answer.new result }
+    // claim: A request by a node's handle is answered by its node, and by nothing else; a handle that
+    //   keeps no node has no answer, and nothing has changed
+    ensures { NodeAnswers request.now handle.old.kept handle.new.kept answer.old answer.new result }
 {
     let taken = replace(handle, closed());
     let mut actor = into_box(alloc, taken)?;
-    let result = actor.call(alloc, request, answer);
+    let result = actor.call_node(alloc, request, answer);
     *handle = of(actor);
-    Some(result)
+    result
+}
+
+/// Answers a request to the task of a handle, as `Task::call` of `rp_requests` says; `None` if the
+/// handle is closed or keeps a node.
+pub fn call_task(
+    alloc: Global,
+    handle: &mut Handle,
+    request: &[u8],
+    answer: &mut [u8],
+) -> Option<Result<Lengths, Refusal>>
+    // claim: A request by a task's handle is answered by its task, and by nothing else; a handle that
+    //   keeps no task has no answer, and nothing has changed
+    ensures { TaskAnswers request.now handle.old.kept handle.new.kept answer.old answer.new result }
+{
+    let taken = replace(handle, closed());
+    let mut actor = into_box(alloc, taken)?;
+    let result = actor.call_task(alloc, request, answer);
+    *handle = of(actor);
+    result
 }
 
 /// Gives back what a handle keeps: it is closed.

@@ -16,5 +16,5 @@ mod handle;
 mod loose;
 
 pub use actor::Actor;
-pub use calls::{Found, call, close, open_node, open_task};
+pub use calls::{Found, call_node, call_task, close, open_node, open_task};
 pub use handle::Handle;

@@ -73,14 +73,14 @@ pub record RunsAs (args : Args) (given output output_after errors errors_after :
 abbrev pub IsAskedFor : ErrorKind → Type 0
 IsAskedFor kind = (kind ≡ DisplayHelp) ⊎ (kind ≡ DisplayVersion)
 
--- Wrong words were reported, and help alone was printed. The status is the one of this kind of mistake; where help
--- could not be printed it is that of `Io`, which is reported.
+-- Wrong words were reported, and help or the version alone was printed. The status is the one of this kind of mistake;
+-- where help or the version could not be printed it is that of `Io`, which is reported.
 pub record RefusesAs (kind : ErrorKind) (output output_after errors errors_after : Option (List ℕ)) (ending : Ending)
     : Type 0 where
   pub status : (ending.status ≡ words_status_of kind) ⊎ (IsAskedFor kind × (ending.status ≡ status_of faults.Io)
       × OnOk ending.reported (Appends errors errors_after (report_of (Err faults.Io))))
   pub output_kept : kind ≢ DisplayHelp → kind ≢ DisplayVersion → output_after ≡ output
-  pub errors_kept : kind ≡ DisplayHelp → ending.status ≡ words_status_of kind → errors_after ≡ errors
+  pub errors_kept : IsAskedFor kind → ending.status ≡ words_status_of kind → errors_after ≡ errors
   pub memory : kind ≡ OutOfMemory → OnOk ending.reported
       (Appends errors errors_after (report_of (Err faults.OutOfMemory)))
 

@@ -1,5 +1,6 @@
 -- The deck is the one that was read, and its chart is written.
-use Rattle.std.proofs.Common.{Result, Ok, Err, Option, List, ℕ, rules, string_bytes}
+use Rattle.std.proofs.Common.{◌≡◌, Result, Ok, Err, Option, List, ℕ, rules, string_bytes, subst}
+use Rattle.std.specs.Io.KnownBytes.{Appends}
 use Rattle.std.specs.Prelude.{OnOk}
 use Rattle.rp_base.specs.declared.fault.Fault.{Fault}
 use Rattle.rp_output.proofs.Writing.{appends_kept}
@@ -18,8 +19,10 @@ returns g c = at c.write_out.result
     new : Option (List ℕ)
     new = g.W.Write.contents c.write_out.new.writer
 
-    at : (answer : Result Unit Fault) → OnOk answer (DrawsScript (g.R.Read.remaining c.args.reader.now) old new)
+    at : (answer : Result Unit Fault) → OnOk answer (DrawsScript c.args.view (g.R.Read.remaining c.args.reader.now) old new)
     at (Ok done) =
         let text = string_bytes c.in_ok-drawing.drawing in
-        (c.in_ok-deck.deck, search rules, text, appends_kept old written new text c.in_ok-write_whole.ensures.written c.write_out.ensures.kept, c.in_ok-drawing.ensures)
+        let same : c.as_bytes.result.now ≡ text = c.as_bytes.ensures.value in
+        let put = subst (λ (bytes : List ℕ). Appends old written bytes) same c.in_ok-write_whole.ensures.written in
+        (c.in_ok-deck.deck, search rules, text, appends_kept old written new text put c.write_out.ensures.kept, c.in_ok-drawing.ensures)
     at (Err fault) = tt

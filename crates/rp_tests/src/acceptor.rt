@@ -1,17 +1,19 @@
 ghost use Rattle.std.specs.Prelude.{◌≡◌, ◌∷◌, []};
 ghost use Rattle.rp_acceptor.specs.Noted.{places_in, ranges_in};
 
+use crate::compare::expect_eq;
 use rp_acceptor::*;
 use rp_base::{Action, Ballot, Fault, Operation, Position, Rec, TaskId, Vote};
 use std::alloc::Global;
+use std::process::Abort;
 use std::test::Fail;
 
-fn position(number: u16) -> Result<Position, Fail> {
-    Ok(Position::new(number).ok_or("a position")?)
+fn position(rt: &impl Abort, number: u16) -> Position {
+    Position::new(number).expect(rt, "a position")
 }
 
-fn ballot(number: u64) -> Result<Ballot, Fail> {
-    Ok(Ballot::new(number).ok_or("a ballot")?)
+fn ballot(rt: &impl Abort, number: u64) -> Ballot {
+    Ballot::new(number).expect(rt, "a ballot")
 }
 
 /// Task 1 calls procedure 1 of object 1, its first call.
@@ -25,10 +27,38 @@ fn call(arg: i64) -> Action {
     }
 }
 
+/// The acceptor of these records.
+fn restored(rt: &impl Abort, alloc: Global, records: &[Rec]) -> Acceptor {
+    Acceptor::restore(alloc, records).expect(rt, "memory for the records")
+}
+
 /// An acceptor that has promised ballot 10 at position 1.
-fn promised(alloc: Global) -> Result<Acceptor, Fail> {
-    let records = [Rec::Promised(position(1)?, ballot(10)?)];
-    Ok(Acceptor::restore(alloc, &records)?)
+fn promised(rt: &impl Abort, alloc: Global) -> Acceptor {
+    restored(rt, alloc, &[Rec::Promised(Position::first(), ballot(rt, 10))])
+}
+
+/// An acceptor that has voted for the call with 5 in ballot 10 at position 1.
+fn voted(rt: &impl Abort, alloc: Global) -> Acceptor {
+    let vote = Rec::Voted(Position::first(), ballot(rt, 10), call(5));
+    restored(rt, alloc, &[vote])
+}
+
+/// Ends the test unless a `Prepare` is answered so.
+fn expect_answer(rt: &impl Abort, found: PrepareAnswer, expected: PrepareAnswer) {
+    assert_eq!(rt; found, expected);
+}
+
+/// The acceptor promises the ballot at a position, and reports this vote.
+fn expect_promise(
+    rt: &impl Abort,
+    acceptor: &Acceptor,
+    at: Position,
+    ballot: Ballot,
+    last: Option<Vote>,
+) {
+    let rec = Rec::Promised(at, ballot);
+    let promise = PrepareAnswer::Promise { last, rec };
+    expect_answer(rt, acceptor.prepare(at, ballot), promise);
 }
 
 /// Makes room for a record at a position, which is a promise or a vote there, and notes it.
@@ -42,123 +72,128 @@ fn write(acceptor: &mut Acceptor, position: Position, rec: &Rec) -> Result<(), F
 }
 
 #[test]
-fn a_lower_ballot_gets_the_bound(rt: HostRuntime) -> Result<(), Fail> {
-    let acceptor = promised(rt.alloc())?;
-    let (first, low, bound) = (position(1)?, ballot(9)?, ballot(10)?);
-    assert_eq!(rt; acceptor.prepare(first, low), PrepareAnswer::Nack(bound));
-    assert_eq!(rt; acceptor.prepare(first, bound), PrepareAnswer::Silent);
-    assert_eq!(rt;
-        acceptor.accept(first, low, &call(5)),
-        AcceptAnswer::Nack(bound)
-    );
-    Ok(())
+fn a_lower_ballot_gets_the_bound(rt: HostRuntime) {
+    let acceptor = promised(&rt, rt.alloc());
+    let first = Position::first();
+    let low = ballot(&rt, 9);
+    let bound = ballot(&rt, 10);
+    expect_answer(&rt, acceptor.prepare(first, low), PrepareAnswer::Nack(bound));
+    expect_answer(&rt, acceptor.prepare(first, bound), PrepareAnswer::Silent);
+    let answer = acceptor.accept(first, low, &call(5));
+    expect_eq(&rt, answer, AcceptAnswer::Nack(bound));
 }
 
 #[test]
-fn a_promised_ballot_gets_a_vote(rt: HostRuntime) -> Result<(), Fail> {
-    let acceptor = promised(rt.alloc())?;
-    let (first, ten, action) = (position(1)?, ballot(10)?, call(5));
+fn a_promised_ballot_gets_a_vote(rt: HostRuntime) {
+    let acceptor = promised(&rt, rt.alloc());
+    let first = Position::first();
+    let ten = ballot(&rt, 10);
+    let action = call(5);
     let rec = Rec::Voted(first, ten, action);
-    assert_eq!(rt;
-        acceptor.accept(first, ten, &action),
-        AcceptAnswer::Vote { rec }
-    );
-    Ok(())
+    let answer = acceptor.accept(first, ten, &action);
+    expect_eq(&rt, answer, AcceptAnswer::Vote { rec });
 }
 
 #[test]
-fn a_ballot_gets_one_vote(rt: HostRuntime) -> Result<(), Fail> {
-    let (first, ten) = (position(1)?, ballot(10)?);
-    let acceptor = Acceptor::restore(rt.alloc(), &[Rec::Voted(first, ten, call(5))])?;
-    assert_eq!(rt; acceptor.accept(first, ten, &call(5)), AcceptAnswer::Again);
-    assert_eq!(rt; acceptor.accept(first, ten, &call(2)), AcceptAnswer::Silent);
-    Ok(())
+fn a_ballot_gets_one_vote(rt: HostRuntime) {
+    let acceptor = voted(&rt, rt.alloc());
+    let first = Position::first();
+    let ten = ballot(&rt, 10);
+    let answer = acceptor.accept(first, ten, &call(5));
+    expect_eq(&rt, answer, AcceptAnswer::Again);
+    let answer = acceptor.accept(first, ten, &call(2));
+    expect_eq(&rt, answer, AcceptAnswer::Silent);
 }
 
 #[test]
 fn a_higher_ballot_hears_of_a_vote(rt: HostRuntime) -> Result<(), Fail> {
-    let (first, ten, eighteen) = (position(1)?, ballot(10)?, ballot(18)?);
+    let mut acceptor = voted(&rt, rt.alloc());
+    let first = Position::first();
+    let ten = ballot(&rt, 10);
+    let eighteen = ballot(&rt, 18);
     let action = call(5);
-    let mut acceptor = Acceptor::restore(rt.alloc(), &[Rec::Voted(first, ten, action)])?;
-    let rec = Rec::Promised(first, eighteen);
-    let last = Some(Vote {
+    let last = Vote {
         ballot: ten,
         action,
-    });
-    assert_eq!(rt;
-        acceptor.prepare(first, eighteen),
-        PrepareAnswer::Promise { last, rec }
-    );
-    write(&mut acceptor, first, &rec)?;
-    assert_eq!(rt;
-        acceptor.accept(first, ten, &action),
-        AcceptAnswer::Nack(eighteen)
-    );
+    };
+    expect_promise(&rt, &acceptor, first, eighteen, Some(last));
+    write(&mut acceptor, first, &Rec::Promised(first, eighteen))?;
+    let answer = acceptor.accept(first, ten, &action);
+    expect_eq(&rt, answer, AcceptAnswer::Nack(eighteen));
     Ok(())
 }
 
 #[test]
-fn a_promise_counts_at_its_position_alone(rt: HostRuntime) -> Result<(), Fail> {
-    let acceptor = promised(rt.alloc())?;
-    let (second, nine, action) = (position(2)?, ballot(9)?, call(2));
+fn a_promise_counts_at_its_position_alone(rt: HostRuntime) {
+    let acceptor = promised(&rt, rt.alloc());
+    let second = position(&rt, 2);
+    let nine = ballot(&rt, 9);
+    let action = call(2);
     let rec = Rec::Voted(second, nine, action);
-    assert_eq!(rt;
-        acceptor.accept(second, nine, &action),
-        AcceptAnswer::Vote { rec }
-    );
-    Ok(())
+    let answer = acceptor.accept(second, nine, &action);
+    expect_eq(&rt, answer, AcceptAnswer::Vote { rec });
 }
 
-#[test]
-fn restored_records_count_in_their_order(rt: HostRuntime) -> Result<(), Fail> {
-    let (first, third) = (position(1)?, position(3)?);
-    let (ten, eighteen, last) = (ballot(10)?, ballot(18)?, ballot(26)?);
-    let records = [
-        Rec::Started(ballot(9)?),
+/// Records at positions 1 and 3. The first vote at position 3 is the one that counts.
+fn several_records(rt: &impl Abort) -> [Rec; 6] {
+    let first = Position::first();
+    let third = position(rt, 3);
+    let ten = ballot(rt, 10);
+    let eighteen = ballot(rt, 18);
+    [
+        Rec::Started(ballot(rt, 9)),
         Rec::Voted(third, eighteen, call(5)),
         Rec::Promised(first, ten),
         Rec::Voted(third, eighteen, call(2)),
         Rec::Voted(third, ten, call(1)),
         Rec::Learned(third, call(5)),
-    ];
-    let acceptor = Acceptor::restore(rt.alloc(), &records)?;
-    let cases = [(1, None), (2, None), (3, Some(call(5))), (4, None)];
-    for (number, voted) in cases {
-        let at = position(number)?;
-        let last_vote = match voted {
-            Some(action) => Some(Vote {
-                ballot: eighteen,
-                action,
-            }),
-            None => None,
-        };
-        let promise = PrepareAnswer::Promise {
-            last: last_vote,
-            rec: Rec::Promised(at, last),
-        };
-        assert_eq!(rt; acceptor.prepare(at, last), promise);
+    ]
+}
+
+#[test]
+fn restored_records_count_in_their_order(rt: HostRuntime) {
+    let acceptor = restored(&rt, rt.alloc(), &several_records(&rt));
+    let last = ballot(&rt, 26);
+    for number in [1, 2, 4] {
+        expect_promise(&rt, &acceptor, position(&rt, number), last, None);
     }
-    assert_eq!(rt; acceptor.prepare(first, ten), PrepareAnswer::Silent);
-    Ok(())
+    let vote = Vote {
+        ballot: ballot(&rt, 18),
+        action: call(5),
+    };
+    expect_promise(&rt, &acceptor, position(&rt, 3), last, Some(vote));
+    let answer = acceptor.prepare(Position::first(), ballot(&rt, 10));
+    expect_answer(&rt, answer, PrepareAnswer::Silent);
+}
+
+/// The acceptor of these records, restored once more where memory was refused.
+fn restored_again(rt: &impl Abort, alloc: Global, records: &[Rec]) -> Acceptor {
+    match Acceptor::restore(alloc, records) {
+        Ok(acceptor) => acceptor,
+        Err(fault) => {
+            assert_eq!(rt; fault, Fault::OutOfMemory);
+            restored(rt, alloc, records)
+        }
+    }
+}
+
+/// The acceptor has promised this ballot at a position.
+fn expect_promised(rt: &impl Abort, acceptor: &Acceptor, at: Position, ballot: Ballot) {
+    expect_answer(rt, acceptor.prepare(at, ballot), PrepareAnswer::Silent);
 }
 
 #[test]
 fn a_refusal_for_memory_changes_nothing(rt: HostRuntime) -> Result<(), Fail> {
-    let (first, far, ten) = (position(1)?, position(100)?, ballot(10)?);
-    let records = [Rec::Promised(first, ten)];
-    let mut acceptor = match Acceptor::restore(rt.alloc(), &records) {
-        Ok(acceptor) => acceptor,
-        Err(fault) => {
-            assert_eq!(rt; fault, Fault::OutOfMemory);
-            Acceptor::restore(rt.alloc(), &records)?
-        }
-    };
+    let first = Position::first();
+    let far = position(&rt, 100);
+    let ten = ballot(&rt, 10);
+    let mut acceptor = restored_again(&rt, rt.alloc(), &[Rec::Promised(first, ten)]);
     if let Err(fault) = acceptor.reserve(far) {
         assert_eq!(rt; fault, Fault::OutOfMemory);
-        assert_eq!(rt; acceptor.prepare(first, ten), PrepareAnswer::Silent);
+        expect_promised(&rt, &acceptor, first, ten);
     }
     write(&mut acceptor, far, &Rec::Promised(far, ten))?;
-    assert_eq!(rt; acceptor.prepare(first, ten), PrepareAnswer::Silent);
-    assert_eq!(rt; acceptor.prepare(far, ten), PrepareAnswer::Silent);
+    expect_promised(&rt, &acceptor, first, ten);
+    expect_promised(&rt, &acceptor, far, ten);
     Ok(())
 }

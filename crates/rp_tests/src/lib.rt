@@ -9,6 +9,8 @@ mod base;
 #[cfg(test)]
 mod codec;
 #[cfg(test)]
+mod compare;
+#[cfg(test)]
 mod log;
 #[cfg(test)]
 mod proposer;

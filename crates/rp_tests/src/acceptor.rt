@@ -34,7 +34,11 @@ fn restored(rt: &impl Abort, alloc: Global, records: &[Rec]) -> Acceptor {
 
 /// An acceptor that has promised ballot 10 at position 1.
 fn promised(rt: &impl Abort, alloc: Global) -> Acceptor {
-    restored(rt, alloc, &[Rec::Promised(Position::first(), ballot(rt, 10))])
+    restored(
+        rt,
+        alloc,
+        &[Rec::Promised(Position::first(), ballot(rt, 10))],
+    )
 }
 
 /// An acceptor that has voted for the call with 5 in ballot 10 at position 1.
@@ -77,7 +81,11 @@ fn a_lower_ballot_gets_the_bound(rt: HostRuntime) {
     let first = Position::first();
     let low = ballot(&rt, 9);
     let bound = ballot(&rt, 10);
-    expect_answer(&rt, acceptor.prepare(first, low), PrepareAnswer::Nack(bound));
+    expect_answer(
+        &rt,
+        acceptor.prepare(first, low),
+        PrepareAnswer::Nack(bound),
+    );
     expect_answer(&rt, acceptor.prepare(first, bound), PrepareAnswer::Silent);
     let answer = acceptor.accept(first, low, &call(5));
     expect_eq(&rt, answer, AcceptAnswer::Nack(bound));
@@ -182,16 +190,27 @@ fn expect_promised(rt: &impl Abort, acceptor: &Acceptor, at: Position, ballot: B
     expect_answer(rt, acceptor.prepare(at, ballot), PrepareAnswer::Silent);
 }
 
+/// Makes room at a position. Where memory is refused, this ballot is promised at another one still.
+fn reserve_or_keep(
+    rt: &impl Abort,
+    acceptor: &mut Acceptor,
+    position: Position,
+    other: Position,
+    ballot: Ballot,
+) {
+    if let Err(fault) = acceptor.reserve(position) {
+        assert_eq!(rt; fault, Fault::OutOfMemory);
+        expect_promised(rt, acceptor, other, ballot);
+    }
+}
+
 #[test]
 fn a_refusal_for_memory_changes_nothing(rt: HostRuntime) -> Result<(), Fail> {
     let first = Position::first();
     let far = position(&rt, 100);
     let ten = ballot(&rt, 10);
     let mut acceptor = restored_again(&rt, rt.alloc(), &[Rec::Promised(first, ten)]);
-    if let Err(fault) = acceptor.reserve(far) {
-        assert_eq!(rt; fault, Fault::OutOfMemory);
-        expect_promised(&rt, &acceptor, first, ten);
-    }
+    reserve_or_keep(&rt, &mut acceptor, far, first, ten);
     write(&mut acceptor, far, &Rec::Promised(far, ten))?;
     expect_promised(&rt, &acceptor, first, ten);
     expect_promised(&rt, &acceptor, far, ten);

@@ -84,14 +84,14 @@ fn promised(
     proposer: &mut Proposer,
     sender: u8,
     ballot: Ballot,
-    last: Option<Vote>,
+    last: &Option<Vote>,
 ) -> Progress
     requires { proposer.old.nodes ≡ 3 }
     ensures { proposer.new.nodes ≡ 3 }
 {
     let sender = node(rt, sender);
-    let progress = proposer.promise(sender, Position::first(), ballot, last);
-    proposer.note_promise(sender, Position::first(), ballot, last);
+    let progress = proposer.promise(sender, Position::first(), ballot, *last);
+    proposer.note_promise(sender, Position::first(), ballot, *last);
     progress
 }
 
@@ -113,9 +113,9 @@ fn a_majority_offers_the_highest_vote(rt: HostRuntime) {
     let leading = ballot(&rt, 18);
     expect_eq(&rt, proposer.runs(Position::first()), Some(leading));
     let low = vote(&rt, 9, A);
-    let first = promised(&rt, &mut proposer, 1, leading, low);
+    let first = promised(&rt, &mut proposer, 1, leading, &low);
     expect_eq(&rt, first, Progress::Waiting);
-    let again = promised(&rt, &mut proposer, 1, leading, low);
+    let again = promised(&rt, &mut proposer, 1, leading, &low);
     expect_eq(&rt, again, Progress::Waiting);
     let majority = progress(&rt, &proposer, 3, leading, vote(&rt, 10, B));
     expect_eq(&rt, majority, Progress::Offer(B));
@@ -126,7 +126,7 @@ fn a_promise_in_a_ballot_that_does_not_run_is_stale(rt: HostRuntime) {
     let mut proposer = later_leader(&rt, rt.alloc());
     let leading = ballot(&rt, 18);
     let low = vote(&rt, 9, A);
-    promised(&rt, &mut proposer, 1, leading, low);
+    promised(&rt, &mut proposer, 1, leading, &low);
     let earlier = progress(&rt, &proposer, 3, ballot(&rt, 17), None);
     expect_eq(&rt, earlier, Progress::Stale);
     proposer.nack(Position::first(), leading, ballot(&rt, 27));
@@ -140,11 +140,11 @@ fn the_own_action_is_offered_once_where_no_vote_is_reported(rt: HostRuntime) {
     one_offer_at_most();
     let mut proposer = leader(&rt, rt.alloc());
     let leading = ballot(&rt, 9);
-    let other = promised(&rt, &mut proposer, 2, leading, None);
+    let other = promised(&rt, &mut proposer, 2, leading, &None);
     expect_eq(&rt, other, Progress::Waiting);
-    let own = promised(&rt, &mut proposer, 1, leading, None);
+    let own = promised(&rt, &mut proposer, 1, leading, &None);
     expect_eq(&rt, own, Progress::Offer(A));
-    let last = promised(&rt, &mut proposer, 3, leading, None);
+    let last = promised(&rt, &mut proposer, 3, leading, &None);
     expect_eq(&rt, last, Progress::Waiting);
 }
 
@@ -188,18 +188,18 @@ fn a_proposal_runs_until_it_is_replaced(rt: HostRuntime) {
 
 /// The next ballot of a node that started the last round's ballot of node 1. A refusal changes
 /// nothing.
-fn expect_next(rt: &impl Abort, alloc: Global, number: u8, next: Result<Ballot, Fault>) {
+fn expect_next(rt: &impl Abort, alloc: Global, number: u8, next: &Result<Ballot, Fault>) {
     let last = Rec::Started(ballot(rt, 34_359_738_361));
     let proposer = restored(rt, alloc, number, &[last]);
-    expect_eq(rt, proposer.ballot(), next);
-    expect_eq(rt, proposer.ballot(), next);
+    expect_eq(rt, proposer.ballot(), *next);
+    expect_eq(rt, proposer.ballot(), *next);
 }
 
 #[test]
 fn the_last_ballot_of_a_node_is_refused(rt: HostRuntime) {
-    expect_next(&rt, rt.alloc(), 1, Err(Fault::BallotsSpent));
+    expect_next(&rt, rt.alloc(), 1, &Err(Fault::BallotsSpent));
     let next = ballot(&rt, 34_359_738_362);
-    expect_next(&rt, rt.alloc(), 2, Ok(next));
+    expect_next(&rt, rt.alloc(), 2, &Ok(next));
 }
 
 /// Leads at a position where there is room. Whether a proposal then runs there.

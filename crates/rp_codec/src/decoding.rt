@@ -192,7 +192,7 @@ fn listed(alloc: Global, found: Found) -> Result<Packet, AllocError>
     Ok(Packet::new(from, to, body))
 }
 
-/// The same as `decode`, of bytes that `usual_packet` does not read: it reads them field by field, so that
+/// The same as `decode`, of bytes that are not read in one piece: it reads them field by field, so that
 /// no byte is read twice.
 #[inline(never)]
 pub fn decode_fields(
@@ -211,34 +211,13 @@ pub fn decode_fields(
     }
 }
 
-/// The packet of this kind that is read in one piece, if one is. Its text is of version 2.
+/// This packet, whose text of version 2 the bytes are.
 #[inline(always)]
-fn one_piece_of(kind: Kind, bytes: &[u8]) -> Option<Packet>
-    ensures { IfSome result (λ packet. bytes.now ≡ text_of packet) }
-{
-    match kind {
-        Kind::Call => task_call_of(bytes),
-        Kind::Prepare => prepare_of(bytes),
-        Kind::Promise => promise_of(bytes),
-        Kind::Accept => accept_of(bytes),
-        Kind::Accepted => accepted_of(bytes),
-        Kind::Decided => decided_of(bytes),
-        Kind::Reply => reply_of(bytes),
-        Kind::Ask | Kind::Nack | Kind::Report | Kind::PrepareRange | Kind::PromiseRange => None,
-    }
-}
-
-/// The packet of which the bytes are a text, if it is of this kind and is read in one piece: a call
-/// of a task, a packet between nodes whose action, if any, is a call, or a reply with a value, in
-/// version 2. It takes no memory. `None` says nothing of the bytes: `decode_fields` reads those. Which
-/// packets it reads is a matter of speed alone, and no clause says it. It is compiled into its caller:
-/// where that gives the kind as a constant, what the caller does with the packet is compiled for that
-/// kind alone.
-#[inline(always)]
-pub fn usual_packet(kind: Kind, bytes: &[u8]) -> Option<Packet>
+fn of_its_text(bytes: &[u8], packet: Option<Packet>) -> Option<Packet>
+    requires text { IfSome packet (λ packet. bytes.now ≡ text_of packet) }
     ensures { IfSome result (λ packet. IsDecoded bytes.now (Ok packet)) }
 {
-    match one_piece_of(kind, bytes) {
+    match packet {
         Some(packet) => {
             let _body = packet.body();
             Some(packet)
@@ -247,13 +226,72 @@ pub fn usual_packet(kind: Kind, bytes: &[u8]) -> Option<Packet>
     }
 }
 
-/// The packet of which the bytes are a text, whatever its kind, if it is read in one piece.
+/// The call of a task of which the bytes are a text, if it is of version 2 and read in one piece: its
+/// text has one length. It takes no memory. `None` says nothing of the bytes: `decode_fields` reads
+/// those. Which packets are read so is a matter of speed alone, and no clause says it. There is such a
+/// function for each usual kind, compiled into its caller: so what the caller does with the packet is
+/// compiled for that kind alone.
 #[inline(always)]
+pub fn usual_call(bytes: &[u8]) -> Option<Packet>
+    ensures { IfSome result (λ packet. IsDecoded bytes.now (Ok packet)) }
+{
+    of_its_text(bytes, task_call_of(bytes))
+}
+
+/// The same, of a prepare.
+#[inline(always)]
+pub fn usual_prepare(bytes: &[u8]) -> Option<Packet>
+    ensures { IfSome result (λ packet. IsDecoded bytes.now (Ok packet)) }
+{
+    of_its_text(bytes, prepare_of(bytes))
+}
+
+/// The same, of a promise that reports no vote.
+#[inline(always)]
+pub fn usual_promise(bytes: &[u8]) -> Option<Packet>
+    ensures { IfSome result (λ packet. IsDecoded bytes.now (Ok packet)) }
+{
+    of_its_text(bytes, promise_of(bytes))
+}
+
+/// The same, of an accept whose action is a call.
+#[inline(always)]
+pub fn usual_accept(bytes: &[u8]) -> Option<Packet>
+    ensures { IfSome result (λ packet. IsDecoded bytes.now (Ok packet)) }
+{
+    of_its_text(bytes, accept_of(bytes))
+}
+
+/// The same, of a vote for a call.
+#[inline(always)]
+pub fn usual_accepted(bytes: &[u8]) -> Option<Packet>
+    ensures { IfSome result (λ packet. IsDecoded bytes.now (Ok packet)) }
+{
+    of_its_text(bytes, accepted_of(bytes))
+}
+
+/// The same, of a decided call.
+#[inline(always)]
+pub fn usual_decided(bytes: &[u8]) -> Option<Packet>
+    ensures { IfSome result (λ packet. IsDecoded bytes.now (Ok packet)) }
+{
+    of_its_text(bytes, decided_of(bytes))
+}
+
+/// The packet of which the bytes are a text, whatever its kind, if it is read in one piece.
 fn any_usual(bytes: &[u8]) -> Option<Packet>
     ensures { IfSome result (λ packet. IsDecoded bytes.now (Ok packet)) }
 {
-    let kind = Kind::of_text(bytes)?;
-    usual_packet(kind, bytes)
+    match Kind::of_text(bytes)? {
+        Kind::Call => usual_call(bytes),
+        Kind::Prepare => usual_prepare(bytes),
+        Kind::Promise => usual_promise(bytes),
+        Kind::Accept => usual_accept(bytes),
+        Kind::Accepted => usual_accepted(bytes),
+        Kind::Decided => usual_decided(bytes),
+        Kind::Reply => of_its_text(bytes, reply_of(bytes)),
+        Kind::Ask | Kind::Nack | Kind::Report | Kind::PrepareRange | Kind::PromiseRange => None,
+    }
 }
 
 /// The packet of which the bytes are a text, of version 1 or 2, all of the bytes. Where they are no

@@ -46,7 +46,10 @@ mod votes;
 mod votes_text;
 
 pub use actions::Actions;
-pub use decoding::{decode, decode_fields, packet_len, usual_packet};
+pub use decoding::{
+    decode, decode_fields, packet_len, usual_accept, usual_accepted, usual_call, usual_decided,
+    usual_prepare, usual_promise,
+};
 pub use encoding::{encode, encode_onto, one_text, text_of_packet, two_texts};
 pub use kind::Kind;
 pub use lengths::text_len;

@@ -1,9 +1,10 @@
 //! A step of a replica: it decides, and then commits.
 
-ghost use Rattle.std.specs.Prelude.{◌≡◌, Some, Ok, IfErr, OnOk, false};
+ghost use Rattle.std.specs.Prelude.{◌≡◌, Some, Ok, IfSome, IfErr, OnOk, false};
 ghost use Rattle.rp_base.specs.Action.{IsRight};
 ghost use Rattle.rp_base.specs.declared.action.Action.TheVariants as actions;
 ghost use Rattle.rp_codec.specs.Reading.{all_of};
+ghost use Rattle.rp_codec.specs.Decoding.{IsDecoded};
 ghost use Rattle.rp_model.specs.Effect as inputs;
 ghost use Rattle.rp_replica.specs.Inputs.{IsRightInput, input_effect, packet_given, effect_if_given};
 ghost use Rattle.rp_replica.specs.Plans.{turn_of, MayCommit};
@@ -14,7 +15,10 @@ use crate::plan::Plan;
 use crate::replica::Replica;
 use crate::sent::{Outbox, Sent};
 use rp_base::{Fault, Position, PositionRange};
-use rp_codec::{Kind, decode_fields, usual_packet};
+use rp_codec::{
+    Kind, Packet, decode_fields, usual_accept, usual_accepted, usual_call, usual_decided,
+    usual_prepare, usual_promise,
+};
 use rp_machine::Machine;
 use rp_model::Dropped;
 use rp_store::Device;
@@ -64,25 +68,26 @@ impl<M: Machine, D: Device> Replica<M, D> {
             self.now self.now fault) }
     {
         match Kind::of_text(bytes) {
-            Some(Kind::Call) => self.on_usual(alloc, Kind::Call, bytes, plan),
-            Some(Kind::Prepare) => self.on_usual(alloc, Kind::Prepare, bytes, plan),
-            Some(Kind::Promise) => self.on_usual(alloc, Kind::Promise, bytes, plan),
-            Some(Kind::Accept) => self.on_usual(alloc, Kind::Accept, bytes, plan),
-            Some(Kind::Accepted) => self.on_usual(alloc, Kind::Accepted, bytes, plan),
-            Some(Kind::Decided) => self.on_usual(alloc, Kind::Decided, bytes, plan),
+            Some(Kind::Call) => self.on_usual(alloc, usual_call(bytes), bytes, plan),
+            Some(Kind::Prepare) => self.on_usual(alloc, usual_prepare(bytes), bytes, plan),
+            Some(Kind::Promise) => self.on_usual(alloc, usual_promise(bytes), bytes, plan),
+            Some(Kind::Accept) => self.on_usual(alloc, usual_accept(bytes), bytes, plan),
+            Some(Kind::Accepted) => self.on_usual(alloc, usual_accepted(bytes), bytes, plan),
+            Some(Kind::Decided) => self.on_usual(alloc, usual_decided(bytes), bytes, plan),
             _ => self.on_other_text(alloc, bytes, plan),
         }
     }
 
-    /// The same, where the packet may be of this kind and read in one piece.
+    /// The same, where this packet was read in one piece, if one was.
     #[inline(always)]
     fn on_usual(
         &self,
         alloc: Global,
-        kind: Kind,
+        packet: Option<Packet>,
         bytes: &[u8],
         plan: &mut Plan,
     ) -> Result<(), Fault>
+        requires decoded { IfSome packet (λ packet. IsDecoded bytes.now (Ok packet)) }
         requires working { self.now.failed ≡ false }
         ensures ok { OnOk result (Ok (turn_of M.next M.answers self.now plan.new)
             ≡ effect_if_given M.next M.answers self.now (packet_given (all_of bytes.now))) }
@@ -91,7 +96,7 @@ impl<M: Machine, D: Device> Replica<M, D> {
             (effect_if_given M.next M.answers self.now (packet_given (all_of bytes.now)))
             self.now self.now fault) }
     {
-        match &usual_packet(kind, bytes) {
+        match &packet {
             Some(packet) => self.on_packet(packet, plan),
             None => self.on_other_text(alloc, bytes, plan),
         }

@@ -289,6 +289,7 @@ impl<M: Machine, D: CutDevice> Cluster<M, D> {
 
     /// The replies that a task got, in order.
     pub fn replies(&self, task: TaskId) -> &[Answer]
+        // claim: The replies that a task got are returned, in order
         ensures { IfSome (part_at self.now.world.tasks task) (λ part. result.now ≡ part.replies) }
     {
         self.world.replies(task)
@@ -297,6 +298,8 @@ impl<M: Machine, D: CutDevice> Cluster<M, D> {
     /// How many actions a node has applied. `NotRunning` where it is stopped, `BadConfig` above the
     /// last node.
     pub fn applied(&self, node: NodeId) -> Result<u16, Fault>
+        // claim: How many actions a node has applied is returned; refused exactly at a stopped node
+        //   and above the last
         ensures { IsQueryAnswer result (λ count records. count
             ≡ min (length (applied_of records)) (2 ^ 16 - 1)) (part_at self.now.world.nodes node) }
     {
@@ -306,6 +309,8 @@ impl<M: Machine, D: CutDevice> Cluster<M, D> {
     /// The lines that show a node's machine, each ended by a line feed. `NotRunning` where the node
     /// is stopped, `BadConfig` above the last node.
     pub fn image(&self, alloc: Global, node: NodeId) -> Result<Vec<u8>, Fault>
+        // claim: A node shows the image of the state that its applied list leads to; it is refused
+        //   as `Cluster::applied` is, and out of memory only if it runs
         ensures { IsQueryAnswerUnlessMemory result (λ text records.
             text.items ≡ M.image (replay_state M.next M.answers (M.begin self.now.program)
             (applied_of records))) (part_at self.now.world.nodes node) }
@@ -315,6 +320,8 @@ impl<M: Machine, D: CutDevice> Cluster<M, D> {
 
     /// How many bytes a node's device holds. `BadConfig` above the last node.
     pub fn stored(&self, node: NodeId) -> Result<u64, Fault>
+        // claim: How many bytes a node's device holds is exactly the length of its records' texts
+        //   and its torn bytes, whether it runs or is stopped
         ensures { IsStored result (part_at self.now.world.nodes node) }
     {
         self.world.stored(node)

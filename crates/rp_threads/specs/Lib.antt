@@ -5,3 +5,4 @@ pub mod Rounds
 pub mod Tasks
 pub mod TaskRounds
 pub mod Threads
+pub mod Patience

@@ -1,5 +1,8 @@
 //! When a node leads anew.
 
+ghost use Rattle.std.specs.Prelude.{◌≡◌};
+ghost use Rattle.rp_threads.specs.Patience.{fresh_wait, waits, heard, is_over};
+
 use rp_base::NodeId;
 
 /// After how many quiet turns node 1 leads once more; node k waits k times as many.
@@ -22,7 +25,9 @@ pub(crate) struct Patience {
 
 impl Patience {
     /// Nothing is applied yet, and no turn was quiet.
-    pub(crate) fn new() -> Patience {
+    pub(crate) fn new() -> Patience
+        ensures { result ≡ fresh_wait 0 }
+    {
         Patience {
             applied: 0,
             quiet: 0,
@@ -32,7 +37,10 @@ impl Patience {
 
     /// Hears of a quiet turn of the node of this number, which has applied n actions. Whether it is
     /// to lead now; then it waits anew.
-    pub(crate) fn is_over(&mut self, node: NodeId, applied: u32) -> bool {
+    pub(crate) fn is_over(&mut self, node: NodeId, applied: u32) -> bool
+        ensures answer { result ≡ is_over node (waits applied self.old) }
+        ensures after { self.new ≡ heard node applied self.old }
+    {
         if applied != self.applied {
             *self = Patience {
                 applied,

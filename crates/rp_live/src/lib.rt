@@ -2,6 +2,7 @@
 //! audit reads the logs of all nodes.
 //!
 //! In reading order:
+//! - `options`: how a program is run in threads
 //! - `lines`: the faulty line of a node or a task
 //! - `calls`: the calls of a task
 //! - `starts`: seats are made, and those of nodes and tasks are made ready to run
@@ -19,6 +20,7 @@ mod ends;
 mod figures;
 mod lines;
 mod notes;
+mod options;
 mod pace;
 mod replies;
 mod reports;
@@ -26,4 +28,5 @@ mod run;
 mod starts;
 
 pub use figures::Figures;
+pub use options::LiveOptions;
 pub use run::{LiveOutcome, live};

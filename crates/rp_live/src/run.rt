@@ -9,16 +9,17 @@ ghost use Rattle.rp_live.specs.Faults.{IsLiveFault};
 
 use crate::figures::Figures;
 use crate::notes::note_all;
+use crate::options::LiveOptions;
 use crate::pace::Pace;
 use crate::replies::replies_of;
 use crate::reports::{knows_all, read_logs};
 use crate::starts::{node_starts, seats_in_memory, task_starts};
-use rp_base::{Answer, Config, Fault};
+use rp_base::{Answer, Fault};
 use rp_boxes::{AllSeats, Audit, AuditSeat};
 use rp_machine::Machine;
 use rp_model::Event;
 use rp_store::InfallibleDevice;
-use rp_threads::{NodeEnd, TaskEnd, run_threads};
+use rp_threads::{LoopOptions, NodeEnd, TaskEnd, run_threads};
 use std::alloc::Global;
 use std::sync::Wait;
 use std::thread::Threads;
@@ -66,9 +67,9 @@ fn audited<M: Machine, D: InfallibleDevice>(
     })
 }
 
-/// The nodes of a program, over devices in memory, and its eight tasks make n turns each, in
-/// threads of their own, over lines that lose packets, repeat them and change their order, as the
-/// words of the seed say. Before that the interrupts and the ticks among the events are noted, in
+/// The nodes of a program, over devices in memory, and its eight tasks make their turns in threads
+/// of their own, over lines that lose packets, repeat them and change their order, as the words of
+/// the seed say. Before that the interrupts and the ticks among the events are noted, in
 /// order, each at its node; its other events are the calls of the tasks. Afterwards the audit reads
 /// the logs of all nodes, and all look at the table as one. Which replies come, and how much is
 /// applied, differs from run to run. `OutOfMemory` where a growth was refused or a thread could not
@@ -76,16 +77,14 @@ fn audited<M: Machine, D: InfallibleDevice>(
 pub fn live<R: Threads + Wait, M: Machine + Send>(
     rt: &R,
     alloc: Global,
-    config: Config,
     program: &M::Program,
     events: &[Event],
-    seed: u32,
-    turns: u64,
+    options: LiveOptions,
 ) -> Result<LiveOutcome, Fault>
 where
     M::Program: Send + Sync,
-    requires config { IsRightConfig config }
-    requires events { All (IsLive config.nodes) events.now }
+    requires config { IsRightConfig options.config }
+    requires events { All (IsLive options.config.nodes) events.now }
     // claim (outcome): In a run of a whole program in threads all nodes and tasks have their seats
     //   at one table; the nodes note the interrupts and ticks among the events, in order; each node
     //   and task makes its turns over the link that the seed gives to it, the tasks with the calls
@@ -106,18 +105,23 @@ where
     //   of a last reply
     // claim (only): The only fault that ends a run in threads is `OutOfMemory`
     ensures outcome { IfOk result (IsLiveRun M.next M.answers M.begin
-        config program.now events.now seed turns) }
+        options.config program.now events.now options.seed options.turns) }
     ensures only { IfErr result IsLiveFault }
 {
     let AllSeats {
         mut nodes,
         tasks,
         audit,
-    } = seats_in_memory::<M>(alloc, config, program)?;
+    } = seats_in_memory::<M>(alloc, options.config, program)?;
     note_all(&mut nodes, alloc, events)?;
-    let nodes = node_starts(alloc, seed, nodes)?;
-    let tasks = task_starts(alloc, seed, events, tasks)?;
-    let pace = Pace::new(alloc, config.nodes)?;
-    let (nodes, tasks) = run_threads(rt, alloc, nodes, tasks, &pace, turns)?;
+    let nodes = node_starts(alloc, options.seed, nodes)?;
+    let tasks = task_starts(alloc, options.seed, events, tasks)?;
+    let pace = Pace::new(alloc, options.config.nodes)?;
+    let loops = LoopOptions {
+        alloc,
+        gate: &pace,
+        turns: options.turns,
+    };
+    let (nodes, tasks) = run_threads(rt, nodes, tasks, loops)?;
     audited(alloc, audit, nodes, tasks)
 }

@@ -1,8 +1,8 @@
-//! Prints the result of an event.
+//! Prints the parts of the result of an event.
 
-ghost use Rattle.std.specs.Prelude.{◌≡◌, ◌≤◌, ◌-◌, ◌++◌, Some, drop, IfErr, IfOk};
+ghost use Rattle.std.specs.Prelude.{◌≡◌, ◌≤◌, ◌-◌, Some, drop, IfErr, IfOk};
 ghost use Rattle.rp_model.specs.World.{part_at};
-ghost use Rattle.rp_run.specs.Output.{names_of, message_text, trace_text, traced_text, opened_text, full_text, dropped_text, node_of_event, node_of_step, receiver_of, taken_text, effect_text};
+ghost use Rattle.rp_run.specs.Output.{names_of, message_text, trace_text, traced_text, opened_text, full_text, dropped_text, node_of_event, node_of_step, receiver_of, taken_text};
 ghost use Rattle.rp_output.specs.Trace.{task_name, party_text_of, message_line_of};
 ghost use Rattle.rp_output.specs.PartyText.{shown_party};
 ghost use Rattle.rp_output.specs.FaultMessage.{with_line_feed};
@@ -15,7 +15,7 @@ use rp_base::{Answer, Fault, NodeId, TaskId};
 use rp_codec::{Packet, Party, decode};
 use rp_deck::Task;
 use rp_machine::Machine;
-use rp_model::{Dropped, Effect, Event, Step};
+use rp_model::{Dropped, Event, Step};
 use rp_output::{
     BodyText, FullLine, OpenedLine, PartyText, ReplyLine, RunningLine, TraceLine, print,
 };
@@ -24,34 +24,9 @@ use rp_world::Cluster;
 use std::alloc::Global;
 use std::io::Write;
 
-/// Prints the result of an event: its packets, if they are printed, how a restart went, a pending
-/// item that was dropped, and the reply that a task takes.
-pub fn print_effect<M: Machine, D: CutDevice, W: Write>(
-    alloc: Global,
-    cluster: &Cluster<M, D>,
-    options: &RunOptions<'_>,
-    event: &Event,
-    effect: &Effect,
-    writer: &mut W,
-) -> Result<(), Fault>
-    requires { 1 ≤ effect.now.first }
-    ensures printed { Writes (W.contents writer.old) (W.contents writer.new)
-        (traced_text options.now.traced (names_of options.now.tasks.now) effect.now.first
-        (drop (effect.now.first - 1) cluster.now.world.sent)
-        ++ effect_text (names_of options.now.tasks.now) cluster.now.world.sent event.now
-        effect.now.opened effect.now.dropped effect.now.taken) result }
-    ensures fault { IfErr result IsRunFault }
-{
-    let tasks = options.tasks;
-    print_trace(alloc, cluster, options, effect.first, writer)?;
-    print_restart(alloc, event, effect.opened, writer)?;
-    print_dropped(alloc, cluster, event, effect.dropped, writer)?;
-    print_taken(alloc, tasks, effect.taken, writer)
-}
-
 /// Prints the packets from a number on, if they are printed.
 #[inline(always)]
-fn print_trace<M: Machine, D: CutDevice, W: Write>(
+pub(crate) fn print_trace<M: Machine, D: CutDevice, W: Write>(
     alloc: Global,
     cluster: &Cluster<M, D>,
     options: &RunOptions<'_>,
@@ -172,7 +147,7 @@ fn task_name(tasks: &IndexMap<String, Task>, task: TaskId) -> &str
 
 /// Prints how a restart went.
 #[inline(always)]
-fn print_restart<W: Write>(
+pub(crate) fn print_restart<W: Write>(
     alloc: Global,
     event: &Event,
     opened: Option<(u64, u64)>,
@@ -201,7 +176,7 @@ fn print_restart<W: Write>(
 
 /// Prints that a pending item found no place, if one did not.
 #[inline(always)]
-fn print_dropped<M: Machine, D: CutDevice, W: Write>(
+pub(crate) fn print_dropped<M: Machine, D: CutDevice, W: Write>(
     alloc: Global,
     cluster: &Cluster<M, D>,
     event: &Event,
@@ -292,7 +267,7 @@ fn receiver<M: Machine, D: CutDevice>(
 
 /// Prints the reply that a task takes, if it takes one.
 #[inline(always)]
-fn print_taken<W: Write>(
+pub(crate) fn print_taken<W: Write>(
     alloc: Global,
     tasks: &IndexMap<String, Task>,
     taken: Option<Answer>,

@@ -1,22 +1,22 @@
 //! Runs the lines of a script, at any machine and over any devices that never fail.
 
-ghost use Rattle.std.specs.Prelude.{◌≡◌, ◌≤◌, ◌<◌, ◌^◌, [], length, All, IfErr, OnOk};
+ghost use Rattle.std.specs.Prelude.{◌≡◌, ◌≤◌, ◌<◌, ◌-◌, ◌^◌, ◌++◌, [], length, drop, All, IfErr, OnOk};
 ghost use Rattle.rp_model.specs.World.{part_at};
 ghost use Rattle.rp_world.specs.Steps.{IsSameSetup};
 ghost use Rattle.rp_deck.specs.Script.{FitsIn, IsEventWithin};
-ghost use Rattle.rp_run.specs.Output.{Play, event_said, lost, drained, part_text, nodes_text, command_said, run_said, text_of};
+ghost use Rattle.rp_run.specs.Output.{Play, event_said, lost, drained, part_text, nodes_text, command_said, run_said, text_of, names_of, traced_text, effect_text};
 ghost use Rattle.rp_run.specs.Runs.{run_setting, opening_setup, HasParts, Follows, Says};
 ghost use Rattle.rp_output.specs.Stream.{Writes};
 ghost use Rattle.rp_run.specs.Faults.{IsDeviceRunFault};
 ghost use Rattle.rp_output.specs.Faults.{IsRunFault};
 
-use crate::effects::print_effect;
+use crate::effects::{print_dropped, print_restart, print_taken, print_trace};
 use crate::options::RunOptions;
 use crate::settled::Settled;
 use rp_base::{Fault, NodeId};
 use rp_deck::{Command, Line};
 use rp_machine::Machine;
-use rp_model::{Event, Step, worlds_grow};
+use rp_model::{Effect, Event, Step, worlds_grow};
 use rp_output::{
     AppliedLine, DrainLimitLine, RefusedLine, StoppedLine, is_refusal, print, write_whole,
 };
@@ -50,11 +50,12 @@ pub fn run_lines<M: Machine, D: CutDevice + InfallibleDevice, W: Write>(
     ensures fault { IfErr result IsRunFault }
 {
     let mut run = Run {
+        alloc,
         cluster: Cluster::<M, D>::new(alloc, options.config, program, devices)?,
         settled: Settled::new(alloc),
     };
     for line in lines {
-        let taken = run.take(alloc, options, line, writer);
+        let taken = run.take(options, line, writer);
         run.cluster.never_failed();
         taken?;
     }
@@ -64,6 +65,7 @@ pub fn run_lines<M: Machine, D: CutDevice + InfallibleDevice, W: Write>(
 /// A run of a script.
 #[derive(Drop)]
 struct Run<M: Machine, D: CutDevice> {
+    alloc: Global,
     cluster: Cluster<M, D>,
     settled: Settled,
 }
@@ -72,7 +74,6 @@ impl<M: Machine, D: CutDevice> Run<M, D> {
     /// Does what a line asks for.
     fn take<W: Write>(
         &mut self,
-        alloc: Global,
         options: &RunOptions<'_>,
         line: &Line,
         writer: &mut W,
@@ -93,17 +94,16 @@ impl<M: Machine, D: CutDevice> Run<M, D> {
     {
         let number = line.number;
         match line.command {
-            Command::Take(event) => self.step(alloc, options, number, &event, writer),
-            Command::Lose { first, last } => self.lose(alloc, number, first, last, writer),
-            Command::Drain => self.drain(alloc, options, number, writer),
-            Command::Show => self.show(alloc, options, writer),
+            Command::Take(event) => self.step(options, number, &event, writer),
+            Command::Lose { first, last } => self.lose(number, first, last, writer),
+            Command::Drain => self.drain(options, number, writer),
+            Command::Show => self.show(options, writer),
         }
     }
 
     /// Takes a step, settles its messages and prints its effect; or prints that it was refused.
     fn step<W: Write>(
         &mut self,
-        alloc: Global,
         options: &RunOptions<'_>,
         line: u32,
         event: &Event,
@@ -124,20 +124,44 @@ impl<M: Machine, D: CutDevice> Run<M, D> {
     {
         worlds_grow::<M>();
         let mut effect = no_effect(0);
-        match self.cluster.step_into(alloc, event, &mut effect) {
+        match self.cluster.step_into(self.alloc, event, &mut effect) {
             Ok(()) => {
                 self.settled.settle_by(event)?;
-                print_effect(alloc, &self.cluster, options, event, &effect, writer)
+                self.print_effect(options, event, &effect, writer)
             }
-            Err(fault) if is_refusal(&fault) => print(alloc, writer, RefusedLine { line, fault }),
+            Err(fault) if is_refusal(&fault) => {
+                print(self.alloc, writer, RefusedLine { line, fault })
+            }
             Err(fault) => Err(fault),
         }
+    }
+
+    /// Prints the result of an event: its packets, if they are printed, how a restart went, a
+    /// pending item that was dropped, and the reply that a task takes.
+    fn print_effect<W: Write>(
+        &self,
+        options: &RunOptions<'_>,
+        event: &Event,
+        effect: &Effect,
+        writer: &mut W,
+    ) -> Result<(), Fault>
+        requires { 1 ≤ effect.now.first }
+        ensures printed { Writes (W.contents writer.old) (W.contents writer.new)
+            (traced_text options.now.traced (names_of options.now.tasks.now) effect.now.first
+            (drop (effect.now.first - 1) self.now.cluster.world.sent)
+            ++ effect_text (names_of options.now.tasks.now) self.now.cluster.world.sent event.now
+            effect.now.opened effect.now.dropped effect.now.taken) result }
+        ensures fault { IfErr result IsRunFault }
+    {
+        print_trace(self.alloc, &self.cluster, options, effect.first, writer)?;
+        print_restart(self.alloc, event, effect.opened, writer)?;
+        print_dropped(self.alloc, &self.cluster, event, effect.dropped, writer)?;
+        print_taken(self.alloc, options.tasks, effect.taken, writer)
     }
 
     /// The messages from the first to the last count as settled, where all of them were sent.
     fn lose<W: Write>(
         &mut self,
-        alloc: Global,
         line: u32,
         first: u64,
         last: u64,
@@ -154,7 +178,7 @@ impl<M: Machine, D: CutDevice> Run<M, D> {
         let sent = self.cluster.messages();
         if first > sent || last > sent {
             let fault = Fault::NoSuchMessage;
-            return print(alloc, writer, RefusedLine { line, fault });
+            return print(self.alloc, writer, RefusedLine { line, fault });
         }
         Ok(self.settled.settle_all(first, last)?)
     }
@@ -162,7 +186,6 @@ impl<M: Machine, D: CutDevice> Run<M, D> {
     /// Delivers the least message that is not settled, until none is left or n were delivered.
     fn drain<W: Write>(
         &mut self,
-        alloc: Global,
         options: &RunOptions<'_>,
         line: u32,
         writer: &mut W,
@@ -185,18 +208,17 @@ impl<M: Machine, D: CutDevice> Run<M, D> {
                 return Ok(());
             }
             let event = Event::Node(Step::Deliver(message));
-            self.step(alloc, options, line, &event, writer)?;
+            self.step(options, line, &event, writer)?;
         }
         if self.settled.least() > self.cluster.messages() {
             return Ok(());
         }
-        print(alloc, writer, DrainLimitLine { line })
+        print(self.alloc, writer, DrainLimitLine { line })
     }
 
     /// Prints every node's state.
     fn show<W: Write>(
         &self,
-        alloc: Global,
         options: &RunOptions<'_>,
         writer: &mut W,
     ) -> Result<(), Fault>
@@ -208,7 +230,7 @@ impl<M: Machine, D: CutDevice> Run<M, D> {
     {
         for place in 0..options.config.nodes {
             let node = NodeId::new(place + 1).unwrap();
-            self.show_node(alloc, options, node, writer)?;
+            self.show_node(options, node, writer)?;
         }
         Ok(())
     }
@@ -216,7 +238,6 @@ impl<M: Machine, D: CutDevice> Run<M, D> {
     /// Prints a node's state.
     fn show_node<W: Write>(
         &self,
-        alloc: Global,
         options: &RunOptions<'_>,
         node: NodeId,
         writer: &mut W,
@@ -234,11 +255,11 @@ impl<M: Machine, D: CutDevice> Run<M, D> {
                     node,
                     applied: u32::from(applied),
                 };
-                print(alloc, writer, line)?;
-                let image = self.cluster.image(alloc, node)?;
+                print(self.alloc, writer, line)?;
+                let image = self.cluster.image(self.alloc, node)?;
                 write_whole(writer, &image)
             }
-            Err(_) => print(alloc, writer, StoppedLine { node }),
+            Err(_) => print(self.alloc, writer, StoppedLine { node }),
         }
     }
 }

@@ -18,9 +18,9 @@ ghost use Rattle.rp_deck.specs.Live.{IsDeckFor};
 use crate::deck_read::read_given;
 use crate::figures::{FiguresLine, milliseconds_since};
 use crate::live_output::write_outcome;
-use rp_base::{Config, Fault};
+use rp_base::Fault;
 use rp_deck::{Command, Deck, DeckProgram, Line, Mode};
-use rp_live::{LiveOutcome, live};
+use rp_live::{LiveOptions, LiveOutcome, live};
 use rp_machine::Tally;
 use rp_model::Event;
 use rp_object::{Objects, Program};
@@ -85,14 +85,14 @@ fn live_deck<T: Threads + Wait>(
     ensures fault { IfErr result IsRunFault }
 {
     let events = events_of(alloc, deck.script.as_slice())?;
-    let turns = u64::from(turns);
+    let options = LiveOptions {
+        config: deck.config,
+        seed,
+        turns: u64::from(turns),
+    };
     match &deck.program {
-        DeckProgram::Tally(program) => {
-            live::<T, Tally>(rt, alloc, deck.config, program, &events, seed, turns)
-        }
-        DeckProgram::Objects(program) => {
-            live_objects(rt, alloc, deck.config, program, &events, seed, turns)
-        }
+        DeckProgram::Tally(program) => live::<T, Tally>(rt, alloc, program, &events, options),
+        DeckProgram::Objects(program) => live_objects(rt, alloc, program, &events, options),
     }
 }
 
@@ -100,20 +100,18 @@ fn live_deck<T: Threads + Wait>(
 fn live_objects<T: Threads + Wait>(
     rt: &T,
     alloc: Global,
-    config: Config,
     program: &Program,
     events: &[Event],
-    seed: u32,
-    turns: u64,
+    options: LiveOptions,
 ) -> Result<LiveOutcome, Fault>
-    requires config { IsRightConfig config }
-    requires events { All (IsLive config.nodes) events.now }
+    requires config { IsRightConfig options.config }
+    requires events { All (IsLive options.config.nodes) events.now }
     ensures outcome { IfOk result (IsLiveRun objects_next objects_answers
         (λ program. first_state (arc_value program.declarations))
-        config program.now events.now seed turns) }
+        options.config program.now events.now options.seed options.turns) }
     ensures only { IfErr result IsLiveFault }
 {
-    live::<T, Objects>(rt, alloc, config, program, events, seed, turns)
+    live::<T, Objects>(rt, alloc, program, events, options)
 }
 
 /// The event that a command asks for, if it asks for one.

@@ -8,13 +8,15 @@ use denote.Enum.Enum.{Sum, payload}
 use denote.Model.Local.{Parts}
 use denote.Model.Local as local
 use denote.Model.Marks.{tied_send}
-use denote.Param.Send.{IsSend, AllSend, struct_send, recorded_send, sendable}
+use denote.Param.Send.{IsSend, IsSync, AllSend, struct_send, recorded_send, sendable}
+use denote.Ref.{NamedLft}
 use denote.Struct.Declared.{shape}
 use denote.Struct.Field.{rows}
 use denote.Struct.Struct.{Struct}
 use denote.Struct.Tuple.{parts, type_at, TupleAt}
 use mir.Syntax.{Sym}
 use Rattle.std.proofs.Crossing.{crosses}
+use Rattle.std.proofs.alloc.Global.TheSendSync as heap
 use Rattle.std.proofs.MapsCrossing as maps
 use Rattle.std.specs.contracts.snapshot.Snapshot as Snapshot
 use Rattle.circular_buffer.proofs.cells.Cells.TheSendSync as cells
@@ -45,6 +47,7 @@ use Rattle.rp_boxes.specs.contracts.node_seat.NodeSeat.TheInside as node_seat
 use Rattle.rp_boxes.specs.contracts.task_seat.TaskSeat as TaskSeat
 use Rattle.rp_boxes.specs.contracts.task_seat.TaskSeat.TheInside as task_seat
 use Rattle.rp_threads.specs.contracts.loops.NodeEnd as NodeEnd
+use Rattle.rp_threads.specs.contracts.options.LoopOptions as LoopOptions
 use Rattle.rp_threads.specs.contracts.tasks.TaskCall as TaskCall
 use Rattle.rp_threads.specs.contracts.tasks.TaskEnd as TaskEnd
 
@@ -213,6 +216,11 @@ task_end_send M P m s = recorded_send (TaskEnd.the_field M P m).row _ _ (TaskEnd
   (search (crosses, sendable), (search (crosses, sendable), (search (crosses, sendable), (search (crosses, sendable, fault_send), tt)))),
 ))
 
+-- ---- the options of a loop
+
+pub options_send : (κ : NamedLft) (G : RattleType) → IsSync G → IsSend (LoopOptions.the_row κ G)
+options_send κ G s = search (crosses, sendable, heap.the_field_send) depth 40 fits 20000
+
 -- ---- what a closure captures
 
 all_sent : (Ts : List RattleType) → AllSend Ts → AllSend (rows (parts Ts))
@@ -223,11 +231,10 @@ row_send : (name : Sym) (Ts : List RattleType) → AllSend Ts → IsSend (TupleA
 row_send name Ts all =
     let T = type_at name Ts in recorded_send (Struct (shape T)) T.D T.to T.to_one (struct_send (shape T) (all_sent Ts all))
 
--- a closure that captures six values
-pub six_send : (name : Sym) (A B C D E F : RattleType) → IsSend A → IsSend B → IsSend C → IsSend D → IsSend E → IsSend F → IsSend (TupleAt name (A ∷ B ∷ C ∷ D ∷ E ∷ F ∷ []))
-six_send name A B C D E F a b c d e f = row_send name (A ∷ B ∷ C ∷ D ∷ E ∷ F ∷ []) (a, (b, (c, (d, (e, (f, tt))))))
+-- a closure that captures four values
+pub four_send : (name : Sym) (A B C D : RattleType) → IsSend A → IsSend B → IsSend C → IsSend D → IsSend (TupleAt name (A ∷ B ∷ C ∷ D ∷ []))
+four_send name A B C D a b c d = row_send name (A ∷ B ∷ C ∷ D ∷ []) (a, (b, (c, (d, tt))))
 
--- a closure that captures seven values
-pub seven_send : (name : Sym) (A B C D E F G : RattleType) → IsSend A → IsSend B → IsSend C → IsSend D → IsSend E → IsSend F → IsSend G → IsSend (TupleAt name (A ∷ B ∷ C ∷ D ∷ E ∷ F ∷ G ∷ []))
-seven_send name A B C D E F G a b c d e f g =
-    row_send name (A ∷ B ∷ C ∷ D ∷ E ∷ F ∷ G ∷ []) (a, (b, (c, (d, (e, (f, (g, tt)))))))
+-- a closure that captures five values
+pub five_send : (name : Sym) (A B C D E : RattleType) → IsSend A → IsSend B → IsSend C → IsSend D → IsSend E → IsSend (TupleAt name (A ∷ B ∷ C ∷ D ∷ E ∷ []))
+five_send name A B C D E a b c d e = row_send name (A ∷ B ∷ C ∷ D ∷ E ∷ []) (a, (b, (c, (d, (e, tt)))))

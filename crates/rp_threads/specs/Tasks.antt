@@ -1,9 +1,8 @@
 -- The calls that a task's loop made.
 use Rattle.std.specs.Prelude.{◌≡◌, ℕ, suc, ◌+◌, ◌<◌, ◌≤◌, Bool, true, false, Option, Some, None, List, length}
-use Rattle.std.specs.Prelude.{slice_get, if◌then◌else◌, ℤ}
+use Rattle.std.specs.Prelude.{slice_get, if◌then◌else◌}
 use Rattle.rp_base.specs.Sets.{Has}
 use Rattle.rp_base.specs.declared.action.Action.{Action}
-use Rattle.rp_base.specs.declared.action.Operation.{Operation}
 use Rattle.rp_base.specs.Calls.{next_call}
 use Rattle.rp_codec.specs.Message.{Message}
 use Rattle.rp_model.specs.Parts.{TaskPart}
@@ -15,10 +14,6 @@ use Rattle.rp_boxes.specs.Parts.{Part, OfTask}
 use Rattle.rp_boxes.specs.Seats.{SeatState}
 use Rattle.rp_threads.specs.declared.tasks.Calls.{Calls}
 use Rattle.rp_threads.specs.declared.tasks.TaskCall.{TaskCall}
-
--- a call of an operation of an object, and the node that is asked first
-abbrev pub called : ℕ → ℕ → Operation → ℤ → TaskCall
-called node object operation arg = record { node = node; object = object; operation = operation; arg = arg }
 
 -- the call that a task makes after n, as nodes know it
 abbrev pub call_after : ℕ → ℕ → TaskCall → Action

@@ -4,6 +4,7 @@
 //! - `sends`: the packets of a step go into their boxes
 //! - `turns`: a node's turn
 //! - `gate`: who says when a node turns
+//! - `options`: what the loops of a run share
 //! - `rotation`: whose box a loop empties
 //! - `patience`: when a node leads anew
 //! - `loops`: a node's turns, one after the other
@@ -16,6 +17,7 @@
 mod crossing;
 mod gate;
 mod loops;
+mod options;
 mod patience;
 mod rotation;
 mod sends;
@@ -27,6 +29,7 @@ mod turns;
 pub use crossing::{node_seat_crosses, task_seat_crosses};
 pub use gate::{Gate, Open};
 pub use loops::{NodeEnd, node_loop};
+pub use options::LoopOptions;
 pub use starts::{NodeStart, TaskStart};
 pub use tasks::{TaskCall, TaskEnd, task_loop};
 pub use threads::run_threads;

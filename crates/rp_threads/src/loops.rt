@@ -8,6 +8,7 @@ ghost use Rattle.rp_threads.specs.Threads.{IsLooped, end_of};
 ghost use Rattle.rp_threads.specs.Turns.{IsEventBy, IsStopBy};
 
 use crate::gate::Gate;
+use crate::options::LoopOptions;
 use crate::patience::Patience;
 use crate::rotation::sender;
 use crate::turns::{Turn, TurnResult, node_step, node_turn};
@@ -224,19 +225,18 @@ impl<M: Machine, D: Device> Worker<M, D> {
     }
 }
 
-/// Turns of a node, n of them, with the boxes of the nodes 1 to `nodes` and of the tasks emptied in
-/// rotation. The node is to lead in the turns whose number is 0 modulo 8 and its own number; and
-/// where a turn is idle while something is pending, it leads anew at the first position that it has
-/// not applied, once it has waited for so long (`Patience`). A fault ends the loop, but where it
-/// only refuses that the node leads: `OutOfMemory`, `Device` where its device failed, or `Failed`
-/// where it had failed before the first turn. It waits for nobody, unless the gate does.
+/// Turns of a node, as many as the options say, with the boxes of the nodes 1 to `nodes` and of the
+/// tasks emptied in rotation. The node is to lead in the turns whose number is 0 modulo 8 and its
+/// own number; and where a turn is idle while something is pending, it leads anew at the first
+/// position that it has not applied, once it has waited for so long (`Patience`). A fault ends the
+/// loop, but where it only refuses that the node leads: `OutOfMemory`, `Device` where its device
+/// failed, or `Failed` where it had failed before the first turn. It waits for nobody, unless the
+/// gate does.
 pub fn node_loop<M: Machine, D: Device, G: Gate>(
     seat: NodeSeat<M, D>,
     line: FaultLine,
-    alloc: Global,
     nodes: u8,
-    gate: &G,
-    turns: u64,
+    options: LoopOptions<'_, G>,
 ) -> NodeEnd<M, D>
     requires nodes { nodes ≤ 7 }
     requires line { line.held ≡ [] }
@@ -254,7 +254,8 @@ pub fn node_loop<M: Machine, D: Device, G: Gate>(
     // claim (result): A node's loop ends by the fault of a turn that was not made, after turns that
     //   were: out of memory, `Device` if a call of the device failed, or `Failed` if the node was
     //   stopped from the start
-    ensures { IsLooped M.next M.answers M.begin G.lets G.heard nodes turns seat line result }
+    ensures { IsLooped M.next M.answers M.begin G.lets G.heard nodes options.turns
+        seat line result }
 {
     let mut worker = Worker {
         seat,
@@ -268,8 +269,8 @@ pub fn node_loop<M: Machine, D: Device, G: Gate>(
         skipped: 0,
         lost: 0,
     };
-    for done in 0..turns {
-        match worker.turn(alloc, nodes, gate, done + 1) {
+    for done in 0..options.turns {
+        match worker.turn(options.alloc, nodes, options.gate, done + 1) {
             Ok(made) => counts.count(made),
             Err(fault) => return worker.ended(counts, Some(fault)),
         }

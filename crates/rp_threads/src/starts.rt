@@ -7,12 +7,13 @@ ghost use Rattle.rp_threads.specs.Threads.{IsLooped, IsTaskLooped};
 
 use crate::gate::Gate;
 use crate::loops::{NodeEnd, node_loop};
+use crate::options::LoopOptions;
 use crate::tasks::{TaskCall, TaskEnd, task_loop};
 use rp_boxes::{NodeSeat, TaskSeat};
 use rp_machine::Machine;
 use rp_store::Device;
 use rp_tasks::FaultLine;
-use std::alloc::{AllocError, Global};
+use std::alloc::AllocError;
 use std::marker::PhantomData;
 use std::snapshot::Snapshot;
 use std::thread::{Promise, PromisedHandle, Scope};
@@ -75,10 +76,8 @@ impl<M: Machine, G: Gate> Promise<TaskEnd<M>> for TaskGuarantee<M, G> {
 pub(crate) fn start_node<'s, E, M: Machine + Send + 's, D: Device + Send + 's, G: Gate + Sync>(
     scope: &Scope<'s, E>,
     start: NodeStart<M, D>,
-    alloc: Global,
     nodes: u8,
-    gate: &'s G,
-    turns: u64,
+    options: LoopOptions<'s, G>,
 ) -> Result<PromisedHandle<NodeEnd<M, D>, NodeGuarantee<M, D, G>>, AllocError>
 where
     M::Program: Send,
@@ -87,7 +86,7 @@ where
     ensures seat { IfOk result (λ handle. handle.promise.seat.value ≡ start.seat) }
     ensures line { IfOk result (λ handle. handle.promise.line.value ≡ start.line) }
     ensures nodes { IfOk result (λ handle. handle.promise.nodes ≡ nodes) }
-    ensures turns { IfOk result (λ handle. handle.promise.turns ≡ turns) }
+    ensures turns { IfOk result (λ handle. handle.promise.turns ≡ options.turns) }
 {
     let NodeStart { seat, line } = start;
     let guarantee = NodeGuarantee {
@@ -95,15 +94,15 @@ where
         line: Snapshot::of(&line),
         gate: PhantomData::<G>,
         nodes,
-        turns,
+        turns: options.turns,
     };
     let handle = scope.spawn_with(
         guarantee,
         move || -> NodeEnd<M, D>
             requires { (nodes ≤ 7) × (line.held ≡ []) }
-            ensures { IsLooped M.next M.answers M.begin G.lets G.heard nodes turns seat line
-                result }
-        { node_loop(seat, line, alloc, nodes, gate, turns) },
+            ensures { IsLooped M.next M.answers M.begin G.lets G.heard nodes options.turns
+                seat line result }
+        { node_loop(seat, line, nodes, options) },
     )?;
     Ok(handle)
 }
@@ -112,10 +111,8 @@ where
 pub(crate) fn start_task<'s, E, M: Machine + Send + 's, G: Gate + Sync>(
     scope: &Scope<'s, E>,
     start: TaskStart<M>,
-    alloc: Global,
     nodes: u8,
-    gate: &'s G,
-    turns: u64,
+    options: LoopOptions<'s, G>,
 ) -> Result<PromisedHandle<TaskEnd<M>, TaskGuarantee<M, G>>, AllocError>
 where
     M::Program: Send,
@@ -126,7 +123,7 @@ where
     ensures calls { IfOk result (λ handle. handle.promise.calls.value ≡ start.calls) }
     ensures line { IfOk result (λ handle. handle.promise.line.value ≡ start.line) }
     ensures nodes { IfOk result (λ handle. handle.promise.nodes ≡ nodes) }
-    ensures turns { IfOk result (λ handle. handle.promise.turns ≡ turns) }
+    ensures turns { IfOk result (λ handle. handle.promise.turns ≡ options.turns) }
 {
     let TaskStart { seat, calls, line } = start;
     let guarantee = TaskGuarantee {
@@ -135,7 +132,7 @@ where
         line: Snapshot::of(&line),
         gate: PhantomData::<G>,
         nodes,
-        turns,
+        turns: options.turns,
     };
     let handle = scope.spawn_with(
         guarantee,
@@ -143,9 +140,9 @@ where
             requires nodes { (1 ≤ nodes) × (nodes ≤ 7) }
             requires line { line.held ≡ [] }
             requires fresh { seat.part ≡ fresh_part (OfTask fresh_task) }
-            ensures { IsTaskLooped M.next M.answers M.begin G.heard_task nodes turns calls.items
-                seat line result }
-        { task_loop(seat, calls.as_slice(), line, alloc, nodes, gate, turns) },
+            ensures { IsTaskLooped M.next M.answers M.begin G.heard_task nodes options.turns
+                calls.items seat line result }
+        { task_loop(seat, calls.as_slice(), line, nodes, options) },
     )?;
     Ok(handle)
 }

@@ -8,12 +8,12 @@ ghost use Rattle.rp_codec.specs.declared.packet.Party.TheVariants as parties;
 ghost use Rattle.rp_model.specs.Parts.{fresh_task};
 ghost use Rattle.rp_model.specs.Tasks.{Again};
 ghost use Rattle.rp_threads.specs.Lines.{HoldsTextsOf, given_on, line_after};
-ghost use Rattle.rp_threads.specs.Tasks.{called};
 ghost use Rattle.rp_threads.specs.TaskRounds.{Hears, Asks, IsRefused, IsTaskTurnOf, IsUnmadeTurn, asked_in, asked_for, heard_by, submitted, with_lost};
 ghost use Rattle.rp_threads.specs.Threads.{IsTaskLooped, task_end_of};
 ghost use Rattle.rp_threads.specs.Turns.{AreSent, IsAllOffered, IsBrought, IsLost, IsOffered};
 
 use crate::gate::Gate;
+use crate::options::LoopOptions;
 use crate::rotation::node_in_turn;
 use rp_base::{Fault, NodeId, Operation};
 use rp_boxes::TaskSeat;
@@ -165,19 +165,14 @@ fn put_sent<M: Machine>(seat: &mut TaskSeat<M>, sent: Sent) -> usize
 fn make<M: Machine>(
     seat: &mut TaskSeat<M>,
     alloc: Global,
-    node: NodeId,
-    object: u8,
-    operation: Operation,
-    arg: i64,
+    call: TaskCall,
 ) -> Result<usize, Fault>
     ensures got { seat.new.part.got ≡ seat.old.part.got }
     ensures ok { IfOk result
-        (Asks M.next M.answers M.begin (submitted (Some (called node object operation arg)))
-        seat.old seat.new) }
-    ensures err { IfErr result (IsRefused (submitted (Some (called node object operation arg)))
-        seat.old seat.new) }
+        (Asks M.next M.answers M.begin (submitted (Some call)) seat.old seat.new) }
+    ensures err { IfErr result (IsRefused (submitted (Some call)) seat.old seat.new) }
 {
-    let sent = seat.call(alloc, node, object, operation, arg)?;
+    let sent = seat.call(alloc, call.node, call.object, call.operation, call.arg)?;
     Ok(put_sent(seat, sent))
 }
 
@@ -195,47 +190,6 @@ fn ask_again<M: Machine>(
     Ok(put_sent(seat, sent))
 }
 
-/// The task makes its next call, if it waits for none and there is one. While it waits it asks the
-/// next node again from time to time. How many packets are lost.
-fn ask<M: Machine>(
-    seat: &mut TaskSeat<M>,
-    alloc: Global,
-    nodes: u8,
-    calls: &[TaskCall],
-    so_far: &mut Calls,
-    turn: u64,
-) -> Result<usize, Fault>
-    requires nodes { (1 ≤ nodes) × (nodes ≤ 7) }
-    ensures got { seat.new.part.got ≡ seat.old.part.got }
-    ensures ok { IfOk result
-        (Asks M.next M.answers M.begin
-        (asked_in nodes calls.now turn so_far.old) seat.old seat.new) }
-    ensures made { OnOk result (so_far.new ≡ asked_for calls.now so_far.old) }
-    ensures err { IfErr result (λ fault. (so_far.new ≡ so_far.old)
-        × IsRefused (asked_in nodes calls.now turn so_far.old) seat.old seat.new fault) }
-{
-    if so_far.waits {
-        if turn % PATIENCE != 0 {
-            return Ok(0);
-        }
-        return ask_again(seat, alloc, node_in_turn(nodes, turn / PATIENCE));
-    }
-    let Some(call) = calls.get(so_far.made) else {
-        return Ok(0);
-    };
-    let lost = make(
-        seat,
-        alloc,
-        call.node,
-        call.object,
-        call.operation,
-        call.arg,
-    )?;
-    so_far.made += 1;
-    so_far.waits = true;
-    Ok(lost)
-}
-
 impl<M: Machine> Caller<M> {
     /// The end of a loop.
     fn ended(self, fault: Option<Fault>) -> TaskEnd<M>
@@ -250,6 +204,40 @@ impl<M: Machine> Caller<M> {
             lost,
             fault,
         }
+    }
+
+    /// The task makes its next call, if it waits for none and there is one. While it waits it asks
+    /// the next node again from time to time. How many packets are lost.
+    fn ask(
+        &mut self,
+        alloc: Global,
+        nodes: u8,
+        calls: &[TaskCall],
+        turn: u64,
+    ) -> Result<usize, Fault>
+        requires nodes { (1 ≤ nodes) × (nodes ≤ 7) }
+        ensures got { self.new.seat.part.got ≡ self.old.seat.part.got }
+        ensures line { self.new.line ≡ self.old.line }
+        ensures ok { IfOk result (Asks M.next M.answers M.begin
+            (asked_in nodes calls.now turn self.old.so_far) self.old.seat self.new.seat) }
+        ensures made { OnOk result (self.new.so_far ≡ asked_for calls.now self.old.so_far) }
+        ensures err { IfErr result (λ fault. (self.new.so_far ≡ self.old.so_far)
+            × IsRefused (asked_in nodes calls.now turn self.old.so_far)
+            self.old.seat self.new.seat fault) }
+    {
+        if self.so_far.waits {
+            if turn % PATIENCE != 0 {
+                return Ok(0);
+            }
+            return ask_again(&mut self.seat, alloc, node_in_turn(nodes, turn / PATIENCE));
+        }
+        let Some(call) = calls.get(self.so_far.made) else {
+            return Ok(0);
+        };
+        let lost = make(&mut self.seat, alloc, *call)?;
+        self.so_far.made += 1;
+        self.so_far.waits = true;
+        Ok(lost)
     }
 
     /// A turn of a task: it fetches from a node through its line, takes what is given on, and then
@@ -273,26 +261,24 @@ impl<M: Machine> Caller<M> {
         )?;
         let answered = hear(&mut self.seat, &mut self.line, alloc)?;
         self.so_far.hear(answered, turn);
-        let lost = ask(&mut self.seat, alloc, nodes, calls, &mut self.so_far, turn)?;
+        let lost = self.ask(alloc, nodes, calls, turn)?;
         self.so_far.lose(lost);
         Ok(())
     }
 }
 
-/// Turns of a task, n of them. In each it fetches from one of the nodes 1 to `nodes`, in rotation,
-/// through its line, and takes the reply that the line may give on. It makes its calls in order,
-/// the first in the first turn and each other once the one before has its reply; while it waits it
-/// asks the next node again in every 16th turn. A fault ends the loop: `OutOfMemory`,
-/// `NumbersSpent` where no number is left for the next call, or `BadConfig` where that is not right
-/// or asks a node above the last. It waits for nobody, unless the gate does.
+/// Turns of a task, as many as the options say. In each it fetches from one of the nodes 1 to
+/// `nodes`, in rotation, through its line, and takes the reply that the line may give on. It makes
+/// its calls in order, the first in the first turn and each other once the one before has its reply;
+/// while it waits it asks the next node again in every 16th turn. A fault ends the loop:
+/// `OutOfMemory`, `NumbersSpent` where no number is left for the next call, or `BadConfig` where
+/// that is not right or asks a node above the last. It waits for nobody, unless the gate does.
 pub fn task_loop<M: Machine, G: Gate>(
     seat: TaskSeat<M>,
     calls: &[TaskCall],
     line: FaultLine,
-    alloc: Global,
     nodes: u8,
-    gate: &G,
-    turns: u64,
+    options: LoopOptions<'_, G>,
 ) -> TaskEnd<M>
     requires nodes { (1 ≤ nodes) × (nodes ≤ 7) }
     requires line { line.held ≡ [] }
@@ -309,7 +295,7 @@ pub fn task_loop<M: Machine, G: Gate>(
     //   found their boxes in use, and the copies that its link lost
     // claim (result): A task's loop ends by the fault of a turn that was not made, after turns
     //   that were
-    ensures { IsTaskLooped M.next M.answers M.begin G.heard_task nodes turns calls.now
+    ensures { IsTaskLooped M.next M.answers M.begin G.heard_task nodes options.turns calls.now
         seat line result }
 {
     let mut caller = Caller {
@@ -322,9 +308,9 @@ pub fn task_loop<M: Machine, G: Gate>(
             lost: 0,
         },
     };
-    for done in 0..turns {
-        gate.before_task(caller.seat.number(), done + 1);
-        if let Err(fault) = caller.turn(alloc, nodes, calls, done + 1) {
+    for done in 0..options.turns {
+        options.gate.before_task(caller.seat.number(), done + 1);
+        if let Err(fault) = caller.turn(options.alloc, nodes, calls, done + 1) {
             return caller.ended(Some(fault));
         }
     }

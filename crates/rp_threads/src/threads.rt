@@ -8,11 +8,12 @@ ghost use Rattle.rp_threads.specs.Threads.{IsLooped, IsTaskLooped};
 
 use crate::gate::Gate;
 use crate::loops::NodeEnd;
+use crate::options::LoopOptions;
 use crate::starts::{NodeGuarantee, NodeStart, TaskGuarantee, TaskStart, start_node, start_task};
 use crate::tasks::TaskEnd;
 use rp_machine::Machine;
 use rp_store::Device;
-use std::alloc::{AllocError, Global};
+use std::alloc::AllocError;
 use std::sync::Wait;
 use std::thread;
 use std::thread::{PromisedHandle, Scope, Threads};
@@ -20,11 +21,9 @@ use std::thread::{PromisedHandle, Scope, Threads};
 /// Starts the nodes, each in a thread.
 fn start_nodes<'s, E, M: Machine + Send + 's, D: Device + Send + 's, G: Gate + Sync>(
     scope: &Scope<'s, E>,
-    alloc: Global,
     starts: Vec<NodeStart<M, D>>,
     nodes: u8,
-    gate: &'s G,
-    turns: u64,
+    options: LoopOptions<'s, G>,
 ) -> Result<Vec<PromisedHandle<NodeEnd<M, D>, NodeGuarantee<M, D, G>>>, AllocError>
 where
     M::Program: Send,
@@ -32,12 +31,12 @@ where
     requires lines { All (λ start. start.line.held ≡ []) starts.items }
     ensures { IfOk result (λ handles. AllZip (λ start handle.
         (handle.promise.seat.value ≡ start.seat) × (handle.promise.line.value ≡ start.line)
-        × (handle.promise.nodes ≡ nodes) × (handle.promise.turns ≡ turns))
+        × (handle.promise.nodes ≡ nodes) × (handle.promise.turns ≡ options.turns))
         starts.items handles.items) }
 {
-    let mut handles = Vec::new(alloc);
+    let mut handles = Vec::new(options.alloc);
     for start in starts {
-        handles.push(start_node(scope, start, alloc, nodes, gate, turns)?)?;
+        handles.push(start_node(scope, start, nodes, options)?)?;
     }
     Ok(handles)
 }
@@ -45,11 +44,9 @@ where
 /// Starts the tasks, each in a thread.
 fn start_tasks<'s, E, M: Machine + Send + 's, G: Gate + Sync>(
     scope: &Scope<'s, E>,
-    alloc: Global,
     starts: Vec<TaskStart<M>>,
     nodes: u8,
-    gate: &'s G,
-    turns: u64,
+    options: LoopOptions<'s, G>,
 ) -> Result<Vec<PromisedHandle<TaskEnd<M>, TaskGuarantee<M, G>>>, AllocError>
 where
     M::Program: Send,
@@ -59,11 +56,11 @@ where
     ensures { IfOk result (λ handles. AllZip (λ start handle.
         (handle.promise.seat.value ≡ start.seat) × (handle.promise.calls.value ≡ start.calls)
         × (handle.promise.line.value ≡ start.line) × (handle.promise.nodes ≡ nodes)
-        × (handle.promise.turns ≡ turns)) starts.items handles.items) }
+        × (handle.promise.turns ≡ options.turns)) starts.items handles.items) }
 {
-    let mut handles = Vec::new(alloc);
+    let mut handles = Vec::new(options.alloc);
     for start in starts {
-        handles.push(start_task(scope, start, alloc, nodes, gate, turns)?)?;
+        handles.push(start_task(scope, start, nodes, options)?)?;
     }
     Ok(handles)
 }
@@ -99,11 +96,9 @@ fn join_tasks<R: Threads, M: Machine, G: Gate>(
 fn run_within<'s, E, R: Threads, M: Machine + Send + 's, D: Device + Send + 's, G: Gate + Sync>(
     scope: &Scope<'s, E>,
     rt: &R,
-    alloc: Global,
     nodes: Vec<NodeStart<M, D>>,
     tasks: Vec<TaskStart<M>>,
-    gate: &'s G,
-    turns: u64,
+    options: LoopOptions<'s, G>,
 ) -> Result<(Vec<NodeEnd<M, D>>, Vec<TaskEnd<M>>), AllocError>
 where
     M::Program: Send,
@@ -112,32 +107,30 @@ where
     requires task_lines { All (λ start. start.line.held ≡ []) tasks.items }
     requires fresh { All (λ start. start.seat.part ≡ fresh_part (OfTask fresh_task)) tasks.items }
     ensures nodes { IfOk result (λ ends. AllZip (λ start end.
-        IsLooped M.next M.answers M.begin G.lets G.heard (length nodes.items) turns
+        IsLooped M.next M.answers M.begin G.lets G.heard (length nodes.items) options.turns
         start.seat start.line end) nodes.items ends.0.items) }
     ensures tasks { IfOk result (λ ends. AllZip (λ start end.
-        IsTaskLooped M.next M.answers M.begin G.heard_task (length nodes.items) turns
+        IsTaskLooped M.next M.answers M.begin G.heard_task (length nodes.items) options.turns
         start.calls.items start.seat start.line end) tasks.items ends.1.items) }
 {
     let count = nodes.len() as u8;
-    let nodes = start_nodes(scope, alloc, nodes, count, gate, turns)?;
-    let tasks = start_tasks(scope, alloc, tasks, count, gate, turns)?;
+    let nodes = start_nodes(scope, nodes, count, options)?;
+    let tasks = start_tasks(scope, tasks, count, options)?;
     let nodes = join_nodes::<R, M, D, G>(rt, nodes)?;
     let tasks = join_tasks::<R, M, G>(rt, tasks)?;
     Ok((nodes, tasks))
 }
 
-/// Runs each node and each task in a thread of its own, n turns each, and answers once all of them
-/// have ended, with their ends in the order of the starts. The nodes are taken to be those of the
-/// numbers 1 to n. A node turns as `node_loop` says and a task as `task_loop` does, both by the
-/// gate. `AllocError` where no thread can be made for one of them, or where memory runs out for the
-/// list of them: the threads that were started still run to their end, and no seat comes back.
+/// Runs each node and each task in a thread of its own, and answers once all of them have ended, with
+/// their ends in the order of the starts. The nodes are taken to be those of the numbers 1 to n. A
+/// node turns as `node_loop` says and a task as `task_loop` does, both by the options. `AllocError`
+/// where no thread can be made for one of them, or where memory runs out for the list of them: the
+/// threads that were started still run to their end, and no seat comes back.
 pub fn run_threads<R: Threads + Wait, M: Machine + Send, D: Device + Send, G: Gate + Sync>(
     rt: &R,
-    alloc: Global,
     nodes: Vec<NodeStart<M, D>>,
     tasks: Vec<TaskStart<M>>,
-    gate: &G,
-    turns: u64,
+    options: LoopOptions<'_, G>,
 ) -> Result<(Vec<NodeEnd<M, D>>, Vec<TaskEnd<M>>), AllocError>
 where
     M::Program: Send,
@@ -148,10 +141,10 @@ where
     // claim: The results of the nodes and tasks that were to run are, in the order given, each what
     //   its loop ensures
     ensures nodes { IfOk result (λ ends. AllZip (λ start end.
-        IsLooped M.next M.answers M.begin G.lets G.heard (length nodes.items) turns
+        IsLooped M.next M.answers M.begin G.lets G.heard (length nodes.items) options.turns
         start.seat start.line end) nodes.items ends.0.items) }
     ensures tasks { IfOk result (λ ends. AllZip (λ start end.
-        IsTaskLooped M.next M.answers M.begin G.heard_task (length nodes.items) turns
+        IsTaskLooped M.next M.answers M.begin G.heard_task (length nodes.items) options.turns
         start.calls.items start.seat start.line end) tasks.items ends.1.items) }
 {
     thread::scope(
@@ -164,11 +157,11 @@ where
             requires fresh { All (λ start.
                 start.seat.part ≡ fresh_part (OfTask fresh_task)) tasks.items }
             ensures nodes { IfOk result (λ ends. AllZip (λ start end.
-                IsLooped M.next M.answers M.begin G.lets G.heard (length nodes.items) turns
+                IsLooped M.next M.answers M.begin G.lets G.heard (length nodes.items) options.turns
                 start.seat start.line end) nodes.items ends.0.items) }
             ensures tasks { IfOk result (λ ends. AllZip (λ start end.
-                IsTaskLooped M.next M.answers M.begin G.heard_task (length nodes.items) turns
-                start.calls.items start.seat start.line end) tasks.items ends.1.items) }
-        { run_within(scope, rt, alloc, nodes, tasks, gate, turns) },
+                IsTaskLooped M.next M.answers M.begin G.heard_task (length nodes.items)
+                options.turns start.calls.items start.seat start.line end) tasks.items ends.1.items) }
+        { run_within(scope, rt, nodes, tasks, options) },
     )
 }

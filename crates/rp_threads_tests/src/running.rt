@@ -12,7 +12,7 @@ use rp_machine::{Machine, Tally, TallyProgram};
 use rp_replica::Input;
 use rp_store::{Device, MemDevice};
 use rp_tasks::FaultLine;
-use rp_threads::{Gate, NodeEnd, NodeStart, TaskCall, TaskStart, node_step, run_threads};
+use rp_threads::{Gate, LoopOptions, NodeEnd, NodeStart, TaskCall, TaskStart, node_step, run_threads};
 use std::alloc::Global;
 use std::sync::Wait;
 use std::sync::atomic::{AtomicU64, Ordering};
@@ -256,7 +256,12 @@ where
     let all: AllSeats<M, D> = seats(alloc, CONFIG, program, devices)?;
     let nodes = node_starts(alloc, all.nodes)?;
     let tasks = task_starts(alloc, all.tasks)?;
-    let (mut nodes, mut tasks) = run_threads(rt, alloc, nodes, tasks, gate, TURNS)?;
+    let options = LoopOptions {
+        alloc,
+        gate,
+        turns: TURNS,
+    };
+    let (mut nodes, mut tasks) = run_threads(rt, nodes, tasks, options)?;
     let mut audit = Audit::new(alloc, all.audit);
     let mut stated = Vec::new(alloc);
     for end in nodes.iter_mut() {

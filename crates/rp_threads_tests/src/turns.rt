@@ -6,7 +6,7 @@ use rp_machine::{Machine, Tally, TallyProgram};
 use rp_replica::Input;
 use rp_store::{Device, MemDevice};
 use rp_tasks::FaultLine;
-use rp_threads::{Open, PacketCounts, TaskCall, Turn, node_step, node_turn, task_loop};
+use rp_threads::{LoopOptions, Open, PacketCounts, TaskCall, Turn, node_step, node_turn, task_loop};
 use std::alloc::Global;
 use std::test::Fail;
 
@@ -52,7 +52,12 @@ fn calls<M: Machine, D: Device>(
     let from = Party::Task(TaskId::new(1).ok_or(Fault::BadConfig)?);
     let task = all.tasks.swap_remove(0);
     let line = FaultLine::new(alloc, [0; 32])?;
-    let end = task_loop(task, &[call], line, alloc, 3, &Open, 1);
+    let options = LoopOptions {
+        alloc,
+        gate: &Open,
+        turns: 1,
+    };
+    let end = task_loop(task, &[call], line, 3, options);
     let node = all.nodes.first_mut().ok_or(Fault::BadConfig)?;
     Ok(Made {
         turn: None,

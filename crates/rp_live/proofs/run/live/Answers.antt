@@ -17,7 +17,7 @@ note_all-requires-clause-live g c = subst (λ (n : ℕ). All (IsLive n) c.args.e
 pub note_all-requires-clause-run : goal.note_all-requires-clause-run
 note_all-requires-clause-run g c =
     let seats = c.in_ok-nodes.ensures.seats in
-    nodes_run c.in_ok-nodes.field-0.audit.table c.args.config c.args.program.now seats.0 c.in_ok-nodes.field-0.nodes.items (omega (arith, seats.1.size, c.requires.config.nodes.1)) seats.1.nodes_are
+    nodes_run c.in_ok-nodes.field-0.audit.table c.args.options.config c.args.program.now seats.0 c.in_ok-nodes.field-0.nodes.items (omega (arith, seats.1.size, c.requires.config.nodes.1)) seats.1.nodes_are
 
 pub run_threads-requires-clause-count : goal.run_threads-requires-clause-count
 run_threads-requires-clause-count g c κs within =
@@ -33,7 +33,7 @@ run_threads-requires-clause-task_lines g c κs within k d less = ap (λ l. l.hel
 
 pub run_threads-requires-clause-fresh : goal.run_threads-requires-clause-fresh
 run_threads-requires-clause-fresh g c κs within =
-    let fresh = tasks_fresh c.in_ok-nodes.field-0.audit.table c.args.config c.args.program.now c.in_ok-nodes.field-0.tasks.items c.in_ok-nodes.ensures.seats.1.tasks_are in
+    let fresh = tasks_fresh c.in_ok-nodes.field-0.audit.table c.args.options.config c.args.program.now c.in_ok-nodes.field-0.tasks.items c.in_ok-nodes.ensures.seats.1.tasks_are in
     all_mapped (λ (s : SeatState g.row.M-Program.Denot). s.part ≡ fresh_part (OfTask fresh_task)) (λ s. s.seat) c.in_ok-tasks.tasks.items
     (subst (All (λ (s : SeatState g.row.M-Program.Denot). s.part ≡ fresh_part (OfTask fresh_task))) (sym c.in_ok-tasks.ensures.seats) fresh)
 
@@ -42,7 +42,7 @@ audited-requires-clause-few g c =
     let m = g.M.Machine in
     let starts = c.in_ok-nodes-2.nodes.items in
     let ready = mapped_length (λ s. s.seat) starts c.note_all.new.seats.items c.in_ok-nodes-2.ensures.seats in
-    let ran = zip_length (λ s e. IsLooped m.next m.answers m.begin paced heard (length starts) c.args.turns s.seat s.line e) starts c.in_ok-nodes-3.nodes.items c.in_ok-nodes-3.ensures.nodes in
+    let ran = zip_length (λ s e. IsLooped m.next m.answers m.begin paced heard (length starts) c.args.options.turns s.seat s.line e) starts c.in_ok-nodes-3.nodes.items c.in_ok-nodes-3.ensures.nodes in
     omega (arith, ran, ready, c.note_all.ensures.size, c.in_ok-nodes.ensures.seats.1.size, c.requires.config.nodes.1)
 
 pub audited-requires-clause-ended : goal.audited-requires-clause-ended
@@ -54,15 +54,15 @@ audited-requires-clause-ended g c =
     let noted = c.note_all.new.seats.items in
     let starts = c.in_ok-nodes-2.nodes.items in
     let ready = mapped_length (λ s. s.seat) starts noted c.in_ok-nodes-2.ensures.seats in
-    let count : length starts ≡ a.config.nodes = omega (arith, ready, c.note_all.ensures.size, seats.1.size) in
+    let count : length starts ≡ a.options.config.nodes = omega (arith, ready, c.note_all.ensures.size, seats.1.size) in
     let nodes = c.in_ok-nodes-3.nodes.items in
     let tasks = c.in_ok-nodes-3.tasks.items in
-    let node_loops = node_loops_by m.next m.answers m.begin a.config a.program.now a.events.now a.seed a.turns all.nodes.items all.tasks.items all.audit seats.0 seats.1 noted c.in_ok-note_all.ensures.ok
+    let node_loops = node_loops_by m.next m.answers m.begin a.options.config a.program.now a.events.now a.options.seed a.options.turns all.nodes.items all.tasks.items all.audit seats.0 seats.1 noted c.in_ok-note_all.ensures.ok
     c.in_ok-note_all.ensures.run nodes tasks (λ s. s.seat) (λ s. s.line) starts (length starts) c.in_ok-nodes-2.ensures.seats c.in_ok-nodes-2.ensures.lines count c.in_ok-nodes-3.ensures.nodes in
-    let task_loops = task_loops_by m.next m.answers m.begin a.config a.program.now a.events.now a.seed a.turns all.nodes.items all.tasks.items all.audit seats.0 seats.1 noted c.in_ok-note_all.ensures.ok
+    let task_loops = task_loops_by m.next m.answers m.begin a.options.config a.program.now a.events.now a.options.seed a.options.turns all.nodes.items all.tasks.items all.audit seats.0 seats.1 noted c.in_ok-note_all.ensures.ok
     c.in_ok-note_all.ensures.run nodes tasks (λ s. s.seat) (λ s. s.calls.items) (λ s. s.line) c.in_ok-tasks.tasks.items (length starts) c.in_ok-tasks.ensures.seats c.in_ok-tasks.ensures.calls
     c.in_ok-tasks.ensures.lines count c.in_ok-nodes-3.ensures.tasks in
-    nodes_ended m.next m.answers m.begin a.config a.program.now a.events.now a.seed a.turns all.nodes.items all.tasks.items all.audit seats.0 seats.1 noted c.in_ok-note_all.ensures.ok
+    nodes_ended m.next m.answers m.begin a.options.config a.program.now a.events.now a.options.seed a.options.turns all.nodes.items all.tasks.items all.audit seats.0 seats.1 noted c.in_ok-note_all.ensures.ok
     c.in_ok-note_all.ensures.run nodes tasks node_loops task_loops
 
 pub audited-requires-clause-still : goal.audited-requires-clause-still
@@ -74,15 +74,15 @@ audited-requires-clause-still g c =
     let noted = c.note_all.new.seats.items in
     let starts = c.in_ok-nodes-2.nodes.items in
     let ready = mapped_length (λ s. s.seat) starts noted c.in_ok-nodes-2.ensures.seats in
-    let count : length starts ≡ a.config.nodes = omega (arith, ready, c.note_all.ensures.size, seats.1.size) in
+    let count : length starts ≡ a.options.config.nodes = omega (arith, ready, c.note_all.ensures.size, seats.1.size) in
     let nodes = c.in_ok-nodes-3.nodes.items in
     let tasks = c.in_ok-nodes-3.tasks.items in
-    let node_loops = node_loops_by m.next m.answers m.begin a.config a.program.now a.events.now a.seed a.turns all.nodes.items all.tasks.items all.audit seats.0 seats.1 noted c.in_ok-note_all.ensures.ok
+    let node_loops = node_loops_by m.next m.answers m.begin a.options.config a.program.now a.events.now a.options.seed a.options.turns all.nodes.items all.tasks.items all.audit seats.0 seats.1 noted c.in_ok-note_all.ensures.ok
     c.in_ok-note_all.ensures.run nodes tasks (λ s. s.seat) (λ s. s.line) starts (length starts) c.in_ok-nodes-2.ensures.seats c.in_ok-nodes-2.ensures.lines count c.in_ok-nodes-3.ensures.nodes in
-    let task_loops = task_loops_by m.next m.answers m.begin a.config a.program.now a.events.now a.seed a.turns all.nodes.items all.tasks.items all.audit seats.0 seats.1 noted c.in_ok-note_all.ensures.ok
+    let task_loops = task_loops_by m.next m.answers m.begin a.options.config a.program.now a.events.now a.options.seed a.options.turns all.nodes.items all.tasks.items all.audit seats.0 seats.1 noted c.in_ok-note_all.ensures.ok
     c.in_ok-note_all.ensures.run nodes tasks (λ s. s.seat) (λ s. s.calls.items) (λ s. s.line) c.in_ok-tasks.tasks.items (length starts) c.in_ok-tasks.ensures.seats c.in_ok-tasks.ensures.calls
     c.in_ok-tasks.ensures.lines count c.in_ok-nodes-3.ensures.tasks in
-    nodes_still m.next m.answers m.begin a.config a.program.now a.events.now a.seed a.turns all.nodes.items all.tasks.items all.audit seats.0 seats.1 noted c.in_ok-note_all.ensures.ok
+    nodes_still m.next m.answers m.begin a.options.config a.program.now a.events.now a.options.seed a.options.turns all.nodes.items all.tasks.items all.audit seats.0 seats.1 noted c.in_ok-note_all.ensures.ok
     c.in_ok-note_all.ensures.run nodes tasks node_loops task_loops
 
 pub audited-requires-clause-nodes : goal.audited-requires-clause-nodes
@@ -94,15 +94,15 @@ audited-requires-clause-nodes g c =
     let noted = c.note_all.new.seats.items in
     let starts = c.in_ok-nodes-2.nodes.items in
     let ready = mapped_length (λ s. s.seat) starts noted c.in_ok-nodes-2.ensures.seats in
-    let count : length starts ≡ a.config.nodes = omega (arith, ready, c.note_all.ensures.size, seats.1.size) in
+    let count : length starts ≡ a.options.config.nodes = omega (arith, ready, c.note_all.ensures.size, seats.1.size) in
     let nodes = c.in_ok-nodes-3.nodes.items in
     let tasks = c.in_ok-nodes-3.tasks.items in
-    let node_loops = node_loops_by m.next m.answers m.begin a.config a.program.now a.events.now a.seed a.turns all.nodes.items all.tasks.items all.audit seats.0 seats.1 noted c.in_ok-note_all.ensures.ok
+    let node_loops = node_loops_by m.next m.answers m.begin a.options.config a.program.now a.events.now a.options.seed a.options.turns all.nodes.items all.tasks.items all.audit seats.0 seats.1 noted c.in_ok-note_all.ensures.ok
     c.in_ok-note_all.ensures.run nodes tasks (λ s. s.seat) (λ s. s.line) starts (length starts) c.in_ok-nodes-2.ensures.seats c.in_ok-nodes-2.ensures.lines count c.in_ok-nodes-3.ensures.nodes in
-    let task_loops = task_loops_by m.next m.answers m.begin a.config a.program.now a.events.now a.seed a.turns all.nodes.items all.tasks.items all.audit seats.0 seats.1 noted c.in_ok-note_all.ensures.ok
+    let task_loops = task_loops_by m.next m.answers m.begin a.options.config a.program.now a.events.now a.options.seed a.options.turns all.nodes.items all.tasks.items all.audit seats.0 seats.1 noted c.in_ok-note_all.ensures.ok
     c.in_ok-note_all.ensures.run nodes tasks (λ s. s.seat) (λ s. s.calls.items) (λ s. s.line) c.in_ok-tasks.tasks.items (length starts) c.in_ok-tasks.ensures.seats c.in_ok-tasks.ensures.calls
     c.in_ok-tasks.ensures.lines count c.in_ok-nodes-3.ensures.tasks in
-    nodes_here m.next m.answers m.begin a.config a.program.now a.events.now a.seed a.turns all.nodes.items all.tasks.items all.audit seats.0 seats.1 noted c.in_ok-note_all.ensures.ok
+    nodes_here m.next m.answers m.begin a.options.config a.program.now a.events.now a.options.seed a.options.turns all.nodes.items all.tasks.items all.audit seats.0 seats.1 noted c.in_ok-note_all.ensures.ok
     c.in_ok-note_all.ensures.run nodes tasks node_loops task_loops
 
 pub audited-requires-clause-numbers : goal.audited-requires-clause-numbers
@@ -114,15 +114,15 @@ audited-requires-clause-numbers g c =
     let noted = c.note_all.new.seats.items in
     let starts = c.in_ok-nodes-2.nodes.items in
     let ready = mapped_length (λ s. s.seat) starts noted c.in_ok-nodes-2.ensures.seats in
-    let count : length starts ≡ a.config.nodes = omega (arith, ready, c.note_all.ensures.size, seats.1.size) in
+    let count : length starts ≡ a.options.config.nodes = omega (arith, ready, c.note_all.ensures.size, seats.1.size) in
     let nodes = c.in_ok-nodes-3.nodes.items in
     let tasks = c.in_ok-nodes-3.tasks.items in
-    let node_loops = node_loops_by m.next m.answers m.begin a.config a.program.now a.events.now a.seed a.turns all.nodes.items all.tasks.items all.audit seats.0 seats.1 noted c.in_ok-note_all.ensures.ok
+    let node_loops = node_loops_by m.next m.answers m.begin a.options.config a.program.now a.events.now a.options.seed a.options.turns all.nodes.items all.tasks.items all.audit seats.0 seats.1 noted c.in_ok-note_all.ensures.ok
     c.in_ok-note_all.ensures.run nodes tasks (λ s. s.seat) (λ s. s.line) starts (length starts) c.in_ok-nodes-2.ensures.seats c.in_ok-nodes-2.ensures.lines count c.in_ok-nodes-3.ensures.nodes in
-    let task_loops = task_loops_by m.next m.answers m.begin a.config a.program.now a.events.now a.seed a.turns all.nodes.items all.tasks.items all.audit seats.0 seats.1 noted c.in_ok-note_all.ensures.ok
+    let task_loops = task_loops_by m.next m.answers m.begin a.options.config a.program.now a.events.now a.options.seed a.options.turns all.nodes.items all.tasks.items all.audit seats.0 seats.1 noted c.in_ok-note_all.ensures.ok
     c.in_ok-note_all.ensures.run nodes tasks (λ s. s.seat) (λ s. s.calls.items) (λ s. s.line) c.in_ok-tasks.tasks.items (length starts) c.in_ok-tasks.ensures.seats c.in_ok-tasks.ensures.calls
     c.in_ok-tasks.ensures.lines count c.in_ok-nodes-3.ensures.tasks in
-    nodes_numbered m.next m.answers m.begin a.config a.program.now a.events.now a.seed a.turns all.nodes.items all.tasks.items all.audit seats.0 seats.1 noted c.in_ok-note_all.ensures.ok
+    nodes_numbered m.next m.answers m.begin a.options.config a.program.now a.events.now a.options.seed a.options.turns all.nodes.items all.tasks.items all.audit seats.0 seats.1 noted c.in_ok-note_all.ensures.ok
     c.in_ok-note_all.ensures.run nodes tasks node_loops task_loops
 
 pub audited-requires-clause-tasks : goal.audited-requires-clause-tasks
@@ -134,15 +134,15 @@ audited-requires-clause-tasks g c =
     let noted = c.note_all.new.seats.items in
     let starts = c.in_ok-nodes-2.nodes.items in
     let ready = mapped_length (λ s. s.seat) starts noted c.in_ok-nodes-2.ensures.seats in
-    let count : length starts ≡ a.config.nodes = omega (arith, ready, c.note_all.ensures.size, seats.1.size) in
+    let count : length starts ≡ a.options.config.nodes = omega (arith, ready, c.note_all.ensures.size, seats.1.size) in
     let nodes = c.in_ok-nodes-3.nodes.items in
     let tasks = c.in_ok-nodes-3.tasks.items in
-    let node_loops = node_loops_by m.next m.answers m.begin a.config a.program.now a.events.now a.seed a.turns all.nodes.items all.tasks.items all.audit seats.0 seats.1 noted c.in_ok-note_all.ensures.ok
+    let node_loops = node_loops_by m.next m.answers m.begin a.options.config a.program.now a.events.now a.options.seed a.options.turns all.nodes.items all.tasks.items all.audit seats.0 seats.1 noted c.in_ok-note_all.ensures.ok
     c.in_ok-note_all.ensures.run nodes tasks (λ s. s.seat) (λ s. s.line) starts (length starts) c.in_ok-nodes-2.ensures.seats c.in_ok-nodes-2.ensures.lines count c.in_ok-nodes-3.ensures.nodes in
-    let task_loops = task_loops_by m.next m.answers m.begin a.config a.program.now a.events.now a.seed a.turns all.nodes.items all.tasks.items all.audit seats.0 seats.1 noted c.in_ok-note_all.ensures.ok
+    let task_loops = task_loops_by m.next m.answers m.begin a.options.config a.program.now a.events.now a.options.seed a.options.turns all.nodes.items all.tasks.items all.audit seats.0 seats.1 noted c.in_ok-note_all.ensures.ok
     c.in_ok-note_all.ensures.run nodes tasks (λ s. s.seat) (λ s. s.calls.items) (λ s. s.line) c.in_ok-tasks.tasks.items (length starts) c.in_ok-tasks.ensures.seats c.in_ok-tasks.ensures.calls
     c.in_ok-tasks.ensures.lines count c.in_ok-nodes-3.ensures.tasks in
-    tasks_here m.next m.answers m.begin a.config a.program.now a.events.now a.seed a.turns all.nodes.items all.tasks.items all.audit seats.0 seats.1 noted c.in_ok-note_all.ensures.ok
+    tasks_here m.next m.answers m.begin a.options.config a.program.now a.events.now a.options.seed a.options.turns all.nodes.items all.tasks.items all.audit seats.0 seats.1 noted c.in_ok-note_all.ensures.ok
     c.in_ok-note_all.ensures.run nodes tasks node_loops task_loops
 
 pub returns-clause-outcome : goal.returns-clause-outcome
@@ -154,13 +154,13 @@ returns-clause-outcome g c =
     let noted = c.note_all.new.seats.items in
     let starts = c.in_ok-nodes-2.nodes.items in
     let ready = mapped_length (λ s. s.seat) starts noted c.in_ok-nodes-2.ensures.seats in
-    let count : length starts ≡ a.config.nodes = omega (arith, ready, c.note_all.ensures.size, seats.1.size) in
+    let count : length starts ≡ a.options.config.nodes = omega (arith, ready, c.note_all.ensures.size, seats.1.size) in
     let nodes = c.in_ok-nodes-3.nodes.items in
     let tasks = c.in_ok-nodes-3.tasks.items in
-    let node_loops = node_loops_by m.next m.answers m.begin a.config a.program.now a.events.now a.seed a.turns all.nodes.items all.tasks.items all.audit seats.0 seats.1 noted c.in_ok-note_all.ensures.ok
+    let node_loops = node_loops_by m.next m.answers m.begin a.options.config a.program.now a.events.now a.options.seed a.options.turns all.nodes.items all.tasks.items all.audit seats.0 seats.1 noted c.in_ok-note_all.ensures.ok
     c.in_ok-note_all.ensures.run nodes tasks (λ s. s.seat) (λ s. s.line) starts (length starts) c.in_ok-nodes-2.ensures.seats c.in_ok-nodes-2.ensures.lines count c.in_ok-nodes-3.ensures.nodes in
-    let task_loops = task_loops_by m.next m.answers m.begin a.config a.program.now a.events.now a.seed a.turns all.nodes.items all.tasks.items all.audit seats.0 seats.1 noted c.in_ok-note_all.ensures.ok
+    let task_loops = task_loops_by m.next m.answers m.begin a.options.config a.program.now a.events.now a.options.seed a.options.turns all.nodes.items all.tasks.items all.audit seats.0 seats.1 noted c.in_ok-note_all.ensures.ok
     c.in_ok-note_all.ensures.run nodes tasks (λ s. s.seat) (λ s. s.calls.items) (λ s. s.line) c.in_ok-tasks.tasks.items (length starts) c.in_ok-tasks.ensures.seats c.in_ok-tasks.ensures.calls
     c.in_ok-tasks.ensures.lines count c.in_ok-nodes-3.ensures.tasks in
-    IfOk-weaker c.audited.result _ _ (outcome m.next m.answers m.begin a.config a.program.now a.events.now a.seed a.turns all.nodes.items all.tasks.items all.audit seats.0 seats.1 noted c.in_ok-note_all.ensures.ok
+    IfOk-weaker c.audited.result _ _ (outcome m.next m.answers m.begin a.options.config a.program.now a.events.now a.options.seed a.options.turns all.nodes.items all.tasks.items all.audit seats.0 seats.1 noted c.in_ok-note_all.ensures.ok
     c.in_ok-note_all.ensures.run nodes tasks node_loops task_loops) c.audited.ensures.stated

@@ -44,8 +44,8 @@ returns-in-Err g c =
     let one = add-one done in
     let passes = subst (λ (n : ℕ). lets before.seat.number n ≡ true) one err.1 in
     let unmade = subst (λ (n : ℕ). IsUnmade m.next m.answers m.begin (sender_at c.args.nodes n) (is_to_lead before.seat.number n) before.seat now.seat before.line now.line c.in-Err.fault) one err.2 in
-    subst (IsLooped m.next m.answers m.begin lets heard c.args.nodes c.args.turns c.args.seat c.args.line) (sym c.ended.ensures)
-    (ended m.next m.answers m.begin lets heard c.args.nodes c.args.turns c.args.seat c.args.line done before now.seat now.line c.in-Err.fault c.loop-done.invariant.turns
+    subst (IsLooped m.next m.answers m.begin lets heard c.args.nodes c.args.options.turns c.args.seat c.args.line) (sym c.ended.ensures)
+    (ended m.next m.answers m.begin lets heard c.args.nodes c.args.options.turns c.args.seat c.args.line done before now.seat now.line c.in-Err.fault c.loop-done.invariant.turns
     (omega (arith, c.loop-done-test.true)) err.0 passes unmade)
 
 pub returns : goal.returns
@@ -53,7 +53,7 @@ returns g c =
     let m = g.M.Machine in
     let worker = c.loop-done.worker in
     let now : NodeAt g.row.M-Program.Denot = record { seat = worker.seat; line = worker.line; counts = c.loop-done.counts } in
-    let all : c.loop-done.done ≡ c.args.turns = omega (arith, c.loop-done-test.false, c.loop-done.auto.done-end) in
+    let all : c.loop-done.done ≡ c.args.options.turns = omega (arith, c.loop-done-test.false, c.loop-done.auto.done-end) in
     let turns = subst (λ (n : ℕ). AreTurns m.next m.answers m.begin g.G.Gate.lets g.G.Gate.heard c.args.nodes (before_turns c.args.seat c.args.line) n now) all c.loop-done.invariant.turns in
-    subst (IsLooped m.next m.answers m.begin g.G.Gate.lets g.G.Gate.heard c.args.nodes c.args.turns c.args.seat c.args.line) (sym c.ended-2.ensures)
-    (looped m.next m.answers m.begin g.G.Gate.lets g.G.Gate.heard c.args.nodes c.args.turns c.args.seat c.args.line now turns)
+    subst (IsLooped m.next m.answers m.begin g.G.Gate.lets g.G.Gate.heard c.args.nodes c.args.options.turns c.args.seat c.args.line) (sym c.ended-2.ensures)
+    (looped m.next m.answers m.begin g.G.Gate.lets g.G.Gate.heard c.args.nodes c.args.options.turns c.args.seat c.args.line now turns)

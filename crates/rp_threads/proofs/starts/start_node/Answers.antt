@@ -1,12 +1,11 @@
 -- The seat and the line cross to the thread, and the end crosses back.
 use denote.Param.Send.{sendable}
 use Rattle.std.proofs.Crossing.{crosses}
-use Rattle.std.proofs.alloc.Global.TheSendSync as heap
-use Rattle.rp_threads.proofs.Crossings.{six_send, node_seat_send, line_send, node_end_send}
+use Rattle.rp_threads.proofs.Crossings.{four_send, node_seat_send, line_send, options_send, node_end_send}
 use Rattle.rp_threads.proofs.starts.start_node.Goals as goal
 
 pub spawn_with-requires-send-F : goal.spawn_with-requires-send-F
-spawn_with-requires-send-F g c κs within = search (six_send, crosses, sendable, node_seat_send, line_send, heap.the_field_send) depth 20
+spawn_with-requires-send-F g c κs within = search (four_send, crosses, sendable, node_seat_send, line_send, options_send) depth 20
 
 pub spawn_with-requires-send-T : goal.spawn_with-requires-send-T
 spawn_with-requires-send-T g c κs within = search (crosses, sendable, node_end_send) depth 16

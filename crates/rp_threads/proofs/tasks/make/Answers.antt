@@ -1,5 +1,5 @@
 -- The packet of the step is put.
-use Rattle.std.proofs.Common.{sym, subst, ℤ, w64}
+use Rattle.std.proofs.Common.{rules, sym, subst, ℤ, w64, FitsSigned}
 use Rattle.std.proofs.lemmas.Int.{to_z-of_z}
 use Rattle.rp_boxes.specs.TaskSeats.{IsTaskTurn}
 use Rattle.rp_boxes.specs.Seats.{SeatState}
@@ -9,20 +9,22 @@ use Rattle.rp_threads.proofs.tasks.make.Goals as goal
 
 pub put_sent-requires-clause-sent : goal.put_sent-requires-clause-sent
 put_sent-requires-clause-sent g c =
-    let a = c.args in
-    sent_once c.args.seat.now c.call.new.self (Submit a.node a.object a.operation _) c.in_ok-sent.sent c.in_ok-sent.ensures.ok
+    let call = c.args.call in
+    sent_once c.args.seat.now c.call.new.self (Submit call.node call.object call.operation _) c.in_ok-sent.sent c.in_ok-sent.ensures.ok
 
 pub put_sent-requires-clause-few : goal.put_sent-requires-clause-few
 put_sent-requires-clause-few g c =
-    let a = c.args in
-    few_of_call c.args.seat.now c.call.new.self c.in_ok-sent.sent a.node a.object a.operation _ c.in_ok-sent.ensures.ok
+    let call = c.args.call in
+    few_of_call c.args.seat.now c.call.new.self c.in_ok-sent.sent call.node call.object call.operation _ c.in_ok-sent.ensures.ok
 
 pub returns-clause-ok : goal.returns-clause-ok
 returns-clause-ok g c =
     let m = g.M.Machine in
     let a = c.args in
+    let call = a.call in
     let sent = c.in_ok-sent.sent in
-    let stated = subst (λ (z : ℤ). IsTaskTurn a.seat.now (Submit a.node a.object a.operation z) c.call.new.self sent) (to_z-of_z w64 a.arg c.ranges.arg) c.in_ok-sent.ensures.ok in
+    let fits : FitsSigned w64 call.arg = search rules in
+    let stated = subst (λ (z : ℤ). IsTaskTurn a.seat.now (Submit call.node call.object call.operation z) c.call.new.self sent) (to_z-of_z w64 call.arg fits) c.in_ok-sent.ensures.ok in
     let seat = c.put_sent.new.seat in
-    let turn = subst (λ (now : SeatState g.row.M-Program.Denot). IsTaskTurn a.seat.now (Submit a.node a.object a.operation a.arg) now sent) (sym c.put_sent.ensures.unchanged) stated in
-    asked_by_turn a.seat.now seat sent m.next m.answers m.begin (Submit a.node a.object a.operation a.arg) c.put_sent.result turn c.put_sent.ensures.offered
+    let turn = subst (λ (now : SeatState g.row.M-Program.Denot). IsTaskTurn a.seat.now (Submit call.node call.object call.operation call.arg) now sent) (sym c.put_sent.ensures.unchanged) stated in
+    asked_by_turn a.seat.now seat sent m.next m.answers m.begin (Submit call.node call.object call.operation call.arg) c.put_sent.result turn c.put_sent.ensures.offered

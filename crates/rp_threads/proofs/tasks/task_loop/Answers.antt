@@ -42,8 +42,8 @@ returns-in-Err g c =
     let before : TaskAt g.row.M-Program.Denot = record { seat = caller.seat; line = caller.line; so_far = caller.so_far } in
     let last : TaskAt g.row.M-Program.Denot = record { seat = after.seat; line = after.line; so_far = after.so_far } in
     let unmade = subst (λ (n : ℕ). IsUnmadeTurn a.nodes a.calls.now n before last c.in-Err.fault) (add-one done) c.in-Err.ensures.err in
-    subst (IsTaskLooped m.next m.answers m.begin heard a.nodes a.turns a.calls.now a.seat a.line) (sym c.ended.ensures)
-    (task_ended m.next m.answers m.begin a.calls.now a.nodes heard a.turns a.seat a.line c.requires.fresh done before last c.in-Err.fault c.requires.nodes.0 c.loop-done.invariant.turns
+    subst (IsTaskLooped m.next m.answers m.begin heard a.nodes a.options.turns a.calls.now a.seat a.line) (sym c.ended.ensures)
+    (task_ended m.next m.answers m.begin a.calls.now a.nodes heard a.options.turns a.seat a.line c.requires.fresh done before last c.in-Err.fault c.requires.nodes.0 c.loop-done.invariant.turns
     (omega (arith, c.loop-done-test.true)) (subst (heard before.seat.number) (add-one done) (subst (λ (k : ℕ). heard k (done + 1)) c.number.ensures c.before_task.ensures)) unmade)
 
 pub returns : goal.returns
@@ -53,7 +53,7 @@ returns g c =
     let a = c.args in
     let caller = c.loop-done.caller in
     let now : TaskAt g.row.M-Program.Denot = record { seat = caller.seat; line = caller.line; so_far = caller.so_far } in
-    let all : c.loop-done.done ≡ a.turns = omega (arith, c.loop-done-test.false, c.loop-done.auto.done-end) in
+    let all : c.loop-done.done ≡ a.options.turns = omega (arith, c.loop-done-test.false, c.loop-done.auto.done-end) in
     let turns = subst (λ (n : ℕ). AreTaskTurns m.next m.answers m.begin heard a.nodes a.calls.now (before_calls a.seat a.line) n now) all c.loop-done.invariant.turns in
-    subst (IsTaskLooped m.next m.answers m.begin heard a.nodes a.turns a.calls.now a.seat a.line) (sym c.ended-2.ensures)
-    (task_looped m.next m.answers m.begin a.calls.now a.nodes heard a.turns a.seat a.line c.requires.fresh now turns)
+    subst (IsTaskLooped m.next m.answers m.begin heard a.nodes a.options.turns a.calls.now a.seat a.line) (sym c.ended-2.ensures)
+    (task_looped m.next m.answers m.begin a.calls.now a.nodes heard a.options.turns a.seat a.line c.requires.fresh now turns)

@@ -10,7 +10,7 @@ returns-clause-nodes g c =
     let lets = g.G.Gate.lets in
     let heard = g.G.Gate.heard in
     let starts = c.args.nodes.items in
-    let turns = c.args.turns in
+    let turns = c.args.options.turns in
     let count : c.len-count.result ≡ length c.args.nodes.items = omega (arith, c.len-count.ensures, c.args.nodes.ok.0) in
     zip_on (λ start handle. (handle.promise.seat.value ≡ start.seat) × (handle.promise.line.value ≡ start.line) × (handle.promise.nodes ≡ c.len-count.result) × (handle.promise.turns ≡ turns))
     (λ handle end. IsLooped m.next m.answers m.begin lets heard handle.promise.nodes handle.promise.turns handle.promise.seat.value handle.promise.line.value end)
@@ -26,7 +26,7 @@ pub returns-clause-tasks : goal.returns-clause-tasks
 returns-clause-tasks g c =
     let m = g.M.Machine in
     let heard = g.G.Gate.heard_task in
-    let turns = c.args.turns in
+    let turns = c.args.options.turns in
     let count : c.len-count.result ≡ length c.args.nodes.items = omega (arith, c.len-count.ensures, c.args.nodes.ok.0) in
     let nodes = length c.args.nodes.items in
     zip_on (λ start handle. (handle.promise.seat.value ≡ start.seat) × (handle.promise.calls.value ≡ start.calls) × (handle.promise.line.value ≡ start.line) × (handle.promise.nodes ≡ c.len-count.result) × (handle.promise.turns ≡ turns))

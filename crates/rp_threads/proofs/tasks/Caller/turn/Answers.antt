@@ -15,11 +15,11 @@ returns-clause-ok g c =
     let a = c.args in
     let self = c.args.self.now in
     let old : TaskAt g.row.M-Program.Denot = record { seat = self.seat; line = self.line; so_far = self.so_far } in
-    let new : TaskAt g.row.M-Program.Denot = record { seat = c.ask.new.seat; line = c.hear.new.line; so_far = c.lose.new.self } in
+    let new : TaskAt g.row.M-Program.Denot = record { seat = c.ask.new.self.seat; line = c.ask.new.self.line; so_far = c.lose.new.self } in
     let brought = subst (λ (n : ℕ). IsBrought (Node n) (Task self.seat.number) self.seat c.bring.new.seat self.line c.bring.new.line) c.node_in_turn.ensures c.in_ok-bring.ensures.ok in
     let lost = c.in_ok-lost.lost in
     turn_made m.next m.answers m.begin a.nodes a.calls.now a.turn old new c.bring.new.seat c.bring.new.line brought c.hear.new.seat c.hear-2.new.self c.in_ok-answered.answered c.in_ok-answered.ensures.ok
-    c.hear.ensures.line c.hear-2.ensures lost c.in_ok-lost.ensures.ok (c.lose.ensures ∙ ap (with_lost lost) c.in_ok-lost.ensures.made)
+    (c.ask.ensures.line ∙ c.hear.ensures.line) c.hear-2.ensures lost c.in_ok-lost.ensures.ok (c.lose.ensures ∙ ap (with_lost lost) c.in_ok-lost.ensures.made)
 
 pub returns-in_err-lost-clause-err : goal.returns-in_err-lost-clause-err
 returns-in_err-lost-clause-err g c =
@@ -27,10 +27,10 @@ returns-in_err-lost-clause-err g c =
     let a = c.args in
     let self = c.args.self.now in
     let old : TaskAt g.row.M-Program.Denot = record { seat = self.seat; line = self.line; so_far = self.so_far } in
-    let new : TaskAt g.row.M-Program.Denot = record { seat = c.ask.new.seat; line = c.hear.new.line; so_far = c.ask.new.so_far } in
+    let new : TaskAt g.row.M-Program.Denot = record { seat = c.ask.new.self.seat; line = c.ask.new.self.line; so_far = c.ask.new.self.so_far } in
     let brought = subst (λ (n : ℕ). IsBrought (Node n) (Task self.seat.number) self.seat c.bring.new.seat self.line c.bring.new.line) c.node_in_turn.ensures c.in_ok-bring.ensures.ok in
     let fault = c.in_err-lost.field-0.0 in
     let refused = c.in_err-lost.ensures.err in
     at_fault (λ (e : Fault). IsUnmadeTurn a.nodes a.calls.now a.turn old new e) fault c.from_residual-in_err-lost.result c.from_residual-in_err-lost.ensures.1
     (turn_unmade m.next m.answers m.begin a.nodes a.calls.now a.turn old new c.bring.new.seat c.bring.new.line brought c.hear.new.seat c.hear-2.new.self c.in_ok-answered.answered c.in_ok-answered.ensures.ok
-    c.hear.ensures.line c.hear-2.ensures fault refused.0 refused.1)
+    (c.ask.ensures.line ∙ c.hear.ensures.line) c.hear-2.ensures fault refused.0 refused.1)

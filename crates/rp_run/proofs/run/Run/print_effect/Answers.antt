@@ -1,6 +1,6 @@
 -- One text after another.
 use Rattle.rp_output.proofs.Writing.{writes_failed, writes_after, begins_longer, begins_after}
-use Rattle.rp_run.proofs.effects.print_effect.Goals as goal
+use Rattle.rp_run.proofs.run.Run.print_effect.Goals as goal
 
 pub returns-in_err-print_trace-clause-printed : goal.returns-in_err-print_trace-clause-printed
 returns-in_err-print_trace-clause-printed g c =

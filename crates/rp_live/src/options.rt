@@ -1,0 +1,13 @@
+//! How a program is run in threads.
+
+use rp_base::Config;
+
+/// How a program is run in threads.
+#[derive(Clone, Copy, Debug)]
+pub struct LiveOptions {
+    pub config: Config,
+    /// Which packets are lost, repeated and reordered follows from it.
+    pub seed: u32,
+    /// How many turns each node and each task makes.
+    pub turns: u64,
+}

@@ -1,0 +1,27 @@
+//! What the loops of a run share.
+
+ghost use Rattle.std.specs.Prelude.{◌≡◌};
+
+use std::alloc::{AllocError, Global};
+
+/// How the loops of a run make their turns.
+pub struct LoopOptions<'a, G> {
+    /// Where they take memory.
+    pub alloc: Global,
+    /// Who says when a node turns.
+    pub gate: &'a G,
+    /// How many turns each loop makes.
+    pub turns: u64,
+}
+
+impl<'a, G> Copy for LoopOptions<'a, G> {}
+
+impl<'a, G> Clone for LoopOptions<'a, G> {
+    ghost is_clone = { λ options copy. copy ≡ options };
+
+    ghost is_infallible = { λ _. ⊤ };
+
+    fn clone(&self) -> Result<Self, AllocError> {
+        Ok(*self)
+    }
+}

@@ -217,11 +217,7 @@ impl<M: Machine, D: CutDevice> Run<M, D> {
     }
 
     /// Prints every node's state.
-    fn show<W: Write>(
-        &self,
-        options: &RunOptions<'_>,
-        writer: &mut W,
-    ) -> Result<(), Fault>
+    fn show<W: Write>(&self, options: &RunOptions<'_>, writer: &mut W) -> Result<(), Fault>
         requires { HasParts options.now.config.nodes self.now.cluster }
         ensures shown { Writes (W.contents writer.old) (W.contents writer.new)
             (nodes_text (run_setting M.next M.answers M.begin M.image self.now.cluster options.now)

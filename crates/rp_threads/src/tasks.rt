@@ -162,11 +162,7 @@ fn put_sent<M: Machine>(seat: &mut TaskSeat<M>, sent: Sent) -> usize
 }
 
 /// The task makes a call, and asks its node. How many packets are lost.
-fn make<M: Machine>(
-    seat: &mut TaskSeat<M>,
-    alloc: Global,
-    call: TaskCall,
-) -> Result<usize, Fault>
+fn make<M: Machine>(seat: &mut TaskSeat<M>, alloc: Global, call: TaskCall) -> Result<usize, Fault>
     ensures got { seat.new.part.got ≡ seat.old.part.got }
     ensures ok { IfOk result
         (Asks M.next M.answers M.begin (submitted (Some call)) seat.old seat.new) }

@@ -12,7 +12,9 @@ use rp_machine::{Machine, Tally, TallyProgram};
 use rp_replica::Input;
 use rp_store::{Device, MemDevice};
 use rp_tasks::FaultLine;
-use rp_threads::{Gate, LoopOptions, NodeEnd, NodeStart, TaskCall, TaskStart, node_step, run_threads};
+use rp_threads::{
+    Gate, LoopOptions, NodeEnd, NodeStart, TaskCall, TaskStart, node_step, run_threads,
+};
 use std::alloc::Global;
 use std::sync::Wait;
 use std::sync::atomic::{AtomicU64, Ordering};

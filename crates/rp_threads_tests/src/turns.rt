@@ -6,7 +6,9 @@ use rp_machine::{Machine, Tally, TallyProgram};
 use rp_replica::Input;
 use rp_store::{Device, MemDevice};
 use rp_tasks::FaultLine;
-use rp_threads::{LoopOptions, Open, PacketCounts, TaskCall, Turn, node_step, node_turn, task_loop};
+use rp_threads::{
+    LoopOptions, Open, PacketCounts, TaskCall, Turn, node_step, node_turn, task_loop,
+};
 use std::alloc::Global;
 use std::test::Fail;
 

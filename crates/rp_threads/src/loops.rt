@@ -254,7 +254,7 @@ pub fn node_loop<M: Machine, D: Device, G: Gate>(
     // claim (result): A node's loop ends by the fault of a turn that was not made, after turns that
     //   were: out of memory, `Device` if a call of the device failed, or `Failed` if the node was
     //   stopped from the start
-    ensures { IsLooped M.next M.answers M.begin G.lets G.heard nodes options.turns
+    ensures { IsLooped M.next M.answers M.begin G.lets G.heard nodes options.entry.turns
         seat line result }
 {
     let mut worker = Worker {

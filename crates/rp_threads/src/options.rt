@@ -1,6 +1,6 @@
 //! What the loops of a run share.
 
-ghost use Rattle.std.specs.Prelude.{◌≡◌};
+ghost use Rattle.std.specs.Prelude.{⊤, ◌≡◌};
 
 use std::alloc::{AllocError, Global};
 

@@ -86,7 +86,7 @@ where
     ensures seat { IfOk result (λ handle. handle.promise.seat.value ≡ start.seat) }
     ensures line { IfOk result (λ handle. handle.promise.line.value ≡ start.line) }
     ensures nodes { IfOk result (λ handle. handle.promise.nodes ≡ nodes) }
-    ensures turns { IfOk result (λ handle. handle.promise.turns ≡ options.turns) }
+    ensures turns { IfOk result (λ handle. handle.promise.turns ≡ options.entry.turns) }
 {
     let NodeStart { seat, line } = start;
     let guarantee = NodeGuarantee {
@@ -100,7 +100,7 @@ where
         guarantee,
         move || -> NodeEnd<M, D>
             requires { (nodes ≤ 7) × (line.held ≡ []) }
-            ensures { IsLooped M.next M.answers M.begin G.lets G.heard nodes options.turns
+            ensures { IsLooped M.next M.answers M.begin G.lets G.heard nodes options.entry.turns
                 seat line result }
         { node_loop(seat, line, nodes, options) },
     )?;
@@ -123,7 +123,7 @@ where
     ensures calls { IfOk result (λ handle. handle.promise.calls.value ≡ start.calls) }
     ensures line { IfOk result (λ handle. handle.promise.line.value ≡ start.line) }
     ensures nodes { IfOk result (λ handle. handle.promise.nodes ≡ nodes) }
-    ensures turns { IfOk result (λ handle. handle.promise.turns ≡ options.turns) }
+    ensures turns { IfOk result (λ handle. handle.promise.turns ≡ options.entry.turns) }
 {
     let TaskStart { seat, calls, line } = start;
     let guarantee = TaskGuarantee {
@@ -140,7 +140,7 @@ where
             requires nodes { (1 ≤ nodes) × (nodes ≤ 7) }
             requires line { line.held ≡ [] }
             requires fresh { seat.part ≡ fresh_part (OfTask fresh_task) }
-            ensures { IsTaskLooped M.next M.answers M.begin G.heard_task nodes options.turns
+            ensures { IsTaskLooped M.next M.answers M.begin G.heard_task nodes options.entry.turns
                 calls.items seat line result }
         { task_loop(seat, calls.as_slice(), line, nodes, options) },
     )?;

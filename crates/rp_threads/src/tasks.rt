@@ -291,7 +291,7 @@ pub fn task_loop<M: Machine, G: Gate>(
     //   found their boxes in use, and the copies that its link lost
     // claim (result): A task's loop ends by the fault of a turn that was not made, after turns
     //   that were
-    ensures { IsTaskLooped M.next M.answers M.begin G.heard_task nodes options.turns calls.now
+    ensures { IsTaskLooped M.next M.answers M.begin G.heard_task nodes options.entry.turns calls.now
         seat line result }
 {
     let mut caller = Caller {

@@ -31,7 +31,7 @@ where
     requires lines { All (λ start. start.line.held ≡ []) starts.items }
     ensures { IfOk result (λ handles. AllZip (λ start handle.
         (handle.promise.seat.value ≡ start.seat) × (handle.promise.line.value ≡ start.line)
-        × (handle.promise.nodes ≡ nodes) × (handle.promise.turns ≡ options.turns))
+        × (handle.promise.nodes ≡ nodes) × (handle.promise.turns ≡ options.entry.turns))
         starts.items handles.items) }
 {
     let mut handles = Vec::new(options.alloc);
@@ -56,7 +56,7 @@ where
     ensures { IfOk result (λ handles. AllZip (λ start handle.
         (handle.promise.seat.value ≡ start.seat) × (handle.promise.calls.value ≡ start.calls)
         × (handle.promise.line.value ≡ start.line) × (handle.promise.nodes ≡ nodes)
-        × (handle.promise.turns ≡ options.turns)) starts.items handles.items) }
+        × (handle.promise.turns ≡ options.entry.turns)) starts.items handles.items) }
 {
     let mut handles = Vec::new(options.alloc);
     for start in starts {
@@ -107,10 +107,10 @@ where
     requires task_lines { All (λ start. start.line.held ≡ []) tasks.items }
     requires fresh { All (λ start. start.seat.part ≡ fresh_part (OfTask fresh_task)) tasks.items }
     ensures nodes { IfOk result (λ ends. AllZip (λ start end.
-        IsLooped M.next M.answers M.begin G.lets G.heard (length nodes.items) options.turns
+        IsLooped M.next M.answers M.begin G.lets G.heard (length nodes.items) options.entry.turns
         start.seat start.line end) nodes.items ends.0.items) }
     ensures tasks { IfOk result (λ ends. AllZip (λ start end.
-        IsTaskLooped M.next M.answers M.begin G.heard_task (length nodes.items) options.turns
+        IsTaskLooped M.next M.answers M.begin G.heard_task (length nodes.items) options.entry.turns
         start.calls.items start.seat start.line end) tasks.items ends.1.items) }
 {
     let count = nodes.len() as u8;
@@ -141,10 +141,10 @@ where
     // claim: The results of the nodes and tasks that were to run are, in the order given, each what
     //   its loop ensures
     ensures nodes { IfOk result (λ ends. AllZip (λ start end.
-        IsLooped M.next M.answers M.begin G.lets G.heard (length nodes.items) options.turns
+        IsLooped M.next M.answers M.begin G.lets G.heard (length nodes.items) options.entry.turns
         start.seat start.line end) nodes.items ends.0.items) }
     ensures tasks { IfOk result (λ ends. AllZip (λ start end.
-        IsTaskLooped M.next M.answers M.begin G.heard_task (length nodes.items) options.turns
+        IsTaskLooped M.next M.answers M.begin G.heard_task (length nodes.items) options.entry.turns
         start.calls.items start.seat start.line end) tasks.items ends.1.items) }
 {
     thread::scope(
@@ -157,11 +157,12 @@ where
             requires fresh { All (λ start.
                 start.seat.part ≡ fresh_part (OfTask fresh_task)) tasks.items }
             ensures nodes { IfOk result (λ ends. AllZip (λ start end.
-                IsLooped M.next M.answers M.begin G.lets G.heard (length nodes.items) options.turns
-                start.seat start.line end) nodes.items ends.0.items) }
+                IsLooped M.next M.answers M.begin G.lets G.heard (length nodes.items)
+                options.entry.turns start.seat start.line end) nodes.items ends.0.items) }
             ensures tasks { IfOk result (λ ends. AllZip (λ start end.
                 IsTaskLooped M.next M.answers M.begin G.heard_task (length nodes.items)
-                options.turns start.calls.items start.seat start.line end) tasks.items ends.1.items) }
+                options.entry.turns start.calls.items start.seat start.line end)
+                tasks.items ends.1.items) }
         { run_within(scope, rt, nodes, tasks, options) },
     )
 }

@@ -1,22 +1,20 @@
 -- The turns of a node's loop, one after the other: what they leave of its seat, and their counts.
-use Rattle.std.proofs.Common.{◌≡◌, ◌≢◌, ◌⊎◌, ℕ, zero, suc, ◌+◌, ◌%◌, ◌<◌, ◌≤◌, nat_eq, Bool, true, false, Option, Some, None, List, inl, inr, refl, sym, ap, subst, ◌∙◌, arith, add-one}
-use Rattle.std.specs.Prelude.{IfSome}
+use Rattle.std.proofs.Common.{◌≡◌, ◌≢◌, ℕ, zero, suc, ◌+◌, ◌%◌, ◌<◌, ◌≤◌, Bool, true, false, Some, None, List, inl, inr, refl, sym, ap, subst, ◌∙◌, arith}
 use Rattle.rp_base.specs.declared.action.Action.{Action}
 use Rattle.rp_base.specs.declared.fault.Fault.{Fault}
-use Rattle.rp_base.specs.declared.fault.Fault.TheVariants.{OutOfMemory, Device, Failed}
+use Rattle.rp_base.specs.declared.fault.Fault.TheVariants.{Device}
 use Rattle.rp_base.specs.declared.reply.Answer.{Answer}
 use Rattle.rp_tasks.specs.Line.{Line}
-use Rattle.rp_boxes.specs.Parts.{Part}
-use Rattle.rp_boxes.specs.Seats.{SeatState, IsStopped}
-use Rattle.rp_threads.specs.Loops.{IsSameSeat, counted, events_made, is_refusal, sender_at, total_of, turns_off}
-use Rattle.rp_threads.specs.Rounds.{NodeAt, AreTurns, IsEndedBy, IsNextTurn, IsNodeFault, IsUnmade, before_turns, is_to_lead}
+use Rattle.rp_boxes.specs.Seats.{SeatState}
+use Rattle.rp_threads.specs.Loops.{IsSameSeat, events_made, is_refusal, sender_at, total_of, turns_off}
+use Rattle.rp_threads.specs.Rounds.{NodeAt, AreTurns, IsNextTurn, IsNodeFault, IsUnmade, before_turns, is_to_lead}
 use Rattle.rp_threads.specs.Threads.{IsLooped, end_of}
 use Rattle.rp_threads.specs.declared.loops.Counts.{Counts}
 use Rattle.rp_threads.specs.declared.loops.NodeEnd.{NodeEnd}
 use Rattle.rp_threads.proofs.Leads.{turned_same, turned_events, turned_idle, unmade_same}
 use Rattle.rp_threads.proofs.Rounds.{IsIdle, led_off, counted_total, counted_events, counted_idle}
 use Rattle.rp_threads.proofs.Steps.{same_seat, same_on}
-use Rattle.rp_threads.proofs.Stops.{IsSound, IsLeft, IsCause, sound_same, sound_on, turned_sound, unmade_left}
+use Rattle.rp_threads.proofs.Stops.{IsSound, IsLeft, sound_same, sound_on, turned_sound, unmade_left}
 
 -- What n turns leave of a seat, and what they count.
 record HasMadeTurn {P : Type 0} (first : NodeAt P) (n : ℕ) (now : NodeAt P) : Type 0 where

@@ -11,7 +11,7 @@ use Rattle.rp_tasks.specs.Line.{Line}
 use Rattle.rp_boxes.specs.Parts.{Part}
 use Rattle.rp_boxes.specs.Seats.{SeatState, HasApplied, IsRunning}
 use Rattle.rp_threads.specs.Loops.{is_refusal, is_idle, events_made, events_of, IsSameSeat}
-use Rattle.rp_threads.specs.Rounds.{HasPending, IsToLeadAt, IsLeadAnew, IsLedAnew, IsStoppedAnew, IsMade, IsUnmade, IsMadeOrSkipped}
+use Rattle.rp_threads.specs.Rounds.{HasPending, IsToLeadAt, IsLeadAnew, IsMade, IsUnmade, IsMadeOrSkipped}
 use Rattle.rp_threads.specs.Turns.{IsEventBy, IsStopBy, IsNodeTurn}
 use Rattle.rp_threads.specs.declared.turns.Turn.{Turn}
 use Rattle.rp_threads.specs.declared.turns.Turn.TheVariants.{Received, Led, Idle}

@@ -1,5 +1,5 @@
 -- The packets of a step, each offered to its box.
-use Rattle.std.proofs.Common.{◌≡◌, ◌⊎◌, ℕ, ◌+◌, ◌-◌, ◌≤◌, Bool, true, false, if◌then◌else◌, Result, Ok, Err, List, [], ◌∷◌, ◌++◌, length, take, drop, inl, inr, refl, sym, ap, subst, ◌∙◌, arith, append_assoc}
+use Rattle.std.proofs.Common.{◌≡◌, ℕ, ◌+◌, ◌-◌, ◌≤◌, Bool, true, false, if◌then◌else◌, Result, Ok, Err, List, [], ◌∷◌, ◌++◌, length, take, drop, inl, inr, refl, sym, ap, subst, ◌∙◌, arith, append_assoc}
 use Rattle.std.proofs.lemmas.List.{append-nil, length-drop, take-append-drop}
 use Rattle.std.specs.Int.{from_bool}
 use Rattle.std.specs.Prelude.{IfOk}
@@ -15,7 +15,7 @@ use Rattle.rp_replica.specs.declared.sent.Sent.{Sent}
 use Rattle.rp_replica.proofs.Queueing.{packets_then}
 use Rattle.rp_boxes.specs.Parts.{Part}
 use Rattle.rp_boxes.specs.Seats.{SeatState, IsSentText}
-use Rattle.rp_threads.specs.Turns.{AreOffered, AreSent, AreSentTexts, AreTextsOffered, IsAllOffered, IsOffered}
+use Rattle.rp_threads.specs.Turns.{AreOffered, AreSent, AreTextsOffered, IsAllOffered, IsOffered}
 
 -- ---- one packet
 

@@ -27,7 +27,7 @@ use Rattle.rp_boxes.specs.Seats.{SeatState, IsReason, IsStopped, IsTurn, IsNoTur
 use Rattle.rp_threads.specs.Lines.{given_on}
 use Rattle.rp_threads.specs.Loops.{is_refusal}
 use Rattle.rp_threads.specs.Rounds.{IsLeadAnew, IsMade, IsUnmade, IsMadeOrSkipped}
-use Rattle.rp_threads.specs.Turns.{MayFetch, IsBrought, IsReceipt, IsLead, IsEventBy, IsStopBy, Works, Fails, IsNodeTurn}
+use Rattle.rp_threads.specs.Turns.{MayFetch, IsBrought, IsReceipt, IsLead, IsStopBy, Works, Fails, IsNodeTurn}
 use Rattle.rp_threads.specs.declared.turns.PacketCounts.{PacketCounts}
 use Rattle.rp_threads.specs.declared.turns.TurnResult.{TurnResult}
 use Rattle.rp_threads.proofs.Rounds.{refusal_stays}

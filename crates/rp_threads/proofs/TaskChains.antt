@@ -1,9 +1,7 @@
 -- The turns of a task's loop, one after the other: what calls they made, and why one is not made.
-use Rattle.std.proofs.Common.{◌≡◌, ◌⊎◌, ℕ, zero, suc, ◌+◌, ◌%◌, ◌/◌, ◌<◌, ◌≤◌, ◌||◌, not, nat_eq, nat_lt, Bool, true, false, Option, Some, None, Result, Ok, Err, List, [], ◌∷◌, length, is_some, slice_get, inl, inr, refl, sym, ap, subst, ◌∙◌, arith, if◌then◌else◌}
+use Rattle.std.proofs.Common.{◌≡◌, ℕ, zero, suc, ◌%◌, ◌/◌, ◌<◌, ◌≤◌, ◌||◌, not, nat_eq, nat_lt, Bool, true, false, Option, Some, None, Ok, Err, List, [], ◌∷◌, length, is_some, slice_get, inl, inr, refl, sym, ap, subst, ◌∙◌, arith, if◌then◌else◌}
 use Rattle.std.proofs.lemmas.Grind.{common_steps}
 use Rattle.std.proofs.lemmas.Nat.{mod_below}
-use Rattle.std.proofs.lemmas.Option.{slice_get_within, slice_get_past}
-use Rattle.std.specs.Prelude.{IfErr, IfOk, OnOk}
 use Rattle.rp_base.specs.Action.{is_right}
 use Rattle.rp_base.specs.Calls.{are_exhausted, next_call}
 use Rattle.rp_base.specs.declared.action.Action.{Action}
@@ -13,23 +11,21 @@ use Rattle.rp_base.specs.declared.fault.Fault.TheVariants.{OutOfMemory, NumbersS
 use Rattle.rp_base.specs.declared.reply.Answer.{Answer}
 use Rattle.rp_codec.specs.declared.packet.Party.{Party}
 use Rattle.rp_codec.specs.declared.packet.Party.TheVariants.{Node, Task}
-use Rattle.rp_model.specs.Effect.{Done}
 use Rattle.rp_model.specs.Parts.{TaskPart, fresh_task}
-use Rattle.rp_model.specs.Tasks.{TaskInput, Submit, Again, asks_again, calls_if, may_call}
+use Rattle.rp_model.specs.Tasks.{TaskInput, Again, asks_again, calls_if, may_call}
 use Rattle.rp_tasks.specs.Line.{Line}
-use Rattle.rp_boxes.specs.Parts.{Part, Role, OfTask, fresh_part}
+use Rattle.rp_boxes.specs.Parts.{OfTask, fresh_part}
 use Rattle.rp_boxes.specs.Seats.{SeatState}
-use Rattle.rp_boxes.specs.TaskSeats.{IsNoTaskTurn}
 use Rattle.rp_threads.specs.Lines.{given_on, line_after}
 use Rattle.rp_threads.specs.Loops.{IsSameSeat, node_at}
-use Rattle.rp_threads.specs.Tasks.{HasMade, TaskAt, Waits, before_calls, call_after}
-use Rattle.rp_threads.specs.TaskRounds.{AreTaskTurns, Asks, Hears, IsBadCall, IsHeard, IsRefused, IsTaskEndedBy, IsTaskFault, IsTaskTurnOf, IsUnasked, IsUnheard, IsUnmadeTurn, asked_by, asked_for, asked_in, heard_by, made_by, submitted, with_call, with_lost}
+use Rattle.rp_threads.specs.Tasks.{HasMade, TaskAt, before_calls, call_after}
+use Rattle.rp_threads.specs.TaskRounds.{AreTaskTurns, Asks, Hears, IsHeard, IsRefused, IsTaskFault, IsTaskTurnOf, IsUnmadeTurn, asked_by, asked_for, asked_in, heard_by, made_by, submitted, with_call, with_lost}
 use Rattle.rp_threads.specs.Threads.{IsTaskLooped, task_end_of}
-use Rattle.rp_threads.specs.Turns.{IsBrought, IsLost, MayFetch}
+use Rattle.rp_threads.specs.Turns.{IsBrought, MayFetch}
 use Rattle.rp_threads.specs.declared.tasks.Calls.{Calls}
 use Rattle.rp_threads.specs.declared.tasks.TaskCall.{TaskCall}
 use Rattle.rp_threads.specs.declared.tasks.TaskEnd.{TaskEnd}
-use Rattle.rp_threads.proofs.Steps.{may_same, same_part, same_seat, same_on}
+use Rattle.rp_threads.proofs.Steps.{same_part, same_seat, same_on}
 use Rattle.rp_threads.proofs.TaskSteps.{again_made, call_made, fetched_made, heard_made, none_made, same_task}
 
 no_first : (xs : List TaskCall) → 0 < length xs → slice_get xs 0 ≡ None → ⊥

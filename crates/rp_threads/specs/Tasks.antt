@@ -7,10 +7,8 @@ use Rattle.rp_base.specs.Calls.{next_call}
 use Rattle.rp_codec.specs.Message.{Message}
 use Rattle.rp_model.specs.Parts.{TaskPart}
 use Rattle.rp_model.specs.Tasks.{asks}
-use Rattle.rp_replica.specs.Packets.{texts_of}
-use Rattle.rp_replica.specs.declared.sent.Sent.{Sent}
 use Rattle.rp_tasks.specs.Line.{Line}
-use Rattle.rp_boxes.specs.Parts.{Part, OfTask}
+use Rattle.rp_boxes.specs.Parts.{OfTask}
 use Rattle.rp_boxes.specs.Seats.{SeatState}
 use Rattle.rp_threads.specs.declared.tasks.Calls.{Calls}
 use Rattle.rp_threads.specs.declared.tasks.TaskCall.{TaskCall}

@@ -1,9 +1,8 @@
 -- The line is empty at first, and each turn is one more.
-use Rattle.std.proofs.Common.{◌≡◌, ℕ, suc, ◌+◌, true, None, Some, refl, sym, ap, subst, ◌∙◌, arith, add-one}
+use Rattle.std.proofs.Common.{◌≡◌, ℕ, ◌+◌, true, refl, sym, ap, subst, ◌∙◌, arith, add-one}
 use Rattle.rp_threads.specs.Loops.{sender_at, total_of}
 use Rattle.rp_threads.specs.Rounds.{NodeAt, AreTurns, IsTurnOf, IsUnmade, before_turns, is_to_lead}
 use Rattle.rp_threads.specs.Threads.{IsLooped}
-use Rattle.rp_threads.specs.declared.loops.NodeEnd.{NodeEnd}
 use Rattle.rp_threads.proofs.Chains.{looped, ended}
 use Rattle.rp_threads.proofs.Rounds.{counted_total}
 use Rattle.rp_threads.proofs.Texts.{empty_holds}

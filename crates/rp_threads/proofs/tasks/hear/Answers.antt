@@ -1,8 +1,7 @@
 -- What the line gives on is the text of a packet that the seat got.
-use Rattle.std.proofs.Common.{◌≡◌, Some, Option, Bool, false, List, ℕ, refl, sym, ap, subst}
+use Rattle.std.proofs.Common.{Option, List, ℕ, refl, ap, subst}
 use Rattle.rp_boxes.specs.Seats.{SeatState}
 use Rattle.rp_boxes.specs.TaskSeats.{IsReplyTurn}
-use Rattle.rp_threads.specs.Lines.{given_on}
 use Rattle.rp_threads.specs.TaskRounds.{Hears}
 use Rattle.rp_threads.proofs.Texts.{is_after, after_holds}
 use Rattle.rp_threads.proofs.tasks.hear.Goals as goal

@@ -1,9 +1,8 @@
 -- The bytes are the text of the one packet, if there is one.
-use Rattle.std.proofs.Common.{◌≡◌, ◌≢◌, ◌∙◌, sym, subst, arith}
-use Rattle.rp_boxes.specs.Seats.{SeatState}
+use Rattle.std.proofs.Common.{◌∙◌, sym, subst}
 use Rattle.rp_codec.specs.declared.packet.Party.TheVariants.{Task}
 use Rattle.rp_threads.specs.Turns.{IsAllOffered}
-use Rattle.rp_threads.proofs.Offers.{sent_alone, one_if_is, one_is_offered, none_is_offered}
+use Rattle.rp_threads.proofs.Offers.{sent_alone, one_if_is, one_is_offered}
 use Rattle.rp_threads.proofs.tasks.put_sent.Goals as goal
 
 pub put_text-requires : goal.put_text-requires

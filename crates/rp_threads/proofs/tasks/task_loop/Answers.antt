@@ -1,5 +1,5 @@
 -- The line is empty and the task fresh at first, and each turn is one more.
-use Rattle.std.proofs.Common.{◌≡◌, ℕ, suc, ◌+◌, refl, sym, subst, arith, add-one}
+use Rattle.std.proofs.Common.{◌≡◌, ℕ, ◌+◌, refl, sym, subst, arith, add-one}
 use Rattle.rp_threads.specs.Tasks.{TaskAt, before_calls}
 use Rattle.rp_threads.specs.TaskRounds.{AreTaskTurns, IsTaskTurnOf, IsUnmadeTurn}
 use Rattle.rp_threads.specs.Threads.{IsTaskLooped}

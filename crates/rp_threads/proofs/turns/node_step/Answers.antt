@@ -1,5 +1,5 @@
 -- The step is the seat's turn, and its packets are put.
-use Rattle.std.proofs.Common.{◌≡◌, inl, inr, refl, sym, subst}
+use Rattle.std.proofs.Common.{◌≡◌, inr, refl, sym, subst}
 use Rattle.rp_boxes.specs.Seats.{SeatState, IsTurn}
 use Rattle.rp_base.specs.declared.fault.Fault.{Fault}
 use Rattle.rp_base.specs.declared.fault.Fault.TheVariants.{OutOfMemory}

@@ -1,5 +1,5 @@
 -- What is asked, as the branch has it.
-use Rattle.std.proofs.Common.{◌≡◌, ◌+◌, ℕ, Some, Option, Bool, true, false, length, refl, sym, subst}
+use Rattle.std.proofs.Common.{◌≡◌, ◌+◌, ℕ, Option, Bool, true, false, length, refl, sym, subst}
 use Rattle.std.proofs.lemmas.Option.{slice_get_read, slice_get_past}
 use Rattle.rp_base.specs.declared.fault.Fault.{Fault}
 use Rattle.rp_boxes.proofs.TaskTurns.{at_fault}

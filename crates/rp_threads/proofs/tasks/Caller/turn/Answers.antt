@@ -1,5 +1,5 @@
 -- What was brought and heard, and what was asked then.
-use Rattle.std.proofs.Common.{◌≡◌, ◌∙◌, ℕ, ap, subst}
+use Rattle.std.proofs.Common.{◌∙◌, ℕ, ap, subst}
 use Rattle.rp_base.specs.declared.fault.Fault.{Fault}
 use Rattle.rp_boxes.proofs.TaskTurns.{at_fault}
 use Rattle.rp_codec.specs.declared.packet.Party.TheVariants.{Node, Task}

@@ -1,7 +1,7 @@
 //! A task that answers requests.
 
 ghost use Rattle.std.specs.Prelude.{◌≡◌, ◌⊎◌, ◌≤◌, [], ◌∷◌, length, Some, None, IfOk, IfErr};
-ghost use Rattle.rp_base.specs.Action.{IsIndex, IsRight, IsRightOperation};
+ghost use Rattle.rp_base.specs.Action.{IsRight};
 ghost use Rattle.rp_base.specs.Calls.{next_call};
 ghost use Rattle.rp_base.specs.declared.fault.Fault.TheVariants as faults;
 ghost use Rattle.rp_base.specs.Number.{IsTask};
@@ -10,14 +10,14 @@ ghost use Rattle.rp_codec.specs.Text.{text_of, reply_text};
 ghost use Rattle.rp_codec.specs.declared.packet.Party.TheVariants.{Task as TaskParty};
 ghost use Rattle.rp_tasks.specs.Calls.{no_calls};
 ghost use Rattle.rp_requests.specs.Buffers.{IsPut};
-ghost use Rattle.rp_requests.specs.TaskRequests.{task_asked, task_asked_of, IsRightTaskRequest, MakeCall, TakePacket};
+ghost use Rattle.rp_requests.specs.TaskRequests.{task_asked, task_asked_of, IsRightTaskRequest, TakePacket};
 ghost use Rattle.rp_requests.specs.Tasks.{IsShort, TaskDoes, again_text, call_packet, is_task, once_taken, reply_taken, taken_text};
 ghost use Rattle.rp_requests.specs.declared.refusal.Refusal.TheVariants as refusals;
 
 use crate::buffer::{Lengths, put_short};
 use crate::refusal::Refusal;
 use crate::task_request::{TaskRequest, task_request_of};
-use rp_base::{Action, Fault, NodeId, Operation, Reply, TaskId};
+use rp_base::{Action, Fault, NodeId, Reply, TaskId};
 use rp_codec::{Body, Packet, Party, decode, text_of_packet};
 use rp_tasks::Stub;
 use std::alloc::Global;
@@ -105,30 +105,12 @@ impl Task {
                 object,
                 operation,
                 arg,
-            } => self.make(*node, *object, *operation, *arg, answer),
+            } => match self.stub.call(*object, *operation, *arg) {
+                Ok(action) => Ok(put_call(self.task, *node, action, answer)),
+                Err(fault) => Err(Refusal::Fault(fault)),
+            },
             TaskRequest::Again(node) => Ok(self.put_again(*node, answer)),
             TaskRequest::Receive(packet) => self.receive(alloc, packet, answer),
-        }
-    }
-
-    /// Makes the next call, and puts its packet.
-    fn make(
-        &mut self,
-        node: NodeId,
-        object: u8,
-        operation: Operation,
-        arg: i64,
-        answer: &mut [u8],
-    ) -> Result<Lengths, Refusal>
-        requires object { IsIndex object }
-        requires operation { IsRightOperation operation }
-        requires room { 40 ≤ length answer.old }
-        ensures { TaskDoes (Some (MakeCall node object operation arg))
-            self.old self.new answer.old answer.new result }
-    {
-        match self.stub.call(object, operation, arg) {
-            Ok(action) => Ok(put_call(self.task, node, action, answer)),
-            Err(fault) => Err(Refusal::Fault(fault)),
         }
     }
 

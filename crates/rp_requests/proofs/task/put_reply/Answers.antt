@@ -1,5 +1,5 @@
 -- A value's text is a byte and the value's bytes.
-use Rattle.std.proofs.Common.{◌≡◌, List, [], ◌∷◌, ℕ, ℤ, subst, sym, rules, w64}
+use Rattle.std.proofs.Common.{List, [], ◌∷◌, ℕ, ℤ, subst, sym, rules, w64}
 use Rattle.std.proofs.lemmas.Int.{to_z-of_z}
 use Rattle.std.specs.Int.{to_be_bytes, cast_unsigned}
 use mir.Val.{SFits}

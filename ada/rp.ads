@@ -3,8 +3,11 @@
 --  Bytes in, bytes out: no call keeps an address that it is given, none starts a task or reads a file.
 --  Two tasks may be in two calls at once, but not with one handle.
 --
+--  A null address is refused by Null_Pointer, and nothing has changed; where its count is 0 it may be null.
+--  The body looks for that before it calls the library.
+--
 --  What a caller owes, for every call:
---  * An address is that of the first byte of an array, also where its count is 0.
+--  * An address is that of the first byte of an array of at least as many bytes as are passed with it.
 --  * An array that is written is used by nobody else during the call, and overlaps no other argument.
 --  * No byte of a handle (Node, Task_Stub) is changed. It is used by the task that opened it.
 --  * No call is made from a signal handler.
@@ -41,6 +44,7 @@ package RP is
    Long_Answer   : constant Status := 67;  --  the step was made, and its answer is longer than the array
    Wrong_Handle  : constant Status := 68;  --  the handle is closed, or of the other kind; nothing has
                                            --  changed
+   Null_Pointer  : constant Status := 69;  --  an address is null; nothing has changed
 
    --  Why bytes are no packet. Exactly one of these is so of bytes that are none.
 
@@ -55,16 +59,14 @@ package RP is
    function Packet_Length
      (Text   : System.Address;
       Count  : Interfaces.C.size_t;
-      Length : in out Interfaces.C.size_t) return Status
-     with Import, Convention => C, External_Name => "rp_packet_length";
+      Length : in out Interfaces.C.size_t) return Status;
    --  Writes into Length how many bytes the packet has that the bytes begin with; any bytes may follow
    --  it. Bad_Packet: they begin with none, and Length is as it was. It takes no memory.
 
    function Packet_Check
      (Text   : System.Address;
       Count  : Interfaces.C.size_t;
-      Reason : in out Packet_Reason) return Status
-     with Import, Convention => C, External_Name => "rp_packet_check";
+      Reason : in out Packet_Reason) return Status;
    --  Whether all of the bytes are one packet. Bad_Packet: they are not, and Reason says why.
    --  Out_Of_Memory only for a report to an audit. Otherwise Reason is as it was.
 
@@ -74,8 +76,7 @@ package RP is
       Traced : Interfaces.C.C_bool;
       Answer : System.Address;
       Size   : Interfaces.C.size_t;
-      Used   : in out Interfaces.C.size_t) return Status
-     with Import, Convention => C, External_Name => "rp_run_deck";
+      Used   : in out Interfaces.C.size_t) return Status;
    --  Runs the script of a deck, as `rp_console script` does, and with Traced as `script --trace`.
    --  Done: the first Used bytes of Answer are what the program prints on standard output.
    --  Bad_Deck: the first Used bytes of Answer are the line that says where and why the deck is bad.
@@ -146,8 +147,7 @@ package RP is
       Device : System.Address;
       Held   : Interfaces.C.size_t;
       Handle : in out Node;
-      What   : in out Found) return Status
-     with Import, Convention => C, External_Name => "rp_node_open";
+      What   : in out Found) return Status;
    --  Opens this node of the deck over the Held bytes of its device, which are copied; the deck's script
    --  is not run.
    --  Done: the handle keeps the node, and what it kept before is closed; What says what the device
@@ -160,8 +160,7 @@ package RP is
       Count   : Interfaces.C.size_t;
       Answer  : System.Address;
       Size    : Interfaces.C.size_t;
-      Length  : in out Lengths) return Status
-     with Import, Convention => C, External_Name => "rp_node_call";
+      Length  : in out Lengths) return Status;
    --  Answers a request to a node.
    --  Done: the first Length.Used bytes of Answer are the answer, and its first Length.Stored bytes go to
    --  the device.
@@ -222,8 +221,7 @@ package RP is
       Count   : Interfaces.C.size_t;
       Answer  : System.Address;
       Size    : Interfaces.C.size_t;
-      Length  : in out Lengths) return Status
-     with Import, Convention => C, External_Name => "rp_task_call";
+      Length  : in out Lengths) return Status;
    --  Answers a request to a task. Done: the first Length.Used bytes of Answer are the answer.
    --  Short_Answer: the array has fewer than Task_Bytes bytes; nothing but Length.Used is written.
    --  Wrong_Handle, Bad_Request, Task_Busy, Numbers_Spent, Bad_Packet, Out_Of_Memory: nothing has changed.

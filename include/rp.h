@@ -3,8 +3,12 @@
  * Bytes in, bytes out: no call keeps a pointer that it is given, none starts a thread or reads a file.
  * Two threads may be in two calls at once, but not with one handle.
  *
+ * A null pointer is refused by RP_NULL, and nothing has changed; rp_node_close and rp_task_close do
+ * nothing then. Bytes of which there are none, and a buffer of no bytes, may be null. The functions at the
+ * end of this header look for that before they call the library's, of the same names: those take no null.
+ *
  * What a caller owes, for every call:
- * - No pointer is null, also where its length is 0.
+ * - A pointer that is not null is that of as many bytes as are passed with it, or of one value.
  * - A buffer that is written is not read or written by anybody else during the call, and overlaps no
  *   other argument.
  * - malloc, realloc and free are those of one allocator, and align a block to each power of two up to
@@ -40,7 +44,8 @@ enum rp_status {
   RP_BAD_REQUEST = 65,   /* the bytes are no request; nothing has changed */
   RP_NO_OBJECTS = 66,    /* the deck declares a tally, and no protected objects */
   RP_LONG_ANSWER = 67,   /* the step was made, and its answer is longer than the buffer */
-  RP_WRONG_HANDLE = 68   /* the handle is closed, or of the other kind; nothing has changed */
+  RP_WRONG_HANDLE = 68,  /* the handle is closed, or of the other kind; nothing has changed */
+  RP_NULL = 69           /* a pointer is null; nothing has changed */
 };
 
 /* Why bytes are no packet. Exactly one of these is so of bytes that are none. */
@@ -201,6 +206,107 @@ uint8_t rp_task_call(rp_task *task, const uint8_t *request, size_t count, uint8_
 
 /* Gives a task's stub back: the handle is closed. A closed handle stays closed. */
 void rp_task_close(rp_task *task);
+
+/* ---- Null pointers
+ *
+ * What a caller of this header calls: the function of the library, unless a pointer is null. */
+
+/* Where bytes are: also where there are none, an address that is not null. */
+static inline const uint8_t *rp_bytes_at(const uint8_t *bytes, size_t count) {
+  static const uint8_t none = 0;
+  return bytes == NULL && count == 0 ? &none : bytes;
+}
+
+static inline uint8_t *rp_buffer_at(uint8_t *buffer, size_t size) {
+  static uint8_t none = 0;
+  return buffer == NULL && size == 0 ? &none : buffer;
+}
+
+static inline uint8_t rp_packet_length_guarded(const uint8_t *bytes, size_t count, size_t *length) {
+  bytes = rp_bytes_at(bytes, count);
+  if (bytes == NULL || length == NULL) {
+    return RP_NULL;
+  }
+  return rp_packet_length(bytes, count, length);
+}
+
+static inline uint8_t rp_packet_check_guarded(const uint8_t *bytes, size_t count, uint8_t *reason) {
+  bytes = rp_bytes_at(bytes, count);
+  if (bytes == NULL || reason == NULL) {
+    return RP_NULL;
+  }
+  return rp_packet_check(bytes, count, reason);
+}
+
+static inline uint8_t rp_run_deck_guarded(const uint8_t *deck, size_t count, bool traced,
+                                          uint8_t *answer, size_t size, size_t *used) {
+  deck = rp_bytes_at(deck, count);
+  answer = rp_buffer_at(answer, size);
+  if (deck == NULL || answer == NULL || used == NULL) {
+    return RP_NULL;
+  }
+  return rp_run_deck(deck, count, traced, answer, size, used);
+}
+
+static inline uint8_t rp_node_open_guarded(const uint8_t *deck, size_t count, uint8_t number,
+                                           const uint8_t *device, size_t held, rp_node *node,
+                                           rp_found *found) {
+  deck = rp_bytes_at(deck, count);
+  device = rp_bytes_at(device, held);
+  if (deck == NULL || device == NULL || node == NULL || found == NULL) {
+    return RP_NULL;
+  }
+  return rp_node_open(deck, count, number, device, held, node, found);
+}
+
+static inline uint8_t rp_node_call_guarded(rp_node *node, const uint8_t *request, size_t count,
+                                           uint8_t *answer, size_t size, rp_lengths *lengths) {
+  request = rp_bytes_at(request, count);
+  answer = rp_buffer_at(answer, size);
+  if (node == NULL || request == NULL || answer == NULL || lengths == NULL) {
+    return RP_NULL;
+  }
+  return rp_node_call(node, request, count, answer, size, lengths);
+}
+
+static inline void rp_node_close_guarded(rp_node *node) {
+  if (node != NULL) {
+    rp_node_close(node);
+  }
+}
+
+static inline uint8_t rp_task_open_guarded(uint8_t number, rp_task *task) {
+  if (task == NULL) {
+    return RP_NULL;
+  }
+  return rp_task_open(number, task);
+}
+
+static inline uint8_t rp_task_call_guarded(rp_task *task, const uint8_t *request, size_t count,
+                                           uint8_t *answer, size_t size, rp_lengths *lengths) {
+  request = rp_bytes_at(request, count);
+  answer = rp_buffer_at(answer, size);
+  if (task == NULL || request == NULL || answer == NULL || lengths == NULL) {
+    return RP_NULL;
+  }
+  return rp_task_call(task, request, count, answer, size, lengths);
+}
+
+static inline void rp_task_close_guarded(rp_task *task) {
+  if (task != NULL) {
+    rp_task_close(task);
+  }
+}
+
+#define rp_packet_length rp_packet_length_guarded
+#define rp_packet_check rp_packet_check_guarded
+#define rp_run_deck rp_run_deck_guarded
+#define rp_node_open rp_node_open_guarded
+#define rp_node_call rp_node_call_guarded
+#define rp_node_close rp_node_close_guarded
+#define rp_task_open rp_task_open_guarded
+#define rp_task_call rp_task_call_guarded
+#define rp_task_close rp_task_close_guarded
 
 #ifdef __cplusplus
 }

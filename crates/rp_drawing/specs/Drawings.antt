@@ -1,8 +1,10 @@
 -- The drawing of a sketch (this project's own).
 use Rattle.std.specs.Prelude.{◌≡◌, ℕ, ◌+◌, ◌-◌, ◌*◌, ◌/◌, ◌≤◌, nat_eq, Option, Some, None, List, [], ◌∷◌, ◌++◌}
-use Rattle.std.specs.Prelude.{flat_map, length, if◌then◌else◌}
+use Rattle.std.specs.Prelude.{codes, flat_map, length, if◌then◌else◌}
 use Rattle.rp_drawing.specs.Elements.{curve_text}
-use Rattle.rp_drawing.specs.Pages.{arrival_y, departure_y, lane_x}
+use Rattle.rp_drawing.specs.Lines.{head_text, lanes_text, row_text}
+use Rattle.rp_drawing.specs.Pages.{arrival_y, departure_y, lane_x, line_y}
+use Rattle.rp_drawing.specs.declared.drawing.Lane.{Lane}
 use Rattle.rp_drawing.specs.declared.elements.Curve.{Curve}
 use Rattle.rp_drawing.specs.declared.sketch.Arrival.{Arrival}
 use Rattle.rp_drawing.specs.declared.sketch.End.{End}
@@ -47,14 +49,22 @@ way_curve lanes way = curve_to lanes way way.ended
 abbrev pub way_text : ℕ → Way → List ℕ
 way_text lanes way = if way.sending.is_drawn then curve_text (way_curve lanes way) ++ 10 ∷ [] else []
 
--- there is more of the text, after what there was
-abbrev pub Extends : List ℕ → List ℕ → Type 0
-Extends old new = (more : List ℕ) × (new ≡ old ++ more)
+-- The text of a drawing, all of it: its head, its lanes under these names, the arrows of its ways, in
+-- order, and its moments. Names and labels have no `<` (Words), so it has no other arrow.
+abbrev pub page_text : List Lane → Sketch → List ℕ
+page_text names sketch =
+    let lanes = length names in
+    let end = line_y lanes sketch.lines + 18 in
+    head_text end
+    ++ lanes_text lanes end names
+    ++ flat_map (way_text lanes) sketch.ways.items
+    ++ flat_map (row_text lanes) sketch.rows.items
+    ++ (codes "</svg>" ++ 10 ∷ [])
 
--- The text has the arrow of each way that is drawn, in order, and is short.
+-- The text is the page of the sketch under names of this many lanes, and is short.
 pub record IsDrawnBy (sketch : Sketch) (lanes : ℕ) (text : List ℕ) : Type 0 where
-  pub front : List ℕ
-  pub back : List ℕ
-  pub parts : text ≡ front ++ (flat_map (way_text lanes) sketch.ways.items ++ back)
+  pub names : List Lane
+  pub count : length names ≡ lanes
+  pub page : text ≡ page_text names sketch
   pub short : length text
       ≤ 9300 + 300 * (lanes + length sketch.ways.items + length sketch.rows.items)

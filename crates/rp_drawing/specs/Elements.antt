@@ -1,8 +1,11 @@
 -- The elements of a drawing as text (this project's own).
-use Rattle.std.specs.Prelude.{ℕ, List, ◌++◌, codes, decimal}
+use Rattle.std.specs.Prelude.{ℕ, List, ◌++◌, codes, decimal, string_bytes}
 use Rattle.rp_drawing.specs.declared.elements.Curve.{Curve}
+use Rattle.rp_drawing.specs.declared.elements.Dash.{Dash}
 use Rattle.rp_drawing.specs.declared.elements.Look.{Look}
 use Rattle.rp_drawing.specs.declared.elements.Place.{Place}
+use Rattle.rp_drawing.specs.declared.elements.Upright.{Upright}
+use Rattle.rp_drawing.specs.declared.words.Words.{Words}
 
 -- how many bytes an element has at most
 abbrev pub most_bytes : ℕ
@@ -24,3 +27,22 @@ abbrev pub curve_text : Curve → List ℕ
 curve_text c =
     codes "<path class='" ++ (look_text c.look ++ (codes "' d='M" ++ (place_text c.from
     ++ (codes "Q" ++ (place_text c.by ++ (codes " " ++ (place_text c.to ++ codes "'/>")))))))
+
+-- a line to the right
+abbrev pub dash_text : Dash → List ℕ
+dash_text d =
+    codes "<path class='" ++ (look_text d.look ++ (codes "' d='M" ++ (place_text d.from
+    ++ (codes "h" ++ (decimal d.width ++ codes "'/>")))))
+
+-- a line down
+abbrev pub upright_text : Upright → List ℕ
+upright_text u =
+    codes "<path class='" ++ (look_text u.look ++ (codes "' d='M" ++ (place_text u.from
+    ++ (codes "V" ++ (decimal u.to_y ++ codes "'/>")))))
+
+-- words of this colour at a place
+abbrev pub words_text : ℕ → Place → Words → List ℕ
+words_text colour place words =
+    codes "<text class='t" ++ (decimal colour ++ (codes "' x='" ++ (decimal place.x
+    ++ (codes "' y='" ++ (decimal place.y ++ (codes "'>"
+    ++ (string_bytes words.text ++ codes "</text>")))))))

@@ -1,13 +1,14 @@
 //! The drawing of a sketch.
 
 ghost use Rattle.std.specs.Prelude.{◌≡◌, ◌+◌, ◌*◌, ◌++◌, ◌≤◌, ◌<◌, ◌^◌, true, IfOk, OnOk, length, string_bytes, flat_map};
-ghost use Rattle.rp_drawing.specs.Drawings.{end_kind, way_curve, way_text, Extends, IsDrawnBy};
+ghost use Rattle.rp_drawing.specs.Drawings.{end_kind, way_curve, way_text, IsDrawnBy};
+ghost use Rattle.rp_drawing.specs.Lines.{effect_text, head_text, lane_text, lanes_text, mark_kind, mark_text, row_element, row_text, text_place, within_page};
 ghost use Rattle.rp_drawing.specs.Ways.{IsDown, AreDown};
 
 use crate::elements::{Curve, Dash, Look, Place, Upright, add_element, add_head, words_at};
 use crate::page::{LEFT, LINE, Page, RIGHT, WIDTH};
 use crate::sketch::{End, Kind, MOST_LINES, Mark, Row, Sketch, Way};
-use crate::style::STYLE;
+use crate::style::style_text;
 use crate::words::Words;
 use rp_base::Fault;
 use std::alloc::{AllocError, Global};
@@ -28,7 +29,9 @@ pub fn draw(alloc: Global, sketch: &Sketch, lanes: &[Lane]) -> Result<String, Fa
     requires lanes { length lanes.now ≤ 16 }
     // claim: Each message whose way is drawn has its arrow in the drawing, from its sender's lane, in
     //   the line of the moment that sent it, to its receiver's, in the line of the moment that settled
-    //   it; the text has at most 300 bytes for each message, moment and lane, and 9,300 besides
+    //   it. The text is the page to the byte: a head, the lanes under their names, the arrows, and what
+    //   is beside each moment, and it has no other arrow. It has at most 300 bytes for each message,
+    //   moment and lane, and 9,300 besides
     ensures { IfOk result (λ text. IsDrawnBy sketch.now (length lanes.now) (string_bytes text)) }
 {
     let page = Page {
@@ -46,9 +49,12 @@ pub fn draw(alloc: Global, sketch: &Sketch, lanes: &[Lane]) -> Result<String, Fa
 }
 
 /// The head of a drawing of this height.
-fn head_text(alloc: Global, height: u64) -> Result<String, AllocError> {
+fn head_text(alloc: Global, height: u64) -> Result<String, AllocError>
+    ensures { IfOk result (λ text. string_bytes text ≡ head_text height) }
+{
+    let style = style_text();
     format!(in alloc;
-        "<svg xmlns='http://www.w3.org/2000/svg' viewBox='0 0 {WIDTH} {height}' width='{WIDTH}' height='{height}'>\n{STYLE}"
+        "<svg xmlns='http://www.w3.org/2000/svg' viewBox='0 0 {WIDTH} {height}' width='{WIDTH}' height='{height}'>\n{style}"
     )
 }
 
@@ -61,6 +67,8 @@ fn write_lanes(
     end: u64,
 ) -> Result<(), Fault>
     requires { length lanes.now ≤ 16 }
+    ensures lanes { OnOk result (string_bytes text.new
+        ≡ string_bytes text.old ++ lanes_text page.lanes end lanes.now) }
     ensures short { OnOk result (length (string_bytes text.new)
         ≤ length (string_bytes text.old) + 300 * length lanes.now) }
 {
@@ -77,7 +85,10 @@ fn lane_text(
     page: Page,
     placed: (u32, &Lane),
     end: u64,
-) -> Result<String, AllocError> {
+) -> Result<String, AllocError>
+    ensures { IfOk result (λ text. string_bytes text ≡ lane_text page.lanes end placed.entry.0
+        placed.entry.1.now) }
+{
     let (place, lane) = placed;
     let x = page.lane_x(place);
     let y = page.name_y(place);
@@ -182,7 +193,8 @@ fn end_kind(end: End) -> u8
 
 /// Writes the moments that are drawn.
 fn write_rows(alloc: Global, text: &mut String, page: Page, rows: &[Row]) -> Result<(), Fault>
-    ensures rows { OnOk result (Extends (string_bytes text.old) (string_bytes text.new)) }
+    ensures rows { OnOk result (string_bytes text.new
+        ≡ string_bytes text.old ++ flat_map (row_text page.lanes) rows.now) }
     ensures short { OnOk result (length (string_bytes text.new)
         ≤ length (string_bytes text.old) + 300 * length rows.now) }
 {
@@ -194,7 +206,8 @@ fn write_rows(alloc: Global, text: &mut String, page: Page, rows: &[Row]) -> Res
 
 /// Writes a moment, if it is drawn.
 fn write_row(alloc: Global, text: &mut String, page: Page, row: &Row) -> Result<(), Fault>
-    ensures row { OnOk result (Extends (string_bytes text.old) (string_bytes text.new)) }
+    ensures row { OnOk result (string_bytes text.new
+        ≡ string_bytes text.old ++ row_text page.lanes row.now) }
     ensures short { OnOk result (length (string_bytes text.new)
         ≤ length (string_bytes text.old) + 300) }
 {
@@ -206,27 +219,48 @@ fn write_row(alloc: Global, text: &mut String, page: Page, row: &Row) -> Result<
 }
 
 /// A moment: what happens, its mark, and what an actor does.
-fn row_text(alloc: Global, page: Page, row: &Row) -> Result<String, AllocError> {
-    let y = page.line_y(row.line.min(MOST_LINES));
+fn row_text(alloc: Global, page: Page, row: &Row) -> Result<String, AllocError>
+    ensures { IfOk result (λ text. string_bytes text ≡ row_element page.lanes row.now) }
+{
+    let y = page.line_y(within_page(row.line));
     let cause = words_at(alloc, 0, text_place(LEFT, y), &row.label.cause)?;
     let mark = mark_text(alloc, page, y, row.label.mark)?;
-    if row.label.effect.is_empty() {
-        return format!(in alloc; "{cause}{mark}");
-    }
-    let effect = words_at(alloc, 0, text_place(RIGHT, y), &row.label.effect)?;
-    format!(in alloc; "{cause}{mark}\n{effect}")
+    let effect = effect_text(alloc, y, &row.label.effect)?;
+    format!(in alloc; "{cause}{mark}{effect}")
+}
+
+/// The line, or the last one that a page has.
+fn within_page(line: u64) -> u64
+    ensures line { result ≡ within_page line }
+    ensures within { result ≤ 2 ^ 32 }
+{
+    if line < MOST_LINES { line } else { MOST_LINES }
 }
 
 /// Where a text is in the line that begins here.
 fn text_place(x: u64, y: u64) -> Place
     requires { y ≤ 2 ^ 40 }
+    ensures { result ≡ text_place x y }
 {
     Place { x, y: y + 13 }
+}
+
+/// What an actor does, in the line that begins here, if there is something.
+fn effect_text(alloc: Global, y: u64, effect: &Words) -> Result<String, AllocError>
+    requires { y ≤ 2 ^ 40 }
+    ensures { IfOk result (λ text. string_bytes text ≡ effect_text y effect.now) }
+{
+    if effect.is_empty() {
+        return Ok(String::new(alloc));
+    }
+    let text = words_at(alloc, 0, text_place(RIGHT, y), effect)?;
+    format!(in alloc; "\n{text}")
 }
 
 /// The mark of a moment whose line begins here, if it has one.
 fn mark_text(alloc: Global, page: Page, y: u64, mark: Option<Mark>) -> Result<String, AllocError>
     requires { y ≤ 2 ^ 40 }
+    ensures { IfOk result (λ text. string_bytes text ≡ mark_text page.lanes y mark) }
 {
     let Some(mark) = mark else {
         return Ok(String::new(alloc));
@@ -247,7 +281,9 @@ fn mark_text(alloc: Global, page: Page, y: u64, mark: Option<Mark>) -> Result<St
 }
 
 /// What a mark looks like.
-fn mark_kind(kind: Kind) -> u8 {
+fn mark_kind(kind: Kind) -> u8
+    ensures { result ≡ mark_kind kind }
+{
     match kind {
         Kind::Act => 4,
         Kind::Record => 5,

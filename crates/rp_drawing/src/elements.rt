@@ -1,7 +1,7 @@
 //! The elements of a drawing, as text.
 
 ghost use Rattle.std.specs.Prelude.{◌≡◌, ◌+◌, ◌++◌, ◌∷◌, [], ◌≤◌, IfOk, OnOk, length, string_bytes};
-ghost use Rattle.rp_drawing.specs.Elements.{curve_text, most_bytes, most_head_bytes};
+ghost use Rattle.rp_drawing.specs.Elements.{curve_text, dash_text, upright_text, words_text, most_bytes, most_head_bytes};
 
 use crate::words::Words;
 use rp_base::Fault;
@@ -86,7 +86,9 @@ pub struct Dash {
 
 impl Dash {
     /// Its text.
-    pub fn text(&self, alloc: Global) -> Result<String, AllocError> {
+    pub fn text(&self, alloc: Global) -> Result<String, AllocError>
+        ensures { IfOk result (λ text. string_bytes text ≡ dash_text self.now) }
+    {
         let Dash { look, from, width } = *self;
         format!(in alloc; "<path class='{look}' d='M{from}h{width}'/>")
     }
@@ -102,7 +104,9 @@ pub struct Upright {
 
 impl Upright {
     /// Its text.
-    pub fn text(&self, alloc: Global) -> Result<String, AllocError> {
+    pub fn text(&self, alloc: Global) -> Result<String, AllocError>
+        ensures { IfOk result (λ text. string_bytes text ≡ upright_text self.now) }
+    {
         let Upright { look, from, to_y } = *self;
         format!(in alloc; "<path class='{look}' d='M{from}V{to_y}'/>")
     }
@@ -114,7 +118,9 @@ pub fn words_at(
     colour: u8,
     place: Place,
     words: &Words,
-) -> Result<String, AllocError> {
+) -> Result<String, AllocError>
+    ensures { IfOk result (λ text. string_bytes text ≡ words_text colour place words.now) }
+{
     let Place { x, y } = place;
     let text = words.as_str();
     format!(in alloc; "<text class='t{colour}' x='{x}' y='{y}'>{text}</text>")
@@ -137,6 +143,7 @@ pub fn add_element(text: &mut String, element: &str) -> Result<(), Fault>
 
 /// Adds the head of a drawing. `OutOfMemory`, also where it has more than 9,000 bytes, as none has.
 pub fn add_head(text: &mut String, head: &str) -> Result<(), Fault>
+    ensures added { OnOk result (string_bytes text.new ≡ string_bytes text.old ++ head.now) }
     ensures short { OnOk result (length (string_bytes text.new)
         ≤ length (string_bytes text.old) + most_head_bytes) }
 {

@@ -1,7 +1,10 @@
 //! How the elements of a drawing look.
 
+ghost use Rattle.std.specs.Prelude.{◌≡◌};
+ghost use Rattle.rp_drawing.specs.Style.{style_text};
+
 /// The elements that come first, after the opening one.
-pub const STYLE: &str = "\
+const STYLE: &str = "\
     <style>svg{font-family:monospace;font-size:11px}path{fill:none;stroke-width:1.3;stroke:#555}text{fill:#333}\n\
     .c1{stroke:#0072b2}.c2{stroke:#d97a00}.c3{stroke:#00804f}.c4{stroke:#8e44ad}.c5{stroke:#8a5a00}.c6{stroke:#c2448f}.c7{stroke:#6b7d00}\n\
     .c8{stroke:#00436b}.c9{stroke:#8f5000}.c10{stroke:#004d2f}.c11{stroke:#55296a}.c12{stroke:#4d3200}.c13{stroke:#7a1f55}.c14{stroke:#3d4700}\n\
@@ -15,3 +18,10 @@ pub const STYLE: &str = "\
     <marker id='x' refX='5' refY='5' markerWidth='10' markerHeight='10' markerUnits='userSpaceOnUse'>\n\
     <path d='M1 1L9 9M9 1L1 9' style='stroke:#d00;stroke-width:2'/></marker></defs>\n\
     <rect width='100%' height='100%' fill='#fff'/>\n";
+
+/// The text of the elements that come first.
+pub fn style_text() -> &'static str
+    ensures { result.now ≡ style_text }
+{
+    STYLE
+}

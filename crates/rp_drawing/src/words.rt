@@ -1,5 +1,8 @@
 //! Words within a drawing.
 
+ghost use Rattle.std.specs.Prelude.{◌≡◌, ◌==◌, All, OnOk, string_bytes, string_len};
+ghost use Rattle.rp_drawing.specs.Words.{IsPlain};
+
 use std::alloc::{AllocError, Global};
 
 /// The most bytes of words, before two dots.
@@ -9,6 +12,7 @@ pub const MOST_LETTERS: usize = 36;
 #[derive(Drop)]
 pub struct Words {
     text: String,
+    ghost plain: { All IsPlain (string_bytes text) },
 }
 
 impl Words {
@@ -25,27 +29,50 @@ impl Words {
         let mut text = String::new(alloc);
         let count = bytes.len().min(MOST_LETTERS);
         for byte in &bytes[..count] {
-            text.push(char::from(plain(*byte)))?;
+            add_letter(&mut text, *byte)?;
         }
-        if count < bytes.len() {
-            text.push_str("..")?;
-        }
+        add_dots(&mut text, count < bytes.len())?;
         Ok(Words { text })
     }
 
     /// Its text.
-    pub fn as_str(&self) -> &str {
+    pub fn as_str(&self) -> &str
+        ensures { result.now ≡ string_bytes self.now.text }
+    {
         self.text.as_str()
     }
 
     /// Whether there are none.
-    pub fn is_empty(&self) -> bool {
+    pub fn is_empty(&self) -> bool
+        ensures { result ≡ (string_len self.now.text == 0) }
+    {
         self.text.is_empty()
     }
 }
 
+/// Adds the byte, or a blank.
+fn add_letter(text: &mut String, byte: u8) -> Result<(), AllocError>
+    requires { All IsPlain (string_bytes text.old) }
+    ensures { OnOk result (All IsPlain (string_bytes text.new)) }
+{
+    text.push(char::from(plain(byte)))
+}
+
+/// Adds two dots, where some of the text is left out.
+fn add_dots(text: &mut String, is_cut: bool) -> Result<(), AllocError>
+    requires { All IsPlain (string_bytes text.old) }
+    ensures { OnOk result (All IsPlain (string_bytes text.new)) }
+{
+    if is_cut {
+        return text.push_str("..");
+    }
+    Ok(())
+}
+
 /// The byte, or a blank.
-fn plain(byte: u8) -> u8 {
+fn plain(byte: u8) -> u8
+    ensures { IsPlain result }
+{
     match byte {
         b'&' | b'<' => b' ',
         33..=126 => byte,

@@ -119,8 +119,9 @@ pub record IsSketchOf {S : Type 0} (s : Setting S) (stage : Stage) (sketch : Ske
   pub drawable : IsDrawable sketch
   pub count : length sketch.ways.items ≡ length last.sent
 
--- The text is the drawing of a sketch of a history that leads to this world: the arrows in it are the ways of the
--- messages of that history, each from the moment in which it was sent down to the one in which it was settled.
+-- The text is the drawing of a sketch of a history that leads to this world. The arrows in it, and
+-- it has no other, are the ways of the messages of that history, each from the moment in which it
+-- was sent down to the one in which it was settled.
 pub record IsDrawingOf {S : Type 0} (s : Setting S) (stage : Stage) (lanes : ℕ) (last : World) (text : List ℕ)
     : Type 0 where
   pub sketch : Sketch

@@ -112,7 +112,7 @@ impl Chart {
         requires lanes { length lanes.now ≤ 16 }
         // claim: The arrows of a chart are the messages of its run's history, each from its sender's
         //   lane, where it was sent, down to its receiver's, where it was taken, not heard or lost;
-        //   none goes upwards, and the drawing is short
+        //   none goes upwards, there is no other arrow, and the drawing is short
         ensures drawn { (s : Setting M) (last : World)
             → IsSketchOf s self.now.stage self.now.sketch last
             → IfOk result (λ text. IsDrawingOf s self.now.stage (length lanes.now) last

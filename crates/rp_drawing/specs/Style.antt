@@ -1,0 +1,32 @@
+-- How the elements of a drawing look (this project's own).
+use Rattle.std.specs.List.{concat}
+use Rattle.std.specs.Prelude.{ℕ, List, [], ◌∷◌, codes}
+
+-- The text of the elements that come first: the colours, the heads of arrows by the kind of an
+-- element, and the ground.
+abbrev pub style_text : List ℕ
+style_text = concat (
+    codes "<style>svg{font-family:monospace;font-size:11px}path{fill:none;stroke-width:1.3;" ∷
+    codes "stroke:#555}text{fill:#333}\n" ∷
+    codes ".c1{stroke:#0072b2}.c2{stroke:#d97a00}.c3{stroke:#00804f}.c4{stroke:#8e44ad}" ∷
+    codes ".c5{stroke:#8a5a00}.c6{stroke:#c2448f}.c7{stroke:#6b7d00}\n" ∷
+    codes ".c8{stroke:#00436b}.c9{stroke:#8f5000}.c10{stroke:#004d2f}.c11{stroke:#55296a}" ∷
+    codes ".c12{stroke:#4d3200}.c13{stroke:#7a1f55}.c14{stroke:#3d4700}\n" ∷
+    codes ".t1{fill:#0072b2}.t2{fill:#d97a00}.t3{fill:#00804f}.t4{fill:#8e44ad}" ∷
+    codes ".t5{fill:#8a5a00}.t6{fill:#c2448f}.t7{fill:#6b7d00}\n" ∷
+    codes ".k0{marker-end:url(#a)}.k1,.k2{marker-end:url(#x)}.k2{stroke-dasharray:6 3}" ∷
+    codes ".k3{stroke-dasharray:2 2}\n" ∷
+    codes ".k4{stroke-width:4}.k5{stroke-width:8}.k6{stroke-width:8;stroke:#d00;" ∷
+    codes "stroke-dasharray:2 1}\n" ∷
+    codes ".k7{stroke-width:4;stroke:#d00}.k9{stroke-width:4;stroke:#00a040}" ∷
+    codes ".k10{stroke-width:8;stroke:#bbb}\n" ∷
+    codes ".k8{stroke:#b5bac2}</style><defs>\n" ∷
+    codes "<marker id='a' refX='9' refY='4' markerWidth='9' markerHeight='8' " ∷
+    codes "markerUnits='userSpaceOnUse' orient='auto'>\n" ∷
+    codes "<path d='M0 1L9 4L0 7z' style='fill:#555;fill:context-stroke;stroke:none'/>" ∷
+    codes "</marker>\n" ∷
+    codes "<marker id='x' refX='5' refY='5' markerWidth='10' markerHeight='10' " ∷
+    codes "markerUnits='userSpaceOnUse'>\n" ∷
+    codes "<path d='M1 1L9 9M9 1L1 9' style='stroke:#d00;stroke-width:2'/></marker></defs>\n" ∷
+    codes "<rect width='100%' height='100%' fill='#fff'/>\n" ∷
+    [])

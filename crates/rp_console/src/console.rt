@@ -14,7 +14,7 @@ use crate::status::status;
 use clap::Error;
 use clap::error::ErrorKind;
 use rp_base::Fault;
-use rp_script::{FiguresLine, run_live, run_script, tell, write_out};
+use rp_script::{FiguresLine, LiveRequest, run_live, run_script, tell, write_out};
 use std::alloc::Global;
 use std::convert::AsStr;
 use std::io;
@@ -91,7 +91,13 @@ fn run_as<T: Threads + Wait + Clock, R: Read, W: Write>(
             Ok(()) => Ok(None),
             Err(fault) => Err(fault),
         },
-        Args::Live { seed, turns } => match run_live(rt, alloc, reader, seed, turns, writer) {
+        Args::Live { seed, turns } => match run_live(
+            rt,
+            alloc,
+            reader,
+            LiveRequest { seed, turns },
+            writer,
+        ) {
             Ok(figures) => Ok(Some(figures)),
             Err(fault) => Err(fault),
         },

@@ -17,7 +17,7 @@ mod live_run;
 pub use deck_read::{MOST_BYTES, read_whole};
 pub use deck_run::{DRAIN_LIMIT, devices, run_deck, run_script};
 pub use figures::FiguresLine;
-pub use live_run::run_live;
+pub use live_run::{LiveRequest, run_live};
 pub use rp_output::{
     BodyText, FaultMessage, FullLine, OpenedLine, PartyText, RefusedLine, ReplyLine, ReplyText,
     RunningLine, TraceLine, is_refusal, print, reason_text, tell, write_out, write_whole,

@@ -30,17 +30,24 @@ use std::sync::Wait;
 use std::thread::Threads;
 use std::time::{Clock, Instant};
 
-/// Reads a deck, runs its nodes and tasks in threads for n turns each, and then prints the result.
-/// Which packets are lost, repeated and reordered follows from the seed. It returns how the run
-/// went, in figures. The deck is the one that the reader's bytes mean. Where they mean none,
+/// What a live run is asked for.
+#[derive(Clone, Copy, Debug, PartialEq, Eq)]
+pub struct LiveRequest {
+    /// Which packets are lost, repeated and reordered follows from it.
+    pub seed: u32,
+    /// How many turns each node and each task makes.
+    pub turns: u32,
+}
+
+/// Reads a deck, runs its nodes and tasks in threads for the turns that are asked for, and then
+/// prints the result. It returns how the run went, in figures. The deck is the one that the reader's bytes mean. Where they mean none,
 /// nothing is printed, and the fault has the first bad line and the first reason on it. Any other
 /// fault leaves nothing printed, or a beginning of the result of the run.
 pub fn run_live<T: Threads + Wait + Clock, R: Read, W: Write>(
     rt: &T,
     alloc: Global,
     reader: &mut R,
-    seed: u32,
-    turns: u32,
+    request: LiveRequest,
     writer: &mut W,
 ) -> Result<FiguresLine, Fault>
     // claim: What live mode prints is the text of the result of a run in threads of the deck that
@@ -49,10 +56,10 @@ pub fn run_live<T: Threads + Wait + Clock, R: Read, W: Write>(
     //   line and the first reason on it. After every other fault, `OutOfMemory`, or `Io` if the
     //   reader or the writer fails, nothing was written, or a prefix of such a text. The figures
     //   that it returns are those of the same run
-    ensures output { IfOk result (λ line. LivePrints seed turns (R.remaining reader.old)
-        (W.contents writer.old) (W.contents writer.new) line.figures) }
-    ensures begun { OnErr result (LiveBegins seed turns (R.remaining reader.old)
-        (W.contents writer.old) (W.contents writer.new)) }
+    ensures output { IfOk result (λ line. LivePrints request.seed request.turns
+        (R.remaining reader.old) (W.contents writer.old) (W.contents writer.new) line.figures) }
+    ensures begun { OnErr result (LiveBegins request.seed request.turns
+        (R.remaining reader.old) (W.contents writer.old) (W.contents writer.new)) }
     ensures meant { IfErr result (IsMeant Mode.Live (R.remaining reader.old)) }
     ensures bad { IfErr result (λ fault. IsBadDeck fault
         → W.contents writer.new ≡ W.contents writer.old) }
@@ -60,7 +67,7 @@ pub fn run_live<T: Threads + Wait + Clock, R: Read, W: Write>(
 {
     let deck = read_given(alloc, reader, Mode::Live)?;
     let begun = Instant::now(rt);
-    let outcome = live_deck(rt, alloc, &deck, seed, turns)?;
+    let outcome = live_deck(rt, alloc, &deck, request)?;
     let milliseconds = milliseconds_since(rt, begun);
     match write_outcome(alloc, &deck.tasks, &outcome, writer) {
         Ok(()) => Ok(FiguresLine {
@@ -76,19 +83,18 @@ fn live_deck<T: Threads + Wait>(
     rt: &T,
     alloc: Global,
     deck: &Deck,
-    seed: u32,
-    turns: u32,
+    request: LiveRequest,
 ) -> Result<LiveOutcome, Fault>
     requires right { IsRightDeck deck.now }
     requires live { IsDeckFor Mode.Live deck.now }
-    ensures outcome { IfOk result (IsOutcome deck.now seed turns) }
+    ensures outcome { IfOk result (IsOutcome deck.now request.seed request.turns) }
     ensures fault { IfErr result IsRunFault }
 {
     let events = events_of(alloc, deck.script.as_slice())?;
     let options = LiveOptions {
         config: deck.config,
-        seed,
-        turns: u64::from(turns),
+        seed: request.seed,
+        turns: u64::from(request.turns),
     };
     match &deck.program {
         DeckProgram::Tally(program) => live::<T, Tally>(rt, alloc, program, &events, options),

@@ -57,10 +57,10 @@ module _ (deck : Deck) (seed turns count : ℕ) (events : List Event) (r : Resul
 
 pub returns-in-Tally-clause-outcome : goal.returns-in-Tally-clause-outcome
 returns-in-Tally-clause-outcome g c =
-    of_tally c.args.deck.now c.args.seed c.args.turns c.from.result c.deref.result.now c.live.result (omega (arith, c.from.ensures))
+    of_tally c.args.deck.now c.args.request.seed c.args.request.turns c.from.result c.deref.result.now c.live.result (omega (arith, c.from.ensures))
     (c.deref.ensures.value ∙ c.in_ok-events.ensures ∙ ap events_of c.as_slice.ensures.value) c.in-Tally.program c.in-Tally.is c.live.ensures.outcome
 
 pub returns-clause-outcome : goal.returns-clause-outcome
 returns-clause-outcome g c =
-    of_objects c.args.deck.now c.args.seed c.args.turns c.from.result c.deref-in-Objects.result.now c.live_objects.result (omega (arith, c.from.ensures))
+    of_objects c.args.deck.now c.args.request.seed c.args.request.turns c.from.result c.deref-in-Objects.result.now c.live_objects.result (omega (arith, c.from.ensures))
     (c.deref-in-Objects.ensures.value ∙ c.in_ok-events.ensures ∙ ap events_of c.as_slice.ensures.value) c.in-Objects.program c.in-Objects.is c.live_objects.ensures.outcome

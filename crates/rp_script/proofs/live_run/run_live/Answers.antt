@@ -23,14 +23,14 @@ pub returns-in-Ok-clause-output : goal.returns-in-Ok-clause-output
 returns-in-Ok-clause-output g c =
     let deck = c.in_ok-deck.deck in
     let outcome = c.in_ok-outcome.outcome in
-    let text = live_text c.args.seed c.args.turns (g.R.Read.remaining c.args.reader.now) deck outcome c.in_ok-deck.ensures.deck c.in_ok-deck.ensures.taken c.in_ok-outcome.ensures.outcome in
+    let text = live_text c.args.request.seed c.args.request.turns (g.R.Read.remaining c.args.reader.now) deck outcome c.in_ok-deck.ensures.deck c.in_ok-deck.ensures.taken c.in_ok-outcome.ensures.outcome in
     (outcome_text (names_of deck.tasks) outcome, text, c.in-Ok.ensures.printed)
 
 pub returns-clause-begun : goal.returns-clause-begun
 returns-clause-begun g c =
     let deck = c.in_ok-deck.deck in
     let outcome = c.in_ok-outcome.outcome in
-    let text = live_text c.args.seed c.args.turns (g.R.Read.remaining c.args.reader.now) deck outcome c.in_ok-deck.ensures.deck c.in_ok-deck.ensures.taken c.in_ok-outcome.ensures.outcome in
+    let text = live_text c.args.request.seed c.args.request.turns (g.R.Read.remaining c.args.reader.now) deck outcome c.in_ok-deck.ensures.deck c.in_ok-deck.ensures.taken c.in_ok-outcome.ensures.outcome in
     inr (outcome_text (names_of deck.tasks) outcome, outcome.figures, text, c.in-Err.ensures.printed)
 
 -- what is so of a fault is so of an answer that fails by it

@@ -21,8 +21,8 @@ tasks_of deck = index_map_len deck.tasks
 abbrev pub stage_of : Deck → View → Stage
 stage_of deck view = record { tasks = tasks_of deck; view = view }
 
--- The text is the drawing of the history to which the deck's script leads: its arrows are the messages of that
--- history, each from where it was sent down to where it was settled.
+-- The text is the drawing of the history to which the deck's script leads. Its arrows, and it has no
+-- other, are the messages of that history, each from where it was sent down to where it was settled.
 abbrev pub IsChartAt : {S : Type 0} → Deck → View → List ℕ → RunSetting S → Type 0
 IsChartAt deck view text s =
     IsDrawingOf s.setting (stage_of deck view) (tasks_of deck + deck.config.nodes)

@@ -1,9 +1,11 @@
 //! Draws the run of a deck.
 
-ghost use Rattle.std.specs.Prelude.{◌≡◌, ◌+◌, ◌≤◌, IfOk, OnOk, length, string_bytes};
+ghost use Rattle.std.specs.Prelude.{◌≡◌, ◌+◌, ◌≤◌, IfErr, IfOk, OnOk, length, string_bytes};
 ghost use Rattle.indexmap.specs.IndexMap.{index_map_len};
 ghost use Rattle.rp_chart.specs.Charts.{DrawsScript, IsChartOf};
 ghost use Rattle.rp_deck.specs.Deck.{IsRightDeck};
+ghost use Rattle.rp_script.specs.Faults.{IsBadDeck, IsProgramFault};
+ghost use Rattle.rp_script.specs.Given.{IsMeant};
 
 use indexmap::IndexMap;
 use rp_base::Fault;
@@ -29,14 +31,21 @@ pub fn draw_script<R: Read, W: Write>(
 ) -> Result<(), Fault>
     // claim: From bytes to a drawing: what is written is the drawing of the run of the deck that all
     //   bytes of the reader mean. Its arrows are the messages of that run, each from where it was
-    //   sent down to where it was settled
-    ensures { OnOk result (DrawsScript view (R.remaining reader.old) (W.contents writer.old)
-        (W.contents writer.new)) }
+    //   sent down to where it was settled, and it has no other arrow. If the bytes mean none, nothing
+    //   is written, and the fault has the first bad line and the first reason on it
+    ensures drawing { OnOk result (DrawsScript view (R.remaining reader.old)
+        (W.contents writer.old) (W.contents writer.new)) }
+    ensures meant { IfErr result (IsMeant Mode.Script (R.remaining reader.old)) }
+    ensures bad { IfErr result (λ fault. IsBadDeck fault
+        → W.contents writer.new ≡ W.contents writer.old) }
+    ensures fault { IfErr result IsProgramFault }
 {
     let text = read_whole(alloc, reader)?;
     let deck = read_deck(alloc, &text, Mode::Script)?;
     let lines = lines_of(alloc, &text)?;
-    let drawing = draw_deck(alloc, deck, view, &lines)?;
+    let Ok(drawing) = draw_deck(alloc, deck, view, &lines) else {
+        return Err(Fault::OutOfMemory);
+    };
     write_whole(writer, drawing.as_bytes())?;
     write_out(writer)
 }

@@ -7,8 +7,8 @@ use Rattle.rp_output.proofs.Writing.{appends_kept}
 use Rattle.rp_chart.specs.Charts.{DrawsScript}
 use Rattle.rp_chart.proofs.chart.draw_script.Goals as goal
 
-pub returns : goal.returns
-returns g c = at c.write_out.result
+pub returns-clause-drawing : goal.returns-clause-drawing
+returns-clause-drawing g c = at c.write_out.result
   where
     old : Option (List ℕ)
     old = g.W.Write.contents c.args.writer.now
@@ -21,8 +21,8 @@ returns g c = at c.write_out.result
 
     at : (answer : Result Unit Fault) → OnOk answer (DrawsScript c.args.view (g.R.Read.remaining c.args.reader.now) old new)
     at (Ok done) =
-        let text = string_bytes c.in_ok-drawing.drawing in
+        let text = string_bytes c.in-Ok.drawing in
         let same : c.as_bytes.result.now ≡ text = c.as_bytes.ensures.value in
         let put = subst (λ (bytes : List ℕ). Appends old written bytes) same c.in_ok-write_whole.ensures.written in
-        (c.in_ok-deck.deck, search rules, text, appends_kept old written new text put c.write_out.ensures.kept, c.in_ok-drawing.ensures)
+        (c.in_ok-deck.deck, search rules, text, appends_kept old written new text put c.write_out.ensures.kept, c.in-Ok.ensures)
     at (Err fault) = tt

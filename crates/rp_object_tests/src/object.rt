@@ -160,7 +160,7 @@ struct Call {
 }
 
 /// A call of object 1 or 2, the box or the gate, with 0.
-fn call(task: u8, number: u32, object: u8, operation: Operation) -> Call {
+fn call_with_0(task: u8, number: u32, object: u8, operation: Operation) -> Call {
     Call {
         task,
         number,
@@ -240,7 +240,7 @@ fn events_that_are_due_together_fire_in_order_and_the_clock_stays(rt: HostRuntim
     expect_reply(&rt, &mut objects, sets(EQUAL, 3, 1, 5), Reply::Value(0));
     expect_silence(&rt, &mut objects, &Action::Tick { now: 7 });
     expect_silence(&rt, &mut objects, &Action::Tick { now: 3 });
-    let cancels = call(EQUAL, 4, BOX, Operation::CancelTimer(1));
+    let cancels = call_with_0(EQUAL, 4, BOX, Operation::CancelTimer(1));
     expect_reply(&rt, &mut objects, cancels, Reply::Truth(false));
     expect_silence(&rt, &mut objects, &interrupt(2));
     let expected =
@@ -270,8 +270,8 @@ fn a_caller_waits_and_is_answered_by_who_opens(rt: HostRuntime) {
     let expected =
         "object box n=1\nobject gate up=false queue task 1 call 1 arg 7\nclock 0\ntimer x off\ntimer y at 9\n";
     expect_image(&rt, rt.alloc(), &objects, expected);
-    let passes = call(EQUAL, 1, GATE, Operation::Entry(1));
-    let lifts = call(OTHER, 2, GATE, Operation::Procedure(1));
+    let passes = call_with_0(EQUAL, 1, GATE, Operation::Entry(1));
+    let lifts = call_with_0(OTHER, 2, GATE, Operation::Procedure(1));
     let answers = applied(&rt, &mut objects, &action_of(&rt, lifts));
     let expected = [
         answer(&rt, lifts, Reply::Value(0)),
@@ -301,7 +301,12 @@ fn what_is_not_declared_is_refused_before_the_ceiling(rt: HostRuntime) {
         ),
         (EQUAL, GATE, Operation::Procedure(1), Reply::Value(0)),
     ] {
-        expect_reply(&rt, &mut objects, call(task, 1, object, operation), reply);
+        expect_reply(
+            &rt,
+            &mut objects,
+            call_with_0(task, 1, object, operation),
+            reply,
+        );
     }
 }
 
@@ -326,9 +331,9 @@ fn expect_waiter<M: Machine>(rt: &impl Abort, log: &Numbered<M>, waits: bool, la
 
 /// Task 1 passes, and calls the box while it waits and again when task 3 has put the gate up.
 fn expect_waiter_served<M: Machine>(rt: &impl Abort, log: &mut Numbered<M>) {
-    let passes = call(EQUAL, 1, GATE, Operation::Entry(1));
-    let counts = call(EQUAL, 2, BOX, Operation::Procedure(1));
-    let lifts = call(OTHER, 1, GATE, Operation::Procedure(1));
+    let passes = call_with_0(EQUAL, 1, GATE, Operation::Entry(1));
+    let counts = call_with_0(EQUAL, 2, BOX, Operation::Procedure(1));
+    let lifts = call_with_0(OTHER, 1, GATE, Operation::Procedure(1));
     expect_answers(rt, log, &action_of(rt, passes), &[]);
     expect_waiter(rt, log, true, 1);
     expect_answers(rt, log, &action_of(rt, counts), &[]);

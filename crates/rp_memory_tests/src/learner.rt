@@ -1,6 +1,7 @@
-ghost use Rattle.std.specs.Prelude.{◌≡◌, ◌≤◌, IfOk};
+ghost use Rattle.std.specs.Prelude.{◌≡◌, ◌≤◌, IfOk, OnOk};
 ghost use Rattle.rp_learner.specs.Status.{SameSizes, fresh};
 
+use crate::compare::expect_eq;
 use rp_base::{Action, Ballot, NodeId, Position};
 use rp_learner::*;
 use std::alloc::Global;
@@ -75,127 +76,149 @@ fn a_majority_is_of_one_ballot_and_of_different_nodes(rt: HostRuntime) -> Result
     note_all(&rt, &mut learner, rt.alloc(), 7, &seven)
 }
 
+/// One of three nodes.
+fn node(rt: &impl Abort, number: u8) -> NodeId
+    ensures { result ≤ 3 }
+{
+    let node = NodeId::new(number).expect(rt, "a node");
+    assert!(rt; node.get() <= 3, "one of three");
+    node
+}
+
+fn position(rt: &impl Abort, number: u16) -> Position {
+    Position::new(number).expect(rt, "a position")
+}
+
+fn nine(rt: &impl Abort) -> Ballot {
+    Ballot::new(9).expect(rt, "ballot 9")
+}
+
+/// A learner of three nodes whose window begins at position 1.
+fn learner_of_three(alloc: Global, max_positions: u16) -> Result<Learner, Fail>
+    ensures { IfOk result (λ l. (l.nodes ≡ 3) × (l.first ≡ 1)) }
+{
+    new_learner(alloc, 3, max_positions)
+}
+
+/// A vote of a node in ballot 9 would have this status once it is counted.
+fn expect_status(
+    rt: &impl Abort,
+    learner: &Learner,
+    cast: (u8, u16),
+    action: &Action,
+    status: VoteStatus,
+)
+    requires { learner.now.nodes ≡ 3 }
+{
+    let (from, at) = cast;
+    let found = learner.vote(node(rt, from), position(rt, at), nine(rt), action);
+    expect_eq(rt, found, status);
+}
+
+/// Notes a vote of a node in ballot 9, and again where memory was refused once.
+fn note(
+    rt: &impl Abort,
+    learner: &mut Learner,
+    alloc: Global,
+    cast: (u8, u16),
+    action: &Action,
+) -> Result<(), Fail>
+    requires { learner.old.nodes ≡ 3 }
+    ensures { OnOk result (SameSizes learner.new learner.old) }
+{
+    let (from, at) = cast;
+    let from = node(rt, from);
+    let at = position(rt, at);
+    if learner
+        .note_vote(alloc, from, at, nine(rt), action)
+        .is_err()
+    {
+        learner.note_vote(alloc, from, at, nine(rt), action)?;
+    }
+    Ok(())
+}
+
 #[test]
 fn a_majority_is_for_one_action(rt: HostRuntime) -> Result<(), Fail> {
-    let mut learner = new_learner(rt.alloc(), 3, 2)?;
-    let position = Position::new(2).ok_or("position 2")?;
-    let ballot = Ballot::new(9).ok_or("ballot 9")?;
-    let one = NodeId::new(1).ok_or("node 1")?;
-    let two = NodeId::new(2).ok_or("node 2")?;
+    let mut learner = learner_of_three(rt.alloc(), 2)?;
     let tick = Action::Tick { now: 5 };
-    assert!(rt; one.get() <= 3 && two.get() <= 3);
-    let first = learner.note_vote(rt.alloc(), one, position, ballot, &tick);
-    if first.is_err() {
-        learner.note_vote(rt.alloc(), one, position, ballot, &tick)?;
-    }
-    let other = learner.note_vote(rt.alloc(), two, position, ballot, &Action::Noop);
-    if other.is_err() {
-        learner.note_vote(rt.alloc(), two, position, ballot, &Action::Noop)?;
-    }
-    let noop = learner.vote(two, position, ballot, &Action::Noop);
-    assert_eq!(rt; noop, VoteStatus::Counting);
-    assert_eq!(rt;
-        learner.vote(two, Position::first(), ballot, &tick),
-        VoteStatus::Counting
-    );
-    assert_eq!(rt;
-        learner.vote(two, position, ballot, &tick),
-        VoteStatus::Learned
-    );
+    note(&rt, &mut learner, rt.alloc(), (1, 2), &tick)?;
+    note(&rt, &mut learner, rt.alloc(), (2, 2), &Action::Noop)?;
+    expect_status(&rt, &learner, (2, 2), &Action::Noop, VoteStatus::Counting);
+    expect_status(&rt, &learner, (2, 1), &tick, VoteStatus::Counting);
+    expect_status(&rt, &learner, (2, 2), &tick, VoteStatus::Learned);
     Ok(())
+}
+
+/// The learner has decided this at a position.
+fn expect_decided(rt: &impl Abort, learner: &Learner, at: u16, decision: Decision) {
+    expect_eq(rt, learner.decided(position(rt, at)), decision);
 }
 
 #[test]
 fn a_settled_position_is_known_and_no_other(rt: HostRuntime) -> Result<(), Fail> {
     same_learners_answer_alike();
-    let mut learner = new_learner(rt.alloc(), 3, 2)?;
-    let ballot = Ballot::new(9).ok_or("ballot 9")?;
-    let node = NodeId::new(1).ok_or("node 1")?;
-    assert!(rt; node.get() <= 3);
+    let noop = Action::Noop;
+    let mut learner = learner_of_three(rt.alloc(), 2)?;
     learner.settled(Position::first());
     learner.settled(Position::first());
-    for (number, decision, status) in [
-        (1, Decision::Known, VoteStatus::Known),
-        (2, Decision::Learned, VoteStatus::Counting),
-        (3, Decision::Learned, VoteStatus::Counting),
-    ] {
-        let position = Position::new(number).ok_or("a position")?;
-        assert_eq!(rt; learner.decided(position), decision);
-        assert_eq!(rt; learner.vote(node, position, ballot, &Action::Noop), status);
-    }
+    expect_decided(&rt, &learner, 1, Decision::Known);
+    expect_decided(&rt, &learner, 2, Decision::Learned);
+    expect_decided(&rt, &learner, 3, Decision::Learned);
+    expect_status(&rt, &learner, (1, 1), &noop, VoteStatus::Known);
+    expect_status(&rt, &learner, (1, 2), &noop, VoteStatus::Counting);
+    expect_status(&rt, &learner, (1, 3), &noop, VoteStatus::Counting);
     Ok(())
 }
 
-/// Notes a vote for Noop, and again where memory was refused once.
-fn note(
+/// Node 1 votes at positions 64 and 65, of which the window has the first alone.
+fn vote_at_the_window_s_end(
+    rt: &impl Abort,
     learner: &mut Learner,
     alloc: Global,
-    from: NodeId,
-    position: Position,
-    ballot: Ballot,
 ) -> Result<(), Fail>
-    requires { from ≤ learner.old.nodes }
-    ensures { SameSizes learner.new learner.old }
+    requires { learner.old.nodes ≡ 3 }
+    ensures { OnOk result (SameSizes learner.new learner.old) }
 {
-    if learner
-        .note_vote(alloc, from, position, ballot, &Action::Noop)
-        .is_err()
-    {
-        learner.note_vote(alloc, from, position, ballot, &Action::Noop)?;
-    }
+    let noop = Action::Noop;
+    expect_status(rt, learner, (1, 64), &noop, VoteStatus::Counting);
+    note(rt, learner, alloc, (1, 64), &noop)?;
+    expect_status(rt, learner, (1, 65), &noop, VoteStatus::Beyond);
+    note(rt, learner, alloc, (1, 65), &noop)?;
+    expect_decided(rt, learner, 65, Decision::Beyond);
+    learner.settled(position(rt, 65));
+    learner.settled(Position::first());
     Ok(())
+}
+
+/// What holds once the window begins at position 2: the vote at 64 still counts.
+fn expect_moved_by_one(rt: &impl Abort, learner: &Learner)
+    requires { learner.now.nodes ≡ 3 }
+{
+    let noop = Action::Noop;
+    expect_status(rt, learner, (1, 65), &noop, VoteStatus::Counting);
+    expect_status(rt, learner, (2, 65), &noop, VoteStatus::Counting);
+    expect_status(rt, learner, (2, 64), &noop, VoteStatus::Learned);
+    expect_status(rt, learner, (1, 1), &noop, VoteStatus::Known);
+    expect_decided(rt, learner, 1, Decision::Known);
+    expect_decided(rt, learner, 64, Decision::Learned);
+    expect_decided(rt, learner, 65, Decision::Learned);
+    expect_decided(rt, learner, 66, Decision::Beyond);
 }
 
 #[test]
 fn votes_are_counted_in_a_window_that_moves_on(rt: HostRuntime) -> Result<(), Fail> {
-    let mut learner = new_learner(rt.alloc(), 3, 1000)?;
-    let ballot = Ballot::new(9).ok_or("ballot 9")?;
-    let one = NodeId::new(1).ok_or("node 1")?;
-    let two = NodeId::new(2).ok_or("node 2")?;
-    assert!(rt; one.get() <= 3 && two.get() <= 3);
-    let last = Position::new(64).ok_or("position 64")?;
-    let next = Position::new(65).ok_or("position 65")?;
-    let beyond = Position::new(66).ok_or("position 66")?;
     let noop = Action::Noop;
-    assert_eq!(rt;
-        learner.vote(one, last, ballot, &noop),
-        VoteStatus::Counting
-    );
-    note(&mut learner, rt.alloc(), one, last, ballot)?;
-    assert_eq!(rt; learner.vote(one, next, ballot, &noop), VoteStatus::Beyond);
-    note(&mut learner, rt.alloc(), one, next, ballot)?;
-    assert_eq!(rt; learner.decided(next), Decision::Beyond);
-    learner.settled(next);
-    learner.settled(Position::first());
+    let mut learner = learner_of_three(rt.alloc(), 1000)?;
+    vote_at_the_window_s_end(&rt, &mut learner, rt.alloc())?;
     learner.advance(2, 0);
-    assert_eq!(rt;
-        learner.vote(one, next, ballot, &noop),
-        VoteStatus::Counting
-    );
-    assert_eq!(rt;
-        learner.vote(two, next, ballot, &noop),
-        VoteStatus::Counting
-    );
-    assert_eq!(rt; learner.vote(two, last, ballot, &noop), VoteStatus::Learned);
-    assert_eq!(rt;
-        learner.vote(one, Position::first(), ballot, &noop),
-        VoteStatus::Known
-    );
-    for (position, decision) in [
-        (Position::first(), Decision::Known),
-        (last, Decision::Learned),
-        (next, Decision::Learned),
-        (beyond, Decision::Beyond),
-    ] {
-        assert_eq!(rt; learner.decided(position), decision);
-    }
+    expect_moved_by_one(&rt, &learner);
     learner.advance(3, 1 << 63);
-    assert_eq!(rt; learner.decided(next), Decision::Learned);
-    assert_eq!(rt; learner.decided(beyond), Decision::Known);
-    assert_eq!(rt; learner.vote(two, last, ballot, &noop), VoteStatus::Learned);
+    expect_decided(&rt, &learner, 65, Decision::Learned);
+    expect_decided(&rt, &learner, 66, Decision::Known);
+    expect_status(&rt, &learner, (2, 64), &noop, VoteStatus::Learned);
     learner.advance(200, 1);
-    let far = Position::new(200).ok_or("position 200")?;
-    assert_eq!(rt; learner.decided(beyond), Decision::Known);
-    assert_eq!(rt; learner.vote(one, far, ballot, &noop), VoteStatus::Known);
+    expect_decided(&rt, &learner, 66, Decision::Known);
+    expect_status(&rt, &learner, (1, 200), &noop, VoteStatus::Known);
     Ok(())
 }

@@ -1,48 +1,33 @@
+use crate::building::{add, and, boxed, expect_eq, not, one, sub};
 use rp_body::*;
-use std::alloc::{AllocError, Global};
-use std::test::Fail;
-
-fn add(alloc: Global, a: Expr, b: Expr) -> Result<Expr, AllocError> {
-    Ok(Expr::Add(Box::new(alloc, a)?, Box::new(alloc, b)?))
-}
-
-fn sub(alloc: Global, a: Expr, b: Expr) -> Result<Expr, AllocError> {
-    Ok(Expr::Sub(Box::new(alloc, a)?, Box::new(alloc, b)?))
-}
-
-fn not(alloc: Global, cond: Cond) -> Result<Cond, AllocError> {
-    Ok(Cond::Not(Box::new(alloc, cond)?))
-}
+use std::alloc::Global;
+use std::process::Abort;
 
 /// The argument, n times: one node less than twice the terms.
-fn sum_of(alloc: Global, terms: u8) -> Result<Expr, AllocError> {
+fn sum_of(rt: &impl Abort, alloc: Global, terms: u8) -> Expr {
     let mut sum = Expr::Arg;
     for _ in 1..terms {
-        sum = add(alloc, sum, Expr::Arg)?;
+        sum = add(rt, alloc, sum, Expr::Arg);
     }
-    Ok(sum)
+    sum
 }
 
-/// A body of this one statement.
-fn body_of(alloc: Global, statement: Stmt) -> Result<Vec<Stmt>, AllocError> {
-    let mut body = Vec::new(alloc);
-    body.push(statement)?;
-    Ok(body)
+/// `if true` with this body, in its first arm or in its second one.
+fn if_true(alloc: Global, body: Vec<Stmt>, first: bool) -> Stmt {
+    if first {
+        Stmt::If(Cond::Constant(true), body, Vec::new(alloc))
+    } else {
+        Stmt::If(Cond::Constant(true), Vec::new(alloc), body)
+    }
 }
 
 /// `out 1` inside n `if true`, in their first arms or in their second ones.
-fn nested(alloc: Global, ifs: u8, first: bool) -> Result<Vec<Stmt>, AllocError> {
-    let mut body = body_of(alloc, Stmt::Out(Expr::Number(1)))?;
+fn nested(rt: &impl Abort, alloc: Global, ifs: u8, first: bool) -> Vec<Stmt> {
+    let mut body = one(rt, alloc, Stmt::Out(Expr::Number(1)));
     for _ in 0..ifs {
-        let none = Vec::new(alloc);
-        let outer = if first {
-            Stmt::If(Cond::Constant(true), body, none)
-        } else {
-            Stmt::If(Cond::Constant(true), none, body)
-        };
-        body = body_of(alloc, outer)?;
+        body = one(rt, alloc, if_true(alloc, body, first));
     }
-    Ok(body)
+    body
 }
 
 /// A whole number from 0 to 4 at 0, one of all 64 bits at its greatest, and a Boolean.
@@ -64,184 +49,223 @@ fn some_components() -> Components {
     components
 }
 
-#[test]
-fn expressions_and_conditions_have_at_most_32_nodes(rt: HostRuntime) -> Result<(), Fail> {
-    let alloc = rt.alloc();
-    let limits = Limits { ints: 0, bools: 1 };
-    for (terms, right) in [(16, true), (17, false), (60, false)] {
-        let body = body_of(alloc, Stmt::Out(sum_of(alloc, terms)?))?;
-        assert_eq!(rt; check(&body, &limits), right);
-    }
-    let of_32 = not(alloc, Cond::Equal(sum_of(alloc, 8)?, sum_of(alloc, 8)?))?;
-    let of_33 = Cond::Less(sum_of(alloc, 16)?, Expr::Out);
-    for (cond, right) in [(of_32, true), (of_33, false)] {
-        let body = body_of(alloc, Stmt::Put(0, cond))?;
-        assert_eq!(rt; check(&body, &limits), right);
-    }
-    Ok(())
+/// Whether a body of this one statement is right.
+fn is_right(rt: &impl Abort, alloc: Global, statement: Stmt, limits: &Limits) -> bool {
+    check(&one(rt, alloc, statement), limits)
 }
 
 #[test]
-fn bodies_are_at_most_8_deep_and_have_at_most_64_statements(rt: HostRuntime) -> Result<(), Fail> {
+fn expressions_and_conditions_have_at_most_32_nodes(rt: HostRuntime) {
+    let alloc = rt.alloc();
+    let limits = Limits { ints: 0, bools: 1 };
+    for (terms, right) in [(16, true), (17, false), (60, false)] {
+        let out = Stmt::Out(sum_of(&rt, alloc, terms));
+        assert_eq!(rt; is_right(&rt, alloc, out, &limits), right);
+    }
+    let of_32 = Cond::Equal(sum_of(&rt, alloc, 8), sum_of(&rt, alloc, 8));
+    let of_32 = Stmt::Put(0, not(&rt, alloc, of_32));
+    assert!(rt; is_right(&rt, alloc, of_32, &limits));
+    let of_33 = Stmt::Put(0, Cond::Less(sum_of(&rt, alloc, 16), Expr::Out));
+    assert!(rt; !is_right(&rt, alloc, of_33, &limits));
+}
+
+/// As many `out arg` as this says, inside an `if`.
+fn outs(rt: &impl Abort, alloc: Global, count: u8) -> Stmt {
+    let mut inner = Vec::new(alloc);
+    for _ in 0..count {
+        inner = and(rt, inner, Stmt::Out(Expr::Arg));
+    }
+    Stmt::If(Cond::Constant(false), Vec::new(alloc), inner)
+}
+
+#[test]
+fn bodies_are_at_most_8_deep_and_have_at_most_64_statements(rt: HostRuntime) {
     let alloc = rt.alloc();
     let limits = Limits { ints: 0, bools: 0 };
     for (ifs, right) in [(0, true), (7, true), (8, false), (70, false)] {
         for first in [true, false] {
-            assert_eq!(rt; check(&nested(alloc, ifs, first)?, &limits), right);
+            let body = nested(&rt, alloc, ifs, first);
+            assert_eq!(rt; check(&body, &limits), right);
         }
     }
-    for (outs, right) in [(0, true), (63, true), (64, false)] {
-        let mut inner = Vec::new(alloc);
-        for _ in 0..outs {
-            inner.push(Stmt::Out(Expr::Arg))?;
-        }
-        let body = body_of(
-            alloc,
-            Stmt::If(Cond::Constant(false), Vec::new(alloc), inner),
-        )?;
-        assert_eq!(rt; check(&body, &limits), right);
+    for (count, right) in [(0, true), (63, true), (64, false)] {
+        let statement = outs(&rt, alloc, count);
+        assert_eq!(rt; is_right(&rt, alloc, statement, &limits), right);
     }
-    Ok(())
 }
 
-#[test]
-fn names_that_are_not_counted_are_refused(rt: HostRuntime) -> Result<(), Fail> {
-    let alloc = rt.alloc();
+/// A number of this name may be set, read alone and read in a condition, or not.
+fn expect_int(rt: &impl Abort, alloc: Global, name: u8, right: bool) {
     let limits = Limits { ints: 2, bools: 1 };
+    let set = Stmt::Set(name, Expr::Arg);
+    expect_eq(rt, is_right(rt, alloc, set, &limits), right);
+    let out = Stmt::Out(Expr::Int(name));
+    expect_eq(rt, is_right(rt, alloc, out, &limits), right);
+    let equal = Cond::Equal(Expr::Arg, Expr::Int(name));
+    let put = Stmt::Put(0, equal);
+    expect_eq(rt, is_right(rt, alloc, put, &limits), right);
+}
+
+/// A Boolean of this name may be put and read, or not.
+fn expect_bool(rt: &impl Abort, alloc: Global, name: u8, right: bool) {
+    let limits = Limits { ints: 2, bools: 1 };
+    let put = Stmt::Put(name, Cond::Constant(true));
+    expect_eq(rt, is_right(rt, alloc, put, &limits), right);
+    let read = Stmt::Put(0, Cond::Bool(name));
+    expect_eq(rt, is_right(rt, alloc, read, &limits), right);
+}
+
+#[test]
+fn names_that_are_not_counted_are_refused(rt: HostRuntime) {
     for (name, int, bool) in [(0, true, true), (1, true, false), (2, false, false)] {
-        let statements = [
-            (Stmt::Set(name, Expr::Arg), int),
-            (Stmt::Out(Expr::Int(name)), int),
-            (Stmt::Put(name, Cond::Constant(true)), bool),
-            (Stmt::Put(0, Cond::Bool(name)), bool),
-            (Stmt::Put(0, Cond::Equal(Expr::Arg, Expr::Int(name))), int),
-        ];
-        for (statement, right) in statements {
-            let body = body_of(alloc, statement)?;
-            assert_eq!(rt; check(&body, &limits), right, "{body:?}");
-        }
+        expect_int(&rt, rt.alloc(), name, int);
+        expect_bool(&rt, rt.alloc(), name, bool);
     }
-    Ok(())
 }
 
-#[test]
-fn middle_results_beyond_64_bits_raise_nothing(rt: HostRuntime) -> Result<(), Fail> {
-    let alloc = rt.alloc();
+/// The expression fits components of none, and has this value at an argument.
+fn expect_value(rt: &impl Abort, expr: &Expr, arg: i64, expected: Option<i64>) {
     let components = Components::new();
-    let limits = components.limits();
-    let most = i64::MAX;
-    let double = add(alloc, Expr::Arg, Expr::Arg)?;
-    let back = sub(alloc, add(alloc, Expr::Arg, Expr::Arg)?, Expr::Arg)?;
-    let all = sum_of(alloc, 16)?;
-    for (expr, arg, result) in [
-        (&double, most, None),
-        (&double, 21, Some(42)),
-        (&back, most, Some(most)),
-        (&back, i64::MIN, Some(i64::MIN)),
-        (&all, i64::MIN, None),
-        (&all, -2, Some(-32)),
-        (&Expr::Out, 7, Some(0)),
-    ] {
-        assert!(rt; expr.fits(&limits));
-        assert_eq!(rt; value(expr, &components, arg), result, "{expr:?}");
-    }
-    let more = Cond::Less(Expr::Arg, add(alloc, Expr::Arg, Expr::Arg)?);
-    assert!(rt; more.fits(&limits));
-    assert!(rt; truth(&more, &components, most));
-    assert!(rt; !truth(&more, &components, i64::MIN));
-    Ok(())
+    assert!(rt; expr.fits(&components.limits()));
+    let found = value(expr, &components, arg);
+    assert_eq!(rt; found, expected, "{expr:?}");
+}
+
+/// The condition fits components, and holds at an argument or not.
+fn expect_truth(rt: &impl Abort, cond: Cond, components: &Components, arg: i64, holds: bool) {
+    assert!(rt; cond.fits(&components.limits()));
+    let found = truth(&cond, components, arg);
+    assert_eq!(rt; found, holds, "{cond:?}");
 }
 
 #[test]
-fn conditions_hold_as_their_words_say(rt: HostRuntime) -> Result<(), Fail> {
+fn middle_results_beyond_64_bits_raise_nothing(rt: HostRuntime) {
     let alloc = rt.alloc();
+    let most = i64::MAX;
+    let double = add(&rt, alloc, Expr::Arg, Expr::Arg);
+    expect_value(&rt, &double, most, None);
+    expect_value(&rt, &double, 21, Some(42));
+    let back = sub(&rt, alloc, double, Expr::Arg);
+    expect_value(&rt, &back, most, Some(most));
+    expect_value(&rt, &back, i64::MIN, Some(i64::MIN));
+    let all = sum_of(&rt, alloc, 16);
+    expect_value(&rt, &all, i64::MIN, None);
+    expect_value(&rt, &all, -2, Some(-32));
+    expect_value(&rt, &Expr::Out, 7, Some(0));
+}
+
+#[test]
+fn middle_results_beyond_64_bits_are_compared(rt: HostRuntime) {
+    for (arg, holds) in [(i64::MAX, true), (i64::MIN, false)] {
+        let double = add(&rt, rt.alloc(), Expr::Arg, Expr::Arg);
+        let more = Cond::Less(Expr::Arg, double);
+        expect_truth(&rt, more, &Components::new(), arg, holds);
+    }
+}
+
+#[test]
+fn comparisons_hold_as_their_words_say(rt: HostRuntime) {
     let components = some_components();
-    let yes = || Cond::Constant(true);
-    let no = || Cond::Constant(false);
     for (cond, holds) in [
         (Cond::Bool(0), false),
-        (not(alloc, Cond::Bool(0))?, true),
         (Cond::Less(Expr::Int(0), Expr::Int(1)), true),
         (Cond::Less(Expr::Arg, Expr::Arg), false),
         (Cond::LessOrEqual(Expr::Arg, Expr::Arg), true),
         (Cond::LessOrEqual(Expr::Int(1), Expr::Int(0)), false),
         (Cond::Equal(Expr::Arg, Expr::Number(5)), true),
         (Cond::Equal(Expr::Arg, Expr::Number(-5)), false),
-        (
-            Cond::And(Box::new(alloc, yes())?, Box::new(alloc, no())?),
-            false,
-        ),
-        (
-            Cond::And(Box::new(alloc, yes())?, Box::new(alloc, yes())?),
-            true,
-        ),
-        (
-            Cond::Or(Box::new(alloc, no())?, Box::new(alloc, yes())?),
-            true,
-        ),
-        (
-            Cond::Or(Box::new(alloc, no())?, Box::new(alloc, no())?),
-            false,
-        ),
     ] {
-        assert!(rt; cond.fits(&components.limits()));
-        assert_eq!(rt; truth(&cond, &components, 5), holds, "{cond:?}");
+        expect_truth(&rt, cond, &components, 5, holds);
     }
-    Ok(())
+}
+
+fn constant(rt: &impl Abort, alloc: Global, holds: bool) -> Box<Cond> {
+    boxed(rt, alloc, Cond::Constant(holds))
 }
 
 #[test]
-fn a_number_is_set_only_within_its_range(rt: HostRuntime) -> Result<(), Fail> {
+fn conditions_hold_as_their_words_say(rt: HostRuntime) {
     let alloc = rt.alloc();
-    let same = sub(alloc, add(alloc, Expr::Int(1), Expr::Int(1))?, Expr::Int(1))?;
-    let most = i64::MAX;
-    for (name, expr, outcome, left) in [
-        (
-            1,
-            add(alloc, Expr::Int(1), Expr::Int(1))?,
-            Outcome::Raised,
-            most,
-        ),
-        (1, same, Outcome::Out(0), most),
-        (0, Expr::Number(4), Outcome::Out(0), 4),
-        (0, Expr::Number(5), Outcome::Raised, 0),
-        (0, Expr::Number(-1), Outcome::Raised, 0),
-    ] {
-        let mut components = some_components();
-        let body = body_of(alloc, Stmt::Set(name, expr))?;
-        assert!(rt; check(&body, &components.limits()));
-        assert_eq!(rt; run(&body, &mut components, 0), outcome, "{body:?}");
-        assert_eq!(rt; components.int(name).map(|int| int.value), Some(left));
+    let components = some_components();
+    let opposite = not(&rt, alloc, Cond::Bool(0));
+    expect_truth(&rt, opposite, &components, 5, true);
+    for second in [false, true] {
+        let first = constant(&rt, alloc, true);
+        let both = Cond::And(first, constant(&rt, alloc, second));
+        expect_truth(&rt, both, &components, 5, second);
+        let first = constant(&rt, alloc, false);
+        let either = Cond::Or(first, constant(&rt, alloc, second));
+        expect_truth(&rt, either, &components, 5, second);
     }
-    Ok(())
 }
 
-#[test]
-fn assignments_before_an_exception_stay(rt: HostRuntime) -> Result<(), Fail> {
+/// The number of this name is given the value of an expression, which has this outcome and leaves
+/// this value.
+fn expect_set(rt: &impl Abort, body: Vec<Stmt>, name: u8, outcome: Outcome, left: i64) {
     let mut components = some_components();
-    let mut body = body_of(rt.alloc(), Stmt::Put(0, Cond::Constant(true)))?;
-    body.push(Stmt::Set(0, Expr::Number(9)))?;
-    body.push(Stmt::Set(0, Expr::Number(1)))?;
     assert!(rt; check(&body, &components.limits()));
-    assert_eq!(rt; run(&body, &mut components, 0), Outcome::Raised);
-    assert_eq!(rt; components.bool(0), Some(true));
-    assert_eq!(rt; components.int(0).map(|int| int.value), Some(0));
-    assert_eq!(rt; components.int(2), None);
-    assert_eq!(rt; components.bool(1), None);
-    Ok(())
+    assert_eq!(rt; run(&body, &mut components, 0), outcome, "{body:?}");
+    let found = components.int(name).map(|int| int.value);
+    expect_eq(rt, found, Some(left));
 }
 
 #[test]
-fn an_if_runs_one_arm_and_out_starts_at_0(rt: HostRuntime) -> Result<(), Fail> {
+fn a_number_is_set_only_within_its_range(rt: HostRuntime) {
     let alloc = rt.alloc();
+    let most = i64::MAX;
+    let twice = add(&rt, alloc, Expr::Int(1), Expr::Int(1));
+    let above = one(&rt, alloc, Stmt::Set(1, twice));
+    expect_set(&rt, above, 1, Outcome::Raised, most);
+    let twice = add(&rt, alloc, Expr::Int(1), Expr::Int(1));
+    let same = sub(&rt, alloc, twice, Expr::Int(1));
+    let same = one(&rt, alloc, Stmt::Set(1, same));
+    expect_set(&rt, same, 1, Outcome::Out(0), most);
+    for (number, outcome, left) in [
+        (4, Outcome::Out(0), 4),
+        (5, Outcome::Raised, 0),
+        (-1, Outcome::Raised, 0),
+    ] {
+        let body = one(&rt, alloc, Stmt::Set(0, Expr::Number(number)));
+        expect_set(&rt, body, 0, outcome, left);
+    }
+}
+
+/// `b := true; n := 9; n := 1`.
+fn raises_between(rt: &impl Abort, alloc: Global) -> Vec<Stmt> {
+    let body = one(rt, alloc, Stmt::Put(0, Cond::Constant(true)));
+    let body = and(rt, body, Stmt::Set(0, Expr::Number(9)));
+    and(rt, body, Stmt::Set(0, Expr::Number(1)))
+}
+
+#[test]
+fn assignments_before_an_exception_stay(rt: HostRuntime) {
+    let mut components = some_components();
+    let body = raises_between(&rt, rt.alloc());
+    assert!(rt; check(&body, &components.limits()));
+    let outcome = run(&body, &mut components, 0);
+    expect_eq(&rt, outcome, Outcome::Raised);
+    expect_eq(&rt, components.bool(0), Some(true));
+    expect_eq(&rt, components.int(0).map(|int| int.value), Some(0));
+    assert!(rt; components.int(2).is_none());
+    expect_eq(&rt, components.bool(1), None);
+}
+
+/// `if arg = 1 then out := out + 1 else out := out + 10`.
+fn one_or_ten(rt: &impl Abort, alloc: Global) -> Stmt {
+    let plus_one = add(rt, alloc, Expr::Out, Expr::Number(1));
+    let plus_ten = add(rt, alloc, Expr::Out, Expr::Number(10));
+    let cond = Cond::Equal(Expr::Arg, Expr::Number(1));
+    let first = one(rt, alloc, Stmt::Out(plus_one));
+    let second = one(rt, alloc, Stmt::Out(plus_ten));
+    Stmt::If(cond, first, second)
+}
+
+#[test]
+fn an_if_runs_one_arm_and_out_starts_at_0(rt: HostRuntime) {
+    let body = one(&rt, rt.alloc(), one_or_ten(&rt, rt.alloc()));
     for (arg, outcome) in [(1, Outcome::Out(1)), (2, Outcome::Out(10))] {
-        let one = body_of(alloc, Stmt::Out(add(alloc, Expr::Out, Expr::Number(1))?))?;
-        let ten = body_of(alloc, Stmt::Out(add(alloc, Expr::Out, Expr::Number(10))?))?;
-        let cond = Cond::Equal(Expr::Arg, Expr::Number(1));
-        let body = body_of(alloc, Stmt::If(cond, one, ten))?;
         let mut components = Components::new();
         assert!(rt; check(&body, &components.limits()));
         assert_eq!(rt; run(&body, &mut components, arg), outcome);
     }
-    Ok(())
 }

@@ -1,9 +1,10 @@
+use crate::building::{add, and, expect_eq, one, two};
 use rp_base::{Answers, Reply, TaskId};
 use rp_body::{Components, Cond, Expr, Ranged, Stmt};
 use rp_entry::*;
 use std::alloc::{AllocError, Global};
+use std::process::Abort;
 use std::sync::Arc;
-use std::test::Fail;
 
 // The procedures of the gate by their indices, and an index that it does not have.
 const LIFT: u8 = 1;
@@ -11,10 +12,6 @@ const LIFT: u8 = 1;
 const BURST: u8 = 2;
 
 const ABSENT: u8 = 3;
-
-fn add(alloc: Global, a: Expr, b: Expr) -> Result<Expr, AllocError> {
-    Ok(Expr::Add(Box::new(alloc, a)?, Box::new(alloc, b)?))
-}
 
 /// n from 0 to 4 at this value, and up.
 fn gate_components(n: i64, up: bool) -> Components {
@@ -28,63 +25,79 @@ fn gate_components(n: i64, up: bool) -> Components {
     components
 }
 
-/// The functions `n + arg` and `up`, the procedures lift, which puts up, and burst, which puts up and
-/// raises, and the entry pass when up, which puts up down and counts.
-fn gate_operations(alloc: Global) -> Result<Operations, AllocError> {
-    let mut functions = Vec::new(alloc);
-    functions.push(Function::Value(add(alloc, Expr::Int(0), Expr::Arg)?))?;
-    functions.push(Function::Truth(Cond::Bool(0)))?;
-    let mut lift = Vec::new(alloc);
-    lift.push(Stmt::Put(0, Cond::Constant(true)))?;
-    let mut burst = Vec::new(alloc);
-    burst.push(Stmt::Put(0, Cond::Constant(true)))?;
-    burst.push(Stmt::Set(0, Expr::Number(9)))?;
-    let mut procedures = Vec::new(alloc);
-    procedures.push(lift)?;
-    procedures.push(burst)?;
-    let mut pass = Vec::new(alloc);
-    pass.push(Stmt::Put(0, Cond::Constant(false)))?;
-    pass.push(Stmt::Set(0, add(alloc, Expr::Int(0), Expr::Number(1))?))?;
-    pass.push(Stmt::Out(Expr::Int(0)))?;
-    let mut entries = Vec::new(alloc);
-    entries.push(Entry {
+/// Puts up.
+fn put(up: bool) -> Stmt {
+    Stmt::Put(0, Cond::Constant(up))
+}
+
+/// Adds 1 to n.
+fn count(rt: &impl Abort, alloc: Global) -> Stmt {
+    Stmt::Set(0, add(rt, alloc, Expr::Int(0), Expr::Number(1)))
+}
+
+/// The functions `n + arg` and `up`.
+fn gate_functions(rt: &impl Abort, alloc: Global) -> Vec<Function> {
+    let sum = add(rt, alloc, Expr::Int(0), Expr::Arg);
+    let up = Function::Truth(Cond::Bool(0));
+    two(rt, alloc, Function::Value(sum), up)
+}
+
+/// The procedures lift, which puts up, and burst, which puts up and raises.
+fn gate_procedures(rt: &impl Abort, alloc: Global) -> Vec<Vec<Stmt>> {
+    let lift = one(rt, alloc, put(true));
+    let burst = two(rt, alloc, put(true), Stmt::Set(0, Expr::Number(9)));
+    two(rt, alloc, lift, burst)
+}
+
+/// The entry pass when up, which puts up down and counts.
+fn gate_entries(rt: &impl Abort, alloc: Global) -> Vec<Entry> {
+    let pass = two(rt, alloc, put(false), count(rt, alloc));
+    let entry = Entry {
         barrier: 0,
         longest: 1,
-        body: pass,
-    })?;
-    Ok(Operations {
-        functions,
-        procedures,
-        entries,
-    })
+        body: and(rt, pass, Stmt::Out(Expr::Int(0))),
+    };
+    one(rt, alloc, entry)
+}
+
+fn gate_operations(rt: &impl Abort, alloc: Global) -> Operations {
+    Operations {
+        functions: gate_functions(rt, alloc),
+        procedures: gate_procedures(rt, alloc),
+        entries: gate_entries(rt, alloc),
+    }
+}
+
+/// The object of these operations, with n at this value, if they fit.
+fn object(
+    rt: &impl Abort,
+    alloc: Global,
+    operations: Operations,
+    n: i64,
+    up: bool,
+) -> Option<Object> {
+    let Ok(shared) = Arc::new(alloc, operations) else {
+        panic!(rt; "memory is refused");
+    };
+    Object::new(alloc, shared, gate_components(n, up)).expect(rt, "memory for the queues")
 }
 
 /// The gate with n at this value.
-fn gate(alloc: Global, n: i64, up: bool) -> Result<Object, Fail> {
-    Ok(object(alloc, gate_operations(alloc)?, gate_components(n, up))?.ok_or("a gate")?)
-}
-
-/// The object of these operations and components, if they fit.
-fn object(
-    alloc: Global,
-    operations: Operations,
-    components: Components,
-) -> Result<Option<Object>, AllocError> {
-    let shared = Arc::new(alloc, operations).map_err(|_| AllocError)?;
-    Object::new(alloc, shared, components)
+fn gate(rt: &impl Abort, alloc: Global, n: i64, up: bool) -> Object {
+    object(rt, alloc, gate_operations(rt, alloc), n, up).expect(rt, "a gate")
 }
 
 /// Calls an entry for a task that does not wait.
-fn enter(object: &mut Object, index: u8, task: u8, arg: i64) -> Result<Done, Fail> {
-    let task = TaskId::new(task).ok_or("a task")?;
+fn enter(rt: &impl Abort, object: &mut Object, index: u8, task: u8, arg: i64) -> Done {
+    let task = TaskId::new(task).expect(rt, "a task");
     if object.is_waiting(task) {
-        return Err(Fail::from("a task that waits"));
+        panic!(rt; "a task that waits");
     }
-    Ok(object.entry(index, task, 1, arg))
+    object.entry(index, task, 1, arg)
 }
 
 /// The tasks and arguments of the calls that wait at the entry of this place.
-fn waiting_at(alloc: Global, object: &Object, place: usize) -> Result<Vec<(u8, i64)>, Fail> {
+fn waiting_at(alloc: Global, object: &Object, place: usize) -> Result<Vec<(u8, i64)>, AllocError> {
     let mut calls = Vec::new(alloc);
     if let Some(queue) = object.queues().get(place) {
         for place in 0..queue.len() {
@@ -96,8 +109,20 @@ fn waiting_at(alloc: Global, object: &Object, place: usize) -> Result<Vec<(u8, i
     Ok(calls)
 }
 
+/// These tasks wait, with these arguments, at the entry of this place.
+fn expect_waiting(
+    rt: &impl Abort,
+    alloc: Global,
+    object: &Object,
+    place: usize,
+    expected: &[(u8, i64)],
+) {
+    let found = waiting_at(alloc, object, place).expect(rt, "memory for the calls");
+    assert_eq!(rt; found.as_slice(), expected);
+}
+
 /// The tasks that are answered, and their replies.
-fn replied(alloc: Global, answers: &Answers) -> Result<Vec<(u8, Reply)>, Fail> {
+fn replied(alloc: Global, answers: &Answers) -> Result<Vec<(u8, Reply)>, AllocError> {
     let mut all = Vec::new(alloc);
     for answer in answers.as_slice() {
         all.push((answer.task.get(), answer.reply))?;
@@ -105,94 +130,95 @@ fn replied(alloc: Global, answers: &Answers) -> Result<Vec<(u8, Reply)>, Fail> {
     Ok(all)
 }
 
+/// These tasks are answered, with these replies.
+fn expect_served(rt: &impl Abort, alloc: Global, answers: &Answers, expected: &[(u8, Reply)]) {
+    let found = replied(alloc, answers).expect(rt, "memory for the answers");
+    assert_eq!(rt; found.as_slice(), expected);
+}
+
+/// A protected action has this outcome, and serves these tasks with these replies.
+fn expect_done(
+    rt: &impl Abort,
+    alloc: Global,
+    done: Done,
+    outcome: CallOutcome,
+    served: &[(u8, Reply)],
+) {
+    expect_eq(rt, done.outcome, outcome);
+    expect_served(rt, alloc, &done.served, served);
+}
+
 /// The values of n and up.
-fn values(gate: &Object) -> (Option<i64>, Option<bool>) {
+fn expect_values(rt: &impl Abort, gate: &Object, n: i64, up: bool) {
     let components = gate.components();
-    (components.int(0).map(|n| n.value), components.bool(0))
+    expect_eq(rt, components.int(0).map(|n| n.value), Some(n));
+    expect_eq(rt, components.bool(0), Some(up));
+}
+
+/// A gate at whose entry task 1 waits, called with 7.
+fn waited_for(rt: &impl Abort, alloc: Global, n: i64) -> Object {
+    let mut gate = gate(rt, alloc, n, false);
+    let done = enter(rt, &mut gate, 1, 1, 7);
+    expect_done(rt, alloc, done, CallOutcome::Waits, &[]);
+    gate
 }
 
 #[test]
-fn a_waiting_caller_stays_and_a_raised_body_serves_it(rt: HostRuntime) -> Result<(), Fail> {
+fn a_waiting_caller_stays_and_a_raised_body_serves_it(rt: HostRuntime) {
     let alloc = rt.alloc();
-    let mut gate = gate(alloc, 0, false)?;
-
-    let done = enter(&mut gate, 1, 1, 7)?;
-    assert_eq!(rt; done.outcome, CallOutcome::Waits);
-    assert!(rt; done.served.is_empty());
-    assert_eq!(rt;
-        waiting_at(alloc, &gate, 0)?.as_slice(),
-        [(1, 7)].as_slice()
-    );
+    let mut gate = waited_for(&rt, alloc, 0);
+    expect_waiting(&rt, alloc, &gate, 0, &[(1, 7)]);
     assert!(rt; gate.is_waiting(TaskId::first()));
 
-    let done = enter(&mut gate, 1, 2, 8)?;
-    assert_eq!(rt; done.outcome, CallOutcome::Reply(Reply::ProgramError));
-    assert!(rt; done.served.is_empty());
-    assert_eq!(rt;
-        waiting_at(alloc, &gate, 0)?.as_slice(),
-        [(1, 7)].as_slice()
-    );
+    let done = enter(&rt, &mut gate, 1, 2, 8);
+    let refused = CallOutcome::Reply(Reply::ProgramError);
+    expect_done(&rt, alloc, done, refused, &[]);
+    expect_waiting(&rt, alloc, &gate, 0, &[(1, 7)]);
 
     let done = gate.procedure(BURST, 0);
-    assert_eq!(rt; done.outcome, CallOutcome::Reply(Reply::ConstraintError));
-    assert_eq!(rt;
-        replied(alloc, &done.served)?.as_slice(),
-        [(1, Reply::Value(1))].as_slice()
-    );
-    assert!(rt; waiting_at(alloc, &gate, 0)?.is_empty());
-    assert_eq!(rt; values(&gate), (Some(1), Some(false)));
-    Ok(())
+    let raised = CallOutcome::Reply(Reply::ConstraintError);
+    expect_done(&rt, alloc, done, raised, &[(1, Reply::Value(1))]);
+    expect_waiting(&rt, alloc, &gate, 0, &[]);
+    expect_values(&rt, &gate, 1, false);
 }
 
 #[test]
-fn a_served_body_raises_to_its_own_caller(rt: HostRuntime) -> Result<(), Fail> {
+fn a_served_body_raises_to_its_own_caller(rt: HostRuntime) {
     for (n, reply, after) in [(0, Reply::Value(1), 1), (4, Reply::ConstraintError, 4)] {
-        let mut gate = gate(rt.alloc(), n, false)?;
-        assert_eq!(rt; enter(&mut gate, 1, 1, 0)?.outcome, CallOutcome::Waits);
+        let mut gate = waited_for(&rt, rt.alloc(), n);
         let done = gate.procedure(LIFT, 0);
-        assert_eq!(rt; done.outcome, CallOutcome::Reply(Reply::Value(0)));
-        assert_eq!(rt;
-            replied(rt.alloc(), &done.served)?.as_slice(),
-            [(1, reply)].as_slice()
-        );
-        assert_eq!(rt; values(&gate), (Some(after), Some(false)));
+        let lifted = CallOutcome::Reply(Reply::Value(0));
+        expect_done(&rt, rt.alloc(), done, lifted, &[(1, reply)]);
+        expect_values(&rt, &gate, after, false);
     }
-    Ok(())
 }
 
 #[test]
-fn an_event_has_no_caller_and_its_exception_no_effect(rt: HostRuntime) -> Result<(), Fail> {
+fn an_event_has_no_caller_and_its_exception_no_effect(rt: HostRuntime) {
     for handler in [LIFT, BURST] {
-        let mut gate = gate(rt.alloc(), 0, false)?;
-        assert_eq!(rt; enter(&mut gate, 1, 1, 0)?.outcome, CallOutcome::Waits);
+        let mut gate = waited_for(&rt, rt.alloc(), 0);
         let served = gate.handler(handler);
-        assert_eq!(rt;
-            replied(rt.alloc(), &served)?.as_slice(),
-            [(1, Reply::Value(1))].as_slice()
-        );
-        assert_eq!(rt; values(&gate), (Some(1), Some(false)));
+        expect_served(&rt, rt.alloc(), &served, &[(1, Reply::Value(1))]);
+        expect_values(&rt, &gate, 1, false);
         assert!(rt; gate.handler(handler).is_empty());
-        assert_eq!(rt; values(&gate), (Some(1), Some(true)));
+        expect_values(&rt, &gate, 1, true);
     }
-    Ok(())
 }
 
 #[test]
-fn an_open_entry_runs_its_call_at_once(rt: HostRuntime) -> Result<(), Fail> {
+fn an_open_entry_runs_its_call_at_once(rt: HostRuntime) {
     for (n, reply, after) in [(2, Reply::Value(3), 3), (4, Reply::ConstraintError, 4)] {
-        let mut gate = gate(rt.alloc(), n, true)?;
-        let done = enter(&mut gate, 1, 1, 0)?;
-        assert_eq!(rt; done.outcome, CallOutcome::Reply(reply));
-        assert!(rt; done.served.is_empty());
-        assert_eq!(rt; values(&gate), (Some(after), Some(false)));
-        assert!(rt; waiting_at(rt.alloc(), &gate, 0)?.is_empty());
+        let mut gate = gate(&rt, rt.alloc(), n, true);
+        let done = enter(&rt, &mut gate, 1, 1, 0);
+        expect_done(&rt, rt.alloc(), done, CallOutcome::Reply(reply), &[]);
+        expect_values(&rt, &gate, after, false);
+        expect_waiting(&rt, rt.alloc(), &gate, 0, &[]);
     }
-    Ok(())
 }
 
 #[test]
-fn functions_and_absent_operations_reply_and_change_nothing(rt: HostRuntime) -> Result<(), Fail> {
-    let mut gate = gate(rt.alloc(), 1, true)?;
+fn functions_reply_and_change_nothing(rt: HostRuntime) {
+    let gate = gate(&rt, rt.alloc(), 1, true);
     for (index, arg, reply) in [
         (0, 0, Reply::NoSuchOperation),
         (1, 41, Reply::Value(42)),
@@ -202,104 +228,131 @@ fn functions_and_absent_operations_reply_and_change_nothing(rt: HostRuntime) -> 
     ] {
         assert_eq!(rt; gate.function(index, arg), reply);
     }
+    expect_values(&rt, &gate, 1, true);
+}
+
+#[test]
+fn absent_operations_reply_and_change_nothing(rt: HostRuntime) {
+    let mut gate = gate(&rt, rt.alloc(), 1, true);
+    let absent = CallOutcome::Reply(Reply::NoSuchOperation);
     for index in [0, ABSENT] {
         let done = gate.procedure(index, 0);
-        assert_eq!(rt; done.outcome, CallOutcome::Reply(Reply::NoSuchOperation));
-        assert!(rt; done.served.is_empty());
+        expect_done(&rt, rt.alloc(), done, absent, &[]);
         assert!(rt; gate.handler(index).is_empty());
     }
     for index in [0, 2, 5] {
-        let done = enter(&mut gate, index, 1, 0)?;
-        assert_eq!(rt; done.outcome, CallOutcome::Reply(Reply::NoSuchOperation));
-        assert!(rt; done.served.is_empty());
+        let done = enter(&rt, &mut gate, index, 1, 0);
+        expect_done(&rt, rt.alloc(), done, absent, &[]);
     }
-    assert_eq!(rt; values(&gate), (Some(1), Some(true)));
-    Ok(())
+    expect_values(&rt, &gate, 1, true);
 }
 
-/// The Boolean up, the procedures lift, which puts it up, and raise, which puts it up and raises,
-/// and two entries when up: pass, at which n wait, which counts to 2 and then puts up down, and
-/// late, which gives 7.
-fn two_entries(alloc: Global, longest: u8) -> Result<Object, Fail> {
-    let mut operations = gate_operations(alloc)?;
-    let down = vec![in alloc; Stmt::Put(0, Cond::Constant(false))]?;
+/// The entries pass when up, at which n wait, which counts to 2 and then puts up down, and late when
+/// up, which gives 7.
+fn pass_and_late(rt: &impl Abort, alloc: Global, longest: u8) -> Vec<Entry> {
     let full = Cond::Equal(Expr::Int(0), Expr::Number(2));
-    let pass = vec![in alloc;
-        Stmt::Set(0, add(alloc, Expr::Int(0), Expr::Number(1))?),
-        Stmt::Out(Expr::Int(0)),
-        Stmt::If(full, down, Vec::new(alloc)),
-    ]?;
-    let late = vec![in alloc; Stmt::Out(Expr::Number(7))]?;
-    operations.entries = vec![in alloc;
-        Entry {
-            barrier: 0,
-            longest,
-            body: pass,
-        },
-        Entry {
-            barrier: 0,
-            longest: 1,
-            body: late,
-        },
-    ]?;
-    Ok(object(alloc, operations, gate_components(0, false))?.ok_or("a gate")?)
+    let down = Stmt::If(full, one(rt, alloc, put(false)), Vec::new(alloc));
+    let pass = two(rt, alloc, count(rt, alloc), Stmt::Out(Expr::Int(0)));
+    let pass = Entry {
+        barrier: 0,
+        longest,
+        body: and(rt, pass, down),
+    };
+    let late = Entry {
+        barrier: 0,
+        longest: 1,
+        body: one(rt, alloc, Stmt::Out(Expr::Number(7))),
+    };
+    two(rt, alloc, pass, late)
 }
 
-#[test]
-fn the_first_caller_of_the_first_open_entry_is_served_first(rt: HostRuntime) -> Result<(), Fail> {
-    let alloc = rt.alloc();
-    let mut gate = two_entries(alloc, 2)?;
+/// The gate with these entries, if they fit.
+fn gate_with(rt: &impl Abort, alloc: Global, entries: Vec<Entry>) -> Option<Object> {
+    let operations = Operations {
+        functions: gate_functions(rt, alloc),
+        procedures: gate_procedures(rt, alloc),
+        entries,
+    };
+    object(rt, alloc, operations, 0, false)
+}
+
+/// A gate whose entries are pass, at which task 2 waits and then task 1, and late, at which task 3
+/// waits.
+fn three_wait(rt: &impl Abort, alloc: Global) -> Object {
+    let entries = pass_and_late(rt, alloc, 2);
+    let mut gate = gate_with(rt, alloc, entries).expect(rt, "a gate");
     for (index, task) in [(2, 3), (1, 2), (1, 1)] {
-        assert_eq!(rt;
-            enter(&mut gate, index, task, 0)?.outcome,
-            CallOutcome::Waits
-        );
+        let done = enter(rt, &mut gate, index, task, 0);
+        expect_eq(rt, done.outcome, CallOutcome::Waits);
     }
-    let done = gate.procedure(LIFT, 0);
-    let expected = [(2, Reply::Value(1)), (1, Reply::Value(2))];
-    assert_eq!(rt;
-        replied(alloc, &done.served)?.as_slice(),
-        expected.as_slice()
-    );
-    assert!(rt; waiting_at(alloc, &gate, 0)?.is_empty());
-    assert_eq!(rt;
-        waiting_at(alloc, &gate, 1)?.as_slice(),
-        [(3, 0)].as_slice()
-    );
-
-    assert_eq!(rt;
-        replied(alloc, &gate.handler(BURST))?.as_slice(),
-        [(3, Reply::Value(7))].as_slice()
-    );
-    assert_eq!(rt; values(&gate), (Some(2), Some(true)));
-    Ok(())
+    gate
 }
 
 #[test]
-fn operations_that_do_not_fit_make_no_object(rt: HostRuntime) -> Result<(), Fail> {
+fn the_first_caller_of_the_first_open_entry_is_served_first(rt: HostRuntime) {
     let alloc = rt.alloc();
-    assert!(rt; object(alloc, gate_operations(alloc)?, gate_components(0, false))?.is_some());
+    let mut gate = three_wait(&rt, alloc);
+    let done = gate.procedure(LIFT, 0);
+    let served = [(2, Reply::Value(1)), (1, Reply::Value(2))];
+    expect_served(&rt, alloc, &done.served, &served);
+    expect_waiting(&rt, alloc, &gate, 0, &[]);
+    expect_waiting(&rt, alloc, &gate, 1, &[(3, 0)]);
+    let served = gate.handler(BURST);
+    expect_served(&rt, alloc, &served, &[(3, Reply::Value(7))]);
+    expect_values(&rt, &gate, 2, true);
+}
 
-    let mut unknown = gate_operations(alloc)?;
-    unknown.functions.push(Function::Truth(Cond::Bool(1)))?;
-    assert!(rt; object(alloc, unknown, gate_components(0, false))?.is_none());
+/// Whether the operations of the gate fit, with this function and procedure after its own.
+fn fits(rt: &impl Abort, alloc: Global, function: Function, procedure: Stmt) -> bool {
+    let operations = Operations {
+        functions: and(rt, gate_functions(rt, alloc), function),
+        procedures: and(rt, gate_procedures(rt, alloc), one(rt, alloc, procedure)),
+        entries: gate_entries(rt, alloc),
+    };
+    object(rt, alloc, operations, 0, false).is_some()
+}
 
-    let mut wild = gate_operations(alloc)?;
-    wild.procedures
-        .push(vec![in alloc; Stmt::Set(1, Expr::Arg)]?)?;
-    assert!(rt; object(alloc, wild, gate_components(0, false))?.is_none());
+#[test]
+fn operations_that_do_not_fit_make_no_object(rt: HostRuntime) {
+    let alloc = rt.alloc();
+    let known = || Function::Truth(Cond::Bool(0));
+    assert!(rt; fits(&rt, alloc, known(), put(true)));
+    let unknown = Function::Truth(Cond::Bool(1));
+    assert!(rt; !fits(&rt, alloc, unknown, put(true)));
+    assert!(rt; !fits(&rt, alloc, known(), Stmt::Set(1, Expr::Arg)));
+}
 
-    for (barrier, longest, count) in [(1, 1, 1), (0, 0, 1), (0, 9, 1), (0, 1, 5)] {
-        let mut barred = gate_operations(alloc)?;
-        barred.entries = Vec::new(alloc);
-        for _ in 0..count {
-            barred.entries.push(Entry {
-                barrier,
-                longest,
-                body: Vec::new(alloc),
-            })?;
-        }
-        assert!(rt; object(alloc, barred, gate_components(0, false))?.is_none());
+/// Entries of this barrier and this longest queue, with no statement, as many as `count` says.
+fn empty_entries(
+    rt: &impl Abort,
+    alloc: Global,
+    barrier: u8,
+    longest: u8,
+    count: u8,
+) -> Vec<Entry> {
+    let mut entries = Vec::new(alloc);
+    for _ in 0..count {
+        let entry = Entry {
+            barrier,
+            longest,
+            body: Vec::new(alloc),
+        };
+        entries = and(rt, entries, entry);
     }
-    Ok(())
+    entries
+}
+
+#[test]
+fn entries_that_do_not_fit_make_no_object(rt: HostRuntime) {
+    let alloc = rt.alloc();
+    for (barrier, longest, count, right) in [
+        (0, 1, 1, true),
+        (1, 1, 1, false),
+        (0, 0, 1, false),
+        (0, 9, 1, false),
+        (0, 1, 5, false),
+    ] {
+        let entries = empty_entries(&rt, alloc, barrier, longest, count);
+        assert_eq!(rt; gate_with(&rt, alloc, entries).is_some(), right);
+    }
 }

@@ -5,6 +5,8 @@
 #[cfg(test)]
 mod body;
 #[cfg(test)]
+mod building;
+#[cfg(test)]
 mod entry;
 #[cfg(test)]
 mod machine;

@@ -1,8 +1,14 @@
+use crate::compare::expect_eq;
 use rp_base::*;
+use std::process::Abort;
 use std::test::Fail;
 
+fn node(rt: &impl Abort, number: u8) -> NodeId {
+    NodeId::new(number).expect(rt, "a node")
+}
+
 #[test]
-fn the_next_ballot_is_the_least_above(rt: HostRuntime) -> Result<(), Fail> {
+fn the_next_ballot_is_the_least_above(rt: HostRuntime) {
     let cases = [
         (2, 0, 10),
         (2, 9, 10),
@@ -11,23 +17,24 @@ fn the_next_ballot_is_the_least_above(rt: HostRuntime) -> Result<(), Fail> {
         (1, 10, 17),
         (7, 15, 23),
     ];
-    for (node, above, next) in cases {
-        let node = NodeId::new(node).ok_or("a node")?;
-        assert_eq!(rt; Ballot::next_for(node, Ballot::new(above))?.get(), next);
+    for (number, above, next) in cases {
+        let ballot = Ballot::next_for(node(&rt, number), Ballot::new(above));
+        assert_eq!(rt; ballot.map(|ballot| ballot.get()), Ok(next));
     }
-    let node = NodeId::new(1).ok_or("node 1")?;
+}
+
+#[test]
+fn the_greatest_ballot_is_the_last_one(rt: HostRuntime) {
+    let node = node(&rt, 1);
     assert_eq!(rt; Ballot::of(1, node).get(), 9);
-    let last = Ballot::new(34_359_738_367).ok_or("the greatest ballot")?;
-    assert_eq!(rt;
-        Ballot::next_for(node, Some(last)),
-        Err(Fault::BallotsSpent)
-    );
+    let last = Ballot::new(34_359_738_367).expect(&rt, "the greatest ballot");
+    let next = Ballot::next_for(node, Some(last));
+    expect_eq(&rt, next, Err(Fault::BallotsSpent));
     assert_eq!(rt; last.round(), u32::MAX);
     assert_eq!(rt; last.owner().get(), 7);
     for number in [0, 8, 16, 34_359_738_368, 34_359_738_369] {
         assert_eq!(rt; Ballot::new(number), None);
     }
-    Ok(())
 }
 
 #[test]

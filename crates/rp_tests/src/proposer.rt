@@ -1,152 +1,223 @@
-ghost use Rattle.std.specs.Prelude.{◌≡◌, ◌≤◌, IfOk};
+ghost use Rattle.std.specs.Prelude.{◌≡◌, ◌≤◌};
 
+use crate::compare::expect_eq;
 use rp_base::{Action, Ballot, Fault, NodeId, Position, Rec, Vote};
 use rp_proposer::*;
 use std::alloc::Global;
-use std::test::*;
+use std::process::Abort;
 
 /// One of three nodes.
-fn node(number: u8) -> Result<NodeId, Fail>
-    ensures { IfOk result (λ node. node ≤ 3) }
+fn node(rt: &impl Abort, number: u8) -> NodeId
+    ensures { result ≤ 3 }
 {
-    let node = NodeId::new(number).ok_or("a node")?;
-    if node.get() > 3 {
-        return Err("one of three".into());
-    }
-    Ok(node)
+    let node = NodeId::new(number).expect(rt, "a node");
+    assert!(rt; node.get() <= 3, "one of three");
+    node
 }
 
-fn ballot(number: u64) -> Result<Ballot, Fail> {
-    Ok(Ballot::new(number).ok_or("a ballot")?)
+fn ballot(rt: &impl Abort, number: u64) -> Ballot {
+    Ballot::new(number).expect(rt, "a ballot")
 }
 
-fn vote(number: u64, action: Action) -> Result<Option<Vote>, Fail> {
-    Ok(Some(Vote {
-        ballot: ballot(number)?,
+fn vote(rt: &impl Abort, number: u64, action: Action) -> Option<Vote> {
+    Some(Vote {
+        ballot: ballot(rt, number),
         action,
-    }))
+    })
 }
 
 const A: Action = Action::Tick { now: 1 };
 
 const B: Action = Action::Tick { now: 2 };
 
-/// Leads at a position in the next ballot, where there is room and a ballot.
-fn lead(proposer: &mut Proposer, position: Position, own: Action) -> Result<Ballot, Fail>
-    ensures { IfOk result (λ _. proposer.new.nodes ≡ proposer.old.nodes) }
+/// The proposer of one of three nodes, which wrote these records.
+fn restored(rt: &impl Abort, alloc: Global, number: u8, records: &[Rec]) -> Proposer
+    ensures { result.nodes ≡ 3 }
+{
+    match Proposer::restore(alloc, node(rt, number), 3, records) {
+        Ok(proposer) => proposer,
+        Err(fault) => panic!(rt; "{fault:?}"),
+    }
+}
+
+/// Leads at a position in the next ballot.
+fn lead(rt: &impl Abort, proposer: &mut Proposer, position: Position, own: Action) -> Ballot
+    ensures { proposer.new.nodes ≡ proposer.old.nodes }
 {
     if !proposer.has_room(position) {
-        return Err("no room".into());
+        panic!(rt; "no room");
     }
-    let ballot = proposer.ballot()?;
-    proposer.begin(position, ballot, Some(own));
-    Ok(ballot)
+    match proposer.ballot() {
+        Ok(ballot) => {
+            proposer.begin(position, ballot, Some(own));
+            ballot
+        }
+        Err(fault) => panic!(rt; "{fault:?}"),
+    }
 }
 
 /// A proposer of node 1 of 3 that leads at position 1 in ballot 9, with `A` of its own.
-fn leader(alloc: Global) -> Result<Proposer, Fail>
-    ensures { IfOk result (λ proposer. proposer.nodes ≡ 3) }
+fn leader(rt: &impl Abort, alloc: Global) -> Proposer
+    ensures { result.nodes ≡ 3 }
 {
-    let mut proposer = Proposer::restore(alloc, node(1)?, 3, &[])?;
-    lead(&mut proposer, Position::first(), A)?;
-    Ok(proposer)
+    let mut proposer = restored(rt, alloc, 1, &[]);
+    lead(rt, &mut proposer, Position::first(), A);
+    proposer
+}
+
+/// What a promise for position 1 makes of its proposal.
+fn progress(
+    rt: &impl Abort,
+    proposer: &Proposer,
+    sender: u8,
+    ballot: Ballot,
+    last: Option<Vote>,
+) -> Progress
+    requires { proposer.now.nodes ≡ 3 }
+{
+    proposer.promise(node(rt, sender), Position::first(), ballot, last)
+}
+
+/// What a promise for position 1 makes of its proposal; it is noted.
+fn promised(
+    rt: &impl Abort,
+    proposer: &mut Proposer,
+    sender: u8,
+    ballot: Ballot,
+    last: &Option<Vote>,
+) -> Progress
+    requires { proposer.old.nodes ≡ 3 }
+    ensures { proposer.new.nodes ≡ 3 }
+{
+    let sender = node(rt, sender);
+    let progress = proposer.promise(sender, Position::first(), ballot, *last);
+    proposer.note_promise(sender, Position::first(), ballot, *last);
+    progress
+}
+
+/// A proposer of node 2 of 3, which started ballot 10 and leads at position 1 in ballot 18.
+fn later_leader(rt: &impl Abort, alloc: Global) -> Proposer
+    ensures { result.nodes ≡ 3 }
+{
+    let mut proposer = restored(rt, alloc, 2, &[Rec::Started(ballot(rt, 10))]);
+    let leading = ballot(rt, 18);
+    expect_eq(rt, proposer.ballot(), Ok(leading));
+    let led = lead(rt, &mut proposer, Position::first(), Action::Noop);
+    expect_eq(rt, led, leading);
+    proposer
 }
 
 #[test]
-fn a_majority_offers_the_highest_vote(rt: HostRuntime) -> Result<(), Fail> {
-    let records = [Rec::Started(ballot(10)?)];
-    let mut proposer = Proposer::restore(rt.alloc(), node(2)?, 3, &records)?;
-    let first = Position::first();
-    let leading = ballot(18)?;
-    assert_eq!(rt; proposer.ballot(), Ok(leading));
-    assert_eq!(rt; lead(&mut proposer, first, Action::Noop)?, leading);
-    assert_eq!(rt; proposer.runs(first), Some(leading));
-    let low = vote(9, A)?;
-    for _ in 0..2 {
-        let progress = proposer.promise(node(1)?, first, leading, low);
-        assert_eq!(rt; progress, Progress::Waiting, "a promise counts once");
-        proposer.note_promise(node(1)?, first, leading, low);
-    }
-    let high = vote(10, B)?;
-    let progress = proposer.promise(node(3)?, first, leading, high);
-    assert_eq!(rt; progress, Progress::Offer(B));
-    let progress = proposer.promise(node(3)?, first, ballot(17)?, None);
-    assert_eq!(rt; progress, Progress::Stale);
-    proposer.nack(first, leading, ballot(27)?);
-    assert_eq!(rt; proposer.ballot(), Ok(ballot(34)?));
-    let progress = proposer.promise(node(3)?, first, leading, None);
-    assert_eq!(rt; progress, Progress::Stale);
-    Ok(())
+fn a_majority_offers_the_highest_vote(rt: HostRuntime) {
+    let mut proposer = later_leader(&rt, rt.alloc());
+    let leading = ballot(&rt, 18);
+    expect_eq(&rt, proposer.runs(Position::first()), Some(leading));
+    let low = vote(&rt, 9, A);
+    let first = promised(&rt, &mut proposer, 1, leading, &low);
+    expect_eq(&rt, first, Progress::Waiting);
+    let again = promised(&rt, &mut proposer, 1, leading, &low);
+    expect_eq(&rt, again, Progress::Waiting);
+    let majority = progress(&rt, &proposer, 3, leading, vote(&rt, 10, B));
+    expect_eq(&rt, majority, Progress::Offer(B));
 }
 
 #[test]
-fn the_own_action_is_offered_once_where_no_vote_is_reported(rt: HostRuntime) -> Result<(), Fail> {
+fn a_promise_in_a_ballot_that_does_not_run_is_stale(rt: HostRuntime) {
+    let mut proposer = later_leader(&rt, rt.alloc());
+    let leading = ballot(&rt, 18);
+    let low = vote(&rt, 9, A);
+    promised(&rt, &mut proposer, 1, leading, &low);
+    let earlier = progress(&rt, &proposer, 3, ballot(&rt, 17), None);
+    expect_eq(&rt, earlier, Progress::Stale);
+    proposer.nack(Position::first(), leading, ballot(&rt, 27));
+    expect_eq(&rt, proposer.ballot(), Ok(ballot(&rt, 34)));
+    let refused = progress(&rt, &proposer, 3, leading, None);
+    expect_eq(&rt, refused, Progress::Stale);
+}
+
+#[test]
+fn the_own_action_is_offered_once_where_no_vote_is_reported(rt: HostRuntime) {
     one_offer_at_most();
-    let mut proposer = leader(rt.alloc())?;
+    let mut proposer = leader(&rt, rt.alloc());
+    let leading = ballot(&rt, 9);
+    let other = promised(&rt, &mut proposer, 2, leading, &None);
+    expect_eq(&rt, other, Progress::Waiting);
+    let own = promised(&rt, &mut proposer, 1, leading, &None);
+    expect_eq(&rt, own, Progress::Offer(A));
+    let last = promised(&rt, &mut proposer, 3, leading, &None);
+    expect_eq(&rt, last, Progress::Waiting);
+}
+
+/// The proposer's next ballot, and the ballot of the proposal at position 1, are these.
+fn expect_ballots(rt: &impl Abort, proposer: &Proposer, next: u64, running: Option<u64>) {
+    expect_eq(rt, proposer.ballot(), Ok(ballot(rt, next)));
+    let runs = proposer.runs(Position::first());
+    expect_eq(rt, runs.map(|ballot| ballot.get()), running);
+}
+
+#[test]
+fn a_proposal_runs_until_it_is_refused(rt: HostRuntime) {
+    let mut proposer = leader(&rt, rt.alloc());
     let first = Position::first();
-    for (sender, expected) in [
-        (2, Progress::Waiting),
-        (1, Progress::Offer(A)),
-        (3, Progress::Waiting),
-    ] {
-        let progress = proposer.promise(node(sender)?, first, ballot(9)?, None);
-        assert_eq!(rt; progress, expected, "{sender}");
-        proposer.note_promise(node(sender)?, first, ballot(9)?, None);
-    }
-    Ok(())
+    let ten = ballot(&rt, 10);
+    proposer.nack(first, ten, ballot(&rt, 18));
+    expect_eq(&rt, proposer.runs(first), Some(ballot(&rt, 9)));
+    proposer.nack(first, ballot(&rt, 9), ten);
+    expect_ballots(&rt, &proposer, 17, None);
 }
 
 #[test]
-fn a_proposal_runs_until_it_is_refused_settled_or_replaced(rt: HostRuntime) -> Result<(), Fail> {
+fn a_proposal_runs_until_it_is_settled(rt: HostRuntime) {
+    let mut proposer = leader(&rt, rt.alloc());
+    proposer.settled(Position::first());
+    expect_ballots(&rt, &proposer, 17, None);
+}
+
+#[test]
+fn a_proposal_runs_until_it_is_replaced(rt: HostRuntime) {
+    let mut proposer = leader(&rt, rt.alloc());
     let first = Position::first();
-    let mut refused = leader(rt.alloc())?;
-    refused.nack(first, ballot(10)?, ballot(18)?);
-    assert_eq!(rt; refused.runs(first), Some(ballot(9)?));
-    refused.nack(first, ballot(9)?, ballot(10)?);
-    assert_eq!(rt; refused.runs(first), None);
-    assert_eq!(rt; refused.ballot(), Ok(ballot(17)?));
-    let mut settled = leader(rt.alloc())?;
-    settled.settled(first);
-    assert_eq!(rt; settled.runs(first), None);
-    assert_eq!(rt; settled.ballot(), Ok(ballot(17)?));
-    let mut replaced = leader(rt.alloc())?;
-    assert_eq!(rt; lead(&mut replaced, first, B)?, ballot(17)?);
-    assert_eq!(rt; replaced.runs(first), Some(ballot(17)?));
-    assert_eq!(rt; replaced.ballot(), Ok(ballot(25)?));
-    let second = Position::new(2).ok_or("position 2")?;
-    for (position, elsewhere) in [(first, false), (second, true)] {
-        assert_eq!(rt; replaced.is_own_elsewhere(position, &B), elsewhere);
-        assert!(rt; !replaced.is_own_elsewhere(position, &A));
-    }
-    Ok(())
+    let second = Position::new(2).expect(&rt, "position 2");
+    expect_eq(&rt, lead(&rt, &mut proposer, first, B), ballot(&rt, 17));
+    expect_ballots(&rt, &proposer, 25, Some(17));
+    expect_eq(&rt, proposer.is_own_elsewhere(first, &B), false);
+    expect_eq(&rt, proposer.is_own_elsewhere(second, &B), true);
+    expect_eq(&rt, proposer.is_own_elsewhere(first, &A), false);
+    expect_eq(&rt, proposer.is_own_elsewhere(second, &A), false);
+}
+
+/// The next ballot of a node that started the last round's ballot of node 1. A refusal changes
+/// nothing.
+fn expect_next(rt: &impl Abort, alloc: Global, number: u8, next: &Result<Ballot, Fault>) {
+    let last = Rec::Started(ballot(rt, 34_359_738_361));
+    let proposer = restored(rt, alloc, number, &[last]);
+    expect_eq(rt, proposer.ballot(), *next);
+    expect_eq(rt, proposer.ballot(), *next);
 }
 
 #[test]
-fn the_last_ballot_of_a_node_is_refused(rt: HostRuntime) -> Result<(), Fail> {
-    let records = [Rec::Started(ballot(34_359_738_361)?)];
-    for (number, next) in [
-        (1, Err(Fault::BallotsSpent)),
-        (2, Ok(ballot(34_359_738_362)?)),
-    ] {
-        let proposer = Proposer::restore(rt.alloc(), node(number)?, 3, &records)?;
-        assert_eq!(rt; proposer.ballot(), next);
-        assert_eq!(rt; proposer.ballot(), next, "a refusal changes nothing");
+fn the_last_ballot_of_a_node_is_refused(rt: HostRuntime) {
+    expect_next(&rt, rt.alloc(), 1, &Err(Fault::BallotsSpent));
+    let next = ballot(&rt, 34_359_738_362);
+    expect_next(&rt, rt.alloc(), 2, &Ok(next));
+}
+
+/// Leads at a position where there is room. Whether a proposal then runs there.
+fn leads_where_there_is_room(rt: &impl Abort, proposer: &mut Proposer, number: u16) -> bool {
+    let position = Position::new(number).expect(rt, "a position");
+    if proposer.has_room(position) {
+        lead(rt, proposer, position, A);
     }
-    Ok(())
+    proposer.runs(position).is_some()
 }
 
 #[test]
-fn at_most_64_proposals_run(rt: HostRuntime) -> Result<(), Fail> {
+fn at_most_64_proposals_run(rt: HostRuntime) {
     a_window_has_room();
-    let mut proposer = Proposer::restore(rt.alloc(), node(1)?, 3, &[])?;
+    let mut proposer = restored(&rt, rt.alloc(), 1, &[]);
     for number in 1..=65 {
-        let position = Position::new(number).ok_or("a position")?;
-        if proposer.has_room(position) {
-            lead(&mut proposer, position, A)?;
-        }
-        let running = proposer.runs(position).is_some();
+        let running = leads_where_there_is_room(&rt, &mut proposer, number);
         assert_eq!(rt; running, number <= 64, "{number}");
     }
     assert!(rt; proposer.has_room(Position::first()));
-    Ok(())
 }

@@ -1,10 +1,12 @@
+use crate::compare::expect_eq;
+use crate::world::program;
 use rp_base::{Config, Fault, NodeId, Operation, Reply, TaskId};
-use rp_machine::{Machine, Tally, TallyProgram};
+use rp_machine::{Machine, Tally};
 use rp_model::{Event, Step};
 use rp_store::{CutDevice, DeviceCall, FailDevice, MemDevice};
 use rp_world::*;
 use std::alloc::Global;
-use std::test::Fail;
+use std::process::Abort;
 
 /// The result of a call that task 1 makes at node 1, where a device of the three fails meanwhile.
 #[derive(Clone, Copy, Debug, PartialEq, Eq)]
@@ -139,82 +141,102 @@ fn device(alloc: Global, first: Failing, second: Failing) -> Device {
 }
 
 /// Three devices, of which these calls fail at the one of this place.
-fn devices(alloc: Global, at: usize, first: Failing, second: Failing) -> Result<Vec<Device>, Fail> {
-    let mut devices = Vec::with_capacity(alloc, 3)?;
+fn devices(
+    rt: &impl Abort,
+    alloc: Global,
+    at: usize,
+    first: Failing,
+    second: Failing,
+) -> Vec<Device> {
+    let mut devices = Vec::new(alloc);
     for place in 0..3 {
-        let fails = if place == at {
-            (first, second)
+        let made = if place == at {
+            device(alloc, first, second)
         } else {
-            (NONE, NONE)
+            device(alloc, NONE, NONE)
         };
-        devices.push(device(alloc, fails.0, fails.1))?;
+        if devices.push(made).is_err() {
+            panic!(rt; "memory is refused");
+        }
     }
-    Ok(devices)
+    devices
 }
 
 /// The result of the call where these calls of a device fail.
-fn outcome_of(alloc: Global, at: usize, first: Failing, second: Failing) -> Result<Outcome, Fail> {
-    let program = TallyProgram::new(1).ok_or("one object")?;
-    let devices = devices(alloc, at, first, second)?;
-    Ok(one_call::<Tally, Device>(alloc, program, devices, at)?)
+fn outcome_of(
+    rt: &impl Abort,
+    alloc: Global,
+    at: usize,
+    first: Failing,
+    second: Failing,
+) -> Result<Outcome, Fault> {
+    let devices = devices(rt, alloc, at, first, second);
+    one_call::<Tally, Device>(alloc, program(rt), devices, at)
+}
+
+/// The call is answered though one call of a device fails, and all nodes have applied as much.
+fn expect_answered(rt: &impl Abort, alloc: Global, at: usize, fails: Failing) {
+    let outcome = outcome_of(rt, alloc, at, fails, NONE).expect(rt, "the run");
+    assert_eq!(rt; outcome.failures, 1, "{at} {fails:?}");
+    assert_eq!(rt; outcome.reply, Some(Reply::Value(5)), "{at} {fails:?}");
+    let [first, ..] = outcome.applied;
+    assert_eq!(rt; outcome.applied, [first; 3], "{at} {fails:?}");
+    assert!(rt; first == 1 || first == 2, "{at} {fails:?}");
 }
 
 #[test]
-fn a_call_is_answered_though_an_append_or_a_sync_fails(rt: HostRuntime) -> Result<(), Fail> {
+fn a_call_is_answered_though_an_append_or_a_sync_fails(rt: HostRuntime) {
+    let alloc = rt.alloc();
     for at in 0..3 {
         let records = if at == 0 { 4 } else { 3 };
         for number in 1..=records {
-            for fails in [
-                (DeviceCall::Append, number, 0),
-                (DeviceCall::Append, number, 9),
-                (DeviceCall::Append, number, 99),
-                (DeviceCall::Sync, number + 1, 0),
-            ] {
-                let resulted = outcome_of(rt.alloc(), at, fails, NONE)?;
-                assert_eq!(rt; resulted.failures, 1, "{at} {fails:?}");
-                assert_eq!(rt; resulted.reply, Some(Reply::Value(5)), "{at} {fails:?}");
-                let [first, ..] = resulted.applied;
-                assert_eq!(rt; resulted.applied, [first; 3], "{at} {fails:?}");
-                assert!(rt; first == 1 || first == 2, "{at} {fails:?}");
+            for left in [0, 9, 99] {
+                expect_answered(&rt, alloc, at, (DeviceCall::Append, number, left));
             }
+            expect_answered(&rt, alloc, at, (DeviceCall::Sync, number + 1, 0));
         }
     }
-    Ok(())
+}
+
+/// Node 1 finds this many records and torn bytes where these calls of its device fail.
+fn expect_found(
+    rt: &impl Abort,
+    alloc: Global,
+    first: Failing,
+    second: Failing,
+    opened: (u64, u64),
+) {
+    let expected = Outcome {
+        failures: if second.1 == 0 { 1 } else { 2 },
+        opened: Some(opened),
+        reply: Some(Reply::Value(5)),
+        applied: [1; 3],
+    };
+    let outcome = outcome_of(rt, alloc, 0, first, second);
+    expect_eq(rt, outcome.expect(rt, "the run"), expected);
 }
 
 #[test]
-fn a_node_finds_what_a_failing_device_left(rt: HostRuntime) -> Result<(), Fail> {
+fn a_node_finds_what_a_failing_device_left(rt: HostRuntime) {
     let cut = (DeviceCall::Append, 3, 28);
-    let cases = [
+    for (first, second, opened) in [
         (cut, NONE, (2, 28)),
         ((DeviceCall::Append, 3, 29), NONE, (3, 0)),
         ((DeviceCall::Sync, 4, 0), NONE, (3, 0)),
         (cut, (DeviceCall::Read, 2, 0), (2, 28)),
         (cut, (DeviceCall::Cut, 1, 0), (2, 28)),
         (cut, (DeviceCall::Sync, 4, 0), (2, 0)),
-    ];
-    for (first, second, opened) in cases {
-        let failures = if second.1 == 0 { 1 } else { 2 };
-        let expected = Outcome {
-            failures,
-            opened: Some(opened),
-            reply: Some(Reply::Value(5)),
-            applied: [1; 3],
-        };
-        assert_eq!(rt; outcome_of(rt.alloc(), 0, first, second)?, expected);
+    ] {
+        expect_found(&rt, rt.alloc(), first, second, opened);
     }
-    Ok(())
 }
 
 #[test]
-fn a_cluster_does_not_open_where_a_device_fails(rt: HostRuntime) -> Result<(), Fail> {
+fn a_cluster_does_not_open_where_a_device_fails(rt: HostRuntime) {
     for kind in [DeviceCall::Read, DeviceCall::Sync] {
         for at in 0..3 {
-            let program = TallyProgram::new(1).ok_or("one object")?;
-            let devices = devices(rt.alloc(), at, (kind, 1, 0), NONE)?;
-            let fault = one_call::<Tally, Device>(rt.alloc(), program, devices, at).err();
-            assert_eq!(rt; fault, Some(Fault::Device));
+            let outcome = outcome_of(&rt, rt.alloc(), at, (kind, 1, 0), NONE);
+            expect_eq(&rt, outcome.err(), Some(Fault::Device));
         }
     }
-    Ok(())
 }

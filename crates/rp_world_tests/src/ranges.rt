@@ -1,34 +1,39 @@
-use crate::world::{Left, devices, lead, left_by};
-use rp_base::{Config, Fault, NodeId, Operation, Position, Reply, TaskId};
-use rp_machine::{Machine, Tally, TallyProgram};
+use crate::world::{Left, devices, expect_left, expect_shown, lead, left_by, program};
+use rp_base::{Config, Fault, NodeId, Operation, Position, TaskId};
+use rp_machine::{Machine, Tally};
 use rp_model::{Event, Step};
 use rp_store::{CutDevice, MemDevice};
 use rp_world::*;
 use std::alloc::Global;
-use std::test::Fail;
+use std::process::Abort;
 
-fn node(number: u8) -> Result<NodeId, Fail> {
-    Ok(NodeId::new(number).ok_or("a node")?)
+fn node(rt: &impl Abort, number: u8) -> NodeId {
+    NodeId::new(number).expect(rt, "a node")
 }
 
 /// A task calls a node: procedure 1 of object 1.
-fn call(task: u8, to: u8, arg: i64) -> Result<Event, Fail> {
-    Ok(Event::Submit {
-        task: TaskId::new(task).ok_or("a task")?,
-        node: node(to)?,
+fn call(rt: &impl Abort, task: u8, to: u8, arg: i64) -> Event {
+    Event::Submit {
+        task: TaskId::new(task).expect(rt, "a task"),
+        node: node(rt, to),
         object: 1,
         operation: Operation::Procedure(1),
         arg,
-    })
+    }
 }
 
 /// A node is to lead at this many positions from 1 on.
-fn range(leader: u8, count: u8) -> Result<Event, Fail> {
-    Ok(Event::Node(Step::LeadRange {
-        node: node(leader)?,
+fn range(rt: &impl Abort, leader: u8, count: u8) -> Event {
+    Event::Node(Step::LeadRange {
+        node: node(rt, leader),
         first: Position::first(),
         count,
-    }))
+    })
+}
+
+/// A node is to lead at its next position.
+fn leads(rt: &impl Abort, leader: u8) -> Event {
+    lead(node(rt, leader))
 }
 
 /// Delivers the messages in order, from a number on, until none is left.
@@ -73,26 +78,25 @@ fn left_after<M: Machine, D: CutDevice>(
     left_by(&cluster, alloc)
 }
 
+/// What these events leave of three nodes over devices that hold nothing.
+fn left(rt: &impl Abort, alloc: Global, alone: &[Event], delivered: &[(Event, u64)]) -> Left {
+    let devices = devices(rt, alloc);
+    let left = left_after::<Tally, MemDevice>(alloc, program(rt), devices, alone, delivered);
+    left.expect(rt, "the run")
+}
+
 #[test]
-fn a_range_is_asked_for_once_for_two_calls(rt: HostRuntime) -> Result<(), Fail> {
-    let alloc = rt.alloc();
-    let program = TallyProgram::new(1).ok_or("one object")?;
+fn a_range_is_asked_for_once_for_two_calls(rt: HostRuntime) {
     let events = [
-        (range(1, 4)?, 0),
-        (call(1, 1, 5)?, 0),
-        (lead(node(1)?), 0),
-        (call(2, 1, 2)?, 0),
-        (lead(node(1)?), 0),
+        (range(&rt, 1, 4), 0),
+        (call(&rt, 1, 1, 5), 0),
+        (leads(&rt, 1), 0),
+        (call(&rt, 2, 1, 2), 0),
+        (leads(&rt, 1), 0),
     ];
-    let left = left_after::<Tally, MemDevice>(alloc, program, devices(alloc)?, &[], &events)?;
-    assert_eq!(rt; left.messages, 26);
-    assert_eq!(rt; left.stored.as_slice(), [123, 113, 113].as_slice());
-    assert_eq!(rt; left.applied.as_slice(), [2, 2, 2].as_slice());
-    assert_eq!(rt; left.replies.as_slice(), [Reply::Value(5)].as_slice());
-    for image in &left.images {
-        assert_eq!(rt; image.as_slice(), b"tally o1=7\n".as_slice());
-    }
-    Ok(())
+    let left = left(&rt, rt.alloc(), &[], &events);
+    expect_left(&rt, &left, 26, &[123, 113, 113], &[2, 2, 2]);
+    expect_shown(&rt, &left, b"tally o1=7\n");
 }
 
 fn deliver(number: u64) -> Event {
@@ -100,16 +104,14 @@ fn deliver(number: u64) -> Event {
 }
 
 #[test]
-fn a_range_hears_of_a_vote_in_a_lower_ballot(rt: HostRuntime) -> Result<(), Fail> {
-    let alloc = rt.alloc();
-    let program = TallyProgram::new(1).ok_or("one object")?;
+fn a_range_hears_of_a_vote_in_a_lower_ballot(rt: HostRuntime) {
     // Node 3 alone votes in ballot 9.
     let alone = [
-        call(1, 1, 5)?,
-        call(2, 2, 2)?,
+        call(&rt, 1, 1, 5),
+        call(&rt, 2, 2, 2),
         deliver(1),
         deliver(2),
-        lead(node(1)?),
+        leads(&rt, 1),
         deliver(3),
         deliver(4),
         deliver(6),
@@ -117,14 +119,12 @@ fn a_range_hears_of_a_vote_in_a_lower_ballot(rt: HostRuntime) -> Result<(), Fail
         deliver(10),
     ];
     // Message 12, to node 1, is lost.
-    let events = [(range(2, 2)?, 13), (lead(node(2)?), 0), (lead(node(2)?), 0)];
-    let left = left_after::<Tally, MemDevice>(alloc, program, devices(alloc)?, &alone, &events)?;
-    assert_eq!(rt; left.messages, 34);
-    assert_eq!(rt; left.stored.as_slice(), [122, 135, 142].as_slice());
-    assert_eq!(rt; left.applied.as_slice(), [2, 2, 2].as_slice());
-    assert_eq!(rt; left.replies.as_slice(), [Reply::Value(5)].as_slice());
-    for image in &left.images {
-        assert_eq!(rt; image.as_slice(), b"tally o1=7\n".as_slice());
-    }
-    Ok(())
+    let events = [
+        (range(&rt, 2, 2), 13),
+        (leads(&rt, 2), 0),
+        (leads(&rt, 2), 0),
+    ];
+    let left = left(&rt, rt.alloc(), &alone, &events);
+    expect_left(&rt, &left, 34, &[122, 135, 142], &[2, 2, 2]);
+    expect_shown(&rt, &left, b"tally o1=7\n");
 }

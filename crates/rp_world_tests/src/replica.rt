@@ -1,13 +1,15 @@
 ghost use Rattle.std.specs.Prelude.{◌≤◌};
 
+use crate::compare::{expect_eq, expect_text};
+use crate::world::{devices, program};
 use rp_base::{Config, Fault, NodeId, PacketReason, Position};
 use rp_codec::{decode_front, packet_len};
-use rp_machine::{Machine, Tally, TallyProgram};
+use rp_machine::{Machine, Tally};
 use rp_model::Dropped;
 use rp_replica::*;
 use rp_store::{CutDevice, Device, MemDevice};
 use std::alloc::Global;
-use std::test::Fail;
+use std::process::Abort;
 
 /// Task 1 calls node 1 for the first time: procedure 1 of object 1 with 5.
 const CALL: [u8; 21] = [
@@ -194,28 +196,40 @@ fn one_call<M: Machine, D: Device>(
     Ok(left)
 }
 
-#[test]
-fn one_call_is_decided_by_three_replicas(rt: HostRuntime) -> Result<(), Fail> {
-    let alloc = rt.alloc();
-    let program = TallyProgram::new(1).ok_or("one object")?;
-    let left = one_call::<Tally, MemDevice>(alloc, &program, three_devices(alloc)?)?;
-    assert_eq!(rt; left.texts.len(), 16);
-    assert_eq!(rt; left.texts[9].as_slice(), ACCEPT.as_slice());
-    assert_eq!(rt;
-        left.texts[15].as_slice(),
-        b"\x02\x09\x01\x11\0\0\0\x01\x01\0\0\0\0\0\0\0\x05".as_slice()
+/// Each of three nodes shows this text.
+fn expect_images(rt: &impl Abort, images: &[Vec<u8>], text: &[u8]) {
+    expect_eq(rt, images.len(), 3);
+    for image in images {
+        expect_text(rt, image, text);
+    }
+}
+
+/// The node asks for a vote in the tenth packet, and the task has its reply in the last.
+fn expect_texts(rt: &impl Abort, texts: &[Vec<u8>]) {
+    expect_eq(rt, texts.len(), 16);
+    let accept = texts.get(9).expect(rt, "ten packets");
+    expect_text(rt, accept, &ACCEPT);
+    let reply = texts.last().expect(rt, "sixteen packets");
+    expect_text(
+        rt,
+        reply,
+        b"\x02\x09\x01\x11\0\0\0\x01\x01\0\0\0\0\0\0\0\x05",
     );
+}
+
+#[test]
+fn one_call_is_decided_by_three_replicas(rt: HostRuntime) {
+    let alloc = rt.alloc();
+    let devices = devices(&rt, alloc);
+    let left = one_call::<Tally, MemDevice>(alloc, &program(&rt), devices);
+    let left = left.expect(&rt, "the run");
+    expect_texts(&rt, &left.texts);
     assert_eq!(rt; left.stored.as_slice(), [72, 62, 62].as_slice());
     assert_eq!(rt; left.applied.as_slice(), [1, 1, 1].as_slice());
-    assert_eq!(rt; left.images.len(), 3);
-    for image in &left.images {
-        assert_eq!(rt; image.as_slice(), b"tally o1=5\n".as_slice());
-    }
-    assert_eq!(rt;
-        left.report.as_slice(),
-        b"\x02\x0a\x02\x20\0\x01\0\x01\x01\x01\x01\0\0\0\x01\x01\x02\x01\0\0\0\0\0\0\0\x05".as_slice()
-    );
-    Ok(())
+    expect_images(&rt, &left.images, b"tally o1=5\n");
+    let report =
+        b"\x02\x0a\x02\x20\0\x01\0\x01\x01\x01\x01\0\0\0\x01\x01\x02\x01\0\0\0\0\0\0\0\x05";
+    expect_text(&rt, &left.report, report);
 }
 
 /// What the nodes show once they are opened over their records in version 1, after the first call and
@@ -235,31 +249,15 @@ fn goes_on_from_version_1<M: Machine, D: Device>(
     Ok([first, second])
 }
 
-fn three_devices(alloc: Global) -> Result<Vec<MemDevice>, Fault> {
-    let mut devices = Vec::new(alloc);
-    for _ in 0..3 {
-        devices.push(MemDevice::new(alloc))?;
-    }
-    Ok(devices)
-}
-
 #[test]
-fn replicas_go_on_from_records_of_version_1(rt: HostRuntime) -> Result<(), Fail> {
+fn replicas_go_on_from_records_of_version_1(rt: HostRuntime) {
     let alloc = rt.alloc();
-    let program = TallyProgram::new(1).ok_or("one object")?;
-    let [first, second] = goes_on_from_version_1::<Tally, MemDevice>(
-        alloc,
-        &program,
-        three_devices(alloc)?,
-        three_devices(alloc)?,
-    )?;
-    for (images, expected) in [(first, "tally o1=5\n"), (second, "tally o1=12\n")] {
-        assert_eq!(rt; images.len(), 3);
-        for image in &images {
-            assert_eq!(rt; image.as_slice(), expected.as_bytes());
-        }
-    }
-    Ok(())
+    let first = devices(&rt, alloc);
+    let second = devices(&rt, alloc);
+    let images = goes_on_from_version_1::<Tally, MemDevice>(alloc, &program(&rt), first, second);
+    let [first, second] = images.expect(&rt, "the run");
+    expect_images(&rt, &first, b"tally o1=5\n");
+    expect_images(&rt, &second, b"tally o1=12\n");
 }
 
 /// What a node of three with a log of n positions makes of a packet: what it drops, how many
@@ -339,22 +337,33 @@ const FOREIGN: [(&str, u8, u16, &[u8]); 10] = [
     ),
 ];
 
+/// What a node over an empty device makes of a packet.
+fn heard_by(
+    rt: &impl Abort,
+    alloc: Global,
+    at: (u8, u16),
+    text: &[u8],
+) -> Result<(Dropped, usize, u64), Fault> {
+    hears::<Tally, MemDevice>(alloc, at, &program(rt), MemDevice::new(alloc), text)
+}
+
+/// A node drops a packet as foreign: it sends and stores nothing.
+fn expect_foreign(rt: &impl Abort, alloc: Global, name: &str, at: (u8, u16), text: &[u8]) {
+    let heard = heard_by(rt, alloc, at, text);
+    let (dropped, packets, stored) = heard.expect(rt, "the node hears");
+    assert!(rt; matches!(dropped, Dropped::Foreign), "{name}");
+    assert_eq!(rt; (packets, stored), (0, 0), "{name}");
+}
+
 #[test]
-fn what_is_foreign_changes_nothing(rt: HostRuntime) -> Result<(), Fail> {
+fn what_is_foreign_changes_nothing(rt: HostRuntime) {
     let alloc = rt.alloc();
-    let program = TallyProgram::new(1).ok_or("one object")?;
     for (name, node, max_positions, text) in FOREIGN {
-        let at = (node, max_positions);
-        let device = MemDevice::new(alloc);
-        let heard = hears::<Tally, MemDevice>(alloc, at, &program, device, text)?;
-        let (dropped, packets, stored) = heard;
-        assert!(rt; matches!(dropped, Dropped::Foreign), "{name}");
-        assert_eq!(rt; (packets, stored), (0, 0), "{name}");
+        expect_foreign(&rt, alloc, name, (node, max_positions), text);
     }
-    let device = MemDevice::new(alloc);
-    let unknown = hears::<Tally, MemDevice>(alloc, (3, 1), &program, device, b"\x02\x0b");
-    assert_eq!(rt; unknown.err(), Some(Fault::BadPacket(PacketReason::Kind)));
-    Ok(())
+    let unknown = heard_by(&rt, alloc, (3, 1), b"\x02\x0b");
+    let kind = Fault::BadPacket(PacketReason::Kind);
+    expect_eq(&rt, unknown.err(), Some(kind));
 }
 
 /// The first tick, of those from 1 on, for which there is no place.
@@ -374,12 +383,10 @@ fn first_full_tick<M: Machine, D: Device>(
 }
 
 #[test]
-fn the_33rd_tick_finds_no_place(rt: HostRuntime) -> Result<(), Fail> {
-    let alloc = rt.alloc();
-    let program = TallyProgram::new(1).ok_or("one object")?;
-    let full = first_full_tick::<Tally, MemDevice>(alloc, &program, MemDevice::new(alloc))?;
-    assert_eq!(rt; full, 33);
-    Ok(())
+fn the_33rd_tick_finds_no_place(rt: HostRuntime) {
+    let device = MemDevice::new(rt.alloc());
+    let full = first_full_tick::<Tally, MemDevice>(rt.alloc(), &program(&rt), device);
+    expect_eq(&rt, full, Ok(33));
 }
 
 /// How many records of these bytes count for node 3, and how many bytes it truncates.
@@ -393,30 +400,22 @@ fn found<M: Machine, D: Device>(
     Ok((opening.records, opening.cut_bytes))
 }
 
+/// Of these bytes node 3 finds records and a torn end, each this many.
+fn expect_found(rt: &impl Abort, alloc: Global, bytes: &[u8], counts: (u64, u64)) {
+    let device = MemDevice::new(alloc);
+    let found = found::<Tally, MemDevice>(alloc, &program(rt), device, bytes);
+    expect_eq(rt, found, Ok(counts));
+}
+
 #[test]
-fn a_replica_opens_over_what_its_device_holds(rt: HostRuntime) -> Result<(), Fail> {
+fn a_replica_opens_over_what_its_device_holds(rt: HostRuntime) {
     let alloc = rt.alloc();
-    let program = TallyProgram::new(1).ok_or("one object")?;
-    let cases: [(&str, &[u8], u64, u64); 3] = [
-        (
-            "a torn promise",
-            b"\x02\x01\0\0\0\0\0\0\0\x09\x02\x02\0\x01",
-            1,
-            4,
-        ),
-        (
-            "above the log",
-            b"\x02\x04\0\x02\x00\x02\x04\0\x01\x00",
-            2,
-            0,
-        ),
-        ("two votes in a ballot", &VOTES, 2, 0),
-    ];
-    for (name, bytes, records, cut_bytes) in cases {
-        let counts = found::<Tally, MemDevice>(alloc, &program, MemDevice::new(alloc), bytes)?;
-        assert_eq!(rt; counts, (records, cut_bytes), "{name}");
-    }
-    Ok(())
+    let torn_promise = b"\x02\x01\0\0\0\0\0\0\0\x09\x02\x02\0\x01";
+    expect_found(&rt, alloc, torn_promise, (1, 4));
+    let above_the_log = b"\x02\x04\0\x02\x00\x02\x04\0\x01\x00";
+    expect_found(&rt, alloc, above_the_log, (2, 0));
+    let two_votes_in_a_ballot = &VOTES;
+    expect_found(&rt, alloc, two_votes_in_a_ballot, (2, 0));
 }
 
 /// What node 3 answers to a packet, over these bytes.
@@ -432,15 +431,13 @@ fn answer_over<M: Machine, D: Device>(
 }
 
 #[test]
-fn of_two_votes_in_a_ballot_the_first_is_reported(rt: HostRuntime) -> Result<(), Fail> {
-    let alloc = rt.alloc();
-    let program = TallyProgram::new(1).ok_or("one object")?;
+fn of_two_votes_in_a_ballot_the_first_is_reported(rt: HostRuntime) {
     let prepare = b"\x02\x02\x02\x03\0\x01\0\0\0\0\0\0\0\x0a";
     let promise = b"\x02\x03\x03\x02\0\x01\0\0\0\0\0\0\0\x0a\x01\0\0\0\0\0\0\0\x09\x00";
+    let alloc = rt.alloc();
     let device = MemDevice::new(alloc);
-    let answer = answer_over::<Tally, MemDevice>(alloc, &program, device, &VOTES, prepare)?;
-    assert_eq!(rt; answer.as_slice(), promise.as_slice());
-    Ok(())
+    let answer = answer_over::<Tally, MemDevice>(alloc, &program(&rt), device, &VOTES, prepare);
+    expect_text(&rt, &answer.expect(&rt, "the node answers"), promise);
 }
 
 /// What node 3 finds where it stopped within the step of a packet.
@@ -459,16 +456,19 @@ fn found_after_a_cut<M: Machine, D: CutDevice>(
     }
 }
 
+/// A cut that keeps this many bytes of the vote leaves these counts of records and torn bytes.
+fn expect_kept(rt: &impl Abort, alloc: Global, kept: u64, counts: (u64, u64)) {
+    let device = MemDevice::new(alloc);
+    let program = program(rt);
+    let found = found_after_a_cut::<Tally, MemDevice>(alloc, &program, device, &ACCEPT, kept);
+    expect_eq(rt, found, Ok(counts));
+}
+
 #[test]
-fn a_cut_keeps_n_bytes_of_the_vote(rt: HostRuntime) -> Result<(), Fail> {
-    let alloc = rt.alloc();
-    let program = TallyProgram::new(1).ok_or("one object")?;
+fn a_cut_keeps_n_bytes_of_the_vote(rt: HostRuntime) {
     for (kept, records, cut_bytes) in [(0, 0, 0), (28, 0, 28), (29, 1, 0), (1000, 1, 0)] {
-        let device = MemDevice::new(alloc);
-        let counts = found_after_a_cut::<Tally, MemDevice>(alloc, &program, device, &ACCEPT, kept)?;
-        assert_eq!(rt; counts, (records, cut_bytes), "kept {kept}");
+        expect_kept(&rt, rt.alloc(), kept, (records, cut_bytes));
     }
-    Ok(())
 }
 
 /// The positions that node 1 leads one after another, over these bytes, until it is refused, and
@@ -491,14 +491,13 @@ fn positions_led<M: Machine, D: Device>(
 }
 
 #[test]
-fn the_least_free_position_is_led_until_the_log_is_full(rt: HostRuntime) -> Result<(), Fail> {
+fn the_least_free_position_is_led_until_the_log_is_full(rt: HostRuntime) {
     let alloc = rt.alloc();
-    let program = TallyProgram::new(1).ok_or("one object")?;
+    let device = MemDevice::new(alloc);
     // position 2 is learned
     let learned = b"\x02\x04\0\x02\x00";
-    let device = MemDevice::new(alloc);
-    let (positions, fault) = positions_led::<Tally, MemDevice>(alloc, &program, device, learned)?;
-    assert_eq!(rt; positions.as_slice(), [1, 3].as_slice());
-    assert_eq!(rt; fault, Fault::LogFull);
-    Ok(())
+    let led = positions_led::<Tally, MemDevice>(alloc, &program(&rt), device, learned);
+    let (positions, fault) = led.expect(&rt, "the node leads");
+    expect_text(&rt, &positions, &[1, 3]);
+    expect_eq(&rt, fault, Fault::LogFull);
 }

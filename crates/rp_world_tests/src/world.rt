@@ -1,10 +1,11 @@
+use crate::compare::{expect_eq, expect_text};
 use rp_base::{Config, Fault, NodeId, Operation, Position, Reply, TaskId};
 use rp_machine::{Machine, Tally, TallyProgram};
 use rp_model::{Event, Step};
 use rp_store::{CutDevice, MemDevice};
 use rp_world::*;
 use std::alloc::Global;
-use std::test::Fail;
+use std::process::Abort;
 
 /// Three nodes over these devices, with a log of one position.
 fn opened<M: Machine, D: CutDevice>(
@@ -120,31 +121,53 @@ fn one_call_in_rounds<M: Machine, D: CutDevice>(
     left_by(&cluster, alloc)
 }
 
+/// A program of one object.
+pub(crate) fn program(rt: &impl Abort) -> TallyProgram {
+    TallyProgram::new(1).expect(rt, "one object")
+}
+
 /// Three devices that hold nothing.
-pub(crate) fn devices(alloc: Global) -> Result<Vec<MemDevice>, Fail> {
+pub(crate) fn devices(rt: &impl Abort, alloc: Global) -> Vec<MemDevice> {
     let mut devices = Vec::new(alloc);
     for _ in 0..3 {
-        devices.push(MemDevice::new(alloc))?;
+        if devices.push(MemDevice::new(alloc)).is_err() {
+            panic!(rt; "memory is refused");
+        }
     }
-    Ok(devices)
+    devices
+}
+
+/// A run left this many messages, and nodes that stored this many bytes and applied this many
+/// actions.
+pub(crate) fn expect_left(
+    rt: &impl Abort,
+    left: &Left,
+    messages: u64,
+    stored: &[u64],
+    applied: &[u16],
+) {
+    expect_eq(rt, left.messages, messages);
+    assert_eq!(rt; left.stored.as_slice(), stored);
+    assert_eq!(rt; left.applied.as_slice(), applied);
+}
+
+/// Each of three nodes shows this text, and task 1 has the one reply 5.
+pub(crate) fn expect_shown(rt: &impl Abort, left: &Left, text: &[u8]) {
+    expect_eq(rt, left.images.len(), 3);
+    for image in &left.images {
+        expect_text(rt, image, text);
+    }
+    assert_eq!(rt; left.replies.as_slice(), [Reply::Value(5)].as_slice());
 }
 
 #[test]
-fn packets_delivered_three_times_from_the_last_down_change_no_reply(
-    rt: HostRuntime,
-) -> Result<(), Fail> {
+fn packets_delivered_three_times_from_the_last_down_change_no_reply(rt: HostRuntime) {
     let alloc = rt.alloc();
-    let program = TallyProgram::new(1).ok_or("one object")?;
-    let left = one_call_in_rounds::<Tally, MemDevice>(alloc, program, devices(alloc)?)?;
-    assert_eq!(rt; left.messages, 22);
-    assert_eq!(rt; left.stored.as_slice(), [72, 62, 62].as_slice());
-    assert_eq!(rt; left.applied.as_slice(), [1, 1, 1].as_slice());
-    assert_eq!(rt; left.replies.as_slice(), [Reply::Value(5)].as_slice());
-    assert_eq!(rt; left.images.len(), 3);
-    for image in &left.images {
-        assert_eq!(rt; image.as_slice(), b"tally o1=5\n".as_slice());
-    }
-    Ok(())
+    let devices = devices(&rt, alloc);
+    let left = one_call_in_rounds::<Tally, MemDevice>(alloc, program(&rt), devices);
+    let left = left.expect(&rt, "the run");
+    expect_left(&rt, &left, 22, &[72, 62, 62], &[1, 1, 1]);
+    expect_shown(&rt, &left, b"tally o1=5\n");
 }
 
 /// The text of the report that node 2 sends after one call, of the actions from a position on.
@@ -170,24 +193,19 @@ fn report_after_one_call<M: Machine, D: CutDevice>(
     cluster.message(alloc, number)
 }
 
+/// The report of the actions from a position on has this text.
+fn expect_report(rt: &impl Abort, alloc: Global, first: u16, text: &[u8]) {
+    let first = Position::new(first).expect(rt, "a position");
+    let devices = devices(rt, alloc);
+    let report = report_after_one_call::<Tally, MemDevice>(alloc, program(rt), devices, first);
+    expect_text(rt, &report.expect(rt, "the run"), text);
+}
+
 #[test]
-fn a_report_has_the_actions_from_a_position_on(rt: HostRuntime) -> Result<(), Fail> {
-    let alloc = rt.alloc();
-    let cases: [(u16, &[u8]); 2] = [
-        (
-            1,
-            b"\x02\x0a\x02\x20\0\x01\0\x01\x01\x01\x01\0\0\0\x01\x01\x02\x01\0\0\0\0\0\0\0\x05",
-        ),
-        (2, b"\x02\x0a\x02\x20\0\x02\0\x01\0"),
-    ];
-    for (first, text) in cases {
-        let program = TallyProgram::new(1).ok_or("one object")?;
-        let first = Position::new(first).ok_or("a position")?;
-        let devices = devices(alloc)?;
-        let report = report_after_one_call::<Tally, MemDevice>(alloc, program, devices, first)?;
-        assert_eq!(rt; report.as_slice(), text);
-    }
-    Ok(())
+fn a_report_has_the_actions_from_a_position_on(rt: HostRuntime) {
+    let all = b"\x02\x0a\x02\x20\0\x01\0\x01\x01\x01\x01\0\0\0\x01\x01\x02\x01\0\0\0\0\0\0\0\x05";
+    expect_report(&rt, rt.alloc(), 1, all);
+    expect_report(&rt, rt.alloc(), 2, b"\x02\x0a\x02\x20\0\x02\0\x01\0");
 }
 
 /// The texts of the messages of one call, all delivered in order.
@@ -232,17 +250,22 @@ const TEXTS: [(usize, &[u8]); 6] = [
     (16, b"\x02\x09\x01\x11\0\0\0\x01\x01\0\0\0\0\0\0\0\x05"),
 ];
 
-#[test]
-fn each_message_has_its_text(rt: HostRuntime) -> Result<(), Fail> {
-    let alloc = rt.alloc();
-    let program = TallyProgram::new(1).ok_or("one object")?;
-    let texts = texts_of_one_call::<Tally, MemDevice>(alloc, program, devices(alloc)?)?;
-    assert_eq!(rt; texts.len(), 16);
-    for (number, text) in TEXTS {
-        let stated = texts.get(number.saturating_sub(1)).ok_or("a message")?;
-        assert_eq!(rt; stated.as_slice(), text, "message {number}");
+/// Of 16 messages each that is among these texts has it.
+fn expect_texts(rt: &impl Abort, texts: &[Vec<u8>], expected: &[(usize, &[u8])]) {
+    expect_eq(rt, texts.len(), 16);
+    for (number, text) in expected {
+        let found = texts.get(number.saturating_sub(1)).expect(rt, "a message");
+        assert_eq!(rt; found.as_slice(), *text, "message {number}");
     }
-    Ok(())
+}
+
+#[test]
+fn each_message_has_its_text(rt: HostRuntime) {
+    let alloc = rt.alloc();
+    let devices = devices(&rt, alloc);
+    let texts = texts_of_one_call::<Tally, MemDevice>(alloc, program(&rt), devices);
+    let texts = texts.expect(&rt, "the run");
+    expect_texts(&rt, texts.as_slice(), &TEXTS);
 }
 
 /// Where a run of these events stops, and how many messages there are then.
@@ -258,21 +281,22 @@ fn run_of<M: Machine, D: CutDevice>(
 }
 
 #[test]
-fn a_run_stops_at_the_first_refusal(rt: HostRuntime) -> Result<(), Fail> {
+fn a_run_stops_at_the_first_refusal(rt: HostRuntime) {
     let alloc = rt.alloc();
-    let program = TallyProgram::new(1).ok_or("one object")?;
-    let node = NodeId::new(1).ok_or("node 1")?;
+    let node = NodeId::new(1).expect(&rt, "node 1");
     let events = [
         call(node, 5),
         Event::Node(Step::Deliver(1)),
         call(node, 1),
         lead(node),
     ];
+    let devices = devices(&rt, alloc);
+    let stopped = run_of::<Tally, MemDevice>(alloc, program(&rt), devices, &events);
+    let (stopped, messages) = stopped.expect(&rt, "the run");
     let busy = Refused {
         place: 2,
         fault: Fault::TaskBusy,
     };
-    let stopped = run_of::<Tally, MemDevice>(alloc, program, devices(alloc)?, &events)?;
-    assert_eq!(rt; stopped, (Some(busy), 1));
-    Ok(())
+    expect_eq(&rt, stopped, Some(busy));
+    expect_eq(&rt, messages, 1);
 }

@@ -2,4 +2,4 @@
 use Rattle.rp_object_tests.proofs.object.applied.Goals as goal
 
 pub apply-requires : goal.apply-requires
-apply-requires c = record { free = c.may_apply.ensures.0 c.if-not-may_apply.false }
+apply-requires c after = record { free = after.may_apply.ensures.0 after.if-not-may_apply.false }

@@ -1,0 +1,12 @@
+use std::fmt::Debug;
+use std::process::Abort;
+
+/// Ends the test unless both values are equal. A call is shorter to prove than an `assert_eq!`.
+pub(crate) fn expect_eq<T: PartialEq + Debug + Drop>(rt: &impl Abort, found: T, expected: T) {
+    assert_eq!(rt; found, expected);
+}
+
+/// Ends the test unless it is this text.
+pub(crate) fn expect_text(rt: &impl Abort, found: &[u8], expected: &[u8]) {
+    assert_eq!(rt; found, expected);
+}

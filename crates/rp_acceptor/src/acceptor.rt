@@ -126,8 +126,8 @@ impl Acceptor {
         make(&mut self.pages, self.alloc, index_of_position(position))?;
         let first = usize::from(position.get());
         split_ends(&mut self.steps, first, first + 1)?;
-        self.reserved.push(position);
-        self.votes.push(position);
+        self.reserved.push(&position);
+        self.votes.push(&position);
         Ok(())
     }
 
@@ -143,7 +143,7 @@ impl Acceptor {
         ensures only { IsOkUnless result Fault.OutOfMemory }
     {
         make(&mut self.pages, self.alloc, index_of_position(position))?;
-        self.votes.push(position);
+        self.votes.push(&position);
         Ok(())
     }
 
@@ -159,7 +159,7 @@ impl Acceptor {
     {
         let first = usize::from(range.first().get());
         split_ends(&mut self.steps, first, range.end() as usize)?;
-        self.ranges.push(range);
+        self.ranges.push(&range);
         Ok(())
     }
 
@@ -172,7 +172,7 @@ impl Acceptor {
     {
         raise_promised(&mut self.steps, rec);
         note(&mut self.pages, rec);
-        remember(&mut self.records, rec);
+        self.records.push(rec);
     }
 
     /// What is kept for a position.
@@ -267,19 +267,5 @@ fn slot_of(promised: Option<Ballot>, last: Option<Vote>) -> Slot
             bound: promised,
             last: None,
         },
-    }
-}
-
-/// Adds a record after the others.
-fn remember(records: &mut History<Rec>, rec: &Rec)
-    ensures { records.new ≡ records.old ++ rec.now ∷ [] }
-{
-    // Case by case, since the proof of a move needs the action's type at hand.
-    match *rec {
-        Rec::Started(ballot) => records.push(Rec::Started(ballot)),
-        Rec::Promised(position, ballot) => records.push(Rec::Promised(position, ballot)),
-        Rec::Voted(position, ballot, action) => records.push(Rec::Voted(position, ballot, action)),
-        Rec::Learned(position, action) => records.push(Rec::Learned(position, action)),
-        Rec::PromisedRange(range, ballot) => records.push(Rec::PromisedRange(range, ballot)),
     }
 }

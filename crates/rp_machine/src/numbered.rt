@@ -95,13 +95,13 @@ impl<M: Machine> Numbered<M> {
     {
         replay_may_go_on::<M>();
         if !self.counts(action) {
-            self.actions.push(*action);
+            self.actions.push(action);
             return Answers::new();
         }
         let answers = self.machine.apply(action);
         note(&mut self.callers, &mut self.occurrences, action);
         hear(&mut self.callers, answers.as_slice());
-        self.actions.push(*action);
+        self.actions.push(action);
         answers
     }
 

@@ -15,7 +15,8 @@ use crate::packet::{Body, Packet, Party};
 use crate::reader::Reader;
 use crate::report_text::list_actions;
 use crate::usual_texts::{
-    accept_of, accepted_of, decided_of, prepare_of, promise_of, reply_of, task_call_of,
+    Place, SentCall, SentDecision, reply_of, usual_accept, usual_accepted, usual_call,
+    usual_decided, usual_prepare, usual_promise,
 };
 use crate::version::Version;
 use crate::votes_text::list_votes;
@@ -226,56 +227,13 @@ fn of_its_text(bytes: &[u8], packet: Option<Packet>) -> Option<Packet>
     }
 }
 
-/// The call of a task of which the bytes are a text, if it is of version 2 and read in one piece: its
-/// text has one length. It takes no memory. `None` says nothing of the bytes: `decode_fields` reads
-/// those. Which packets are read so is a matter of speed alone, and no clause says it. There is such a
-/// function for each usual kind, compiled into its caller: so what the caller does with the packet is
-/// compiled for that kind alone.
+/// The packet between two nodes.
 #[inline(always)]
-pub fn usual_call(bytes: &[u8]) -> Option<Packet>
-    ensures { IfSome result (λ packet. IsDecoded bytes.now (Ok packet)) }
+fn between(place: Place, body: Body) -> Packet
+    requires { MaySay (Node place.from) (Node place.to) body }
+    ensures { result ≡ record { from = Node place.from; to = Node place.to; body = body } }
 {
-    of_its_text(bytes, task_call_of(bytes))
-}
-
-/// The same, of a prepare.
-#[inline(always)]
-pub fn usual_prepare(bytes: &[u8]) -> Option<Packet>
-    ensures { IfSome result (λ packet. IsDecoded bytes.now (Ok packet)) }
-{
-    of_its_text(bytes, prepare_of(bytes))
-}
-
-/// The same, of a promise that reports no vote.
-#[inline(always)]
-pub fn usual_promise(bytes: &[u8]) -> Option<Packet>
-    ensures { IfSome result (λ packet. IsDecoded bytes.now (Ok packet)) }
-{
-    of_its_text(bytes, promise_of(bytes))
-}
-
-/// The same, of an accept whose action is a call.
-#[inline(always)]
-pub fn usual_accept(bytes: &[u8]) -> Option<Packet>
-    ensures { IfSome result (λ packet. IsDecoded bytes.now (Ok packet)) }
-{
-    of_its_text(bytes, accept_of(bytes))
-}
-
-/// The same, of a vote for a call.
-#[inline(always)]
-pub fn usual_accepted(bytes: &[u8]) -> Option<Packet>
-    ensures { IfSome result (λ packet. IsDecoded bytes.now (Ok packet)) }
-{
-    of_its_text(bytes, accepted_of(bytes))
-}
-
-/// The same, of a decided call.
-#[inline(always)]
-pub fn usual_decided(bytes: &[u8]) -> Option<Packet>
-    ensures { IfSome result (λ packet. IsDecoded bytes.now (Ok packet)) }
-{
-    of_its_text(bytes, decided_of(bytes))
+    Packet::new(Party::Node(place.from), Party::Node(place.to), body)
 }
 
 /// The packet of which the bytes are a text, whatever its kind, if it is read in one piece.
@@ -283,13 +241,56 @@ fn any_usual(bytes: &[u8]) -> Option<Packet>
     ensures { IfSome result (λ packet. IsDecoded bytes.now (Ok packet)) }
 {
     match Kind::of_text(bytes)? {
-        Kind::Call => usual_call(bytes),
-        Kind::Prepare => usual_prepare(bytes),
-        Kind::Promise => usual_promise(bytes),
-        Kind::Accept => usual_accept(bytes),
-        Kind::Accepted => usual_accepted(bytes),
-        Kind::Decided => usual_decided(bytes),
-        Kind::Reply => of_its_text(bytes, reply_of(bytes)),
+        Kind::Call => {
+            let SentCall { task, to, action } = usual_call(bytes)?;
+            let body = Body::Call { action };
+            Some(Packet::new(Party::Task(task), Party::Node(to), body))
+        }
+        Kind::Prepare => {
+            let place = usual_prepare(bytes)?;
+            let Place {
+                position, ballot, ..
+            } = place;
+            Some(between(place, Body::Prepare { position, ballot }))
+        }
+        Kind::Promise => {
+            let place = usual_promise(bytes)?;
+            let body = Body::Promise {
+                position: place.position,
+                ballot: place.ballot,
+                last: None,
+            };
+            Some(between(place, body))
+        }
+        Kind::Accept => {
+            let (place, action) = usual_accept(bytes)?;
+            let body = Body::Accept {
+                position: place.position,
+                ballot: place.ballot,
+                action,
+            };
+            Some(between(place, body))
+        }
+        Kind::Accepted => {
+            let (place, action) = usual_accepted(bytes)?;
+            let body = Body::Accepted {
+                position: place.position,
+                ballot: place.ballot,
+                action,
+            };
+            Some(between(place, body))
+        }
+        Kind::Decided => {
+            let SentDecision {
+                from,
+                to,
+                position,
+                action,
+            } = usual_decided(bytes)?;
+            let body = Body::Decided { position, action };
+            Some(Packet::new(Party::Node(from), Party::Node(to), body))
+        }
+        Kind::Reply => reply_of(bytes),
         Kind::Ask | Kind::Nack | Kind::Report | Kind::PrepareRange | Kind::PromiseRange => None,
     }
 }

@@ -46,10 +46,7 @@ mod votes;
 mod votes_text;
 
 pub use actions::Actions;
-pub use decoding::{
-    decode, decode_fields, packet_len, usual_accept, usual_accepted, usual_call, usual_decided,
-    usual_prepare, usual_promise,
-};
+pub use decoding::{decode, decode_fields, packet_len};
 pub use encoding::{encode, encode_onto, one_text, text_of_packet, two_texts};
 pub use kind::Kind;
 pub use lengths::text_len;
@@ -59,5 +56,9 @@ pub use record_text::{
 };
 pub use rules::report_len;
 pub use short_text::ShortText;
+pub use usual_texts::{
+    Place, SentCall, SentDecision, usual_accept, usual_accepted, usual_call, usual_decided,
+    usual_prepare, usual_promise,
+};
 pub use version::Version;
 pub use votes::Votes;

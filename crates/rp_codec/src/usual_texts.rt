@@ -12,13 +12,31 @@ use crate::packet::{Body, Packet, Party};
 use crate::rules::is_call_of;
 use rp_base::{Action, Ballot, NodeId, Operation, Position, Reply, TaskId, Vote};
 
-/// What is before the action in most packets between nodes.
-#[derive(Clone, Copy)]
-struct Place {
-    from: NodeId,
-    to: NodeId,
-    position: Position,
-    ballot: Ballot,
+/// From whom a packet is and to whom, and its position and ballot: what is before the action in most
+/// packets between nodes.
+#[derive(Clone, Copy, Debug)]
+pub struct Place {
+    pub from: NodeId,
+    pub to: NodeId,
+    pub position: Position,
+    pub ballot: Ballot,
+}
+
+/// A decision that one node sends to another, or what a task calls.
+#[derive(Clone, Copy, Debug)]
+pub struct SentDecision {
+    pub from: NodeId,
+    pub to: NodeId,
+    pub position: Position,
+    pub action: Action,
+}
+
+/// A call that a task sends to a node.
+#[derive(Clone, Copy, Debug)]
+pub struct SentCall {
+    pub task: TaskId,
+    pub to: NodeId,
+    pub action: Action,
 }
 
 #[inline(always)]
@@ -144,83 +162,69 @@ fn vote_of(bytes: &[u8], kind: u8) -> Option<(Place, Action)>
     Some((place, action))
 }
 
+/// The place of a prepare of which the bytes are the text of version 2. `None` says nothing of the
+/// bytes: `decode_fields` reads those. There is such a function for each usual kind, compiled into its
+/// caller, which so has the fields without a packet in memory. Which packets are read so is a matter of
+/// speed alone, and no clause says it.
 #[inline(always)]
-pub(crate) fn prepare_of(bytes: &[u8]) -> Option<Packet>
-    ensures { IfSome result (λ packet. bytes.now ≡ text_of packet) }
+pub fn usual_prepare(bytes: &[u8]) -> Option<Place>
+    ensures { IfSome result (λ place. IsDecoded bytes.now (Ok (prepare_at place))) }
 {
     if bytes.len() != 14 {
         return None;
     }
     let (front, _) = bytes.split_first_chunk::<14>()?;
-    let place = place_of(front, 2)?;
-    let body = Body::Prepare {
-        position: place.position,
-        ballot: place.ballot,
-    };
-    Some(Packet::new(Party::Node(place.from), Party::Node(place.to), body))
+    place_of(front, 2)
 }
 
-/// A promise that reports no vote.
+/// The same, of a promise that reports no vote.
 #[inline(always)]
-pub(crate) fn promise_of(bytes: &[u8]) -> Option<Packet>
-    ensures { IfSome result (λ packet. bytes.now ≡ text_of packet) }
+pub fn usual_promise(bytes: &[u8]) -> Option<Place>
+    ensures { IfSome result (λ place. IsDecoded bytes.now (Ok (promise_at place))) }
 {
     let (front, rest) = bytes.split_first_chunk::<14>()?;
     let [0] = rest else {
         return None;
     };
-    let place = place_of(front, 3)?;
-    let body = Body::Promise {
-        position: place.position,
-        ballot: place.ballot,
-        last: None,
-    };
-    Some(Packet::new(Party::Node(place.from), Party::Node(place.to), body))
+    place_of(front, 3)
 }
 
+/// The same, of an accept whose action is a call.
 #[inline(always)]
-pub(crate) fn accept_of(bytes: &[u8]) -> Option<Packet>
-    ensures { IfSome result (λ packet. bytes.now ≡ text_of packet) }
+pub fn usual_accept(bytes: &[u8]) -> Option<(Place, Action)>
+    ensures { IfSome result (λ vote. IsDecoded bytes.now (Ok (accept_at vote.0 vote.1))) }
 {
-    let (place, action) = vote_of(bytes, 4)?;
-    let body = Body::Accept {
-        position: place.position,
-        ballot: place.ballot,
-        action,
-    };
-    Some(Packet::new(Party::Node(place.from), Party::Node(place.to), body))
+    vote_of(bytes, 4)
 }
 
+/// The same, of a vote for a call.
 #[inline(always)]
-pub(crate) fn accepted_of(bytes: &[u8]) -> Option<Packet>
-    ensures { IfSome result (λ packet. bytes.now ≡ text_of packet) }
+pub fn usual_accepted(bytes: &[u8]) -> Option<(Place, Action)>
+    ensures { IfSome result (λ vote. IsDecoded bytes.now (Ok (accepted_at vote.0 vote.1))) }
 {
-    let (place, action) = vote_of(bytes, 5)?;
-    let body = Body::Accepted {
-        position: place.position,
-        ballot: place.ballot,
-        action,
-    };
-    Some(Packet::new(Party::Node(place.from), Party::Node(place.to), body))
+    vote_of(bytes, 5)
 }
 
+/// The same, of a decided call.
 #[inline(always)]
-pub(crate) fn decided_of(bytes: &[u8]) -> Option<Packet>
-    ensures { IfSome result (λ packet. bytes.now ≡ text_of packet) }
+pub fn usual_decided(bytes: &[u8]) -> Option<SentDecision>
+    ensures { IfSome result (λ decision. IsDecoded bytes.now (Ok (decided_of decision))) }
 {
     let (head, rest) = bytes.split_first_chunk::<4>()?;
     let (position, rest) = rest.split_first_chunk::<2>()?;
     let (from, to) = nodes_of(head, 6)?;
-    let position = position_of(position)?;
-    let action = call_of(rest)?;
-    let body = Body::Decided { position, action };
-    Some(Packet::new(Party::Node(from), Party::Node(to), body))
+    Some(SentDecision {
+        from,
+        to,
+        position: position_of(position)?,
+        action: call_of(rest)?,
+    })
 }
 
-/// A task's call.
+/// The same, of a task's call.
 #[inline(always)]
-pub(crate) fn task_call_of(bytes: &[u8]) -> Option<Packet>
-    ensures { IfSome result (λ packet. bytes.now ≡ text_of packet) }
+pub fn usual_call(bytes: &[u8]) -> Option<SentCall>
+    ensures { IfSome result (λ call. IsDecoded bytes.now (Ok (call_sent call))) }
 {
     let (head, rest) = bytes.split_first_chunk::<4>()?;
     if head[0] != VERSION || head[1] != 1 || head[2] < TASK_BASE {
@@ -228,13 +232,11 @@ pub(crate) fn task_call_of(bytes: &[u8]) -> Option<Packet>
     }
     let task = TaskId::new(head[2] - TASK_BASE)?;
     let to = NodeId::new(head[3])?;
-    let party = Party::Task(task);
     let action = call_of(rest)?;
-    if !is_call_of(&party, &action) {
+    if !is_call_of(&Party::Task(task), &action) {
         return None;
     }
-    let body = Body::Call { action };
-    Some(Packet::new(party, Party::Node(to), body))
+    Some(SentCall { task, to, action })
 }
 
 /// A reply with a value.

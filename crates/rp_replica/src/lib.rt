@@ -10,6 +10,7 @@
 //!   rules, which read alone: for a packet, a question for a promise or a vote, promises, the word to
 //!   lead at a position or a range, the action that a proposal takes as its own, votes and decisions,
 //!   calls and interrupts and ticks
+//! - `usual`: the rules for a packet of a usual kind, whose fields were read from its text
 //! - `commit`: a plan, committed: it is written, takes effect and is sent
 //! - `range_promise`, `proposal`, `decisions`, `report`: a promise for a range, plans of a leader, of a
 //!   learner and for the audit, committed
@@ -48,6 +49,7 @@ mod replica;
 mod report;
 mod sent;
 mod turn;
+mod usual;
 mod window;
 
 pub use cut::NotCut;

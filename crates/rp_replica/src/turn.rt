@@ -16,8 +16,8 @@ use crate::replica::Replica;
 use crate::sent::{Outbox, Sent};
 use rp_base::{Fault, Position, PositionRange};
 use rp_codec::{
-    Kind, Packet, decode_fields, usual_accept, usual_accepted, usual_call, usual_decided,
-    usual_prepare, usual_promise,
+    Kind, decode_fields, usual_accept, usual_accepted, usual_call, usual_decided, usual_prepare,
+    usual_promise,
 };
 use rp_machine::Machine;
 use rp_model::Dropped;
@@ -68,38 +68,45 @@ impl<M: Machine, D: Device> Replica<M, D> {
             self.now self.now fault) }
     {
         match Kind::of_text(bytes) {
-            Some(Kind::Call) => self.on_usual(alloc, usual_call(bytes), bytes, plan),
-            Some(Kind::Prepare) => self.on_usual(alloc, usual_prepare(bytes), bytes, plan),
-            Some(Kind::Promise) => self.on_usual(alloc, usual_promise(bytes), bytes, plan),
-            Some(Kind::Accept) => self.on_usual(alloc, usual_accept(bytes), bytes, plan),
-            Some(Kind::Accepted) => self.on_usual(alloc, usual_accepted(bytes), bytes, plan),
-            Some(Kind::Decided) => self.on_usual(alloc, usual_decided(bytes), bytes, plan),
-            _ => self.on_other_text(alloc, bytes, plan),
+            Some(Kind::Call) => {
+                if let Some(call) = usual_call(bytes) {
+                    self.on_sent_call(&call, plan);
+                    return Ok(());
+                }
+            }
+            Some(Kind::Prepare) => {
+                if let Some(place) = usual_prepare(bytes) {
+                    self.on_sent_prepare(place, plan);
+                    return Ok(());
+                }
+            }
+            Some(Kind::Promise) => {
+                if let Some(place) = usual_promise(bytes) {
+                    self.on_sent_promise(place, plan);
+                    return Ok(());
+                }
+            }
+            Some(Kind::Accept) => {
+                if let Some((place, action)) = usual_accept(bytes) {
+                    self.on_sent_accept(place, &action, plan);
+                    return Ok(());
+                }
+            }
+            Some(Kind::Accepted) => {
+                if let Some((place, action)) = usual_accepted(bytes) {
+                    self.on_sent_vote(place, &action, plan);
+                    return Ok(());
+                }
+            }
+            Some(Kind::Decided) => {
+                if let Some(decision) = usual_decided(bytes) {
+                    self.on_sent_decision(&decision, plan);
+                    return Ok(());
+                }
+            }
+            _ => {}
         }
-    }
-
-    /// The same, where this packet was read in one piece, if one was.
-    #[inline(always)]
-    fn on_usual(
-        &self,
-        alloc: Global,
-        packet: Option<Packet>,
-        bytes: &[u8],
-        plan: &mut Plan,
-    ) -> Result<(), Fault>
-        requires decoded { IfSome packet (λ packet. IsDecoded bytes.now (Ok packet)) }
-        requires working { self.now.failed ≡ false }
-        ensures ok { OnOk result (Ok (turn_of M.next M.answers self.now plan.new)
-            ≡ effect_if_given M.next M.answers self.now (packet_given (all_of bytes.now))) }
-        ensures may { OnOk result (MayCommit self.now plan.new) }
-        ensures err { IfErr result (λ fault. StopsIf
-            (effect_if_given M.next M.answers self.now (packet_given (all_of bytes.now)))
-            self.now self.now fault) }
-    {
-        match &packet {
-            Some(packet) => self.on_packet(packet, plan),
-            None => self.on_other_text(alloc, bytes, plan),
-        }
+        self.on_other_text(alloc, bytes, plan)
     }
 
     /// The same, where the packet is not read in one piece.

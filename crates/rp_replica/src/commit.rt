@@ -23,7 +23,7 @@ use crate::plan::Plan;
 use crate::replica::{Replica, write};
 use crate::sent::Outbox;
 use rp_base::{Action, Answer, Ballot, Fault, NodeId, Position, Rec, Reply, TaskId};
-use rp_codec::Body;
+use rp_codec::{Body, Place};
 use rp_machine::Machine;
 use rp_model::{Dropped, RightAction};
 use rp_store::Device;
@@ -51,20 +51,14 @@ impl<M: Machine, D: Device> Replica<M, D> {
         match plan {
             Plan::Pass(dropped) => return Ok(*dropped),
             Plan::Promise(to, position, ballot, last) => {
-                let stated = Body::Promise {
-                    position: *position,
-                    ballot: *ballot,
-                    last: *last,
-                };
-                self.keep_and_send(out, &Rec::Promised(*position, *ballot), stated, *to)?;
+                out.reserve(1)?;
+                self.keep(&Rec::Promised(*position, *ballot))?;
+                out.promise(self.place_to(*to, *position, *ballot), *last);
             }
             Plan::Vote(to, position, ballot, action) => {
-                let stated = Body::Accepted {
-                    position: *position,
-                    ballot: *ballot,
-                    action: *action,
-                };
-                self.keep_and_send(out, &Rec::Voted(*position, *ballot, *action), stated, *to)?;
+                out.reserve(1)?;
+                self.keep(&Rec::Voted(*position, *ballot, *action))?;
+                out.accepted(self.place_to(*to, *position, *ballot), action);
             }
             Plan::PromiseRange(promise) => self.promise_range(alloc, out, promise)?,
             Plan::Lead(position, ballot, own) => self.begin(out, *position, *ballot, own)?,
@@ -159,31 +153,17 @@ impl<M: Machine, D: Device> Replica<M, D> {
         Ok(())
     }
 
-    /// Writes a promise or a vote, and sends it to a node.
+    /// The place of a packet of this node to another.
     #[inline(always)]
-    fn keep_and_send(
-        &mut self,
-        out: &mut Outbox,
-        rec: &Rec,
-        stated: Body,
-        to: NodeId,
-    ) -> Result<(), Fault>
-        requires working { self.old.failed ≡ false }
-        requires right { IsRightRecord rec.now }
-        requires place { is_in_log self.old.config.max_positions rec.now ≡ true }
-        requires answer { IsAnswer rec.now }
-        requires may { MaySay (Node self.old.me) (Node to) stated }
-        requires short { ¬ IsLongBody stated }
-        ensures ok { OnOk result (Commits
-            (writes rec.now self.old.running (says self.old.me stated to ∷ []))
-            self.old self.new out.old.run out.new.run Dropped.No) }
-        ensures err { IfErr result (λ fault. Stops (Some rec.now) self.old self.new fault) }
-        ensures unsent { OnErr result (out.new.run ≡ out.old.run) }
+    pub(crate) fn place_to(&self, to: NodeId, position: Position, ballot: Ballot) -> Place
+        ensures { result ≡ record { from = self.now.me; to = to; position = position; ballot = ballot } }
     {
-        out.reserve(1)?;
-        self.keep(rec)?;
-        out.say(self.me, to, stated);
-        Ok(())
+        Place {
+            from: self.me,
+            to,
+            position,
+            ballot,
+        }
     }
 
     /// An item becomes pending.

@@ -15,7 +15,7 @@ use crate::replica::{Replica, write};
 use crate::sent::Outbox;
 use crate::window::follow;
 use rp_base::{Action, Fault, Position, Rec};
-use rp_codec::Body;
+use rp_codec::SentDecision;
 use rp_log::Log;
 use rp_machine::Machine;
 use rp_store::Device;
@@ -54,11 +54,13 @@ impl<M: Machine, D: Device> Replica<M, D> {
             &Rec::Learned(position, *action),
         )?;
         if announces {
-            let decided = Body::Decided {
+            let decision = SentDecision {
+                from: self.me,
+                to: self.me,
                 position,
                 action: *action,
             };
-            out.say_to_others(self.me, self.config.nodes, decided);
+            out.inform_others(&decision, self.config.nodes);
         }
         self.proposer.settled(position);
         self.learner.settled(position);

@@ -45,11 +45,7 @@ impl<M: Machine, D: Device> Replica<M, D> {
     {
         out.reserve(usize::from(self.config.nodes))?;
         self.start(position, ballot, own)?;
-        out.say_to_all(
-            self.me,
-            self.config.nodes,
-            Body::Prepare { position, ballot },
-        );
+        out.prepare_all(self.place_to(self.me, position, ballot), self.config.nodes);
         Ok(())
     }
 
@@ -100,12 +96,8 @@ impl<M: Machine, D: Device> Replica<M, D> {
     {
         out.reserve(usize::from(self.config.nodes))?;
         self.start_offer(position, action);
-        let offered = Body::Accept {
-            position,
-            ballot,
-            action: *action,
-        };
-        out.say_to_all(self.me, self.config.nodes, offered);
+        let place = self.place_to(self.me, position, ballot);
+        out.accept_all(place, action, self.config.nodes);
         Ok(())
     }
 
@@ -128,12 +120,8 @@ impl<M: Machine, D: Device> Replica<M, D> {
     {
         out.reserve(usize::from(self.config.nodes))?;
         self.note_promise(promise);
-        let offered = Body::Accept {
-            position: promise.position,
-            ballot: promise.ballot,
-            action: *action,
-        };
-        out.say_to_all(self.me, self.config.nodes, offered);
+        let place = self.place_to(self.me, promise.position, promise.ballot);
+        out.accept_all(place, action, self.config.nodes);
         Ok(())
     }
 

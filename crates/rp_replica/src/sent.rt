@@ -9,8 +9,11 @@ ghost use Rattle.rp_codec.specs.declared.packet.Body.TheVariants.{Reply as Answe
 ghost use Rattle.rp_model.specs.Says.{says, says_to_all, says_to_others, says_to_task};
 ghost use Rattle.rp_replica.specs.Packets.{run_of, with_packet, with_packets, longest_text};
 
-use rp_base::{Answer, NodeId};
-use rp_codec::{Body, Packet, Party, encode_onto, text_of_packet};
+use rp_base::{Action, Answer, NodeId, Vote};
+use rp_codec::{
+    Body, Packet, Party, Place, SentDecision, accept_text, accepted_text, decided_text,
+    encode_onto, is_call, prepare_text, promise_text, text_of_packet,
+};
 use rp_model::Dropped;
 use std::alloc::{AllocError, Global};
 use std::marker::Model;
@@ -160,7 +163,7 @@ impl Outbox {
     }
 
     /// One packet more, from node to node, which takes no memory, into the room.
-    #[inline(always)]
+    #[inline(never)]
     pub(crate) fn say(&mut self, me: NodeId, to: NodeId, body: Body)
         requires may { MaySay (Node me) (Node to) body }
         requires short { ¬ IsLongBody body }
@@ -171,31 +174,187 @@ impl Outbox {
         self.put(&Packet::new(Party::Node(me), Party::Node(to), body));
     }
 
+    /// A text of one length, into the room.
+    #[inline(always)]
+    fn put_array<const N: usize>(&mut self, text: &[u8; N])
+        requires packet { (m : Message) × IsPacket m × (text.now ≡ text_of m) }
+        requires short { N ≤ longest_text }
+        requires room { HasRoomFor 1 self.old }
+        ensures sent { (m : Message) → IsPacket m → text.now ≡ text_of m
+            → self.new.sent ≡ self.old.sent ++ m ∷ [] }
+        ensures room { IsFilled 1 self.old self.new }
+    {
+        self.bytes.extend_from_slice(text).unwrap();
+        self.ends.push_reserved(self.bytes.len());
+    }
+
+    /// A text of one length between nodes, to each node, into the room.
+    #[inline(always)]
+    fn put_to_all<const N: usize>(&mut self, text: &mut [u8; N], nodes: u8)
+        requires nodes { nodes ≤ 7 }
+        requires short { (4 ≤ N) × (N ≤ longest_text) }
+        requires room { HasRoomFor nodes self.old }
+        ensures room { IsFilled nodes self.old self.new }
+    {
+        for place in 0..nodes {
+            text[RECEIVER] = node_after(place).get();
+            self.put_array(text);
+        }
+    }
+
     /// A text between nodes, to this node, into the room.
     #[inline(always)]
     fn put_to(&mut self, text: &[u8], to: NodeId)
         requires receiver { 3 < length text.now }
         requires short { length text.now ≤ longest_text }
-        requires room { longest_text ≤ self.old.room }
-        ensures run { self.new.run ≡ record {
-          bytes = self.old.run.bytes ++ slice_set text.now 3 to;
-          packets = self.old.run.packets + 1;
-        } }
-        ensures room { self.old.room ≤ self.new.room + longest_text }
+        requires room { HasRoomFor 1 self.old }
+        ensures room { IsFilled 1 self.old self.new }
     {
         let receiver = self.bytes.len() + RECEIVER;
         self.put_text(text);
         self.bytes[receiver] = to.get();
     }
 
+    /// A promise, with the last vote, into the room.
+    #[inline(always)]
+    pub(crate) fn promise(&mut self, place: Place, last: Option<Vote>)
+        requires room { HasRoomFor 1 self.old }
+        ensures sent { self.new.sent ≡ self.old.sent ++ promise_with place last ∷ [] }
+        ensures room { IsFilled 1 self.old self.new }
+    {
+        let Place {
+            from,
+            to,
+            position,
+            ballot,
+        } = place;
+        match last {
+            None => self.put_array(&promise_text(place)),
+            Some(_) => self.say(
+                from,
+                to,
+                Body::Promise {
+                    position,
+                    ballot,
+                    last,
+                },
+            ),
+        }
+    }
+
+    /// A vote, into the room.
+    #[inline(always)]
+    pub(crate) fn accepted(&mut self, place: Place, action: &Action)
+        requires right { IsRight action.now }
+        requires room { HasRoomFor 1 self.old }
+        ensures sent { self.new.sent ≡ self.old.sent ++ accepted_at place action.now ∷ [] }
+        ensures room { IsFilled 1 self.old self.new }
+    {
+        if is_call(action) {
+            self.put_array(&accepted_text(place, action));
+            return;
+        }
+        let Place {
+            from,
+            to,
+            position,
+            ballot,
+        } = place;
+        let action = *action;
+        self.say(
+            from,
+            to,
+            Body::Accepted {
+                position,
+                ballot,
+                action,
+            },
+        );
+    }
+
+    /// A prepare to each node, the asker itself too, into the room.
+    #[inline(always)]
+    pub(crate) fn prepare_all(&mut self, place: Place, nodes: u8)
+        requires nodes { nodes ≤ 7 }
+        requires room { HasRoomFor nodes self.old }
+        ensures sent { self.new.sent ≡ self.old.sent
+            ++ says_to_all nodes place.from (Prepare place.position place.ballot) }
+        ensures room { IsFilled nodes self.old self.new }
+    {
+        self.put_to_all(&mut prepare_text(place), nodes);
+    }
+
+    /// An accept to each node, the asker itself too, into the room.
+    #[inline(always)]
+    pub(crate) fn accept_all(&mut self, place: Place, action: &Action, nodes: u8)
+        requires nodes { nodes ≤ 7 }
+        requires right { IsRight action.now }
+        requires room { HasRoomFor nodes self.old }
+        ensures sent { self.new.sent ≡ self.old.sent
+            ++ says_to_all nodes place.from (Accept place.position place.ballot action.now) }
+        ensures room { IsFilled nodes self.old self.new }
+    {
+        if is_call(action) {
+            self.put_to_all(&mut accept_text(place, action), nodes);
+            return;
+        }
+        let Place {
+            from,
+            position,
+            ballot,
+            ..
+        } = place;
+        let action = *action;
+        self.say_to_all(
+            from,
+            nodes,
+            Body::Accept {
+                position,
+                ballot,
+                action,
+            },
+        );
+    }
+
+    /// A decision to each other node, into the room.
+    #[inline(always)]
+    pub(crate) fn inform_others(&mut self, decision: &SentDecision, nodes: u8)
+        requires nodes { nodes ≤ 7 }
+        requires right { IsRight decision.now.action }
+        requires room { HasRoomFor nodes self.old }
+        ensures sent { self.new.sent ≡ self.old.sent ++ says_to_others nodes decision.now.from
+            (Decided decision.now.position decision.now.action) }
+        ensures room { IsFilled nodes self.old self.new }
+    {
+        let SentDecision {
+            from,
+            position,
+            action,
+            ..
+        } = *decision;
+        if !is_call(&action) {
+            self.say_to_others(from, nodes, Body::Decided { position, action });
+            return;
+        }
+        let mut text = decided_text(decision);
+        for place in 0..nodes {
+            let to = node_after(place);
+            if to != from {
+                text[RECEIVER] = to.get();
+                self.put_array(&text);
+            }
+        }
+    }
+
     /// A packet to each node, itself too, into the room. Its text is made once.
+    #[inline(never)]
     pub(crate) fn say_to_all(&mut self, me: NodeId, nodes: u8, body: Body)
         requires nodes { nodes ≤ 7 }
         requires may { MaySay (Node me) (Node me) body }
         requires short { ¬ IsLongBody body }
-        requires room { longest_text * nodes ≤ self.old.room }
-        ensures run { self.new.run ≡ with_packets self.old.run (says_to_all nodes me body) }
-        ensures room { self.old.room ≤ self.new.room + longest_text * nodes }
+        requires room { HasRoomFor nodes self.old }
+        ensures sent { self.new.sent ≡ self.old.sent ++ says_to_all nodes me body }
+        ensures room { IsFilled nodes self.old self.new }
     {
         let text = text_of_packet(&Packet::new(Party::Node(me), Party::Node(me), body));
         for place in 0..nodes {
@@ -204,13 +363,14 @@ impl Outbox {
     }
 
     /// A packet to each other node, into the room. Its text is made once.
-    pub(crate) fn say_to_others(&mut self, me: NodeId, nodes: u8, body: Body)
+    #[inline(never)]
+    fn say_to_others(&mut self, me: NodeId, nodes: u8, body: Body)
         requires nodes { nodes ≤ 7 }
         requires may { MaySay (Node me) (Node me) body }
         requires short { ¬ IsLongBody body }
-        requires room { longest_text * nodes ≤ self.old.room }
-        ensures run { self.new.run ≡ with_packets self.old.run (says_to_others nodes me body) }
-        ensures room { self.old.room ≤ self.new.room + longest_text * nodes }
+        requires room { HasRoomFor nodes self.old }
+        ensures sent { self.new.sent ≡ self.old.sent ++ says_to_others nodes me body }
+        ensures room { IsFilled nodes self.old self.new }
     {
         let text = text_of_packet(&Packet::new(Party::Node(me), Party::Node(me), body));
         for place in 0..nodes {

@@ -10,7 +10,7 @@ ghost use Rattle.rp_store.specs.Opening.{IsOpened, IsNotOpened};
 use crate::device::{CutDevice, Device};
 use crate::reading::whole_records;
 use rp_base::{Fault, Rec};
-use rp_codec::text_of_record;
+use rp_codec::{is_call, learned_text, promised_text, text_of_record, voted_text};
 use std::alloc::Global;
 use std::marker::Model;
 
@@ -81,6 +81,7 @@ fn restore<D: Device>(alloc: Global, device: &mut D) -> Result<(Vec<Rec>, u64), 
 }
 
 /// Appends the text and syncs.
+#[inline(always)]
 fn write<D: Device>(device: &mut D, text: &[u8]) -> Result<(), Fault>
     ensures ok { OnOk result (D.disk device.new ≡ synced (appended text.now (D.disk device.old))) }
     ensures refused { IsErrOf result Fault.OutOfMemory → D.disk device.new ≡ D.disk device.old }
@@ -91,6 +92,29 @@ fn write<D: Device>(device: &mut D, text: &[u8]) -> Result<(), Fault>
 {
     device.append(text)?;
     device.sync()
+}
+
+/// Appends the text of a record and syncs. The usual records have texts of one length each.
+#[inline(always)]
+fn write_record<D: Device>(device: &mut D, rec: &Rec) -> Result<(), Fault>
+    ensures ok { OnOk result (D.disk device.new
+        ≡ synced (appended (record_text rec.now) (D.disk device.old))) }
+    ensures refused { IsErrOf result Fault.OutOfMemory → D.disk device.new ≡ D.disk device.old }
+    ensures failed { IsErrOf result Fault.Device
+        → AppendFailed (record_text rec.now) (D.disk device.old) (D.disk device.new) }
+    ensures faults { IfErr result (λ fault. (fault ≡ faults.OutOfMemory) ⊎ (fault
+        ≡ faults.Device)) }
+{
+    match rec {
+        Rec::Promised(position, ballot) => write(device, &promised_text(*position, *ballot)),
+        Rec::Voted(position, ballot, action) if is_call(action) => {
+            write(device, &voted_text(*position, *ballot, action))
+        }
+        Rec::Learned(position, action) if is_call(action) => {
+            write(device, &learned_text(*position, action))
+        }
+        _ => write(device, text_of_record(rec).as_slice()),
+    }
 }
 
 impl<D: Device> Store<D> {
@@ -141,7 +165,7 @@ impl<D: Device> Store<D> {
         if self.failed {
             return Err(Fault::Failed);
         }
-        let result = write(&mut self.device, text_of_record(rec).as_slice());
+        let result = write_record(&mut self.device, rec);
         self.failed = matches!(result, Err(Fault::Device));
         result
     }

@@ -90,8 +90,7 @@ impl Machine for BoundedCounter {
         })
     }
 
-    fn apply(&mut self, action: &Action) -> Answers {
-        let mut answers = Answers::new();
+    fn apply(&mut self, action: &Action, answers: &mut Answers) {
         if let Action::Call {
             task,
             number,
@@ -107,7 +106,6 @@ impl Machine for BoundedCounter {
                 reply,
             });
         }
-        answers
     }
 
     fn image(&self, alloc: Global) -> Result<Vec<u8>, AllocError> {

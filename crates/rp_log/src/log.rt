@@ -103,21 +103,34 @@ impl Log {
     /// one stays and nothing changes. The first unlearned position moves on past the positions that
     /// are learned ahead of it, each of which it passes once in the log's life.
     #[inline(always)]
-    pub fn learn(&mut self, position: Position, action: Action)
+    pub fn learn(&mut self, position: Position, action: &Action)
         requires { HasRoom self.old position }
-        ensures { self.new ≡ with_action self.old position action }
+        ensures { self.new ≡ with_action self.old position action.now }
     {
-        if self.get(position).is_some() {
+        if self.is_learned(position) {
             return;
         }
         let number = u32::from(position.get());
         self.top = self.top.max(position.get());
         if number > self.front.len() as u32 + 1 {
-            learn_ahead(&mut self.ahead, number, action);
+            learn_ahead(&mut self.ahead, number, *action);
             return;
         }
         self.next_reserved = false;
-        learn_next(&mut self.front, &mut self.ahead, action);
+        if self.ahead.is_empty() {
+            self.front.push_reserved(*action);
+        } else {
+            learn_next(&mut self.front, &mut self.ahead, *action);
+        }
+    }
+
+    /// Whether an action was learned at the position.
+    #[inline(always)]
+    pub fn is_learned(&self, position: Position) -> bool
+        ensures { result ≡ is_some (action_at self.now position) }
+    {
+        usize::from(position.get()) <= self.front.len()
+            || learned_at(&self.ahead, u32::from(position.get())).is_some()
     }
 
     /// The action that was learned first at the position, or `None`.
@@ -151,18 +164,19 @@ impl Log {
         Position::new(self.top)
     }
 
-    /// Takes the least position that was not taken yet, with its action, where that position is
-    /// learned. So the actions come in order and none is left out.
-    pub fn take_ready(&mut self) -> Option<(Position, Action)>
+    /// Takes the action of the least position that was not taken yet, where that position is learned:
+    /// so the actions come in order and none is left out. It is lent where it lies.
+    #[inline(always)]
+    pub fn take_ready(&mut self) -> Option<&Action>
         // claim (ready): A log returns its learned actions in order, each once and none left out
-        ensures ready { result ≡ ready_of self.old }
-        ensures taken { IfSome result (λ ready. self.new.taken ≡ self.old.taken ++ ready.1 ∷ []) }
+        ensures ready { option_copied result ≡ ready_of self.old }
+        ensures taken { IfSome result (λ ready. self.new.taken ≡ self.old.taken ++ ready.now ∷ []) }
         ensures none { IfNone result (self.new ≡ self.old) }
         ensures places { self.new.places ≡ self.old.places }
     {
-        let action = action_in(&self.front, usize::from(self.taken))?;
+        let action = self.front.get(usize::from(self.taken))?;
         self.taken += 1;
-        Some((Position::new(self.taken)?, action))
+        Some(action)
     }
 
     /// How many actions were taken, at most 65,535: those learned at the positions up to that

@@ -119,8 +119,7 @@ impl Machine for Tally {
     }
 
     #[inline(never)]
-    fn apply(&mut self, action: &Action) -> Answers {
-        let mut answers = Answers::new();
+    fn apply(&mut self, action: &Action, answers: &mut Answers) {
         if let Action::Call {
             task,
             number,
@@ -139,7 +138,6 @@ impl Machine for Tally {
                 reply,
             });
         }
-        answers
     }
 
     fn image(&self, alloc: Global) -> Result<Vec<u8>, AllocError> {

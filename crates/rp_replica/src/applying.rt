@@ -17,22 +17,26 @@ use rp_base::{Action, Answer, Answers, NodeId};
 use rp_log::Log;
 use rp_machine::{Machine, Numbered};
 
-/// Applies the next action that is ready, and gives the answers that result.
+/// Applies the next action that is ready, if one is, and puts its answers in place of those that are
+/// there.
 #[inline(always)]
-fn apply_next<M: Machine>(machine: &mut Numbered<M>, log: &mut Log) -> Option<Answers>
+fn apply_next<M: Machine>(machine: &mut Numbered<M>, log: &mut Log, answers: &mut Answers) -> bool
     requires right { (i : ℕ) (v : Action) → action_at log.old i ≡ Some v → IsRight v }
     requires taken { machine.old.actions ≡ log.old.taken }
-    ensures more { IfSome result (λ answers.
-        AppliesMore M.next M.answers log.old log.new machine.old machine.new answers) }
-    ensures one { IfSome result (λ _. length log.new.taken ≡ suc (length log.old.taken)) }
-    ensures within { IfSome result (λ _. length log.new.taken < 65536) }
-    ensures once { IfSome result (λ _.
-        IsSet (map call_of (outcome M.next M.answers machine.new).given)) }
-    ensures none { IfNone result (action_at log.old (next_to_take log.old) ≡ None) }
-    ensures stays { IfNone result ((log.new ≡ log.old) × (machine.new ≡ machine.old)) }
+    ensures more { IsTrue result →
+        AppliesMore M.next M.answers log.old log.new machine.old machine.new answers.new }
+    ensures one { IsTrue result → length log.new.taken ≡ suc (length log.old.taken) }
+    ensures within { IsTrue result → length log.new.taken < 65536 }
+    ensures once { IsTrue result →
+        IsSet (map call_of (outcome M.next M.answers machine.new).given) }
+    ensures none { result ≡ false → action_at log.old (next_to_take log.old) ≡ None }
+    ensures stays { result ≡ false → (log.new ≡ log.old) × (machine.new ≡ machine.old) }
 {
-    let (_, action) = log.take_ready()?;
-    Some(machine.apply(&action))
+    let Some(action) = log.take_ready() else {
+        return false;
+    };
+    machine.apply(action, answers);
+    true
 }
 
 /// Applies all that is ready, in order.
@@ -45,7 +49,8 @@ pub(crate) fn apply_ready<M: Machine>(machine: &mut Numbered<M>, log: &mut Log)
     ensures none { action_at log.new (next_to_take log.new) ≡ None }
     ensures ordered { IsTakenInOrder log.new }
 {
-    while apply_next(machine, log).is_some() {}
+    let mut answers = Answers::new();
+    while apply_next(machine, log, &mut answers) {}
     log.applied();
 }
 
@@ -61,13 +66,14 @@ pub(crate) fn apply_and_reply<M: Machine>(
 )
     requires right { (i : ℕ) (v : Action) → action_at log.old i ≡ Some v → IsRight v }
     requires taken { machine.old.actions ≡ log.old.taken }
-    requires room { longest_text * length pending.now ≤ out.old.room }
+    requires room { HasRoomFor (length pending.now) out.old }
     ensures replied { HasReplied M.next M.answers me pending.now
         log.old log.new machine.old machine.new out.old out.new }
     ensures none { action_at log.new (next_to_take log.new) ≡ None }
     ensures ordered { IsTakenInOrder log.new }
 {
-    while let Some(answers) = apply_next(machine, log) {
+    let mut answers = Answers::new();
+    while apply_next(machine, log, &mut answers) {
         reply_to(me, pending, answers.as_slice(), out);
     }
     log.applied();

@@ -65,7 +65,7 @@ impl<M: Machine, D: Device> Replica<M, D> {
         self.proposer.settled(position);
         self.learner.settled(position);
         self.heard.settle(position, *action);
-        self.log.learn(position, *action);
+        self.log.learn(position, action);
         let before = self.log.applied();
         apply_and_reply(
             &mut self.machine,

@@ -56,6 +56,7 @@ impl Page {
         self.votes.is_empty()
     }
 
+    #[inline(always)]
     fn vote(&self, offset: usize) -> Option<Vote>
         ensures { result ≡ vote_in_page self.now offset }
     {
@@ -78,6 +79,7 @@ impl Page {
 }
 
 /// The vote at an index, none in a page that is absent.
+#[inline(always)]
 pub fn vote_at(pages: &[Page], index: usize) -> Option<Vote>
     ensures { result ≡ vote_of pages.now index }
 {
@@ -117,6 +119,7 @@ fn grow(pages: &mut Vec<Page>, alloc: Global, number: usize) -> Result<(), Alloc
 }
 
 /// Makes the page of an index, unless it is there. Refused for memory, each place stays.
+#[inline(always)]
 pub fn make(pages: &mut Vec<Page>, alloc: Global, index: usize) -> Result<(), AllocError>
     requires { (n : ℕ) → IsWhole (page_at pages.old.items n) }
     ensures more { HasMore pages.old.items pages.new.items }
@@ -124,14 +127,26 @@ pub fn make(pages: &mut Vec<Page>, alloc: Global, index: usize) -> Result<(), Al
     ensures full { OnErr result (length (page_at pages.old.items (index / 64)) ≡ 0) }
 {
     let number = index / PAGE;
-    grow(pages, alloc, number)?;
-    if pages[number].is_absent() {
-        pages[number] = Page::new(alloc)?;
+    if number < pages.len() && !pages[number].is_absent() {
+        return Ok(());
     }
+    make_anew(pages, alloc, number)
+}
+
+/// Makes the page of this number, which is absent.
+#[inline(never)]
+fn make_anew(pages: &mut Vec<Page>, alloc: Global, number: usize) -> Result<(), AllocError>
+    requires { (n : ℕ) → IsWhole (page_at pages.old.items n) }
+    ensures more { HasMore pages.old.items pages.new.items }
+    ensures made { OnOk result (length (page_at pages.new.items number) ≡ 64) }
+{
+    grow(pages, alloc, number)?;
+    pages[number] = Page::new(alloc)?;
     Ok(())
 }
 
 /// Notes the vote that a record is, if it is one. The place of its position is there.
+#[inline(always)]
 pub fn note(pages: &mut Vec<Page>, rec: &Rec)
     requires { (index : ℕ) → Has (index + 1) (voted_in rec.now) → HasSlot pages.old.items index }
     ensures len { (n : ℕ) → length (page_at pages.new.items n)

@@ -19,20 +19,24 @@ use std::marker::Model;
 /// two.
 const NEAR_END: usize = 4;
 
-/// From a position on the ballot is promised, or nothing is.
+/// From a position on the ballot of this number is promised, or nothing is where it is 0: so a step
+/// takes 16 bytes.
 #[derive(Drop)]
 struct Step {
     from: usize,
-    ballot: Option<Ballot>,
+    ballot: u64,
 }
 
 impl Model for Step {
-    ghost use Rattle.rp_base.specs.Ballot.{number_of};
+    ghost use Rattle.rp_base.specs.Ballot.{IsBallot};
+    ghost use Rattle.std.specs.Prelude.{◌≡◌, ◌⊎◌};
     ghost use Rattle.rp_acceptor.specs.Steps.{Level};
 
     ghost Value = { Level };
 
-    ghost view = { λ s. record { from = s.from; ballot = number_of s.ballot } };
+    ghost view = { λ s. record { from = s.from; ballot = s.ballot } };
+
+    ghost invariant = { λ s. (s.ballot ≡ 0) ⊎ IsBallot s.ballot };
 }
 
 impl Step {
@@ -47,7 +51,7 @@ impl Step {
     fn raise(&mut self, ballot: Ballot)
         ensures { self.new ≡ record self.old { ballot = max self.old.ballot ballot } }
     {
-        self.ballot = Ballot::greater(self.ballot, Some(ballot));
+        self.ballot = self.ballot.max(ballot.get());
     }
 }
 
@@ -152,8 +156,7 @@ fn ballot_before(steps: &[Step], count: usize) -> Option<Ballot>
     if count == 0 {
         None
     } else {
-        let step = &steps[count - 1];
-        step.ballot
+        Ballot::new(steps[count - 1].ballot)
     }
 }
 
@@ -218,7 +221,7 @@ fn split(steps: &mut Vec<Step>, position: usize) -> Result<(), AllocError>
 {
     let count = count_below(steps, position);
     if !begins_at(steps, count, position) {
-        let ballot = ballot_before(steps, count);
+        let ballot = if count == 0 { 0 } else { steps[count - 1].ballot };
         let step = Step {
             from: position,
             ballot,
@@ -252,6 +255,7 @@ pub fn split_ends(steps: &mut Steps, first: usize, end: usize) -> Result<(), All
 }
 
 /// Notes the promise that a record is, if it is one. A step begins at each of its ends.
+#[inline(always)]
 pub fn raise_promised(steps: &mut Steps, rec: &Rec)
     requires { HasEnds steps.old (stretch_in rec.now) }
     ensures raised { (i : ℕ) → ballot_at steps.new i

@@ -111,7 +111,7 @@ impl Settled {
             ≡ (m == least_of self.old || is_settled self.old m) }
     {
         let mut least = self.least + 1;
-        while self.above.remove(&least) {
+        while !self.above.is_empty() && self.above.remove(&least) {
             least += 1;
         }
         self.least = least;

@@ -15,8 +15,8 @@ use crate::packet::{Body, Packet, Party};
 use crate::reader::Reader;
 use crate::report_text::list_actions;
 use crate::usual_texts::{
-    Place, SentCall, SentDecision, reply_of, usual_accept, usual_accepted, usual_call,
-    usual_decided, usual_prepare, usual_promise,
+    Place, SentCall, SentDecision, SentReply, usual_accept, usual_accepted, usual_call,
+    usual_decided, usual_prepare, usual_promise, usual_reply,
 };
 use crate::version::Version;
 use crate::votes_text::list_votes;
@@ -212,21 +212,6 @@ pub fn decode_fields(
     }
 }
 
-/// This packet, whose text of version 2 the bytes are.
-#[inline(always)]
-fn of_its_text(bytes: &[u8], packet: Option<Packet>) -> Option<Packet>
-    requires text { IfSome packet (λ packet. bytes.now ≡ text_of packet) }
-    ensures { IfSome result (λ packet. IsDecoded bytes.now (Ok packet)) }
-{
-    match packet {
-        Some(packet) => {
-            let _body = packet.body();
-            Some(packet)
-        }
-        None => None,
-    }
-}
-
 /// The packet between two nodes.
 #[inline(always)]
 fn between(place: Place, body: Body) -> Packet
@@ -290,7 +275,16 @@ fn any_usual(bytes: &[u8]) -> Option<Packet>
             let body = Body::Decided { position, action };
             Some(Packet::new(Party::Node(from), Party::Node(to), body))
         }
-        Kind::Reply => reply_of(bytes),
+        Kind::Reply => {
+            let SentReply {
+                from,
+                task,
+                number,
+                reply,
+            } = usual_reply(bytes)?;
+            let body = Body::Reply { number, reply };
+            Some(Packet::new(Party::Node(from), Party::Task(task), body))
+        }
         Kind::Ask | Kind::Nack | Kind::Report | Kind::PrepareRange | Kind::PromiseRange => None,
     }
 }

@@ -63,8 +63,8 @@ pub use usual_encoding::{
     promised_text, voted_text,
 };
 pub use usual_texts::{
-    Place, SentCall, SentDecision, usual_accept, usual_accepted, usual_call, usual_decided,
-    usual_prepare, usual_promise,
+    Place, SentCall, SentDecision, SentReply, usual_accept, usual_accepted, usual_call,
+    usual_decided, usual_prepare, usual_promise, usual_reply,
 };
 pub use version::Version;
 pub use votes::Votes;

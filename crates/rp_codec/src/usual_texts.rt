@@ -8,7 +8,7 @@ ghost use Rattle.rp_codec.specs.Text.{number_text, signed_text, position_text, b
 
 use crate::action_text::MOST_ENTRIES;
 use crate::fields::{TASK_BASE, VERSION};
-use crate::packet::{Body, Packet, Party};
+use crate::packet::Party;
 use crate::rules::is_call_of;
 use rp_base::{Action, Ballot, NodeId, Operation, Position, Reply, TaskId, Vote};
 
@@ -22,13 +22,22 @@ pub struct Place {
     pub ballot: Ballot,
 }
 
-/// A decision that one node sends to another, or what a task calls.
+/// A decision that one node sends to another.
 #[derive(Clone, Copy, Debug)]
 pub struct SentDecision {
     pub from: NodeId,
     pub to: NodeId,
     pub position: Position,
     pub action: Action,
+}
+
+/// A reply that a node sends to a task.
+#[derive(Clone, Copy, Debug)]
+pub struct SentReply {
+    pub from: NodeId,
+    pub task: TaskId,
+    pub number: u32,
+    pub reply: Reply,
 }
 
 /// A call that a task sends to a node.
@@ -239,10 +248,10 @@ pub fn usual_call(bytes: &[u8]) -> Option<SentCall>
     Some(SentCall { task, to, action })
 }
 
-/// A reply with a value.
+/// The same, of a reply with a value.
 #[inline(always)]
-pub(crate) fn reply_of(bytes: &[u8]) -> Option<Packet>
-    ensures { IfSome result (λ packet. bytes.now ≡ text_of packet) }
+pub fn usual_reply(bytes: &[u8]) -> Option<SentReply>
+    ensures { IfSome result (λ sent. IsDecoded bytes.now (Ok (reply_sent sent))) }
 {
     if bytes.len() != 17 {
         return None;
@@ -254,10 +263,10 @@ pub(crate) fn reply_of(bytes: &[u8]) -> Option<Packet>
     if head[0] != VERSION || head[1] != 9 || head[3] < TASK_BASE || tag[0] != 1 {
         return None;
     }
-    let from = NodeId::new(head[2])?;
-    let task = TaskId::new(head[3] - TASK_BASE)?;
-    let number = number_of(number)?;
-    let reply = Reply::Value(value_of(value));
-    let body = Body::Reply { number, reply };
-    Some(Packet::new(Party::Node(from), Party::Task(task), body))
+    Some(SentReply {
+        from: NodeId::new(head[2])?,
+        task: TaskId::new(head[3] - TASK_BASE)?,
+        number: number_of(number)?,
+        reply: Reply::Value(value_of(value)),
+    })
 }

@@ -24,7 +24,7 @@ use crate::node;
 use crate::world::{World, put_back};
 use rp_agreement::events_keep_ranges;
 use rp_base::{Fault, NodeId, Position, PositionRange, Reply, TaskId};
-use rp_codec::{Body, Party, decode};
+use rp_codec::{Body, Party, decode, usual_reply};
 use rp_machine::Machine;
 use rp_model::{Effect, Event, Interrupt, Step};
 use rp_replica::{Input, Outbox, texts_are_packets};
@@ -408,6 +408,9 @@ fn read_reply(alloc: Global, text: &[u8]) -> Result<Option<(u32, Reply)>, AllocE
     ensures { IfOk result (λ stated. (m : Message) → IsPacket m → text.now ≡ text_of m
         → stated ≡ reply_in m.body) }
 {
+    if let Some(sent) = usual_reply(text) {
+        return Ok(Some((sent.number, sent.reply)));
+    }
     let Ok(packet) = decode(alloc, text)? else {
         return Ok(None);
     };

@@ -15,10 +15,7 @@ use crate::plan::Plan;
 use crate::replica::Replica;
 use crate::sent::{Outbox, Sent};
 use rp_base::{Fault, Position, PositionRange};
-use rp_codec::{
-    Kind, decode_fields, usual_accept, usual_accepted, usual_call, usual_decided, usual_prepare,
-    usual_promise,
-};
+use rp_codec::{Kind, decode_fields};
 use rp_machine::Machine;
 use rp_model::Dropped;
 use rp_store::Device;
@@ -55,8 +52,8 @@ impl<M: Machine, D: Device> Replica<M, D> {
         Ok(())
     }
 
-    /// A packet comes, as its text. Each usual kind has its arm, in which reading the packet and the
-    /// rule for it are compiled for that kind alone.
+    /// A packet comes, as its text. Each usual kind has its function, in which reading the packet and
+    /// the rule for it are compiled for that kind alone.
     #[inline(always)]
     fn on_text(&self, alloc: Global, bytes: &[u8], plan: &mut Plan) -> Result<(), Fault>
         requires working { self.now.failed ≡ false }
@@ -67,46 +64,20 @@ impl<M: Machine, D: Device> Replica<M, D> {
             (effect_if_given M.next M.answers self.now (packet_given (all_of bytes.now)))
             self.now self.now fault) }
     {
-        match Kind::of_text(bytes) {
-            Some(Kind::Call) => {
-                if let Some(call) = usual_call(bytes) {
-                    self.on_sent_call(&call, plan);
-                    return Ok(());
-                }
-            }
-            Some(Kind::Prepare) => {
-                if let Some(place) = usual_prepare(bytes) {
-                    self.on_sent_prepare(place, plan);
-                    return Ok(());
-                }
-            }
-            Some(Kind::Promise) => {
-                if let Some(place) = usual_promise(bytes) {
-                    self.on_sent_promise(place, plan);
-                    return Ok(());
-                }
-            }
-            Some(Kind::Accept) => {
-                if let Some((place, action)) = usual_accept(bytes) {
-                    self.on_sent_accept(place, &action, plan);
-                    return Ok(());
-                }
-            }
-            Some(Kind::Accepted) => {
-                if let Some((place, action)) = usual_accepted(bytes) {
-                    self.on_sent_vote(place, &action, plan);
-                    return Ok(());
-                }
-            }
-            Some(Kind::Decided) => {
-                if let Some(decision) = usual_decided(bytes) {
-                    self.on_sent_decision(&decision, plan);
-                    return Ok(());
-                }
-            }
-            _ => {}
+        let is_usual = match Kind::of_text(bytes) {
+            Some(Kind::Call) => self.on_call_text(bytes, plan),
+            Some(Kind::Prepare) => self.on_prepare_text(bytes, plan),
+            Some(Kind::Promise) => self.on_promise_text(bytes, plan),
+            Some(Kind::Accept) => self.on_accept_text(bytes, plan),
+            Some(Kind::Accepted) => self.on_accepted_text(bytes, plan),
+            Some(Kind::Decided) => self.on_decided_text(bytes, plan),
+            _ => false,
+        };
+        if is_usual {
+            Ok(())
+        } else {
+            self.on_other_text(alloc, bytes, plan)
         }
-        self.on_other_text(alloc, bytes, plan)
     }
 
     /// The same, where the packet is not read in one piece.

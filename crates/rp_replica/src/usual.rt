@@ -1,9 +1,14 @@
-//! What a replica decides that is given a packet of a usual kind, whose fields were read from its text.
+//! What a replica decides that is given a packet of a usual kind: its text is read into fields, and the
+//! rule for it is called with these. Each function says whether the bytes are such a packet's text; where
+//! they are not, it leaves the plan as it is.
 
 use crate::plan::{CountedPromise, Plan};
 use crate::replica::Replica;
-use rp_base::{Action, NodeId, Position};
-use rp_codec::{Place, SentCall, SentDecision};
+use rp_base::{NodeId, Position};
+use rp_codec::{
+    Place, SentDecision, usual_accept, usual_accepted, usual_call, usual_decided, usual_prepare,
+    usual_promise,
+};
 use rp_machine::Machine;
 use rp_model::Dropped;
 use rp_store::Device;
@@ -31,40 +36,45 @@ impl<M: Machine, D: Device> Replica<M, D> {
     }
 
     /// A task's call comes.
-    #[inline(always)]
-    pub(crate) fn on_sent_call(&self, call: &SentCall, plan: &mut Plan)
-        ensures turn { turn_of M.next M.answers self.now plan.new
-            ≡ received M.next M.answers self.now (call_sent call.now) }
-        ensures may { MayCommit self.now plan.new }
+    #[inline(never)]
+    pub(crate) fn on_call_text(&self, bytes: &[u8], plan: &mut Plan) -> bool
+        ensures { Decides M.next M.answers self.now bytes.now plan.old plan.new result }
     {
+        let Some(call) = usual_call(bytes) else {
+            return false;
+        };
         if call.to == self.me {
             self.on_call(call.action, plan);
         } else {
             *plan = Plan::Pass(Dropped::Foreign);
         }
+        true
     }
 
     /// A prepare comes.
-    #[inline(always)]
-    pub(crate) fn on_sent_prepare(&self, place: Place, plan: &mut Plan)
-        ensures turn { turn_of M.next M.answers self.now plan.new
-            ≡ received M.next M.answers self.now (prepare_at place) }
-        ensures may { MayCommit self.now plan.new }
+    #[inline(never)]
+    pub(crate) fn on_prepare_text(&self, bytes: &[u8], plan: &mut Plan) -> bool
+        ensures { Decides M.next M.answers self.now bytes.now plan.old plan.new result }
     {
+        let Some(place) = usual_prepare(bytes) else {
+            return false;
+        };
         *plan = if self.takes_from_owner(place) {
             self.on_prepare(place.from, place.position, place.ballot)
         } else {
             Plan::Pass(Dropped::Foreign)
         };
+        true
     }
 
     /// A promise comes that reports no vote.
-    #[inline(always)]
-    pub(crate) fn on_sent_promise(&self, place: Place, plan: &mut Plan)
-        ensures turn { turn_of M.next M.answers self.now plan.new
-            ≡ received M.next M.answers self.now (promise_at place) }
-        ensures may { MayCommit self.now plan.new }
+    #[inline(never)]
+    pub(crate) fn on_promise_text(&self, bytes: &[u8], plan: &mut Plan) -> bool
+        ensures { Decides M.next M.answers self.now bytes.now plan.old plan.new result }
     {
+        let Some(place) = usual_promise(bytes) else {
+            return false;
+        };
         let Place {
             from,
             to,
@@ -81,50 +91,60 @@ impl<M: Machine, D: Device> Replica<M, D> {
         } else {
             Plan::Pass(Dropped::Foreign)
         };
+        true
     }
 
-    /// An accept comes.
-    #[inline(always)]
-    pub(crate) fn on_sent_accept(&self, place: Place, action: &Action, plan: &mut Plan)
-        requires right { IsRight action.now }
-        ensures turn { turn_of M.next M.answers self.now plan.new
-            ≡ received M.next M.answers self.now (accept_at place action.now) }
-        ensures may { MayCommit self.now plan.new }
+    /// An accept comes, whose action is a call.
+    #[inline(never)]
+    pub(crate) fn on_accept_text(&self, bytes: &[u8], plan: &mut Plan) -> bool
+        ensures { Decides M.next M.answers self.now bytes.now plan.old plan.new result }
     {
+        let Some((place, action)) = usual_accept(bytes) else {
+            return false;
+        };
         *plan = if self.takes_from_owner(place) {
-            self.on_accept(place.from, place.position, place.ballot, action)
+            self.on_accept(place.from, place.position, place.ballot, &action)
         } else {
             Plan::Pass(Dropped::Foreign)
         };
+        true
     }
 
-    /// A vote comes.
-    #[inline(always)]
-    pub(crate) fn on_sent_vote(&self, place: Place, action: &Action, plan: &mut Plan)
-        requires right { IsRight action.now }
-        ensures turn { turn_of M.next M.answers self.now plan.new
-            ≡ received M.next M.answers self.now (accepted_at place action.now) }
-        ensures may { MayCommit self.now plan.new }
+    /// A vote for a call comes.
+    #[inline(never)]
+    pub(crate) fn on_accepted_text(&self, bytes: &[u8], plan: &mut Plan) -> bool
+        ensures { Decides M.next M.answers self.now bytes.now plan.old plan.new result }
     {
+        let Some((place, action)) = usual_accepted(bytes) else {
+            return false;
+        };
         *plan = if self.takes(place.from, place.to, place.position) {
-            self.on_accepted(place.from, place.position, place.ballot, action)
+            self.on_accepted(place.from, place.position, place.ballot, &action)
         } else {
             Plan::Pass(Dropped::Foreign)
         };
+        true
     }
 
-    /// A decision comes.
-    #[inline(always)]
-    pub(crate) fn on_sent_decision(&self, decision: &SentDecision, plan: &mut Plan)
-        requires right { IsRight decision.now.action }
-        ensures turn { turn_of M.next M.answers self.now plan.new
-            ≡ received M.next M.answers self.now (decided_of decision.now) }
-        ensures may { MayCommit self.now plan.new }
+    /// A decided call comes.
+    #[inline(never)]
+    pub(crate) fn on_decided_text(&self, bytes: &[u8], plan: &mut Plan) -> bool
+        ensures { Decides M.next M.answers self.now bytes.now plan.old plan.new result }
     {
-        *plan = if self.takes(decision.from, decision.to, decision.position) {
-            self.on_decided(decision.from, decision.position, &decision.action)
+        let Some(decision) = usual_decided(bytes) else {
+            return false;
+        };
+        let SentDecision {
+            from,
+            to,
+            position,
+            action,
+        } = decision;
+        *plan = if self.takes(from, to, position) {
+            self.on_decided(from, position, &action)
         } else {
             Plan::Pass(Dropped::Foreign)
         };
+        true
     }
 }

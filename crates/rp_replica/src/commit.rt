@@ -22,10 +22,10 @@ ghost use Rattle.rp_replica.specs.Turning.{Stops};
 use crate::plan::Plan;
 use crate::replica::{Replica, write};
 use crate::sent::Outbox;
-use rp_base::{Action, Answer, Ballot, Fault, NodeId, Position, Rec, Reply, TaskId};
+use rp_base::{Action, Answer, Ballot, Fault, NodeId, Position, Rec, Reply, TaskId, Vote};
 use rp_codec::{Body, Place};
 use rp_machine::Machine;
-use rp_model::{Dropped, RightAction};
+use rp_model::RightAction;
 use rp_store::Device;
 use std::alloc::Global;
 
@@ -39,49 +39,84 @@ impl<M: Machine, D: Device> Replica<M, D> {
         alloc: Global,
         out: &mut Outbox,
         plan: &Plan,
-    ) -> Result<Dropped, Fault>
+    ) -> Result<(), Fault>
         requires working { self.old.failed ≡ false }
         requires may { MayCommit self.old plan.now }
-        ensures ok { IfOk result (λ dropped.
-            Commits (turn_of M.next M.answers self.old plan.now) self.old self.new
-            out.old.run out.new.run dropped) }
+        ensures ok { OnOk result (Commits (turn_of M.next M.answers self.old plan.now)
+            self.old self.new out.old.sent out.new.sent) }
         ensures err { IfErr result (λ fault. Stops (written_by plan.now) self.old self.new fault) }
-        ensures unsent { OnErr result (out.new.run ≡ out.old.run) }
+        ensures unsent { OnErr result (out.new.sent ≡ out.old.sent) }
     {
         match plan {
-            Plan::Pass(dropped) => return Ok(*dropped),
-            Plan::Promise(to, position, ballot, last) => {
-                out.reserve(1)?;
-                self.keep(&Rec::Promised(*position, *ballot))?;
-                out.promise(self.place_to(*to, *position, *ballot), *last);
+            Plan::Pass(_) => return Ok(()),
+            Plan::Promise(place, last) => return self.promise(out, place, last),
+            Plan::Vote(place, action) => return self.vote(out, place, action),
+            Plan::PromiseRange(promise) => return self.promise_range(alloc, out, promise),
+            Plan::Lead(position, ballot, own) => {
+                return self.begin(out, *position, *ballot, own);
             }
-            Plan::Vote(to, position, ballot, action) => {
-                out.reserve(1)?;
-                self.keep(&Rec::Voted(*position, *ballot, *action))?;
-                out.accepted(self.place_to(*to, *position, *ballot), action);
-            }
-            Plan::PromiseRange(promise) => self.promise_range(alloc, out, promise)?,
-            Plan::Lead(position, ballot, own) => self.begin(out, *position, *ballot, own)?,
-            Plan::LeadRange(range, ballot) => self.begin_range(out, *range, *ballot)?,
+            Plan::LeadRange(range, ballot) => return self.begin_range(out, *range, *ballot),
             Plan::OfferPrepared(position, ballot, action) => {
-                self.offer_prepared(out, *position, *ballot, action)?;
+                return self.offer_prepared(out, *position, *ballot, action);
             }
-            Plan::Learn(position, action) => self.learn_by_votes(out, *position, action)?,
+            Plan::Learn(position, action) => return self.learn_by_votes(out, *position, action),
             Plan::Follow(from, position, action) => {
-                self.learn_by_decision(out, *from, *position, action)?;
+                return self.learn_by_decision(out, *from, *position, action);
             }
-            Plan::Offer(promise, action) => self.offer(out, promise, action)?,
+            Plan::Offer(promise, action) => return self.offer(out, promise, action),
+            Plan::Hear(from, position, vote) => return self.hear(alloc, *from, *position, vote),
             Plan::Count(promise) => self.note_promise(promise),
             Plan::CountRange(promise) => self.note_range(promise),
             Plan::Yield(position, ballot, bound) => self.note_refusal(*position, *ballot, *bound),
-            Plan::Hear(from, position, vote) => self.hear(alloc, *from, *position, vote)?,
             Plan::Await(item) => self.add(*item),
-            _ => self.send(alloc, out, plan)?,
+            _ => return self.send(alloc, out, plan),
         }
-        Ok(Dropped::No)
+        Ok(())
+    }
+
+    /// Writes a promise, and sends it.
+    #[inline(never)]
+    fn promise(
+        &mut self,
+        out: &mut Outbox,
+        place: &Place,
+        last: &Option<Vote>,
+    ) -> Result<(), Fault>
+        requires working { self.old.failed ≡ false }
+        requires may { MayCommit self.old (Promise place.now last.now) }
+        ensures ok { OnOk result (Commits
+            (turn_of M.next M.answers self.old (Promise place.now last.now))
+            self.old self.new out.old.sent out.new.sent) }
+        ensures err { IfErr result (λ fault.
+            Stops (written_by (Promise place.now last.now)) self.old self.new fault) }
+        ensures unsent { OnErr result (out.new.sent ≡ out.old.sent) }
+    {
+        out.reserve(1)?;
+        self.keep(&Rec::Promised(place.position, place.ballot))?;
+        out.promise(*place, *last);
+        Ok(())
+    }
+
+    /// Writes a vote, and sends it.
+    #[inline(never)]
+    fn vote(&mut self, out: &mut Outbox, place: &Place, action: &Action) -> Result<(), Fault>
+        requires working { self.old.failed ≡ false }
+        requires may { MayCommit self.old (Vote place.now action.now) }
+        ensures ok { OnOk result (Commits
+            (turn_of M.next M.answers self.old (Vote place.now action.now))
+            self.old self.new out.old.sent out.new.sent) }
+        ensures err { IfErr result (λ fault.
+            Stops (written_by (Vote place.now action.now)) self.old self.new fault) }
+        ensures unsent { OnErr result (out.new.sent ≡ out.old.sent) }
+    {
+        out.reserve(1)?;
+        self.keep(&Rec::Voted(place.position, place.ballot, *action))?;
+        out.accepted(*place, action);
+        Ok(())
     }
 
     /// Commits a plan that writes nothing and changes nothing.
+    #[inline(never)]
     fn send(&self, alloc: Global, out: &mut Outbox, plan: &Plan) -> Result<(), Fault>
         requires may { MayCommit self.now plan.now }
         requires sends { OnlySends plan.now }

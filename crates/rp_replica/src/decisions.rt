@@ -24,6 +24,7 @@ use std::alloc::Global;
 
 impl<M: Machine, D: Device> Replica<M, D> {
     /// A vote makes a majority: the action is learned, and the other nodes are informed.
+    #[inline(never)]
     pub(crate) fn learn_by_votes(
         &mut self,
         out: &mut Outbox,
@@ -47,6 +48,7 @@ impl<M: Machine, D: Device> Replica<M, D> {
     }
 
     /// A node sent a decision: the action is learned, and the node is asked for what is missing.
+    #[inline(never)]
     pub(crate) fn learn_by_decision(
         &mut self,
         out: &mut Outbox,
@@ -73,6 +75,7 @@ impl<M: Machine, D: Device> Replica<M, D> {
 
     /// Notes a vote of one of the nodes that is counted, and settles nothing. Out of memory, it
     /// changes nothing.
+    #[inline(never)]
     pub(crate) fn hear(
         &mut self,
         alloc: Global,

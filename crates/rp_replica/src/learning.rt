@@ -24,6 +24,7 @@ impl<M: Machine, D: Device> Replica<M, D> {
     /// Learns an action at a position of the log: it is written, the other nodes are informed if
     /// this one informs them, all that is ready then is applied, and each answer whose call is
     /// pending is replied to. After the write it takes no memory.
+    #[inline(always)]
     pub(crate) fn learn(
         &mut self,
         position: Position,

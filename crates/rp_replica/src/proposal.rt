@@ -26,6 +26,7 @@ use rp_store::Device;
 impl<M: Machine, D: Device> Replica<M, D> {
     /// A proposal begins, in place of another at its position: its ballot is written, and then each
     /// node is asked for a promise.
+    #[inline(never)]
     pub(crate) fn begin(
         &mut self,
         out: &mut Outbox,
@@ -102,6 +103,7 @@ impl<M: Machine, D: Device> Replica<M, D> {
     }
 
     /// A promise makes a majority, and the action is offered to all.
+    #[inline(never)]
     pub(crate) fn offer(
         &mut self,
         out: &mut Outbox,

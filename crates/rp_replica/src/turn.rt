@@ -156,7 +156,8 @@ impl<M: Machine, D: Device> Replica<M, D> {
     {
         let mut plan = Plan::Pass(Dropped::No);
         self.decide(alloc, input, &mut plan)?;
-        self.commit(alloc, out, &plan)
+        self.commit(alloc, out, &plan)?;
+        Ok(plan.dropped())
     }
 
     /// The packet of a place of an outbox, from 0, comes: it is read where it lies, and the packets of
@@ -175,7 +176,8 @@ impl<M: Machine, D: Device> Replica<M, D> {
     {
         let mut plan = Plan::Pass(Dropped::No);
         self.decide(alloc, &Input::Receive(out.text(place).unwrap()), &mut plan)?;
-        self.commit(alloc, out, &plan)
+        self.commit(alloc, out, &plan)?;
+        Ok(plan.dropped())
     }
 
     /// A packet comes, as its text. Refused with `BadPacket` where the bytes are no packet's text, and

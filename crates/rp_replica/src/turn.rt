@@ -98,20 +98,6 @@ impl<M: Machine, D: Device> Replica<M, D> {
         }
     }
 
-    /// Why the step of an input would not be made where memory runs out: as it would be refused with
-    /// memory enough, and else `OutOfMemory`.
-    pub fn refusal(&self, alloc: Global, input: &Input) -> Fault
-        requires right { IsRightInput input.now }
-        ensures { StopsIf (input_effect M.next M.answers self.now input.now)
-            self.now self.now result }
-    {
-        let mut plan = Plan::Pass(Dropped::No);
-        match self.decide(alloc, input, &mut plan) {
-            Ok(()) => Fault::OutOfMemory,
-            Err(fault) => fault,
-        }
-    }
-
     /// One step of the node: at most one record is written, and the packets are given out once it is
     /// stable. Refused with `BadPacket` where the bytes of a packet are none's text, with `BallotsSpent`
     /// or `LogFull` where the node cannot lead, with `OutOfMemory`: then nothing has changed. After

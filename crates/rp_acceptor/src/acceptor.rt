@@ -13,9 +13,9 @@ use crate::page::{Page, make, note, vote_at};
 use crate::slot::{Slot, index_of_position};
 use crate::steps::{Steps, raise_promised, split_ends};
 use rp_base::{
-    AcceptAnswer, Action, Ballot, Fault, History, Position, PositionRange, PrepareAnswer, Rec, Vote,
+    AcceptAnswer, Action, Ballot, History, Position, PositionRange, PrepareAnswer, Rec, Vote,
 };
-use std::alloc::Global;
+use std::alloc::{AllocError, Global};
 use std::marker::Model;
 
 /// An acceptor: what the records that it noted say at each position. Questions change nothing and
@@ -74,11 +74,10 @@ impl Acceptor {
     /// The acceptor that notes these records in order, with room at each position at which one of
     /// them counts. `OutOfMemory` comes only where one of them is a promise or a vote, and then
     /// there is no acceptor.
-    pub fn restore(alloc: Global, records: &[Rec]) -> Result<Self, Fault>
+    pub fn restore(alloc: Global, records: &[Rec]) -> Result<Self, AllocError>
         // claim (restored): An acceptor that is restored is the one that noted the records in order
         ensures restored { IfOk result (λ acceptor. acceptor ≡ restored records.now) }
         ensures full { OnErr result (¬ (flat_map places_in records.now ≡ [])) }
-        ensures only { IsOkUnless result Fault.OutOfMemory }
     {
         let mut acceptor = Acceptor::new(alloc);
         for rec in records {
@@ -88,10 +87,9 @@ impl Acceptor {
     }
 
     /// Makes room for the record and notes it.
-    fn reserve_and_note(&mut self, rec: &Rec) -> Result<(), Fault>
+    fn reserve_and_note(&mut self, rec: &Rec) -> Result<(), AllocError>
         ensures ok { OnOk result (self.new ≡ notes (reserves_for self.old rec.now) rec.now) }
         ensures full { OnErr result (¬ (places_in rec.now ≡ [])) }
-        ensures only { IsOkUnless result Fault.OutOfMemory }
     {
         self.reserve_for(rec)?;
         self.note(rec);
@@ -99,10 +97,9 @@ impl Acceptor {
     }
 
     /// Makes room for the record.
-    fn reserve_for(&mut self, rec: &Rec) -> Result<(), Fault>
+    fn reserve_for(&mut self, rec: &Rec) -> Result<(), AllocError>
         ensures ok { OnOk result (self.new ≡ reserves_for self.old rec.now) }
         ensures full { OnErr result (¬ (places_in rec.now ≡ [])) }
-        ensures only { IsOkUnless result Fault.OutOfMemory }
     {
         match *rec {
             Rec::Promised(position, _) => self.reserve(position),
@@ -115,13 +112,12 @@ impl Acceptor {
     /// Makes room, so that records at this position can be noted, however many. `OutOfMemory` comes
     /// only where there was no room yet, and then nothing has changed.
     #[inline(always)]
-    pub fn reserve(&mut self, position: Position) -> Result<(), Fault>
+    pub fn reserve(&mut self, position: Position) -> Result<(), AllocError>
         // claim: Room is made only at the position or the range asked for, and a refusal changes
         //   nothing
         ensures ok { OnOk result (self.new ≡ reserves self.old position) }
         ensures err { OnErr result (self.new ≡ self.old) }
         ensures full { OnErr result (¬ Has position self.old.reserved) }
-        ensures only { IsOkUnless result Fault.OutOfMemory }
     {
         make(&mut self.pages, self.alloc, index_of_position(position))?;
         let first = usize::from(position.get());
@@ -135,12 +131,11 @@ impl Acceptor {
     /// promises. `OutOfMemory` comes only where there was no room yet, and then nothing has
     /// changed.
     #[inline(always)]
-    pub fn reserve_vote(&mut self, position: Position) -> Result<(), Fault>
+    pub fn reserve_vote(&mut self, position: Position) -> Result<(), AllocError>
         // claim as Acceptor::reserve
         ensures ok { OnOk result (self.new ≡ reserves_vote self.old position) }
         ensures err { OnErr result (self.new ≡ self.old) }
         ensures full { OnErr result (¬ Has position self.old.votes) }
-        ensures only { IsOkUnless result Fault.OutOfMemory }
     {
         make(&mut self.pages, self.alloc, index_of_position(position))?;
         self.votes.push(&position);
@@ -149,13 +144,12 @@ impl Acceptor {
 
     /// Makes room, so that promises for this range can be noted, however many: two steps at most.
     /// `OutOfMemory` comes only where there was no room yet, and then nothing has changed.
-    pub fn reserve_range(&mut self, range: PositionRange) -> Result<(), Fault>
+    pub fn reserve_range(&mut self, range: PositionRange) -> Result<(), AllocError>
         // claim as Acceptor::reserve
         ensures ok { OnOk result (self.new ≡ reserves_range self.old range) }
         ensures err { OnErr result (self.new ≡ self.old) }
         ensures full { OnErr result (¬ Has range self.old.ranges) }
         ensures some { OnErr result (¬ (positions_of range ≡ [])) }
-        ensures only { IsOkUnless result Fault.OutOfMemory }
     {
         let first = usize::from(range.first().get());
         split_ends(&mut self.steps, first, range.end() as usize)?;

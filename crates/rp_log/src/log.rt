@@ -6,8 +6,8 @@ ghost use Rattle.rp_base.specs.declared.fault.Fault.TheVariants.{OutOfMemory};
 ghost use Rattle.rp_log.specs.Contents.{empty_log, HasRoom, action_at, IsLearned, with_room, with_action, next_to_take, ready_of, IsTakenInOrder};
 
 use crate::front::{action_in, learn_ahead, learn_next, learned_at};
-use rp_base::{Action, Fault, Position};
-use std::alloc::Global;
+use rp_base::{Action, Position};
+use std::alloc::{AllocError, Global};
 use std::collections::BTreeMap;
 use std::marker::Model;
 
@@ -63,12 +63,11 @@ impl Log {
     /// Makes room for learning at the position, and at no other, or is refused with `OutOfMemory`,
     /// which leaves the log as it was. Where there is room already no memory is asked for.
     #[inline(always)]
-    pub fn reserve(&mut self, position: Position) -> Result<(), Fault>
+    pub fn reserve(&mut self, position: Position) -> Result<(), AllocError>
         // claim (ok, err, refused): Reserving and learning change one position and no other
         ensures ok { OnOk result (self.new ≡ with_room self.old position) }
         ensures room { OnOk result (HasRoom self.new position) }
         ensures err { OnErr result (self.new ≡ self.old) }
-        ensures only { IfErr result (λ fault. fault ≡ OutOfMemory) }
         ensures refused { OnErr result (¬ HasRoom self.old position) }
     {
         if self.has_room(position) {

@@ -22,7 +22,7 @@ ghost use Rattle.rp_replica.specs.Turning.{Stops};
 use crate::plan::Plan;
 use crate::replica::{Replica, write};
 use crate::sent::Outbox;
-use rp_base::{Action, Answer, Ballot, Fault, NodeId, Position, Rec, Reply, TaskId, Vote};
+use rp_base::{Action, Answer, Ballot, NodeId, Position, Rec, Reply, TaskId, Vote, WriteFault};
 use rp_codec::{Body, Place};
 use rp_machine::Machine;
 use rp_model::RightAction;
@@ -39,7 +39,7 @@ impl<M: Machine, D: Device> Replica<M, D> {
         alloc: Global,
         out: &mut Outbox,
         plan: &Plan,
-    ) -> Result<(), Fault>
+    ) -> Result<(), WriteFault>
         requires working { self.old.failed ≡ false }
         requires may { MayCommit self.old plan.now }
         ensures ok { OnOk result (Commits (turn_of M.next M.answers self.old plan.now)
@@ -81,7 +81,7 @@ impl<M: Machine, D: Device> Replica<M, D> {
         out: &mut Outbox,
         place: &Place,
         last: &Option<Vote>,
-    ) -> Result<(), Fault>
+    ) -> Result<(), WriteFault>
         requires working { self.old.failed ≡ false }
         requires may { MayCommit self.old (Promise place.now last.now) }
         ensures ok { OnOk result (Commits
@@ -99,7 +99,7 @@ impl<M: Machine, D: Device> Replica<M, D> {
 
     /// Writes a vote, and sends it.
     #[inline(never)]
-    fn vote(&mut self, out: &mut Outbox, place: &Place, action: &Action) -> Result<(), Fault>
+    fn vote(&mut self, out: &mut Outbox, place: &Place, action: &Action) -> Result<(), WriteFault>
         requires working { self.old.failed ≡ false }
         requires may { MayCommit self.old (Vote place.now action.now) }
         ensures ok { OnOk result (Commits
@@ -117,7 +117,7 @@ impl<M: Machine, D: Device> Replica<M, D> {
 
     /// Commits a plan that writes nothing and changes nothing.
     #[inline(never)]
-    fn send(&self, alloc: Global, out: &mut Outbox, plan: &Plan) -> Result<(), Fault>
+    fn send(&self, alloc: Global, out: &mut Outbox, plan: &Plan) -> Result<(), WriteFault>
         requires may { MayCommit self.now plan.now }
         requires sends { OnlySends plan.now }
         ensures ok { OnOk result (Commits (turn_of M.next M.answers self.now plan.now)
@@ -154,7 +154,7 @@ impl<M: Machine, D: Device> Replica<M, D> {
     }
 
     /// A body is sent to a node.
-    fn send_to(&self, out: &mut Outbox, stated: Body, to: NodeId) -> Result<(), Fault>
+    fn send_to(&self, out: &mut Outbox, stated: Body, to: NodeId) -> Result<(), WriteFault>
         requires may { MaySay (Node self.now.me) (Node to) stated }
         requires short { ¬ IsLongBody stated }
         ensures ok { OnOk result (Commits (sends self.now.running (says self.now.me stated to ∷ []))
@@ -168,7 +168,7 @@ impl<M: Machine, D: Device> Replica<M, D> {
     }
 
     /// A task gets the reply that is kept for its call.
-    fn answer(&self, out: &mut Outbox, task: TaskId, number: u32, reply: Reply) -> Result<(), Fault>
+    fn answer(&self, out: &mut Outbox, task: TaskId, number: u32, reply: Reply) -> Result<(), WriteFault>
         requires { IsCount number }
         ensures ok { OnOk result (Commits
             (sends self.now.running (says_to_task self.now.me (Answered number reply) task ∷ []))
@@ -213,7 +213,7 @@ impl<M: Machine, D: Device> Replica<M, D> {
 
     /// Writes a promise or a vote.
     #[inline(always)]
-    pub(crate) fn keep(&mut self, rec: &Rec) -> Result<(), Fault>
+    pub(crate) fn keep(&mut self, rec: &Rec) -> Result<(), WriteFault>
         requires working { self.old.failed ≡ false }
         requires right { IsRightRecord rec.now }
         requires place { is_in_log self.old.config.max_positions rec.now ≡ true }

@@ -15,7 +15,7 @@ ghost use Rattle.rp_replica.specs.Turning.{Stops};
 
 use crate::replica::Replica;
 use crate::sent::Outbox;
-use rp_base::{Action, Fault, NodeId, Position, Vote};
+use rp_base::{Action, NodeId, Position, Vote, WriteFault};
 use rp_codec::Body;
 use rp_machine::Machine;
 use rp_model::Dropped;
@@ -30,7 +30,7 @@ impl<M: Machine, D: Device> Replica<M, D> {
         out: &mut Outbox,
         position: Position,
         action: &Action,
-    ) -> Result<(), Fault>
+    ) -> Result<(), WriteFault>
         requires working { self.old.failed ≡ false }
         requires may { MayLearn self.old position action.now }
         ensures ok { OnOk result (Commits (learns M.next M.answers self.old.begin
@@ -55,7 +55,7 @@ impl<M: Machine, D: Device> Replica<M, D> {
         from: NodeId,
         position: Position,
         action: &Action,
-    ) -> Result<(), Fault>
+    ) -> Result<(), WriteFault>
         requires working { self.old.failed ≡ false }
         requires may { MayLearn self.old position action.now }
         ensures ok { OnOk result (Commits (learns M.next M.answers self.old.begin
@@ -82,7 +82,7 @@ impl<M: Machine, D: Device> Replica<M, D> {
         from: NodeId,
         position: Position,
         vote: &Vote,
-    ) -> Result<(), Fault>
+    ) -> Result<(), WriteFault>
         requires may { MayHear self.old from position vote.now }
         ensures ok { OnOk result (self.new
             ≡ after_turn self.old (notes (once_heard self.old from position vote.now))) }
@@ -96,7 +96,7 @@ impl<M: Machine, D: Device> Replica<M, D> {
     }
 
     /// Makes room for a packet to each node, a reply to each pending call, and one packet more.
-    fn reserve_replies(&self, out: &mut Outbox) -> Result<(), Fault>
+    fn reserve_replies(&self, out: &mut Outbox) -> Result<(), WriteFault>
         ensures run { out.new.run ≡ out.old.run }
         ensures room { OnOk result (longest_text
             * (self.now.config.nodes + length self.now.running.pending + 1) ≤ out.new.room) }

@@ -14,7 +14,7 @@ use crate::applying::apply_and_reply;
 use crate::replica::{Replica, write};
 use crate::sent::Outbox;
 use crate::window::follow;
-use rp_base::{Action, Fault, Position, Rec};
+use rp_base::{Action, Position, Rec, WriteFault};
 use rp_codec::SentDecision;
 use rp_log::Log;
 use rp_machine::Machine;
@@ -31,7 +31,7 @@ impl<M: Machine, D: Device> Replica<M, D> {
         action: &Action,
         announces: bool,
         out: &mut Outbox,
-    ) -> Result<(), Fault>
+    ) -> Result<(), WriteFault>
         requires working { self.old.failed ≡ false }
         requires place { position ≤ self.old.config.max_positions }
         requires right { IsRight action.now }

@@ -17,7 +17,7 @@ ghost use Rattle.rp_replica.specs.Turning.{Stops};
 use crate::plan::{CountedPromise, CountedRange};
 use crate::replica::{Replica, write};
 use crate::sent::Outbox;
-use rp_base::{Action, Ballot, Fault, Position, PositionRange, Rec};
+use rp_base::{Action, Ballot, Position, PositionRange, Rec, WriteFault};
 use rp_codec::Body;
 use rp_machine::Machine;
 use rp_model::Dropped;
@@ -33,7 +33,7 @@ impl<M: Machine, D: Device> Replica<M, D> {
         position: Position,
         ballot: Ballot,
         own: &Action,
-    ) -> Result<(), Fault>
+    ) -> Result<(), WriteFault>
         requires working { self.old.failed ≡ false }
         requires may { MayBegin self.old position ballot own.now }
         ensures ok { OnOk result (Commits (writes (Started ballot)
@@ -57,7 +57,7 @@ impl<M: Machine, D: Device> Replica<M, D> {
         out: &mut Outbox,
         range: PositionRange,
         ballot: Ballot,
-    ) -> Result<(), Fault>
+    ) -> Result<(), WriteFault>
         requires working { self.old.failed ≡ false }
         requires may { MayBeginRange self.old range ballot }
         ensures ok { OnOk result (Commits (begins_range self.old.config.nodes self.old.me
@@ -84,7 +84,7 @@ impl<M: Machine, D: Device> Replica<M, D> {
         position: Position,
         ballot: Ballot,
         action: &Action,
-    ) -> Result<(), Fault>
+    ) -> Result<(), WriteFault>
         requires working { self.old.failed ≡ false }
         requires right { IsRight action.now }
         ensures ok { OnOk result (Commits (sends (offered_running self.old.config.nodes
@@ -109,7 +109,7 @@ impl<M: Machine, D: Device> Replica<M, D> {
         out: &mut Outbox,
         promise: &CountedPromise,
         action: &Action,
-    ) -> Result<(), Fault>
+    ) -> Result<(), WriteFault>
         requires working { self.old.failed ≡ false }
         requires may { MayCount self.old promise.now }
         requires right { IsRight action.now }
@@ -137,7 +137,7 @@ impl<M: Machine, D: Device> Replica<M, D> {
 
     /// Begins a proposal at an unlearned position within reach, in place of another there: its ballot
     /// is written first.
-    fn start(&mut self, position: Position, ballot: Ballot, own: &Action) -> Result<(), Fault>
+    fn start(&mut self, position: Position, ballot: Ballot, own: &Action) -> Result<(), WriteFault>
         requires working { self.old.failed ≡ false }
         requires may { MayBegin self.old position ballot own.now }
         ensures ok { OnOk result (self.new ≡ after_turn self.old (writes (Started ballot)
@@ -153,7 +153,7 @@ impl<M: Machine, D: Device> Replica<M, D> {
     }
 
     /// Begins a proposal at each unlearned position of a range: the ballot is written first.
-    fn start_range(&mut self, range: PositionRange, ballot: Ballot) -> Result<(), Fault>
+    fn start_range(&mut self, range: PositionRange, ballot: Ballot) -> Result<(), WriteFault>
         requires working { self.old.failed ≡ false }
         requires may { MayBeginRange self.old range ballot }
         ensures ok { OnOk result (self.new ≡ after_turn self.old (writes (Started ballot)

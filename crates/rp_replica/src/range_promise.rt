@@ -13,7 +13,7 @@ ghost use Rattle.rp_replica.specs.Turning.{Stops};
 use crate::plan::RangePromise;
 use crate::replica::Replica;
 use crate::sent::Outbox;
-use rp_base::{Fault, Rec};
+use rp_base::{Rec, WriteFault};
 use rp_codec::{Body, Packet, Party, Votes, encode};
 use rp_machine::Machine;
 use rp_model::Dropped;
@@ -30,7 +30,7 @@ impl<M: Machine, D: Device> Replica<M, D> {
         alloc: Global,
         out: &mut Outbox,
         promise: &RangePromise,
-    ) -> Result<(), Fault>
+    ) -> Result<(), WriteFault>
         requires working { self.old.failed ≡ false }
         requires may { MayPromiseRange self.old promise.now }
         ensures ok { OnOk result

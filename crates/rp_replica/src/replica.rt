@@ -26,13 +26,13 @@ use crate::heard::Heard;
 use crate::pending::Pending;
 use crate::plan::record_in_range;
 use rp_acceptor::Acceptor;
-use rp_base::{Config, Fault, NodeId, Rec, Reply, TaskId};
+use rp_base::{Config, Fault, NodeId, Rec, Reply, TaskId, WriteFault};
 use rp_learner::Learner;
 use rp_log::Log;
 use rp_machine::{Machine, Numbered};
 use rp_proposer::Proposer;
 use rp_store::{Device, Store};
-use std::alloc::Global;
+use std::alloc::{AllocError, Global};
 use std::marker::Model;
 
 /// One node as it runs, over a device of its own (Lamport, "Paxos Made Simple", sections 2.2, 2.3 and
@@ -84,10 +84,9 @@ impl<M: Machine, D: Device> Model for Replica<M, D> {
 
 /// Makes room to note the record.
 #[inline(always)]
-fn reserve(acceptor: &mut Acceptor, rec: &Rec) -> Result<(), Fault>
+fn reserve(acceptor: &mut Acceptor, rec: &Rec) -> Result<(), AllocError>
     ensures room { OnOk result (HasRoom acceptor.new rec.now) }
     ensures records { acceptor.new.records ≡ acceptor.old.records }
-    ensures only { IsOkUnless result faults.OutOfMemory }
 {
     match *rec {
         Rec::Promised(position, _) => acceptor.reserve(position),
@@ -103,7 +102,7 @@ pub(crate) fn write<D: Device>(
     store: &mut Store<D>,
     acceptor: &mut Acceptor,
     rec: &Rec,
-) -> Result<(), Fault>
+) -> Result<(), WriteFault>
     requires right { IsRightRecord rec.now }
     requires working { store.old.failed ≡ false }
     ensures put { OnOk result (IsPut D.disk (record_text rec.now) store.old store.new) }

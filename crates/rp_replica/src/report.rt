@@ -10,7 +10,7 @@ ghost use Rattle.rp_replica.specs.Committing.{Commits};
 
 use crate::replica::Replica;
 use crate::sent::Outbox;
-use rp_base::{Action, Fault, Position};
+use rp_base::{Action, Position, WriteFault};
 use rp_codec::{Actions, Body, Packet, Party, report_len};
 use rp_machine::Machine;
 use rp_model::Dropped;
@@ -26,7 +26,7 @@ impl<M: Machine, D: Device> Replica<M, D> {
         alloc: Global,
         out: &mut Outbox,
         first: Position,
-    ) -> Result<(), Fault>
+    ) -> Result<(), WriteFault>
         ensures ok { OnOk result (Commits (sends self.now.running
             (report_of self.now.me first (applied_of self.now.records) ∷ []))
             self.now self.now out.old.run out.new.run Dropped.No) }

@@ -9,7 +9,7 @@ ghost use Rattle.rp_store.specs.Opening.{IsOpened, IsNotOpened};
 
 use crate::device::{CutDevice, Device};
 use crate::reading::whole_records;
-use rp_base::{Fault, Rec};
+use rp_base::{Fault, Rec, WriteFault};
 use rp_codec::{is_call, learned_text, promised_text, text_of_record, voted_text};
 use std::alloc::Global;
 use std::marker::Model;
@@ -154,7 +154,7 @@ impl<D: Device> Store<D> {
     /// `OutOfMemory`: then nothing has changed. After `Device`, some beginning of the text may be
     /// at the end.
     #[inline(always)]
-    pub fn put(&mut self, rec: &Rec) -> Result<(), Fault>
+    pub fn put(&mut self, rec: &Rec) -> Result<(), WriteFault>
         requires { IsRightRecord rec.now }
         // claim: A record is put whole and stable, in version 2 whatever the device holds, or a
         //   fault says what is left
@@ -163,11 +163,16 @@ impl<D: Device> Store<D> {
             IsNotPut D.disk (record_text rec.now) self.old fault self.new) }
     {
         if self.failed {
-            return Err(Fault::Failed);
+            return Err(WriteFault::Failed);
         }
-        let result = write_record(&mut self.device, rec);
-        self.failed = matches!(result, Err(Fault::Device));
-        result
+        match write_record(&mut self.device, rec) {
+            Ok(()) => Ok(()),
+            Err(Fault::Device) => {
+                self.failed = true;
+                Err(WriteFault::Device)
+            }
+            Err(_) => Err(WriteFault::OutOfMemory),
+        }
     }
 
     /// Whether the device failed since it was opened: then each `put` is refused with `Failed`.

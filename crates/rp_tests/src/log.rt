@@ -80,8 +80,7 @@ fn a_refused_reservation_leaves_the_log_as_it_was(rt: HostRuntime) -> Result<(),
     let mut log = log_of(rt.alloc(), &[1])?;
     for number in 2..=40 {
         let position = position_of(number)?;
-        if let Err(fault) = log.reserve(position) {
-            assert_eq!(rt; fault, Fault::OutOfMemory);
+        if log.reserve(position).is_err() {
             log.reserve(position)?;
         }
         assert_eq!(rt; log.get(position), None);

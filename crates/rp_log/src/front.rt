@@ -6,15 +6,9 @@ ghost use Rattle.std.specs.BTreeMap.{is_at};
 ghost use Rattle.rp_base.specs.declared.action.Action.{Action};
 ghost use Rattle.rp_log.specs.Holding.{place_ahead, action_ahead, place_of, IsAhead};
 
+use crate::pages::Pages;
 use rp_base::Action;
 use std::collections::BTreeMap;
-
-/// The action at a place of the front, counted from 0, if it is as long.
-pub(crate) fn action_in(front: &[Action], place: usize) -> Option<Action>
-    ensures { result ≡ slice_get front.now place }
-{
-    Some(*front.get(place)?)
-}
 
 /// The action learned at a position ahead of the front, if any.
 pub(crate) fn learned_at(ahead: &BTreeMap<u32, Option<Action>>, position: u32) -> Option<Action>
@@ -37,7 +31,7 @@ pub(crate) fn learn_ahead(ahead: &mut BTreeMap<u32, Option<Action>>, position: u
 }
 
 /// Moves the positions that follow the front to its end, as far as they are learned.
-pub(crate) fn advance(front: &mut Vec<Action>, ahead: &mut BTreeMap<u32, Option<Action>>)
+pub(crate) fn advance(front: &mut Pages, ahead: &mut BTreeMap<u32, Option<Action>>)
     requires ahead { IsAhead (length front.old.items) ahead.old.entries }
     requires room { length front.old.items + length ahead.old.entries ≤ vec_capacity front.old }
     requires bound { length front.old.items ≤ 65535 }
@@ -57,7 +51,7 @@ pub(crate) fn advance(front: &mut Vec<Action>, ahead: &mut BTreeMap<u32, Option<
 
 /// Learns the action of the position after the front, and moves on past the positions that follow.
 pub(crate) fn learn_next(
-    front: &mut Vec<Action>,
+    front: &mut Pages,
     ahead: &mut BTreeMap<u32, Option<Action>>,
     action: Action,
 )

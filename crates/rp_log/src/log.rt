@@ -5,7 +5,8 @@ ghost use Rattle.std.specs.FinMap.{get};
 ghost use Rattle.rp_base.specs.declared.fault.Fault.TheVariants.{OutOfMemory};
 ghost use Rattle.rp_log.specs.Contents.{empty_log, HasRoom, action_at, IsLearned, with_room, with_action, next_to_take, ready_of, IsTakenInOrder};
 
-use crate::front::{action_in, learn_ahead, learn_next, learned_at};
+use crate::front::{learn_ahead, learn_next, learned_at};
+use crate::pages::Pages;
 use rp_base::{Action, Position};
 use std::alloc::{AllocError, Global};
 use std::collections::BTreeMap;
@@ -17,7 +18,7 @@ use std::marker::Model;
 #[derive(Debug, Drop)]
 pub struct Log {
     /// The actions learned at positions 1, 2, 3 and so on, up to the first at which none is.
-    front: Vec<Action>,
+    front: Pages,
     /// Whether the position after the front is reserved here, and not among those ahead.
     next_reserved: bool,
     /// The reserved positions after the front, each with the action that was learned there.
@@ -52,7 +53,7 @@ impl Log {
         ensures { result ≡ empty_log }
     {
         Log {
-            front: Vec::new(alloc),
+            front: Pages::new(alloc),
             next_reserved: false,
             ahead: BTreeMap::new(alloc),
             taken: 0,
@@ -136,8 +137,8 @@ impl Log {
     pub fn get(&self, position: Position) -> Option<Action>
         ensures { result ≡ action_at self.now position }
     {
-        if let Some(action) = action_in(&self.front, usize::from(position.get() - 1)) {
-            return Some(action);
+        if let Some(action) = self.front.get(usize::from(position.get() - 1)) {
+            return Some(*action);
         }
         learned_at(&self.ahead, u32::from(position.get()))
     }
@@ -185,15 +186,5 @@ impl Log {
         ensures in_order { IsTakenInOrder self.now }
     {
         u32::from(self.taken)
-    }
-
-    /// The actions that were taken, in order: those of positions 1, 2, 3 and so on, at most 65,535.
-    pub fn taken(&self) -> &[Action]
-        // claim (value): The actions that a log took are returned in order, and none is copied
-        ensures value { result.now ≡ self.now.taken }
-        ensures few { length result.now < 2 ^ 16 }
-    {
-        let (taken, _) = self.front.split_at(usize::from(self.taken));
-        taken
     }
 }

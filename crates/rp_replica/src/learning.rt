@@ -16,7 +16,6 @@ use crate::sent::Outbox;
 use crate::window::follow;
 use rp_base::{Action, Position, Rec, WriteFault};
 use rp_codec::SentDecision;
-use rp_log::Log;
 use rp_machine::Machine;
 use rp_store::Device;
 
@@ -76,8 +75,7 @@ impl<M: Machine, D: Device> Replica<M, D> {
             out,
         );
         follow(&mut self.learner, &self.log);
-        self.pending
-            .settle(&self.machine, taken_since(&self.log, before));
+        self.pending.settle(&self.machine, &self.log, before);
         Ok(())
     }
 
@@ -93,12 +91,4 @@ impl<M: Machine, D: Device> Replica<M, D> {
             None
         }
     }
-}
-
-/// What the log took since n actions were taken.
-fn taken_since(log: &Log, count: u32) -> &[Action]
-    requires { count ≤ length log.now.taken }
-    ensures { result.now ≡ drop count log.now.taken }
-{
-    &log.taken()[count as usize..]
 }

@@ -12,6 +12,7 @@ use crate::replica::Replica;
 use crate::sent::Outbox;
 use rp_base::{Action, Position, WriteFault};
 use rp_codec::{Actions, Body, Packet, Party, report_len};
+use rp_log::Log;
 use rp_machine::Machine;
 use rp_model::Dropped;
 use rp_store::Device;
@@ -33,11 +34,10 @@ impl<M: Machine, D: Device> Replica<M, D> {
         ensures only { IsOkUnless result faults.OutOfMemory }
         ensures unsent { OnErr result (out.new.run ≡ out.old.run) }
     {
-        let applied = self.log.taken();
         let body = Body::Report {
             first,
-            applied: applied.len() as u16,
-            actions: Actions::from_vec(reported(alloc, applied, first)?),
+            applied: self.log.applied() as u16,
+            actions: Actions::from_vec(reported(alloc, &self.log, first)?),
         };
         out.push(&Packet::new(Party::Node(self.me), Party::Audit, body))?;
         Ok(())
@@ -45,15 +45,18 @@ impl<M: Machine, D: Device> Replica<M, D> {
 }
 
 /// What a report says of the actions that are applied.
-fn reported(alloc: Global, applied: &[Action], first: Position) -> Result<Vec<Action>, AllocError>
-    requires { length applied.now < 2 ^ 16 }
+fn reported(alloc: Global, log: &Log, first: Position) -> Result<Vec<Action>, AllocError>
+    requires { length log.now.taken < 2 ^ 16 }
     ensures reported { IfOk result (λ reported. reported.items
-        ≡ take (report_len first (length applied.now)) (drop (first - 1) applied.now)) }
+        ≡ take (report_len first (length log.now.taken)) (drop (first - 1) log.now.taken)) }
     ensures len { IfOk result (λ reported. length reported.items
-        ≡ report_len first (length applied.now)) }
+        ≡ report_len first (length log.now.taken)) }
 {
-    let before = usize::from(first.get() - 1).min(applied.len());
-    let (_, trailing) = applied.split_at(before);
-    let (reported, _) = trailing.split_at(usize::from(report_len(first, applied.len() as u16)));
-    reported.to_vec(alloc)
+    let count = report_len(first, log.applied() as u16);
+    let mut actions = Vec::with_capacity(alloc, usize::from(count))?;
+    for place in 0..u16::from(count) {
+        let position = Position::new(first.get() + place).unwrap();
+        actions.push_reserved(log.get(position).unwrap());
+    }
+    Ok(actions)
 }

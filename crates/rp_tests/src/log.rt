@@ -1,4 +1,4 @@
-use rp_base::{Action, Fault, Position};
+use rp_base::{Action, Position};
 use rp_log::*;
 use std::alloc::Global;
 use std::test::Fail;

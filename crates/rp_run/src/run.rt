@@ -136,6 +136,45 @@ impl<M: Machine, D: CutDevice> Run<M, D> {
         }
     }
 
+    /// The same, for the delivery of a message.
+    #[inline(always)]
+    fn deliver<W: Write>(
+        &mut self,
+        options: &RunOptions<'_>,
+        line: u32,
+        message: u64,
+        writer: &mut W,
+    ) -> Result<(), Fault>
+        requires parts { HasParts options.now.config.nodes self.old.cluster }
+        requires message { (1 ≤ message) × (message < 2 ^ 63) }
+        ensures parts { OnOk result (HasParts options.now.config.nodes self.new.cluster) }
+        ensures setup { IsSameSetup self.old.cluster self.new.cluster }
+        ensures counts { OnOk result (self.new.cluster.failures ≡ self.old.cluster.failures) }
+        ensures said { (play : Play) → Follows self.old.cluster.world self.old.settled play
+            → Says self.new.cluster.world self.new.settled
+            (W.contents writer.old) (W.contents writer.new)
+            (event_said (run_setting M.next M.answers M.begin M.image self.old.cluster options.now)
+            line play (events.Event.Node (events.Deliver message))) result }
+        ensures fault { IfErr result (IsDeviceRunFault self.old.cluster.failures
+            self.new.cluster.failures) }
+    {
+        worlds_grow::<M>();
+        let event = Event::Node(Step::Deliver(message));
+        let mut effect = no_effect(0);
+        match self.cluster.step_into(self.alloc, &event, &mut effect) {
+            Ok(()) => {
+                self.settled.settle(message)?;
+                print_trace(self.alloc, &self.cluster, options, effect.first, writer)?;
+                print_dropped(self.alloc, &self.cluster, &event, effect.dropped, writer)?;
+                print_taken(self.alloc, options.tasks, effect.taken, writer)
+            }
+            Err(fault) if is_refusal(&fault) => {
+                print(self.alloc, writer, RefusedLine { line, fault })
+            }
+            Err(fault) => Err(fault),
+        }
+    }
+
     /// Prints the result of an event: its packets, if they are printed, how a restart went, a
     /// pending item that was dropped, and the reply that a task takes.
     fn print_effect<W: Write>(
@@ -207,8 +246,7 @@ impl<M: Machine, D: CutDevice> Run<M, D> {
             if message > self.cluster.messages() {
                 return Ok(());
             }
-            let event = Event::Node(Step::Deliver(message));
-            self.step(options, line, &event, writer)?;
+            self.deliver(options, line, message, writer)?;
         }
         if self.settled.least() > self.cluster.messages() {
             return Ok(());

@@ -105,13 +105,28 @@ impl Settled {
     }
 
     /// Settles the least number, and passes those that are settled after it.
+    #[inline(always)]
     fn pass(&mut self)
         requires { least_of self.old + 1 < 2 ^ 64 }
         ensures { (m : ℕ) → is_settled self.new m
             ≡ (m == least_of self.old || is_settled self.old m) }
     {
+        if self.above.is_empty() {
+            self.least += 1;
+        } else {
+            self.pass_above();
+        }
+    }
+
+    /// The same, where some lie above it.
+    #[inline(never)]
+    fn pass_above(&mut self)
+        requires { least_of self.old + 1 < 2 ^ 64 }
+        ensures { (m : ℕ) → is_settled self.new m
+            ≡ (m == least_of self.old || is_settled self.old m) }
+    {
         let mut least = self.least + 1;
-        while !self.above.is_empty() && self.above.remove(&least) {
+        while self.above.remove(&least) {
             least += 1;
         }
         self.least = least;

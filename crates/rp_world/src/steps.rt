@@ -58,28 +58,35 @@ pub(crate) fn text_of_number(messages: &Outbox, number: u64) -> Option<&[u8]>
 }
 
 impl<M: Machine, D: CutDevice> World<M, D> {
-    /// The result of an event.
+    /// The result of an event, which is written where the caller holds it.
     #[inline(never)]
-    pub(crate) fn step(&mut self, alloc: Global, event: &Event) -> Result<Effect, Fault>
+    pub(crate) fn step(
+        &mut self,
+        alloc: Global,
+        event: &Event,
+        effect: &mut Effect,
+    ) -> Result<(), Fault>
         requires config { IsRightConfig self.old.config }
         requires ranged { IsRangedWorld self.old.config.nodes self.old.world }
         requires event { IsEvent (event_of event.now) }
-        ensures step { IsStep M.next M.answers M.begin self.old event.now self.new result }
+        ensures step { IsStep M.next M.answers M.begin self.old event.now self.new
+            (stated result effect.new) }
     {
-        match *event {
+        *effect = match *event {
             Event::Submit {
                 task,
                 node,
                 object,
                 operation,
                 arg,
-            } => self.submit(task, node, object, operation, arg),
-            Event::Again { task, node } => self.again(task, node),
-            Event::Node(step) => self.makes(alloc, step),
-            Event::Cut { step, kept } => self.cuts(alloc, step, kept),
-            Event::Stop(node) => self.stop(node),
-            Event::Restart(node) => self.restart(alloc, node),
-        }
+            } => self.submit(task, node, object, operation, arg)?,
+            Event::Again { task, node } => self.again(task, node)?,
+            Event::Node(step) => self.makes(alloc, step)?,
+            Event::Cut { step, kept } => self.cuts(alloc, step, kept)?,
+            Event::Stop(node) => self.stop(node)?,
+            Event::Restart(node) => self.restart(alloc, node)?,
+        };
+        Ok(())
     }
 }
 
@@ -317,13 +324,7 @@ impl<M: Machine, D: CutDevice> World<M, D> {
         };
         match receiver {
             Party::Node(node) => self.hears(alloc, number, node, effect),
-            Party::Task(task) => match self.give_to_task(alloc, number, task) {
-                Ok(taken) => {
-                    *effect = taken;
-                    Ok(())
-                }
-                Err(fault) => Err(fault),
-            },
+            Party::Task(task) => self.give_to_task(alloc, number, task, effect),
             Party::Audit => {
                 *effect = no_effect(self.messages() + 1);
                 Ok(())
@@ -374,7 +375,13 @@ impl<M: Machine, D: CutDevice> World<M, D> {
 
     /// A message arrives at its task, which takes a reply to the call that it waits for.
     #[inline(never)]
-    fn give_to_task(&mut self, alloc: Global, number: u64, task: TaskId) -> Result<Effect, Fault>
+    fn give_to_task(
+        &mut self,
+        alloc: Global,
+        number: u64,
+        task: TaskId,
+        effect: &mut Effect,
+    ) -> Result<(), Fault>
         requires ranged { IsRangedWorld self.old.config.nodes self.old.world }
         requires to { (m : Message) × (part_at self.old.world.sent number ≡ Some m)
             × (m.to ≡ Task task) }
@@ -383,7 +390,7 @@ impl<M: Machine, D: CutDevice> World<M, D> {
             (delivers setting self.old.world (part_at self.old.world.sent number))
             (λ kept. delivery_is_cut setting self.old.world
             (part_at self.old.world.sent number) kept)
-            self.new.world result }
+            self.new.world (stated result effect.new) }
         ensures setup { IsSameSetup self.old self.new }
         ensures failures { self.new.failures ≡ self.old.failures }
     {
@@ -392,13 +399,13 @@ impl<M: Machine, D: CutDevice> World<M, D> {
         let Ok(reply) = read_reply(alloc, text) else {
             return Err(Fault::OutOfMemory);
         };
-        let Some((number, reply)) = reply else {
-            return Ok(no_effect(first));
+        *effect = match reply {
+            Some((number, reply)) => {
+                taken(first, self.tasks[usize::from(task.get()) - 1].take(number, reply)?)
+            }
+            None => no_effect(first),
         };
-        match self.tasks[usize::from(task.get()) - 1].take(number, reply) {
-            Ok(answer) => Ok(taken(first, answer)),
-            Err(_) => Err(Fault::OutOfMemory),
-        }
+        Ok(())
     }
 }
 

@@ -9,7 +9,7 @@ ghost use Rattle.rp_acceptor.specs.Noted.{nothing_noted, places_in, HasRoom, res
 ghost use Rattle.rp_acceptor.specs.Slots.{ballot_of_vote};
 ghost use Rattle.rp_base.specs.Voting.{prepare_answer, vote_answer, accept_answer};
 
-use crate::page::{Page, make, note, vote_at};
+use crate::page::{Page, kept_at, make, note};
 use crate::slot::{Slot, index_of_position};
 use crate::steps::{Steps, raise_promised, split_ends};
 use rp_base::{
@@ -120,8 +120,6 @@ impl Acceptor {
         ensures full { OnErr result (¬ Has position self.old.reserved) }
     {
         make(&mut self.pages, self.alloc, index_of_position(position))?;
-        let first = usize::from(position.get());
-        split_ends(&mut self.steps, first, first + 1)?;
         self.reserved.push(&position);
         self.votes.push(&position);
         Ok(())
@@ -169,22 +167,23 @@ impl Acceptor {
         self.records.push(rec);
     }
 
-    /// What is kept for a position.
+    /// The bound and the last vote at a position.
     #[inline(always)]
     fn slot(&self, position: Position) -> Slot
         ensures bound { number_of result.bound ≡ bound_at self.now.records position }
         ensures last { result.last ≡ last_vote_at self.now.records position }
     {
         let promised = self.steps.ballot(usize::from(position.get()));
-        slot_of(promised, self.last_vote(position))
-    }
-
-    /// The last vote at a position.
-    #[inline(always)]
-    fn last_vote(&self, position: Position) -> Option<Vote>
-        ensures { result ≡ last_vote_at self.now.records position }
-    {
-        vote_at(&self.pages, index_of_position(position))
+        match kept_at(&self.pages, index_of_position(position)) {
+            Some(kept) => Slot {
+                bound: Ballot::greater(promised, kept.bound()),
+                last: kept.last,
+            },
+            None => Slot {
+                bound: promised,
+                last: None,
+            },
+        }
     }
 
     /// What is answered to a `Prepare` of the ballot at the position (section 2.2, phase 1b). The
@@ -248,24 +247,6 @@ fn vote(position: Position, ballot: Ballot, action: Action, last: Option<Vote>) 
         }
         _ => AcceptAnswer::Vote {
             rec: Rec::Voted(position, ballot, action),
-        },
-    }
-}
-
-/// What is kept where this ballot is promised and this is the last vote.
-#[inline(always)]
-fn slot_of(promised: Option<Ballot>, last: Option<Vote>) -> Slot
-    ensures bound { number_of result.bound ≡ max (number_of promised) (ballot_of_vote last) }
-    ensures last { result.last ≡ last }
-{
-    match last {
-        Some(vote) => Slot {
-            bound: Ballot::greater(promised, Some(vote.ballot)),
-            last: Some(vote),
-        },
-        None => Slot {
-            bound: promised,
-            last: None,
         },
     }
 }

@@ -7,9 +7,9 @@ ghost use Rattle.rp_acceptor.specs.Comparing.{compared_votes};
 ghost use Rattle.rp_acceptor.specs.Slots.{placed_from, page_at, vote_of, IsWhole, AreVotes};
 
 use crate::comparison::Comparison;
-use crate::page::{PAGE, Page, places_at};
+use crate::page::{Kept, PAGE, Page, places_at};
 use crate::slot::index_of_position;
-use rp_base::{Ballot, PlacedVote, PositionRange, RangeVotes, Vote};
+use rp_base::{Ballot, PlacedVote, PositionRange, RangeVotes};
 use std::alloc::{AllocError, Global};
 use std::marker::Model;
 
@@ -20,8 +20,8 @@ pub struct Places<'a> {
     range: PositionRange,
     /// How many positions of the range have their places in the first page.
     split: u8,
-    near: &'a [Option<Vote>],
-    far: &'a [Option<Vote>],
+    near: &'a [Kept],
+    far: &'a [Kept],
 }
 
 impl<'a> Model for Places<'a> {
@@ -88,29 +88,27 @@ impl<'a> Places<'a> {
 
 /// How the ballot compares with those of the votes at places, the first of them that of an index of
 /// the range.
-fn compare(places: &[Option<Vote>], range: PositionRange, first: u8, ballot: Ballot) -> Comparison
+fn compare(places: &[Kept], range: PositionRange, first: u8, ballot: Ballot) -> Comparison
     requires { first + length places.now ≤ range.count }
     ensures { result ≡ compared_votes ballot (placed_from (range.first + first) places.now) }
 {
     let mut found = Comparison::Above;
     for offset in 0..places.len() {
-        if let Some(vote) = &places[offset] {
-            let index = first + offset as u8;
-            found = found.followed_by(Comparison::at(range, index, Some(vote.ballot), ballot));
-        }
+        let index = first + offset as u8;
+        found = found.followed_by(Comparison::at(range, index, places[offset].bound(), ballot));
     }
     found
 }
 
 /// Adds the votes at places to others, the first place that of an index of the range.
-fn push(votes: &mut RangeVotes, places: &[Option<Vote>], range: PositionRange, first: u8)
+fn push(votes: &mut RangeVotes, places: &[Kept], range: PositionRange, first: u8)
     requires within { first + length places.now ≤ range.count }
     requires room { length votes.old ≤ first }
     ensures added { votes.new ≡ votes.old ++ placed_from (range.first + first) places.now }
     ensures few { length votes.new ≤ length votes.old + length places.now }
 {
     for offset in 0..places.len() {
-        if let Some(vote) = &places[offset] {
+        if let Some(vote) = &places[offset].last {
             votes.push(PlacedVote {
                 position: range.at(first + offset as u8),
                 vote: *vote,
@@ -123,7 +121,7 @@ fn push(votes: &mut RangeVotes, places: &[Option<Vote>], range: PositionRange, f
 /// takes memory only where there is a vote.
 fn append(
     votes: &mut Vec<PlacedVote>,
-    places: &[Option<Vote>],
+    places: &[Kept],
     range: PositionRange,
     first: u8,
 ) -> Result<(), AllocError>
@@ -133,7 +131,7 @@ fn append(
     ensures full { OnErr result (¬ (placed_from (range.first + first) places.now ≡ [])) }
 {
     for offset in 0..places.len() {
-        if let Some(vote) = &places[offset] {
+        if let Some(vote) = &places[offset].last {
             votes.push(PlacedVote {
                 position: range.at(first + offset as u8),
                 vote: *vote,

@@ -83,10 +83,14 @@ impl Steps {
     }
 
     /// The ballot that holds at a position.
+    #[inline(always)]
     pub fn ballot(&self, position: usize) -> Option<Ballot>
         requires { position < 2 ^ 32 }
         ensures { number_of result ≡ ballot_at self.now position }
     {
+        if self.steps.is_empty() {
+            return None;
+        }
         let count = count_below(&self.steps, position + 1);
         ballot_before(&self.steps, count)
     }

@@ -164,19 +164,25 @@ impl Log {
         Position::new(self.top)
     }
 
-    /// Takes the action of the least position that was not taken yet, where that position is learned:
-    /// so the actions come in order and none is left out. It is lent where it lies.
+    /// The action of the least position that was not taken yet, where that position is learned: so the
+    /// actions come in order and none is left out. It is lent where it lies.
     #[inline(always)]
-    pub fn take_ready(&mut self) -> Option<&Action>
+    pub fn ready(&self) -> Option<&Action>
         // claim (ready): A log returns its learned actions in order, each once and none left out
-        ensures ready { option_copied result ≡ ready_of self.old }
-        ensures taken { IfSome result (λ ready. self.new.taken ≡ self.old.taken ++ ready.now ∷ []) }
-        ensures none { IfNone result (self.new ≡ self.old) }
+        ensures ready { option_copied result ≡ ready_of self.now }
+    {
+        self.front.get(usize::from(self.taken))
+    }
+
+    /// Takes the action that is ready.
+    #[inline(always)]
+    pub fn take(&mut self)
+        requires { IsSome (ready_of self.old) }
+        ensures taken { Some self.new.taken
+            ≡ option_map (λ action. self.old.taken ++ action ∷ []) (ready_of self.old) }
         ensures places { self.new.places ≡ self.old.places }
     {
-        let action = self.front.get(usize::from(self.taken))?;
         self.taken += 1;
-        Some(action)
     }
 
     /// How many actions were taken, at most 65,535: those learned at the positions up to that

@@ -32,10 +32,11 @@ fn apply_next<M: Machine>(machine: &mut Numbered<M>, log: &mut Log, answers: &mu
     ensures none { result ≡ false → action_at log.old (next_to_take log.old) ≡ None }
     ensures stays { result ≡ false → (log.new ≡ log.old) × (machine.new ≡ machine.old) }
 {
-    let Some(action) = log.take_ready() else {
+    let Some(action) = log.ready() else {
         return false;
     };
     machine.apply(action, answers);
+    log.take();
     true
 }
 

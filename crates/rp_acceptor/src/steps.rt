@@ -1,5 +1,5 @@
-//! The ballots that an acceptor promised, as steps: each holds from its position up to the next
-//! one.
+//! The ballots that an acceptor promised for ranges, as steps: each holds from its position up to the
+//! next one.
 
 ghost use Rattle.std.specs.Prelude.{◌≡◌, ℕ, ◌+◌, ◌-◌, ◌<◌, ◌≤◌, ◌^◌, [], max, map, length, IfSome, OnOk, OnErr, slice_get};
 ghost use Rattle.std.specs.List.{range_with_len};
@@ -15,8 +15,7 @@ use rp_base::{Ballot, PositionRange, Rec};
 use std::alloc::{AllocError, Global};
 use std::marker::Model;
 
-/// How many of the last steps are read before all are searched: a promise for one position adds
-/// two.
+/// How many of the last steps are read before all are searched: a promise for a range adds two.
 const NEAR_END: usize = 4;
 
 /// From a position on the ballot of this number is promised, or nothing is where it is 0: so a step
@@ -225,7 +224,11 @@ fn split(steps: &mut Vec<Step>, position: usize) -> Result<(), AllocError>
 {
     let count = count_below(steps, position);
     if !begins_at(steps, count, position) {
-        let ballot = if count == 0 { 0 } else { steps[count - 1].ballot };
+        let ballot = if count == 0 {
+            0
+        } else {
+            steps[count - 1].ballot
+        };
         let step = Step {
             from: position,
             ballot,

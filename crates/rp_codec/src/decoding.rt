@@ -234,7 +234,9 @@ fn any_usual(bytes: &[u8]) -> Option<Packet>
         Kind::Prepare => {
             let place = usual_prepare(bytes)?;
             let Place {
-                position, ballot, ..
+                position,
+                ballot,
+                ..
             } = place;
             Some(between(place, Body::Prepare { position, ballot }))
         }

@@ -56,7 +56,8 @@ fn put_call(text: &mut [u8], from: usize, action: &Action)
         object,
         operation,
         arg,
-    } = *action else {
+    } = *action
+    else {
         unreachable!()
     };
     let (kind, index) = operation_bytes(operation);

@@ -168,7 +168,13 @@ impl<M: Machine, D: Device> Replica<M, D> {
     }
 
     /// A task gets the reply that is kept for its call.
-    fn answer(&self, out: &mut Outbox, task: TaskId, number: u32, reply: Reply) -> Result<(), WriteFault>
+    fn answer(
+        &self,
+        out: &mut Outbox,
+        task: TaskId,
+        number: u32,
+        reply: Reply,
+    ) -> Result<(), WriteFault>
         requires { IsCount number }
         ensures ok { OnOk result (Commits
             (sends self.now.running (says_to_task self.now.me (Answered number reply) task ∷ []))

@@ -401,7 +401,10 @@ impl<M: Machine, D: CutDevice> World<M, D> {
         };
         *effect = match reply {
             Some((number, reply)) => {
-                taken(first, self.tasks[usize::from(task.get()) - 1].take(number, reply)?)
+                taken(
+                    first,
+                    self.tasks[usize::from(task.get()) - 1].take(number, reply)?,
+                )
             }
             None => no_effect(first),
         };

@@ -58,6 +58,15 @@ abbrev pub Answers : {S : Type 0} → Result Turn Fault → ReplicaState S → R
 Answers effect old new (Ok sent) = TurnsIf effect old new sent
 Answers effect old new (Err fault) = StopsIf effect old new fault
 
+-- The same, where the packets are put after others: its turn took effect, and its packets are after these; or it did
+-- not take effect, for this reason, and no packet was added.
+abbrev pub Turned : {S : Type 0} → Result Turn Fault → ReplicaState S → ReplicaState S
+    → List Message → List Message → Result Dropped Fault → Type 0
+Turned (Ok turn) old new before after (Ok dropped) =
+    Commits turn old new before after × (dropped ≡ turn.dropped) × (old.failed ≡ false)
+Turned (Err refusal) old new before after (Ok dropped) = ⊥
+Turned effect old new before after (Err fault) = StopsIf effect old new fault × (after ≡ before)
+
 -- the result of an input for a replica, or its refusal
 abbrev pub effect_of : {S : Type 0} → (S → Action → S) → (S → Action → List Answer) → ReplicaState S → NodeInput
     → Result Turn Fault

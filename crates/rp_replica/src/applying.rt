@@ -83,11 +83,9 @@ pub(crate) fn apply_and_reply<M: Machine>(
 /// Pushes a reply for each of the answers whose call is pending.
 #[inline(always)]
 fn reply_to(me: NodeId, pending: &Pending, answers: &[Answer], out: &mut Outbox)
-    requires { longest_text * length (replies_to me pending.now answers.now) ≤ out.old.room }
-    ensures run { out.new.run
-        ≡ with_packets out.old.run (replies_to me pending.now answers.now) }
-    ensures room { out.old.room
-        ≤ out.new.room + longest_text * length (replies_to me pending.now answers.now) }
+    requires { HasRoomFor (length (replies_to me pending.now answers.now)) out.old }
+    ensures sent { out.new.sent ≡ out.old.sent ++ replies_to me pending.now answers.now }
+    ensures room { IsFilled (length (replies_to me pending.now answers.now)) out.old out.new }
 {
     for answer in answers {
         if pending.awaits(answer) {

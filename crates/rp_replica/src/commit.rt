@@ -121,9 +121,9 @@ impl<M: Machine, D: Device> Replica<M, D> {
         requires may { MayCommit self.now plan.now }
         requires sends { OnlySends plan.now }
         ensures ok { OnOk result (Commits (turn_of M.next M.answers self.now plan.now)
-            self.now self.now out.old.run out.new.run Dropped.No) }
+            self.now self.now out.old.sent out.new.sent) }
         ensures only { IsOkUnless result faults.OutOfMemory }
-        ensures unsent { OnErr result (out.new.run ≡ out.old.run) }
+        ensures unsent { OnErr result (out.new.sent ≡ out.old.sent) }
     {
         match *plan {
             Plan::Repeat(to, position, ballot, action) => self.send_to(
@@ -158,9 +158,9 @@ impl<M: Machine, D: Device> Replica<M, D> {
         requires may { MaySay (Node self.now.me) (Node to) stated }
         requires short { ¬ IsLongBody stated }
         ensures ok { OnOk result (Commits (sends self.now.running (says self.now.me stated to ∷ []))
-            self.now self.now out.old.run out.new.run Dropped.No) }
+            self.now self.now out.old.sent out.new.sent) }
         ensures only { IsOkUnless result faults.OutOfMemory }
-        ensures unsent { OnErr result (out.new.run ≡ out.old.run) }
+        ensures unsent { OnErr result (out.new.sent ≡ out.old.sent) }
     {
         out.reserve(1)?;
         out.say(self.me, to, stated);
@@ -178,9 +178,9 @@ impl<M: Machine, D: Device> Replica<M, D> {
         requires { IsCount number }
         ensures ok { OnOk result (Commits
             (sends self.now.running (says_to_task self.now.me (Answered number reply) task ∷ []))
-            self.now self.now out.old.run out.new.run Dropped.No) }
+            self.now self.now out.old.sent out.new.sent) }
         ensures only { IsOkUnless result faults.OutOfMemory }
-        ensures unsent { OnErr result (out.new.run ≡ out.old.run) }
+        ensures unsent { OnErr result (out.new.sent ≡ out.old.sent) }
     {
         out.reserve(1)?;
         out.reply(

@@ -37,10 +37,10 @@ impl<M: Machine, D: Device> Replica<M, D> {
             self.old.me self.old.records self.old.running position action.now
             (says_to_others self.old.config.nodes self.old.me
             (bodies.Decided position action.now)) [])
-            self.old self.new out.old.run out.new.run Dropped.No) }
+            self.old self.new out.old.sent out.new.sent) }
         ensures err { IfErr result (λ fault.
             Stops (Some (Learned position action.now)) self.old self.new fault) }
-        ensures unsent { OnErr result (out.new.run ≡ out.old.run) }
+        ensures unsent { OnErr result (out.new.sent ≡ out.old.sent) }
     {
         self.reserve_replies(out)?;
         self.learn(position, action, true, out)?;
@@ -62,10 +62,10 @@ impl<M: Machine, D: Device> Replica<M, D> {
             self.old.me self.old.records self.old.running position action.now []
             (asks_for self.old.me from (missing_position
             (self.old.records ++ Learned position action.now ∷ []))))
-            self.old self.new out.old.run out.new.run Dropped.No) }
+            self.old self.new out.old.sent out.new.sent) }
         ensures err { IfErr result (λ fault.
             Stops (Some (Learned position action.now)) self.old self.new fault) }
-        ensures unsent { OnErr result (out.new.run ≡ out.old.run) }
+        ensures unsent { OnErr result (out.new.sent ≡ out.old.sent) }
     {
         self.reserve_replies(out)?;
         self.learn(position, action, false, out)?;
@@ -97,9 +97,9 @@ impl<M: Machine, D: Device> Replica<M, D> {
 
     /// Makes room for a packet to each node, a reply to each pending call, and one packet more.
     fn reserve_replies(&self, out: &mut Outbox) -> Result<(), WriteFault>
-        ensures run { out.new.run ≡ out.old.run }
-        ensures room { OnOk result (longest_text
-            * (self.now.config.nodes + length self.now.running.pending + 1) ≤ out.new.room) }
+        ensures sent { out.new.sent ≡ out.old.sent }
+        ensures room { OnOk result (HasRoomFor
+            (self.now.config.nodes + length self.now.running.pending + 1) out.new) }
         ensures only { IsOkUnless result faults.OutOfMemory }
     {
         Ok(out.reserve(usize::from(self.config.nodes) + self.pending.len() + 1)?)
@@ -107,9 +107,9 @@ impl<M: Machine, D: Device> Replica<M, D> {
 
     /// Where a position is missing below a learned one, the node is asked for it.
     fn ask_for_missing(&self, from: NodeId, out: &mut Outbox)
-        requires { longest_text ≤ out.old.room }
-        ensures { out.new.run ≡ with_packets out.old.run
-            (asks_for self.now.me from (missing_position self.now.records)) }
+        requires { HasRoomFor 1 out.old }
+        ensures { out.new.sent ≡ out.old.sent
+            ++ asks_for self.now.me from (missing_position self.now.records) }
     {
         if let Some(position) = self.missing_position() {
             out.say(self.me, from, Body::Ask { position });

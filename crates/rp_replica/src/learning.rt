@@ -34,16 +34,16 @@ impl<M: Machine, D: Device> Replica<M, D> {
         requires working { self.old.failed ≡ false }
         requires place { position ≤ self.old.config.max_positions }
         requires right { IsRight action.now }
-        requires room { longest_text
-            * (self.old.config.nodes + length self.old.running.pending) ≤ out.old.room }
+        requires room { HasRoomFor
+            (self.old.config.nodes + length self.old.running.pending) out.old }
         ensures learned { OnOk result (self.new ≡ after_turn self.old
             (learns_alone M.next M.answers self.old position action.now)) }
-        ensures replied { OnOk result (out.new.run ≡ with_packets out.old.run
-            (decided_packets self.old.config.nodes self.old.me position action.now announces
-            ++ (learns_alone M.next M.answers self.old position action.now).sent)) }
-        ensures room { OnOk result (out.old.room ≤ out.new.room
-            + longest_text * (self.old.config.nodes + length self.old.running.pending)) }
-        ensures unsent { OnErr result (out.new.run ≡ out.old.run) }
+        ensures replied { OnOk result (out.new.sent ≡ out.old.sent
+            ++ decided_packets self.old.config.nodes self.old.me position action.now announces
+            ++ (learns_alone M.next M.answers self.old position action.now).sent) }
+        ensures room { OnOk result (IsFilled
+            (self.old.config.nodes + length self.old.running.pending) out.old out.new) }
+        ensures unsent { OnErr result (out.new.sent ≡ out.old.sent) }
         ensures err { IfErr result (λ fault.
             Stops (Some (Learned position action.now)) self.old self.new fault) }
     {

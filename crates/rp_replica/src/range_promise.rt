@@ -38,10 +38,10 @@ impl<M: Machine, D: Device> Replica<M, D> {
             self.old.running (says self.old.me
             (bodies.PromiseRange promise.now.range promise.now.ballot
             (last_votes self.old.records promise.now.range)) promise.now.to ∷ []))
-            self.old self.new out.old.run out.new.run Dropped.No) }
+            self.old self.new out.old.sent out.new.sent) }
         ensures err { IfErr result (λ fault. Stops (Some
             (PromisedRange promise.now.range promise.now.ballot)) self.old self.new fault) }
-        ensures unsent { OnErr result (out.new.run ≡ out.old.run) }
+        ensures unsent { OnErr result (out.new.sent ≡ out.old.sent) }
     {
         let text = self.promise_text(alloc, promise)?;
         out.make_room(1, text.len())?;

@@ -30,9 +30,9 @@ impl<M: Machine, D: Device> Replica<M, D> {
     ) -> Result<(), WriteFault>
         ensures ok { OnOk result (Commits (sends self.now.running
             (report_of self.now.me first (applied_of self.now.records) ∷ []))
-            self.now self.now out.old.run out.new.run Dropped.No) }
+            self.now self.now out.old.sent out.new.sent) }
         ensures only { IsOkUnless result faults.OutOfMemory }
-        ensures unsent { OnErr result (out.new.run ≡ out.old.run) }
+        ensures unsent { OnErr result (out.new.sent ≡ out.old.sent) }
     {
         let body = Body::Report {
             first,

@@ -167,9 +167,9 @@ impl Outbox {
     pub(crate) fn say(&mut self, me: NodeId, to: NodeId, body: Body)
         requires may { MaySay (Node me) (Node to) body }
         requires short { ¬ IsLongBody body }
-        requires room { longest_text ≤ self.old.room }
-        ensures run { self.new.run ≡ with_packet self.old.run (says me body to) }
-        ensures room { self.old.room ≤ self.new.room + longest_text }
+        requires room { HasRoomFor 1 self.old }
+        ensures sent { self.new.sent ≡ self.old.sent ++ says me body to ∷ [] }
+        ensures room { IsFilled 1 self.old self.new }
     {
         self.put(&Packet::new(Party::Node(me), Party::Node(to), body));
     }
@@ -384,10 +384,10 @@ impl Outbox {
     /// A reply more, to the call of an answer, into the room.
     pub(crate) fn reply(&mut self, me: NodeId, answer: &Answer)
         requires count { IsCount answer.now.number }
-        requires room { longest_text ≤ self.old.room }
-        ensures run { self.new.run ≡ with_packet self.old.run (says_to_task me
-            (Answered answer.now.number answer.now.reply) answer.now.task) }
-        ensures room { self.old.room ≤ self.new.room + longest_text }
+        requires room { HasRoomFor 1 self.old }
+        ensures sent { self.new.sent ≡ self.old.sent ++ says_to_task me
+            (Answered answer.now.number answer.now.reply) answer.now.task ∷ [] }
+        ensures room { IsFilled 1 self.old self.new }
     {
         let Answer {
             task,

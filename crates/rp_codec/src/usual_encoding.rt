@@ -1,8 +1,8 @@
 //! Packets and records of the usual kinds to bytes, each in an array, since its text has one length:
 //! those whose action, if any, is a call.
 
-use crate::fields::VERSION;
-use crate::usual_texts::{Place, SentDecision};
+use crate::fields::{TASK_BASE, VERSION};
+use crate::usual_texts::{Place, SentDecision, SentReply};
 use rp_base::{Action, Ballot, Operation, Position};
 
 /// Whether the action is a call.
@@ -141,6 +141,23 @@ pub fn decided_text(decision: &SentDecision) -> [u8; 23]
     text[3] = decision.to.get();
     put_position(&mut text, 4, decision.position);
     put_call(&mut text, 6, &decision.action);
+    text
+}
+
+/// The text of a reply with this value.
+#[inline(always)]
+pub fn value_reply_text(sent: &SentReply, value: i64) -> [u8; 17]
+    requires { sent.now.reply ≡ Value value }
+    ensures { result ≡ text_of (reply_sent sent.now) }
+{
+    let mut text = [0; 17];
+    text[0] = VERSION;
+    text[1] = 9;
+    text[2] = sent.from.get();
+    text[3] = TASK_BASE + sent.task.get();
+    text[4..8].copy_from_slice(&sent.number.to_be_bytes());
+    text[8] = 1;
+    text[9..17].copy_from_slice(&value.to_be_bytes());
     text
 }
 

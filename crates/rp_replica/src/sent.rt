@@ -9,10 +9,10 @@ ghost use Rattle.rp_codec.specs.declared.packet.Body.TheVariants.{Reply as Answe
 ghost use Rattle.rp_model.specs.Says.{says, says_to_all, says_to_others, says_to_task};
 ghost use Rattle.rp_replica.specs.Packets.{run_of, with_packet, with_packets, longest_text};
 
-use rp_base::{Action, Answer, NodeId, Vote};
+use rp_base::{Action, Answer, NodeId, Reply, Vote};
 use rp_codec::{
-    Body, Packet, Party, Place, SentDecision, accept_text, accepted_text, decided_text,
-    encode_onto, is_call, prepare_text, promise_text, text_of_packet,
+    Body, Packet, Party, Place, SentDecision, SentReply, accept_text, accepted_text, decided_text,
+    encode_onto, is_call, prepare_text, promise_text, text_of_packet, value_reply_text,
 };
 use rp_model::Dropped;
 use std::alloc::{AllocError, Global};
@@ -394,6 +394,16 @@ impl Outbox {
             number,
             reply,
         } = *answer;
+        if let Reply::Value(value) = reply {
+            let sent = SentReply {
+                from: me,
+                task,
+                number,
+                reply,
+            };
+            self.put_array(&value_reply_text(&sent, value));
+            return;
+        }
         let body = Body::Reply { number, reply };
         self.put(&Packet::new(Party::Node(me), Party::Task(task), body));
     }

@@ -53,6 +53,7 @@ pub fn run_lines<M: Machine, D: CutDevice + InfallibleDevice, W: Write>(
         alloc,
         cluster: Cluster::<M, D>::new(alloc, options.config, program, devices)?,
         settled: Settled::new(alloc),
+        effect: no_effect(0),
     };
     for line in lines {
         let taken = run.take(options, line, writer);
@@ -68,6 +69,8 @@ struct Run<M: Machine, D: CutDevice> {
     alloc: Global,
     cluster: Cluster<M, D>,
     settled: Settled,
+    /// The effect of the last step, or of no meaning.
+    effect: Effect,
 }
 
 impl<M: Machine, D: CutDevice> Run<M, D> {
@@ -160,13 +163,18 @@ impl<M: Machine, D: CutDevice> Run<M, D> {
     {
         worlds_grow::<M>();
         let event = Event::Node(Step::Deliver(message));
-        let mut effect = no_effect(0);
-        match self.cluster.step_into(self.alloc, &event, &mut effect) {
+        match self.cluster.step_into(self.alloc, &event, &mut self.effect) {
             Ok(()) => {
+                let Effect {
+                    first,
+                    dropped,
+                    taken,
+                    ..
+                } = self.effect;
                 self.settled.settle(message)?;
-                print_trace(self.alloc, &self.cluster, options, effect.first, writer)?;
-                print_dropped(self.alloc, &self.cluster, &event, effect.dropped, writer)?;
-                print_taken(self.alloc, options.tasks, effect.taken, writer)
+                print_trace(self.alloc, &self.cluster, options, first, writer)?;
+                print_dropped(self.alloc, &self.cluster, &event, dropped, writer)?;
+                print_taken(self.alloc, options.tasks, taken, writer)
             }
             Err(fault) if is_refusal(&fault) => {
                 print(self.alloc, writer, RefusedLine { line, fault })

@@ -18,7 +18,7 @@
 //!   answered; the learner's window, which follows the log; the items that wait to be proposed
 //! - `cut`: a node that stops within a step
 //! - `heard`: the votes that were heard, which memory does not hold
-//! - `sent`: the packets of one step
+//! - `sent`: packets that were sent, as their texts in one run of bytes
 //! - `infallible`: what a replica's device holds
 //! - `laws`: how the calls are related to the definitions of worlds
 #![tactic(auto)]

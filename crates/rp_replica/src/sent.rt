@@ -1,4 +1,4 @@
-//! The packets of one step.
+//! Packets that were sent, as their texts in one run of bytes.
 
 ghost use Rattle.std.specs.Prelude.{◌≡◌, ◌+◌, ◌*◌, ◌≤◌, ◌<◌, ◌++◌, [], length, slice_set, OnOk, OnErr};
 ghost use Rattle.rp_base.specs.Action.{IsCount};

@@ -177,7 +177,9 @@ pub enum WriteFault {
 }
 
 impl From<AllocError> for WriteFault {
-    ghost from_gives = { λ _ e. e ≡ WriteFault.OutOfMemory };
+    ghost use Rattle.rp_base.specs.declared.fault.WriteFault.TheVariants.{OutOfMemory};
+
+    ghost from_gives = { λ _ e. e ≡ OutOfMemory };
 
     fn from(_e: AllocError) -> WriteFault {
         WriteFault::OutOfMemory
@@ -185,6 +187,8 @@ impl From<AllocError> for WriteFault {
 }
 
 impl From<WriteFault> for Fault {
+    ghost use Rattle.rp_base.specs.WriteFaults.{fault_of};
+
     ghost from_gives = { λ fault e. e ≡ fault_of fault };
 
     fn from(fault: WriteFault) -> Fault {

@@ -27,6 +27,6 @@ loop-action-preserved c =
       places = λ i. ap (λ f. place_of f false new i) items ∙ next_advanced front old new a there removed i ∙ c.loop-action.invariant.places i;
       grown = (grown.0 ++ a ∷ [], items ∙ ap (λ f. f ++ a ∷ []) grown.1 ∙ append_assoc _ grown.0 (a ∷ []));
       ahead = λ i is. subst (λ n. (n < i) × (i ≤ 65535)) (sym longer) (ahead i is);
-      room = omega (arith, longer, fewer, c.loop-action.invariant.room, c.push_reserved.ensures.capacity);
+      room = omega (arith, longer, fewer, c.loop-action.invariant.room, c.push_reserved.ensures.room);
       bound = omega (arith, longer, low.1);
     }

@@ -23,7 +23,7 @@ advance-requires-clause-room c =
     let gone : c.remove.result ≡ place_ahead ahead (length front + 1) = c.remove.ensures.value ∙ ap (place_ahead ahead) at in
     let enough = c.requires.room (length c.remove.new.self.entries) (ap (λ x. length c.remove.new.self.entries + (if is_some x then 1 else 0)) (sym gone) ∙ c.remove.ensures.len) in
     let longer : length c.push_reserved.new.self.items ≡ length front + 1 = ap length c.push_reserved.ensures.items ∙ length-append front (c.args.action ∷ []) in
-    omega (arith, longer, enough, c.push_reserved.ensures.capacity)
+    omega (arith, longer, enough, c.push_reserved.ensures.room)
 
 pub returns-clause-places : goal.returns-clause-places
 returns-clause-places c =

@@ -1,0 +1,24 @@
+use Rattle.std.proofs.Common.{◌≡◌, ◌+◌, ◌<◌, ◌≤◌, Option, [], ◌∷◌, ◌++◌, length, ap, ◌∙◌, arith}
+use Rattle.std.specs.List.{slice_get}
+use Rattle.std.specs.Option.{option_map}
+use Rattle.rp_log.specs.Contents.{Contents, ready_of}
+use Rattle.rp_log.proofs.Views.{ready_front, takes_ready, ready_within}
+use Rattle.rp_log.proofs.log.Log.take.Goals as goal
+
+pub invariant_of-self : goal.invariant_of-self
+invariant_of-self c =
+    let front = c.self.inside.front.items in
+    let taken = c.self.inside.taken in
+    let fits = c.self.invariant in
+    let ready : slice_get front taken ≡ ready_of c.args.self.now = ready_front front c.self.inside.next_reserved c.self.inside.ahead.entries taken fits.taken_within fits.gap ∙ ap ready_of c.self.view_is in
+    let within : taken + 1 ≤ length front = omega (arith, ready_within front taken (ready_of c.args.self.now) ready c.requires) in
+    record fits { taken_within = within }
+
+pub returns-clause-taken : goal.returns-clause-taken
+returns-clause-taken c =
+    let front = c.self.inside.front.items in
+    let taken = c.self.inside.taken in
+    let fits = c.self.invariant in
+    let ready : slice_get front taken ≡ ready_of c.args.self.now = ready_front front c.self.inside.next_reserved c.self.inside.ahead.entries taken fits.taken_within fits.gap ∙ ap ready_of c.self.view_is in
+    takes_ready front taken (ready_of c.args.self.now) ready c.requires
+    ∙ ap (λ (log : Contents). option_map (λ action. log.taken ++ action ∷ []) (ready_of c.args.self.now)) c.self.view_is

@@ -1,5 +1,5 @@
 -- What learning an action leaves of how a log is kept.
-use Rattle.std.proofs.Common.{◌≡◌, ◌≢◌, ◌⊎◌, inl, inr, ℕ, ◌+◌, ◌<◌, ◌≤◌, Bool, true, false, cond, Option, Some, None, List, [], ◌∷◌, ◌++◌, take, length, IsSome, refl, sym, ap, ap₂, subst, ◌∙◌, unwrap_or, arith}
+use Rattle.std.proofs.Common.{◌≡◌, ◌≢◌, ◌⊎◌, inl, inr, ℕ, ◌+◌, ◌<◌, ◌≤◌, Bool, true, false, cond, Option, Some, None, List, ◌++◌, take, length, IsSome, refl, sym, ap, ap₂, subst, ◌∙◌, unwrap_or, arith}
 use Rattle.std.specs.Prelude.{is_some, max, if◌then◌else◌}
 use Rattle.std.specs.Option.{option_or}
 use Rattle.std.specs.FinMap.{get, insert}
@@ -9,7 +9,7 @@ use Rattle.std.proofs.Math.Logic.{⊎_elim}
 use Rattle.rp_base.specs.declared.action.Action.{Action}
 use Rattle.rp_log.specs.Contents.{Contents, Places, action_at, with_action}
 use Rattle.rp_log.specs.Holding.{Ahead, place_ahead, action_ahead, next_place, places_of, place_of, IsAhead, reserved_count, Fits}
-use Rattle.rp_log.proofs.Places.{same, same_is, same_apart, shown, inserted, front_past, ahead_written, next_put}
+use Rattle.rp_log.proofs.Places.{same, same_is, same_apart, shown, inserted, front_past, ahead_written}
 use Rattle.rp_log.proofs.Views.{seen, learned_of, next_none, learned_below}
 
 there_is : (place : Option (Option Action)) → IsSome (learned_of place) → place ≡ Some (learned_of place)
@@ -127,19 +127,6 @@ room_to_put front reserved old capacity taken top fewer fits there removed =
     let least : length old ≤ reserved_count reserved old = omega arith in
     omega (arith, one, least, fits.room))
     (next_place_there reserved (length front + 1) old (length front + 1) following)
-
--- where none is ahead the action is put after the front, and that is all
-none_ahead : (old : Ahead) → length old ≡ 0 → old ≡ []
-none_ahead [] none = refl
-none_ahead (place ∷ rest) none = absurd (omega arith)
-
-pub put_alone : (front : List Action) (reserved : Bool) (old : Ahead) (v : Action) → length old ≡ 0
-    → (i : ℕ) → place_of (front ++ v ∷ []) false old i ≡ cond (same i (length front + 1)) (Some (Some v)) (place_of front reserved old i)
-put_alone front reserved old v none i = rw none_ahead old none (next_put front reserved [] [] v (λ j. elim (same (length front + 1) j) as (λ b. None ≡ cond b None None) [ true ↦ refl | false ↦ refl ]) i)
-
-pub ahead_alone : (last : ℕ) (old : Ahead) → length old ≡ 0 → IsAhead last old × (action_ahead old (last + 1) ≡ None)
-ahead_alone last [] none = (λ i there. absurd cc, refl)
-ahead_alone last (place ∷ rest) none = absurd (omega arith)
 
 -- where there is room after the position after the front, a place is ahead
 pub ahead_there : (front : List Action) (reserved : Bool) (old : Ahead) (taken : ℕ) (log : Contents) (p : ℕ) → seen front reserved old taken ≡ log

@@ -38,7 +38,7 @@ get_right [] ys k = refl
 get_right (x ∷ xs) ys k = get_right xs ys k
 
 -- a page and the place in it
-abbrev in_page : Option Page → ℕ → Option Action
+abbrev pub in_page : Option Page → ℕ → Option Action
 in_page page place = option_and_then (λ (it : Page). slice_get it.items place) page
 
 get_first : (page : Page) (rest : List Page) (count place : ℕ) → AreFilled (page ∷ rest) count → place < 64 → slice_get (joined (page ∷ rest)) place ≡ slice_get page.items place

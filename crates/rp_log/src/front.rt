@@ -50,6 +50,7 @@ pub(crate) fn advance(front: &mut Pages, ahead: &mut BTreeMap<u32, Option<Action
 }
 
 /// Learns the action of the position after the front, and moves on past the positions that follow.
+#[inline(always)]
 pub(crate) fn learn_next(
     front: &mut Pages,
     ahead: &mut BTreeMap<u32, Option<Action>>,
@@ -69,6 +70,10 @@ pub(crate) fn learn_next(
     ensures room { length front.new.items + length ahead.new.entries ≤ front.new.room }
     ensures bound { length front.new.items ≤ 65535 }
 {
+    if ahead.is_empty() {
+        front.push_reserved(action);
+        return;
+    }
     ahead.remove(&(front.len() as u32 + 1));
     front.push_reserved(action);
     advance(front, ahead);

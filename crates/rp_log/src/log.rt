@@ -116,11 +116,7 @@ impl Log {
             return;
         }
         self.next_reserved = false;
-        if self.ahead.is_empty() {
-            self.front.push_reserved(*action);
-        } else {
-            learn_next(&mut self.front, &mut self.ahead, *action);
-        }
+        learn_next(&mut self.front, &mut self.ahead, *action);
     }
 
     /// Whether an action was learned at the position.

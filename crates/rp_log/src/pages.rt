@@ -53,7 +53,8 @@ impl Pages {
     pub(crate) fn get(&self, place: usize) -> Option<&Action>
         ensures { option_copied result ≡ slice_get self.now.items place }
     {
-        self.pages.get(place / PAGE)?.get(place % PAGE)
+        let page = self.pages.get(place / PAGE)?;
+        page.get(place % PAGE)
     }
 
     /// Makes room for so many actions more.
@@ -74,7 +75,8 @@ impl Pages {
     /// One action more, into the room.
     #[inline(always)]
     pub(crate) fn push_reserved(&mut self, action: Action)
-        requires { length self.old.items < self.old.room }
+        requires room { length self.old.items < self.old.room }
+        requires bound { length self.old.items < 65535 }
         ensures items { self.new.items ≡ self.old.items ++ action ∷ [] }
         ensures room { self.new.room ≡ self.old.room }
     {
